@@ -1,5 +1,6 @@
 pub mod Steps
 pub mod Names
+pub mod KeySets
 pub mod Numbers
 pub mod Texts
 pub mod Lists
@@ -9,10 +10,11 @@ pub mod Again
 pub mod AgainLists
 pub mod Depths
 pub mod Utf8
-pub mod Faults
-pub mod Marks
 pub mod Compacts
 pub mod Lending
-pub mod Trees
 pub mod Folds
-pub mod KeySets
+pub mod Levels
+pub mod Flaws
+pub mod Faults
+pub mod Marks
+pub mod Trees

@@ -11,7 +11,7 @@ pub names_push : (front : List Pair) (m : Pair) → names (members_of (front ++ 
 names_push [] m = refl
 names_push (p ∷ front) m = ap (λ (ns : List Text). p.0 ∷ ns) (names_push front m)
 
-among_append : (x : Text) (xs ys : List Text) → is_among x (xs ++ ys) ≡ (is_among x xs || is_among x ys)
+pub among_append : (x : Text) (xs ys : List Text) → is_among x (xs ++ ys) ≡ (is_among x xs || is_among x ys)
 among_append x [] ys = refl
 among_append x (z ∷ xs) ys = ap (λ (b : Bool). bytes_eq x z || b) (among_append x xs ys) ∙ regroup (bytes_eq x z) (is_among x xs) (is_among x ys)
   where

@@ -28,7 +28,7 @@ blanks_stand (b ∷ bs) =
 
 -- ---- strings
 
-or_fault_is : {A : Type 0} (fault : JsonFault) (o : Option A) (x : A) → or_fault fault o ≡ Ok x → o ≡ Some x
+pub or_fault_is : {A : Type 0} (fault : JsonFault) (o : Option A) (x : A) → or_fault fault o ≡ Ok x → o ≡ Some x
 or_fault_is fault (Some y) x e = ap (λ q. Some q) (ok_is y x e)
 or_fault_is fault None x e = absurd (no_error fault x e)
 
@@ -39,7 +39,7 @@ followed_is (Some y) bs x rest e = let p = some_is (y, bs) (x, rest) e in (ap (�
     some_is x y e = cc
 followed_is None bs x rest e = absurd cc
 
-unit_stands : (bs : List ℕ) (u : ℕ) (rest : List ℕ) → unit_at bs ≡ Some (u, rest) → (a b c d : ℕ) × (bs ≡ a ∷ b ∷ c ∷ d ∷ rest) × (code_unit a b c d ≡ Some u)
+pub unit_stands : (bs : List ℕ) (u : ℕ) (rest : List ℕ) → unit_at bs ≡ Some (u, rest) → (a b c d : ℕ) × (bs ≡ a ∷ b ∷ c ∷ d ∷ rest) × (code_unit a b c d ≡ Some u)
 unfolding unit_at
 unit_stands [] u rest e = absurd cc
 unit_stands (a ∷ []) u rest e = absurd cc

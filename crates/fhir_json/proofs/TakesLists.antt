@@ -164,7 +164,7 @@ unless_is front name x e =
       | inr isnt ↦ (isnt.0, ok_is name x isnt.1)
     ]
 
-name_stands : (front : List Pair) (bs name rest : List ℕ) → name_at front bs ≡ Ok (name, rest)
+pub name_stands : (front : List Pair) (bs name rest : List ℕ) → name_at front bs ≡ Ok (name, rest)
     → (before v : List ℕ) × (bs ≡ before ++ (v ++ rest)) × AreBlanks before × IsString name v × (is_among name (names (members_of front)) ≡ false)
 unfolding name_at
 name_stands front bs name rest e =
@@ -176,7 +176,7 @@ name_stands front bs name rest e =
     let is : is_among name (names (members_of front)) ≡ false = ap (λ (x : List ℕ × List ℕ). is_among x.0 (names (members_of front))) (sym new.1) ∙ new.0 in
     (before.0, s.0, before.1 ∙ ap (λ (w : List ℕ). before.0 ++ w) s.1, before.2, s.2, is)
 
-colon_stands : (at rest : List ℕ) → behind_colon at ≡ Ok rest → at ≡ 58 ∷ rest
+pub colon_stands : (at rest : List ℕ) → behind_colon at ≡ Ok rest → at ≡ 58 ∷ rest
 colon_stands [] rest e = absurd (no_error Syntax rest e)
 colon_stands (b ∷ at) rest e = let g = guard_ok (eqb b 58) Syntax at rest e in ap₂ (λ (c : ℕ) (w : List ℕ). c ∷ w) (eqb-true b 58 g.0) g.1
 
@@ -226,7 +226,7 @@ abbrev ValueStands : ℕ → Type 0
 ValueStands d = (bs : List ℕ) (t : Tree) (rest : List ℕ) → value_at d bs ≡ Ok (t, rest) → (first : List ℕ) × (bs ≡ first ++ rest) × Value d t first
 
 -- a member stands, and its name is new
-field : (d : ℕ) → ValueStands d → (front : List Pair) (bs : List ℕ) (m : Pair) (rest : List ℕ) → member_at (value_at d) front bs ≡ Ok (m, rest)
+pub field : (d : ℕ) → ValueStands d → (front : List Pair) (bs : List ℕ) (m : Pair) (rest : List ℕ) → member_at (value_at d) front bs ≡ Ok (m, rest)
     → ((first : List ℕ) × (bs ≡ first ++ rest) × Opening d m first) × (is_among m.0 (names (members_of front)) ≡ false)
 unfolding member_at
 field d value front bs m rest e =

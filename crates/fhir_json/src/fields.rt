@@ -123,39 +123,27 @@ pub fn count_of(text: &str) -> Option<u32>
 pub fn text_in<'t, 'j>(json: &'t Json<'j>, name: &str) -> Option<&'t str>
     ensures { text_seen result ≡ text_in name.now (tree_of json.now) }
 {
-    match field(json, name) {
-        Some(value) => as_text(value),
-        None => None,
-    }
+    field(json, name).and_then(|value| as_text(value))
 }
 
 /// The flag in a field.
 pub fn flag_in(json: &Json<'_>, name: &str) -> Option<bool>
     ensures { result ≡ flag_in name.now (tree_of json.now) }
 {
-    match field(json, name) {
-        Some(value) => as_flag(value),
-        None => None,
-    }
+    field(json, name).and_then(|value| as_flag(value))
 }
 
 fn as_count(json: &Json<'_>) -> Option<u32>
     ensures { result ≡ option_and_then count_of (as_number (tree_of json.now)) }
 {
-    match as_number(json) {
-        Some(text) => count_of(text),
-        None => None,
-    }
+    as_number(json).and_then(|text| count_of(text))
 }
 
 /// The count in a field.
 pub fn count_in(json: &Json<'_>, name: &str) -> Option<u32>
     ensures { result ≡ count_in name.now (tree_of json.now) }
 {
-    match field(json, name) {
-        Some(value) => as_count(value),
-        None => None,
-    }
+    field(json, name).and_then(|value| as_count(value))
 }
 
 fn as_items<'t, 'j>(json: &'t Json<'j>) -> &'t [Json<'j>]
@@ -178,60 +166,42 @@ fn items_or_none<'t, 'j>(json: &'t Json<'j>) -> &'t [Json<'j>]
 pub fn items_in<'t, 'j>(json: &'t Json<'j>, name: &str) -> &'t [Json<'j>]
     ensures { trees_of result.now ≡ items_in name.now (tree_of json.now) }
 {
-    match field(json, name) {
-        Some(value) => items_or_none(value),
-        None => Default::default(),
-    }
+    field(json, name).map_or(Default::default(), |value| items_or_none(value))
 }
 
 /// The text that a tree is, or none.
 pub fn text_or_empty<'t, 'j>(json: &'t Json<'j>) -> &'t str
     ensures { result.now ≡ text_or_empty (tree_of json.now) }
 {
-    match as_text(json) {
-        Some(text) => text,
-        None => "",
-    }
+    as_text(json).unwrap_or("")
 }
 
 /// Whether a field is absent or a text.
 pub fn allows_text(json: &Json<'_>, name: &str) -> bool
     ensures { result ≡ allows_text name.now (tree_of json.now) }
 {
-    match field(json, name) {
-        Some(value) => as_text(value).is_some(),
-        None => true,
-    }
+    field(json, name).map_or(true, |value| as_text(value).is_some())
 }
 
 /// Whether a field is absent or a flag.
 pub fn allows_flag(json: &Json<'_>, name: &str) -> bool
     ensures { result ≡ allows_flag name.now (tree_of json.now) }
 {
-    match field(json, name) {
-        Some(value) => as_flag(value).is_some(),
-        None => true,
-    }
+    field(json, name).map_or(true, |value| as_flag(value).is_some())
 }
 
 /// Whether a field is absent or a count.
 pub fn allows_count(json: &Json<'_>, name: &str) -> bool
     ensures { result ≡ allows_count name.now (tree_of json.now) }
 {
-    match field(json, name) {
-        Some(value) => as_count(value).is_some(),
-        None => true,
-    }
+    field(json, name).map_or(true, |value| as_count(value).is_some())
 }
 
 /// Whether a field is absent or an array.
 pub fn allows_items(json: &Json<'_>, name: &str) -> bool
     ensures { result ≡ allows_items name.now (tree_of json.now) }
 {
-    match field(json, name) {
-        Some(value) => is_array(value),
-        None => true,
-    }
+    field(json, name).map_or(true, |value| is_array(value))
 }
 
 fn is_text(json: &Json<'_>) -> bool

@@ -26,3 +26,6 @@ pub use number::number_grammar;
 pub use reading::{MAX_DEPTH, one_tree, read};
 pub use soundness::{sound, sound_trees};
 pub use writing::write;
+
+#[cfg(test)]
+mod tests;
