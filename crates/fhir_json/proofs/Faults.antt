@@ -11,15 +11,15 @@ use Rattle.fhir_json.specs.declared.fault.JsonFault.TheVariants.{NotUtf8, Syntax
 use Rattle.fhir_json.specs.Tree.{Text, Tree, string, array, object, Pair, items_of, members_of, names}
 use Rattle.fhir_json.specs.Text.{IsString}
 use Rattle.fhir_json.specs.Sound.{is_among, max_depth}
-use Rattle.fhir_json.specs.Grammar.{is_blank, mark, Padded, Spells}
+use Rattle.fhir_json.specs.Grammar.{is_blank, AreBlanks, mark, Padded, Spells}
 use Rattle.fhir_json.specs.Reading.{Parse, after_blanks, string_at, separated, parts_at, opened as list_opened, list_at, name_at, behind_colon, member_at, begun, value_at, ended, tree_at, unmarked, reading}
-use Rattle.fhir_json.specs.Faults.{Means}
+use Rattle.fhir_json.specs.Faults.{opened, Means}
 use Rattle.fhir_json.proofs.Steps.{chosen}
 use Rattle.fhir_json.proofs.Names.{names_push, among_append}
 use Rattle.fhir_json.proofs.Takes.{blanks_stand, string_stands, starts}
 use Rattle.fhir_json.proofs.TakesLists.{Value, Opening, padded_after, name_stands, colon_stands, field, value_stands}
-use Rattle.fhir_json.proofs.Levels.{IsLevel, level_append, level_behind, comma_level, colon_level, mark_level, blanks_level, string_level, padded_level, bracket_opened, brace_opened, value_level}
-use Rattle.fhir_json.proofs.Flaws.{fault_is, no_fault, bind_fails, under_fails, string_fails, word_fails, Repeats, Met, moved, entered, full, syntax_met, flawed_met}
+use Rattle.fhir_json.proofs.Levels.{IsLevel, level_append, level_behind, level_above, comma_level, colon_level, mark_level, blanks_level, string_level, padded_level, bracket_opened, brace_opened, value_level}
+use Rattle.fhir_json.proofs.Flaws.{fault_is, no_fault, bind_fails, under_fails, string_fails, word_fails, Repeats, Met, at_most_from, moved, entered, full, syntax_met, flawed_met}
 
 -- ---- lists
 
@@ -76,9 +76,17 @@ module _ {A : Type 0} (d close : ℕ) (part : List A → Parse A) (K : List A �
 
 -- ---- members
 
--- a string of the name stands in the text, at the level at which the text begins
-abbrev Stood : Text → List ℕ → Type 0
-Stood name text = (before v after : List ℕ) × (text ≡ before ++ (v ++ after)) × IsLevel before × IsString name v × IsLevel after
+-- the name and its colon stand in the text, at the level at which the text begins
+record Stood (name : Text) (text : List ℕ) : Type 0 where
+  before : List ℕ
+  v : List ℕ
+  blanks : List ℕ
+  after : List ℕ
+  is_text : text ≡ before ++ (v ++ (blanks ++ 58 ∷ after))
+  level_before : IsLevel before
+  is_name : IsString name v
+  are_blanks : AreBlanks blanks
+  level_after : IsLevel after
 
 -- each name of the members stands in the text, which is at one level
 record NamesStand (front : List Pair) (text : List ℕ) : Type 0 where
@@ -91,11 +99,20 @@ no_names = record { level = blanks_level [] tt; each = λ name h. absurd (false�
 
 -- more text behind it
 stood_more : (name : Text) (text v : List ℕ) → IsLevel v → Stood name text → Stood name (text ++ v)
-stood_more name text v h s =
-    (s.0, s.1, s.2 ++ v, ap (λ (w : List ℕ). w ++ v) s.3 ∙ regroup s.0 s.1 s.2 v, s.4, s.5, level_append s.6 h)
+stood_more name text v h s = record {
+  before = s.before;
+  v = s.v;
+  blanks = s.blanks;
+  after = s.after ++ v;
+  is_text = ap (λ (w : List ℕ). w ++ v) s.is_text ∙ regroup s.before s.v s.blanks s.after v;
+  level_before = s.level_before;
+  is_name = s.is_name;
+  are_blanks = s.are_blanks;
+  level_after = level_append s.level_after h;
+}
   where
-    regroup : (a b c d : List ℕ) → (a ++ (b ++ c)) ++ d ≡ a ++ (b ++ (c ++ d))
-    regroup a b c d = simp append_assoc
+    regroup : (a b c d w : List ℕ) → (a ++ (b ++ (c ++ 58 ∷ d))) ++ w ≡ a ++ (b ++ (c ++ 58 ∷ (d ++ w)))
+    regroup a b c d w = simp append_assoc
 
 -- more text behind the members
 names_more : (front : List Pair) (text v : List ℕ) → IsLevel v → NamesStand front text → NamesStand front (text ++ v)
@@ -116,27 +133,37 @@ names_next front m text v h s k = record { level = level_append k.level h; each 
               ]
         ]
 
+-- behind a name and its colon the level is that behind what follows
+key_opened : (name : Text) (front v blanks : List ℕ) → IsLevel front → IsString name v → AreBlanks blanks → (n : ℕ) (part : List ℕ) → opened n (front ++ (v ++ (blanks ++ 58 ∷ part))) ≡ opened n part
+key_opened name front v blanks h is k n part =
+    h.same n (v ++ (blanks ++ 58 ∷ part)) ∙ (string_level name v is).same n (blanks ++ 58 ∷ part) ∙ (blanks_level blanks k).same n (58 ∷ part) ∙ colon_level.same n part
+
 -- a name that a member before it has
 repeats : (front : List Pair) (since bs name rest : List ℕ) → NamesStand front since → string_at (after_blanks bs) ≡ Ok (name, rest) → is_among name (names (members_of front)) ≡ true → Repeats (since ++ bs)
 repeats front since bs name rest k e is =
     let old = k.each name is in
     let blanks = blanks_stand bs in
     let new = string_stands (after_blanks bs) name rest e in
-    let apart = level_append old.4 (level_append (string_level name old.1 old.5) (level_append old.6 (blanks_level blanks.0 blanks.2))) in record {
+    let between = level_append old.level_after (blanks_level blanks.0 blanks.2) in record {
       name = name;
-      front = old.0;
-      first = old.1;
-      between = old.2 ++ blanks.0;
+      front = old.before;
+      first = old.v;
+      blanks = old.blanks;
+      between = old.after ++ blanks.0;
       second = new.0;
       rest = rest;
-      text = ap (λ (w : List ℕ). w ++ bs) old.3 ∙ ap (λ (w : List ℕ). (old.0 ++ (old.1 ++ old.2)) ++ w) (blanks.1 ∙ ap (λ (w : List ℕ). blanks.0 ++ w) new.1) ∙ regroup old.0 old.1 old.2 blanks.0 (new.0 ++ rest);
-      is_first = old.5;
+      text =
+        ap (λ (w : List ℕ). w ++ bs) old.is_text ∙ ap (λ (w : List ℕ). (old.before ++ (old.v ++ (old.blanks ++ 58 ∷ old.after))) ++ w) (blanks.1 ∙ ap (λ (w : List ℕ). blanks.0 ++ w) new.1)
+          ∙ regroup old.before old.v old.blanks old.after blanks.0 (new.0 ++ rest);
+      is_first = old.is_name;
+      are_blanks = old.are_blanks;
       is_second = new.2;
-      level = λ n. level_behind old.4 n ∙ sym (level_behind apart n);
+      level = λ n. level_behind old.level_before n ∙ sym (key_opened name old.before old.v old.blanks old.level_before old.is_name old.are_blanks n (old.after ++ blanks.0) ∙ level_behind between n);
+      open_between = λ n part more f. at_most_from (level_behind old.level_before n) (key_opened name old.before old.v old.blanks old.level_before old.is_name old.are_blanks n part) ((level_above between n).each part more f);
     }
   where
-    regroup : (a b c d w : List ℕ) → (a ++ (b ++ c)) ++ (d ++ w) ≡ a ++ (b ++ ((c ++ d) ++ w))
-    regroup a b c d w = simp append_assoc
+    regroup : (a b c d x w : List ℕ) → (a ++ (b ++ (c ++ 58 ∷ d))) ++ (x ++ w) ≡ a ++ (b ++ (c ++ 58 ∷ ((d ++ x) ++ w)))
+    regroup a b c d x w = simp append_assoc
 
 -- a name
 name_fails : (d : ℕ) (front : List Pair) (since bs : List ℕ) (fault : JsonFault) → NamesStand front since → name_at front bs ≡ Err fault → Met d fault (since ++ bs)
@@ -217,15 +244,17 @@ opening_level d m first h = subst IsLevel (sym h.2) (level_append (padded_level 
 -- the name of a member stands in it
 opening_stood : (d : ℕ) (m : Pair) (since first : List ℕ) → IsLevel since → Opening d m first → Stood m.0 (since ++ first)
 opening_stood d m since first k h =
-    let key = h.3 in (
-      since ++ key.0,
-      key.1,
-      key.2 ++ 58 ∷ h.1,
-      ap (λ (w : List ℕ). since ++ w) (h.2 ∙ ap (λ (w : List ℕ). w ++ 58 ∷ h.1) key.3) ∙ regroup since key.0 key.1 key.2 (58 ∷ h.1),
-      level_append k (blanks_level key.0 key.4),
-      key.5,
-      level_append (blanks_level key.2 key.6) (level_append colon_level (front_level d m.1 h.1 h.4)),
-    )
+    let key = h.3 in record {
+      before = since ++ key.0;
+      v = key.1;
+      blanks = key.2;
+      after = h.1;
+      is_text = ap (λ (w : List ℕ). since ++ w) (h.2 ∙ ap (λ (w : List ℕ). w ++ 58 ∷ h.1) key.3) ∙ regroup since key.0 key.1 key.2 (58 ∷ h.1);
+      level_before = level_append k (blanks_level key.0 key.4);
+      is_name = key.5;
+      are_blanks = key.6;
+      level_after = front_level d m.1 h.1 h.4;
+    }
   where
     regroup : (a b c d w : List ℕ) → a ++ ((b ++ (c ++ d)) ++ w) ≡ (a ++ b) ++ (c ++ (d ++ w))
     regroup a b c d w = simp append_assoc
@@ -319,13 +348,16 @@ met_means RepeatedName bs m = record {
   name = m.name;
   front = m.front;
   first = m.first;
+  blanks = m.blanks;
   between = m.between;
   second = m.second;
   rest = m.rest;
   text = m.text;
   is_first = m.is_first;
+  are_blanks = m.are_blanks;
   is_second = m.is_second;
   level = m.level 0;
+  open_between = m.open_between 0;
 }
 met_means LoneSurrogate bs m = m
 met_means TooDeep bs m = record { front = m.front; rest = m.rest; text = m.text; levels = m.levels 0 }

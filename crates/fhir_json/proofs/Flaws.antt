@@ -1,5 +1,5 @@
 -- What a fault within a value says of the bytes: strings and words.
-use Rattle.std.proofs.Common.{◌≡◌, ℕ, zero, suc, ◌+◌, Bool, true, false, cond, eqb, ltb, ◌&&◌, List, [], ◌∷◌, ◌++◌, length, drop, Option, Some, None, Result, Ok, Err, refl, sym, ap, subst, ◌∙◌, append_assoc, arith, inl, inr, ◌⊎◌}
+use Rattle.std.proofs.Common.{◌≡◌, ℕ, zero, suc, ◌+◌, ◌≤◌, Bool, true, false, cond, eqb, ltb, ◌&&◌, List, [], ◌∷◌, ◌++◌, length, drop, Option, Some, None, Result, Ok, Err, refl, sym, ap, ap₂, subst, ◌∙◌, append_assoc, arith, inl, inr, ◌⊎◌}
 use Rattle.std.specs.Prelude.{encode_utf8, codes, nat_eq}
 use Rattle.std.specs.List.{starts_with}
 use Rattle.std.proofs.lemmas.Bool.{eqb-true}
@@ -7,11 +7,12 @@ use Rattle.fhir_json.specs.declared.fault.JsonFault.{JsonFault}
 use Rattle.fhir_json.specs.declared.fault.JsonFault.TheVariants.{NotUtf8, Syntax, RepeatedName, LoneSurrogate, TooDeep, Trailing, NoMemory}
 use Rattle.fhir_json.specs.Tree.{Text, null, boolean}
 use Rattle.fhir_json.specs.Number.{after_number}
-use Rattle.fhir_json.specs.Text.{short_escape, code_unit, is_high, is_low, paired, IsString}
+use Rattle.fhir_json.specs.Text.{short_escape, code_unit, is_high, is_low, paired, is_plain, IsText, done, plain, escape, IsString}
+use Rattle.fhir_json.specs.Grammar.{AreBlanks}
 use Rattle.fhir_json.specs.Reading.{◌>>=◌, under, or_fault, followed, unit_at, low_half, low_at, unicode_at, escape_at, text_at, string_at, number_before, number_at, word_at}
 use Rattle.fhir_json.specs.Faults.{opened, BeginsWithLow, HasLoneSurrogate}
 use Rattle.fhir_json.proofs.Steps.{chosen, fine, fails}
-use Rattle.fhir_json.proofs.Takes.{or_fault_is, unit_stands, escape_stands}
+use Rattle.fhir_json.proofs.Takes.{or_fault_is, unit_stands, escape_stands, plain_from}
 use Rattle.fhir_json.proofs.Levels.{IsLevel, nothing_opened}
 
 -- ---- steps
@@ -41,9 +42,11 @@ abbrev pub Flawed : JsonFault → List ℕ → Type 0
 Flawed fault bs = (fault ≡ Syntax) ⊎ ((fault ≡ LoneSurrogate) × HasLoneSurrogate bs)
 
 -- behind any text
-pub lone_moved : (v bs : List ℕ) → HasLoneSurrogate bs → HasLoneSurrogate (v ++ bs)
+lone_moved : (v bs : List ℕ) → HasLoneSurrogate bs → HasLoneSurrogate (v ++ bs)
 lone_moved v bs h = record {
   front = v ++ h.front;
+  v = h.v;
+  s = h.s;
   a = h.a;
   b = h.b;
   c = h.c;
@@ -51,14 +54,70 @@ lone_moved v bs h = record {
   unit = h.unit;
   rest = h.rest;
   text = ap (λ (w : List ℕ). v ++ w) h.text ∙ sym (append_assoc v h.front _);
+  is_text = h.is_text;
   is_unit = h.is_unit;
   alone = h.alone;
 }
 
--- behind any text
-flawed_moved : (fault : JsonFault) (v bs : List ℕ) → Flawed fault bs → Flawed fault (v ++ bs)
-flawed_moved fault v bs (inl is) = inl is
-flawed_moved fault v bs (inr h) = inr (h.0, lone_moved v bs h.1)
+-- a lone escape stands behind the well-formed front `v` of a string, from behind its quote
+record LoneInside (bs : List ℕ) : Type 0 where
+  v : List ℕ
+  s : Text
+  a : ℕ
+  b : ℕ
+  c : ℕ
+  d : ℕ
+  unit : ℕ
+  rest : List ℕ
+  text : bs ≡ v ++ 92 ∷ 117 ∷ a ∷ b ∷ c ∷ d ∷ rest
+  is_text : IsText v s
+  is_unit : code_unit a b c d ≡ Some unit
+  alone : (is_low unit ≡ true) ⊎ ((is_high unit ≡ true) × (¬ BeginsWithLow rest))
+
+-- the faults that a string may have, from behind its quote
+abbrev FlawedInside : JsonFault → List ℕ → Type 0
+FlawedInside fault bs = (fault ≡ Syntax) ⊎ ((fault ≡ LoneSurrogate) × LoneInside bs)
+
+-- behind text that is a well-formed front of a string wherever what stands behind it is one
+inside_moved : (fault : JsonFault) (before bs : List ℕ) (front : Text) → ((v s : List ℕ) → IsText v s → IsText (before ++ v) (front ++ s)) → FlawedInside fault bs → FlawedInside fault (before ++ bs)
+inside_moved fault before bs front longer (inl is) = inl is
+inside_moved fault before bs front longer (inr h) =
+    let l = h.1 in
+    inr (h.0, record {
+      v = before ++ l.v;
+      s = front ++ l.s;
+      a = l.a;
+      b = l.b;
+      c = l.c;
+      d = l.d;
+      unit = l.unit;
+      rest = l.rest;
+      text = ap (λ (w : List ℕ). before ++ w) l.text ∙ sym (append_assoc before l.v _);
+      is_text = longer l.v l.s l.is_text;
+      is_unit = l.is_unit;
+      alone = l.alone;
+    })
+
+-- with its quote before it
+behind_quote : (fault : JsonFault) (bs : List ℕ) → FlawedInside fault bs → Flawed fault (34 ∷ bs)
+behind_quote fault bs (inl is) = inl is
+behind_quote fault bs (inr h) =
+    let l = h.1 in
+    inr (h.0, record {
+      front = [];
+      v = l.v;
+      s = l.s;
+      a = l.a;
+      b = l.b;
+      c = l.c;
+      d = l.d;
+      unit = l.unit;
+      rest = l.rest;
+      text = ap (λ (w : List ℕ). 34 ∷ w) l.text;
+      is_text = l.is_text;
+      is_unit = l.is_unit;
+      alone = l.alone;
+    })
 
 -- nothing was there
 or_fault_fails : {A : Type 0} (d : JsonFault) (o : Option A) (fault : JsonFault) → or_fault d o ≡ Err fault → fault ≡ d
@@ -95,11 +154,11 @@ low_reads high bs h = (
 )
 
 -- the escape at the front of the text is alone
-lone_here : (a b c d unit : ℕ) (rest bs : List ℕ) → bs ≡ a ∷ b ∷ c ∷ d ∷ rest → code_unit a b c d ≡ Some unit → (is_low unit ≡ true) ⊎ ((is_high unit ≡ true) × (¬ BeginsWithLow rest)) → HasLoneSurrogate (92 ∷ 117 ∷ bs)
-lone_here a b c d unit rest bs e is alone = record { front = []; a = a; b = b; c = c; d = d; unit = unit; rest = rest; text = ap (λ (w : List ℕ). 92 ∷ 117 ∷ w) e; is_unit = is; alone = alone }
+lone_here : (a b c d unit : ℕ) (rest bs : List ℕ) → bs ≡ a ∷ b ∷ c ∷ d ∷ rest → code_unit a b c d ≡ Some unit → (is_low unit ≡ true) ⊎ ((is_high unit ≡ true) × (¬ BeginsWithLow rest)) → LoneInside (92 ∷ 117 ∷ bs)
+lone_here a b c d unit rest bs e is alone = record { v = []; s = []; a = a; b = b; c = c; d = d; unit = unit; rest = rest; text = ap (λ (w : List ℕ). 92 ∷ 117 ∷ w) e; is_text = done; is_unit = is; alone = alone }
 
 -- the escape of a code unit, with its `\u` before it
-unicode_fails : (bs : List ℕ) (fault : JsonFault) → unicode_at bs ≡ Err fault → Flawed fault (92 ∷ 117 ∷ bs)
+unicode_fails : (bs : List ℕ) (fault : JsonFault) → unicode_at bs ≡ Err fault → FlawedInside fault (92 ∷ 117 ∷ bs)
 unfolding unicode_at
 unicode_fails bs fault e =
     elim (bind_fails (or_fault Syntax (unit_at bs)) _ fault e) [
@@ -119,17 +178,17 @@ unicode_fails bs fault e =
     ]
 
 -- an escape, with its backslash before it
-escape_fails : (bs : List ℕ) (fault : JsonFault) → escape_at bs ≡ Err fault → Flawed fault (92 ∷ bs)
+escape_fails : (bs : List ℕ) (fault : JsonFault) → escape_at bs ≡ Err fault → FlawedInside fault (92 ∷ bs)
 unfolding escape_at
 escape_fails [] fault e = inl (fault_is Syntax fault e)
 escape_fails (b ∷ bs) fault e =
     elim (chosen (eqb b 117) _ _ _ e) [
-      | inl is ↦ subst (λ (c : ℕ). Flawed fault (92 ∷ c ∷ bs)) (sym (eqb-true b 117 is.0)) (unicode_fails bs fault is.1)
+      | inl is ↦ subst (λ (c : ℕ). FlawedInside fault (92 ∷ c ∷ bs)) (sym (eqb-true b 117 is.0)) (unicode_fails bs fault is.1)
       | inr isnt ↦ inl (or_fault_fails Syntax (followed (short_escape b) bs) fault (under_fails (λ c. c ∷ []) _ fault isnt.1))
     ]
 
 -- a string from behind its quote
-text_fails : (n : ℕ) (bs : List ℕ) (fault : JsonFault) → text_at n bs ≡ Err fault → Flawed fault bs
+text_fails : (n : ℕ) (bs : List ℕ) (fault : JsonFault) → text_at n bs ≡ Err fault → FlawedInside fault bs
 unfolding text_at
 text_fails zero bs fault e = inl (fault_is Syntax fault e)
 text_fails (suc n) [] fault e = inl (fault_is Syntax fault e)
@@ -140,16 +199,19 @@ text_fails (suc n) (b ∷ bs) fault e =
           elim (chosen (eqb b 92) _ _ _ unquoted.1) [
             | inl slash ↦
                 elim (bind_fails (escape_at bs) _ fault slash.1) [
-                  | inl broken ↦ subst (λ (c : ℕ). Flawed fault (c ∷ bs)) (sym (eqb-true b 92 slash.0)) (escape_fails bs fault broken)
+                  | inl broken ↦ subst (λ (c : ℕ). FlawedInside fault (c ∷ bs)) (sym (eqb-true b 92 slash.0)) (escape_fails bs fault broken)
                   | inr step ↦
                       let x = escape_stands bs step.0.0 step.0.1 step.1 in
                       let later = text_fails n step.0.1 fault (under_fails (λ s. step.0.0 ++ s) (text_at n step.0.1) fault step.2) in
-                      subst (λ (w : List ℕ). Flawed fault (b ∷ w)) (sym x.1) (flawed_moved fault (b ∷ x.0) step.0.1 later)
+                      let longer = inside_moved fault (92 ∷ x.0) step.0.1 step.0.0 (λ v s t. escape x.2 t refl refl) later in
+                      subst (FlawedInside fault) (ap₂ (λ (c : ℕ) (w : List ℕ). c ∷ w) (sym (eqb-true b 92 slash.0)) (sym x.1)) longer
                 ]
             | inr other ↦
                 elim (chosen (ltb b 32) _ _ _ other.1) [
                   | inl control ↦ inl (fault_is Syntax fault control.1)
-                  | inr plain ↦ flawed_moved fault (b ∷ []) bs (text_fails n bs fault (under_fails (λ s. b ∷ s) (text_at n bs) fault plain.1))
+                  | inr neither ↦
+                      let is : is_plain b ≡ true = plain_from (eqb b 34) (eqb b 92) (ltb b 32) unquoted.0 other.0 neither.0 in
+                      inside_moved fault (b ∷ []) bs (b ∷ []) (λ v s t. plain is t) (text_fails n bs fault (under_fails (λ s. b ∷ s) (text_at n bs) fault neither.1))
                 ]
           ]
     ]
@@ -160,7 +222,7 @@ unfolding string_at
 string_fails [] fault e = inl (fault_is Syntax fault e)
 string_fails (b ∷ bs) fault e =
     elim (chosen (eqb b 34) _ _ _ e) [
-      | inl quote ↦ flawed_moved fault (b ∷ []) bs (text_fails (length bs) bs fault quote.1)
+      | inl quote ↦ subst (λ (c : ℕ). Flawed fault (c ∷ bs)) (sym (eqb-true b 34 quote.0)) (behind_quote fault bs (text_fails (length bs) bs fault quote.1))
       | inr other ↦ inl (fault_is Syntax fault other.1)
     ]
 
@@ -194,18 +256,22 @@ word_fails bs fault e =
 
 -- ---- what a fault says from where a value is expected
 
--- two strings that are one name stand in the text, at one level, however many are open before the text
+-- a name and its colon stand in the text, and a string that is the same name behind it, at one level and in the same
+-- object, however many are open before the text
 pub record Repeats (bs : List ℕ) : Type 0 where
   pub name : Text
   pub front : List ℕ
   pub first : List ℕ
+  pub blanks : List ℕ
   pub between : List ℕ
   pub second : List ℕ
   pub rest : List ℕ
-  pub text : bs ≡ front ++ (first ++ (between ++ (second ++ rest)))
+  pub text : bs ≡ front ++ (first ++ (blanks ++ 58 ∷ (between ++ (second ++ rest))))
   pub is_first : IsString name first
+  pub are_blanks : AreBlanks blanks
   pub is_second : IsString name second
-  pub level : (n : ℕ) → opened n front ≡ opened n (front ++ (first ++ between))
+  pub level : (n : ℕ) → opened n front ≡ opened n (front ++ (first ++ (blanks ++ 58 ∷ between)))
+  pub open_between : (n : ℕ) (part more : List ℕ) → between ≡ part ++ more → opened n front ≤ opened n (front ++ (first ++ (blanks ++ 58 ∷ part)))
 
 -- a front of the text opens one level more than the d that it may open
 pub record Exceeds (d : ℕ) (bs : List ℕ) : Type 0 where
@@ -224,6 +290,14 @@ Met d TooDeep bs = Exceeds d bs
 Met d Trailing bs = ⊥
 Met d NoMemory bs = ⊥
 
+-- the level behind two texts
+opened_behind : (v front w : List ℕ) (n m : ℕ) → ((more : List ℕ) → opened n (v ++ more) ≡ opened m more) → opened n ((v ++ front) ++ w) ≡ opened m (front ++ w)
+opened_behind v front w n m opens = ap (opened n) (append_assoc v front w) ∙ opens (front ++ w)
+
+-- an order between two numbers that are equal to others
+pub at_most_from : {a b c d : ℕ} → a ≡ c → b ≡ d → c ≤ d → a ≤ b
+at_most_from p q h = omega arith
+
 -- behind a front that opens as many levels as the allowance falls by
 shifted : (outer inner : ℕ) (fault : JsonFault) (v bs : List ℕ) (up : ℕ → ℕ) → ((n : ℕ) (more : List ℕ) → opened n (v ++ more) ≡ opened (up n) more) → ((n : ℕ) → up n + inner ≡ n + outer) → Met inner fault bs → Met outer fault (v ++ bs)
 shifted outer inner NotUtf8 v bs up opens sum m = m
@@ -232,13 +306,16 @@ shifted outer inner RepeatedName v bs up opens sum m = record {
   name = m.name;
   front = v ++ m.front;
   first = m.first;
+  blanks = m.blanks;
   between = m.between;
   second = m.second;
   rest = m.rest;
   text = ap (λ (w : List ℕ). v ++ w) m.text ∙ sym (append_assoc v m.front _);
   is_first = m.is_first;
+  are_blanks = m.are_blanks;
   is_second = m.is_second;
-  level = λ n. opens n m.front ∙ m.level (up n) ∙ sym (opens n (m.front ++ (m.first ++ m.between))) ∙ ap (opened n) (sym (append_assoc v m.front (m.first ++ m.between)));
+  level = λ n. opens n m.front ∙ m.level (up n) ∙ sym (opened_behind v m.front _ n (up n) (opens n));
+  open_between = λ n part more e. at_most_from (opens n m.front) (opened_behind v m.front _ n (up n) (opens n)) (m.open_between (up n) part more e);
 }
 shifted outer inner LoneSurrogate v bs up opens sum m = lone_moved v bs m
 shifted outer inner TooDeep v bs up opens sum m = record {

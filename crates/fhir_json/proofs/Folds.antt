@@ -79,9 +79,9 @@ module _ {A : Type 0} (numbers : A → Bool) (texts : A → List Bool) where
 
   pub parts_push : (xs : List A) (x : A) (before between after : List ℕ) → PartsLend xs before between → PartLends x between after → PartsLend (xs ++ x ∷ []) before after
   parts_push xs x before between after h k = (
-      ap are_lent (map_push numbers xs x) ∙ are_push (map numbers xs) (numbers x) h.0 k.0,
-      h.1 ∙ ap (λ (fs : List Bool). joined (map texts xs) ++ fs) k.1 ∙ sym (append_assoc (joined (map texts xs)) (texts x) (plain_strings after))
-          ∙ ap (λ (fs : List Bool). fs ++ plain_strings after) (sym (ap joined (map_push texts xs x) ∙ joined_push (map texts xs) (texts x))),
+    ap are_lent (map_push numbers xs x) ∙ are_push (map numbers xs) (numbers x) h.0 k.0,
+    h.1 ∙ ap (λ (fs : List Bool). joined (map texts xs) ++ fs) k.1 ∙ sym (append_assoc (joined (map texts xs)) (texts x) (plain_strings after))
+        ∙ ap (λ (fs : List Bool). fs ++ plain_strings after) (sym (ap joined (map_push texts xs x) ∙ joined_push (map texts xs) (texts x))),
   )
 
   pub parts_none : (before after : List ℕ) → plain_strings before ≡ plain_strings after → PartsLend [] before after

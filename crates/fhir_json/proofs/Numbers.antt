@@ -110,8 +110,7 @@ number_taken bs rest e =
     let m = minus_taken bs in
     let w = whole_taken (after_minus bs) f.0 f.1 in
     let fraction = fraction_taken f.0 x.0 f.2 in
-    let exponent = exponent_taken x.0 rest x.2 in
-    (
+    let exponent = exponent_taken x.0 rest x.2 in (
       m.0 ++ (w.0 ++ (fraction.0 ++ exponent.0)),
       m.1 ∙ ap (λ (v : List ℕ). m.0 ++ v) (w.1 ∙ ap (λ (v : List ℕ). w.0 ++ v) (fraction.1 ∙ ap (λ (v : List ℕ). fraction.0 ++ v) exponent.1))
           ∙ regroup m.0 w.0 fraction.0 exponent.0 rest,
@@ -348,8 +347,7 @@ number_cut bs rest e =
     let all = number_all (λ b. b < 128) digit_ascii (lit< tt) (lit< tt) (lit< tt) (lit< tt) (lit< tt) t.0 t.2 in
     let k : length bs - length rest ≡ length t.0 = omega (arith, ap length t.1, length-append t.0 rest) in
     let some : 0 < length t.0 = not_empty t.0 t.2 in
-    let last : get_or bs (length t.0 - 1) 0 < 128 = subst (λ (w : List ℕ). get_or w (length t.0 - 1) 0 < 128) (sym t.1) (last_ascii t.0 rest all some) in
-    (
+    let last : get_or bs (length t.0 - 1) 0 < 128 = subst (λ (w : List ℕ). get_or w (length t.0 - 1) 0 < 128) (sym t.1) (last_ascii t.0 rest all some) in (
       omega (arith, ap length t.1, length-append t.0 rest),
       record { some = omega (arith, some, k); within = omega arith; ascii = subst (λ (i : ℕ). get_or bs (i - 1) 0 < 128) (sym k) last },
     )

@@ -118,7 +118,7 @@ escape_stands (b ∷ bs) s rest e =
     ]
 
 -- a byte that is no quote, no backslash and no control is plain
-plain_from : (x y z : Bool) → x ≡ false → y ≡ false → z ≡ false → not ((x || y) || z) ≡ true
+pub plain_from : (x y z : Bool) → x ≡ false → y ≡ false → z ≡ false → not ((x || y) || z) ≡ true
 plain_from x y z p q r = rw (p, q, r) refl
 
 pub text_stands : (n : ℕ) (bs s rest : List ℕ) → text_at n bs ≡ Ok (s, rest) → (v : List ℕ) × (bs ≡ v ++ 34 ∷ rest) × IsText v s
@@ -182,7 +182,6 @@ same_from_pointwise (x ∷ p) (y ∷ q) h =
 pub starts : (bs p : List ℕ) → starts_with nat_eq bs p ≡ true → bs ≡ p ++ drop (length p) bs
 starts bs p h = sym (take-append-drop (length p) bs) ∙ ap (λ (w : List ℕ). w ++ drop (length p) bs) (sym (same_from_pointwise p (take (length p) bs) h))
 
-
 -- the front of the text spells the tree, which is a scalar
 abbrev pub Stands : Tree → List ℕ → List ℕ → Type 0
 Stands t bs rest = (v : List ℕ) × (bs ≡ v ++ rest) × Spells t v × IsScalar t
@@ -194,8 +193,7 @@ moved t u bs r s e h = let p = ok_is (t, r) (u, s) e in subst (λ (q : Tree × L
 pub cut_number : (bs rest : List ℕ) → after_number bs ≡ Some rest → (n : List ℕ) × (bs ≡ n ++ rest) × IsNumber n × (take (length bs - length rest) bs ≡ n) × (drop (length bs - length rest) bs ≡ rest)
 cut_number bs rest e =
     let t = number_taken bs rest e in
-    let at : length bs - length rest ≡ length t.0 = omega (arith, ap length t.1, length-append t.0 rest) in
-    (
+    let at : length bs - length rest ≡ length t.0 = omega (arith, ap length t.1, length-append t.0 rest) in (
       t.0,
       t.1,
       t.2,

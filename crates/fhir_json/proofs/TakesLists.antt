@@ -239,7 +239,7 @@ field d value front bs m rest e =
     let v = value colon.0 later.0.0 later.0.1 later.1 in
     let key : List ℕ = name.0 ++ (name.1 ++ after.0) in
     let text : bs ≡ (key ++ 58 ∷ v.0) ++ later.0.1 =
-        name.2 ∙ ap (λ (w : List ℕ). name.0 ++ (name.1 ++ w)) (after.1 ∙ ap (λ (w : List ℕ). after.0 ++ w) (c ∙ ap (λ (w : List ℕ). 58 ∷ w) v.1)) ∙ regroup name.0 name.1 after.0 v.0 later.0.1 in
+    name.2 ∙ ap (λ (w : List ℕ). name.0 ++ (name.1 ++ w)) (after.1 ∙ ap (λ (w : List ℕ). after.0 ++ w) (c ∙ ap (λ (w : List ℕ). 58 ∷ w) v.1)) ∙ regroup name.0 name.1 after.0 v.0 later.0.1 in
     let made : Pair = (step.0.0, later.0.0) in
     let p = ok_is (made, later.0.1) (m, rest) later.2 in
     let padded : Padded (IsString step.0.0) key = (name.0, name.1, after.0, refl, name.3, name.4, after.2) in

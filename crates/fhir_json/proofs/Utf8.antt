@@ -91,8 +91,7 @@ unit_ascii a b c d u e =
     let is = some_if (is_digit a 16 && is_digit b 16 && is_digit c 16 && is_digit d 16) _ u e in
     let three = and_parts (is_digit a 16 && is_digit b 16 && is_digit c 16) (is_digit d 16) is.0 in
     let two = and_parts (is_digit a 16 && is_digit b 16) (is_digit c 16) three.0 in
-    let one = and_parts (is_digit a 16) (is_digit b 16) two.0 in
-    (
+    let one = and_parts (is_digit a 16) (is_digit b 16) two.0 in (
       (hex_ascii a one.0, (hex_ascii b one.1, (hex_ascii c two.1, (hex_ascii d three.1, tt)))),
       omega (arith, is.1, hex_value a one.0, hex_value b one.1, hex_value c two.1, hex_value d three.1),
     )

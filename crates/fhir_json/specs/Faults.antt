@@ -1,11 +1,11 @@
 -- What a fault says of the bytes, in the grammar's words.
-use Rattle.std.specs.Prelude.{◌≡◌, ℕ, suc, ◌-◌, List, [], ◌∷◌, ◌++◌, Bool, true, false, ◌||◌, ◌==◌, ◌⊎◌, if◌then◌else◌, Some, IsUtf8}
+use Rattle.std.specs.Prelude.{◌≡◌, ◌≤◌, ℕ, suc, ◌-◌, List, [], ◌∷◌, ◌++◌, Bool, true, false, ◌||◌, ◌==◌, ◌⊎◌, if◌then◌else◌, Some, IsUtf8}
 use Rattle.fhir_json.specs.declared.fault.JsonFault.{JsonFault}
 use Rattle.fhir_json.specs.declared.fault.JsonFault.TheVariants.{NotUtf8, Syntax, RepeatedName, LoneSurrogate, TooDeep, Trailing, NoMemory}
 use Rattle.fhir_json.specs.Tree.{Text, Tree}
-use Rattle.fhir_json.specs.Text.{code_unit, is_high, is_low, IsString}
+use Rattle.fhir_json.specs.Text.{code_unit, is_high, is_low, IsText, IsString}
 use Rattle.fhir_json.specs.Sound.{max_depth}
-use Rattle.fhir_json.specs.Grammar.{is_blank, IsTextOf}
+use Rattle.fhir_json.specs.Grammar.{is_blank, AreBlanks, IsTextOf}
 
 -- ---- nesting
 
@@ -35,18 +35,22 @@ pub record IsTooDeep (bytes : List ℕ) : Type 0 where
 
 -- ---- names
 
--- two strings that are one name stand in the text, with as many levels open before the one as before the other
+-- a name and its colon stand in the text, and behind it, in the same object, a string that is the same name: no front of
+-- what stands between them closes what was open before the first
 pub record HasRepeatedName (bytes : List ℕ) : Type 0 where
   pub name : Text
   pub front : List ℕ
   pub first : List ℕ
+  pub blanks : List ℕ
   pub between : List ℕ
   pub second : List ℕ
   pub rest : List ℕ
-  pub text : bytes ≡ front ++ (first ++ (between ++ (second ++ rest)))
+  pub text : bytes ≡ front ++ (first ++ (blanks ++ 58 ∷ (between ++ (second ++ rest))))
   pub is_first : IsString name first
+  pub are_blanks : AreBlanks blanks
   pub is_second : IsString name second
-  pub level : opened 0 front ≡ opened 0 (front ++ (first ++ between))
+  pub level : opened 0 front ≡ opened 0 (front ++ (first ++ (blanks ++ 58 ∷ between)))
+  pub open_between : (part more : List ℕ) → between ≡ part ++ more → opened 0 front ≤ opened 0 (front ++ (first ++ (blanks ++ 58 ∷ part)))
 
 -- ---- surrogates
 
@@ -54,16 +58,20 @@ pub record HasRepeatedName (bytes : List ℕ) : Type 0 where
 abbrev pub BeginsWithLow : List ℕ → Type 0
 BeginsWithLow bs = (a b c d unit : ℕ) × (rest : List ℕ) × (bs ≡ 92 ∷ 117 ∷ a ∷ b ∷ c ∷ d ∷ rest) × (code_unit a b c d ≡ Some unit) × (is_low unit ≡ true)
 
--- somewhere in the text stands the escape of a lower half with no upper half before it, or of an upper half that no lower half follows
+-- behind a quote and the front `v` of a string, which is well formed, stands the escape of a lower half, or of an upper
+-- half that no lower half follows
 pub record HasLoneSurrogate (bytes : List ℕ) : Type 0 where
   pub front : List ℕ
+  pub v : List ℕ
+  pub s : Text
   pub a : ℕ
   pub b : ℕ
   pub c : ℕ
   pub d : ℕ
   pub unit : ℕ
   pub rest : List ℕ
-  pub text : bytes ≡ front ++ 92 ∷ 117 ∷ a ∷ b ∷ c ∷ d ∷ rest
+  pub text : bytes ≡ front ++ 34 ∷ (v ++ 92 ∷ 117 ∷ a ∷ b ∷ c ∷ d ∷ rest)
+  pub is_text : IsText v s
   pub is_unit : code_unit a b c d ≡ Some unit
   pub alone : (is_low unit ≡ true) ⊎ ((is_high unit ≡ true) × (¬ BeginsWithLow rest))
 

@@ -61,10 +61,12 @@ fn name_of<'a>(
     text: &'a str,
 ) -> Result<(CowStr<'a>, &'a str), JsonFault>
     requires { HoldsIfAny seen.old (names (members_view found.now)) }
-    ensures value { GivesOr is_memory (λ x. (cow_str_bytes x.0, x.1.now)) result (name_at (map pair_of found.now) text.now) }
+    ensures value { GivesOr is_memory (λ x. (cow_str_bytes x.0, x.1.now)) result
+        (name_at (map pair_of found.now) text.now) }
     ensures shorter { IfOk result (λ x. length x.1.now < length text.now) }
     ensures lent { IfOk result (λ x. plain_strings text.now ≡ is_lent x.0 ∷ plain_strings x.1.now) }
-    ensures holds { IfOk result (λ x. HoldsIfAny seen.new (names (members_view found.now) ++ cow_str_bytes x.0 ∷ [])) }
+    ensures holds { IfOk result (λ x. HoldsIfAny seen.new
+        (names (members_view found.now) ++ cow_str_bytes x.0 ∷ [])) }
 {
     let (name, rest) = string_of(alloc, after_blanks(text))?;
     if !is_new(seen, found, &name)? {
@@ -92,7 +94,11 @@ fn after_colon(text: &str) -> Result<&str, JsonFault>
 // A value behind blanks.
 #[cycle(read)]
 #[tactic(auto, unfolding(crate::specs::Reading::value_at))]
-fn value_of<'a>(alloc: Global, depth: usize, text: &'a str) -> Result<(Json<'a>, &'a str), JsonFault>
+fn value_of<'a>(
+    alloc: Global,
+    depth: usize,
+    text: &'a str,
+) -> Result<(Json<'a>, &'a str), JsonFault>
     ensures value { GivesOr is_memory (λ x. (tree_of x.0, x.1.now)) result (value_at depth text.now) }
     ensures shorter { IfOk result (λ x. length x.1.now < length text.now) }
     ensures lent { IfOk result (λ x. Lends x.0 text.now x.1.now) }
@@ -124,7 +130,11 @@ fn value_of<'a>(alloc: Global, depth: usize, text: &'a str) -> Result<(Json<'a>,
 
 // The items of an array, from behind its bracket.
 #[cycle(read)]
-fn items_of<'a>(alloc: Global, depth: usize, text: &'a str) -> Result<(Vec<Json<'a>>, &'a str), JsonFault>
+fn items_of<'a>(
+    alloc: Global,
+    depth: usize,
+    text: &'a str,
+) -> Result<(Vec<Json<'a>>, &'a str), JsonFault>
     ensures value { GivesOr is_memory (λ x. (map tree_of x.0.items, x.1.now)) result
         (list_at 93 (λ front. value_at depth) text.now) }
     ensures shorter { IfOk result (λ x. length x.1.now < length text.now) }
@@ -170,7 +180,8 @@ fn member_of<'a>(
         (member_at (value_at depth) (map pair_of found.now) text.now) }
     ensures shorter { IfOk result (λ x. length x.1.now < length text.now) }
     ensures lent { IfOk result (λ x. MemberLends x.0 text.now x.1.now) }
-    ensures holds { IfOk result (λ x. HoldsIfAny seen.new (names (members_view (found.now ++ x.0 ∷ [])))) }
+    ensures holds { IfOk result (λ x. HoldsIfAny seen.new
+        (names (members_view (found.now ++ x.0 ∷ [])))) }
 {
     let (name, rest) = name_of(alloc, seen, found, text)?;
     let rest = after_colon(rest)?;
@@ -180,7 +191,11 @@ fn member_of<'a>(
 
 // The members of an object, from behind its brace.
 #[cycle(read)]
-fn members_of<'a>(alloc: Global, depth: usize, text: &'a str) -> Result<(Vec<Member<'a>>, &'a str), JsonFault>
+fn members_of<'a>(
+    alloc: Global,
+    depth: usize,
+    text: &'a str,
+) -> Result<(Vec<Member<'a>>, &'a str), JsonFault>
     ensures value { GivesOr is_memory (λ x. (map pair_of x.0.items, x.1.now)) result
         (list_at 125 (member_at (value_at depth)) text.now) }
     ensures shorter { IfOk result (λ x. length x.1.now < length text.now) }

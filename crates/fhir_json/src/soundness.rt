@@ -12,8 +12,8 @@ use crate::json::{Json, Member};
 use crate::number::is_number;
 use crate::uniqueness::has_name;
 
-/// Whether each number of the tree is in the grammar and no object has a name twice. It takes no memory, sets no limit
-/// to depth, and compares each two names of an object.
+/// Whether the tree is sound: each number is in the grammar of RFC 8259, section 6, and no object has a name twice
+/// (section 4). It takes no memory, sets no limit to depth, and compares each two names of an object.
 pub fn sound(json: &Json<'_>) -> bool
     ensures { IsTrue result ↔ IsSound (tree_of json.now) }
 {

@@ -213,7 +213,10 @@ fn text_of<'a>(alloc: Global, text: &'a str) -> Result<(CowStr<'a>, &'a str), Js
 }
 
 // The string from its quote.
-pub(crate) fn string_of<'a>(alloc: Global, text: &'a str) -> Result<(CowStr<'a>, &'a str), JsonFault>
+pub(crate) fn string_of<'a>(
+    alloc: Global,
+    text: &'a str,
+) -> Result<(CowStr<'a>, &'a str), JsonFault>
     ensures value { GivesOr is_memory (λ x. (cow_str_bytes x.0, x.1.now)) result (string_at text.now) }
     ensures shorter { IfOk result (λ x. length x.1.now < length text.now) }
     ensures lent { IfOk result (λ x. plain_strings text.now ≡ is_lent x.0 ∷ plain_strings x.1.now) }

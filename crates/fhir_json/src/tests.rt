@@ -59,11 +59,25 @@ fn faults(rt: HostRuntime) -> Result<(), Fail> {
         ("\u{feff}\u{feff}1", JsonFault::Syntax, "J2"),
     ];
     for (text, fault, printed) in cases {
-        assert_eq!(rt; read(rt.alloc(), text.as_bytes()).err(), Some(fault), "at {text}");
-        assert_eq!(rt; format!(in rt.alloc(); "{fault}")?.as_str(), printed, "at {text}");
+        assert_eq!(rt;
+            read(rt.alloc(), text.as_bytes()).err(),
+            Some(fault),
+            "at {text}"
+        );
+        assert_eq!(rt;
+            format!(in rt.alloc(); "{fault}")?.as_str(),
+            printed,
+            "at {text}"
+        );
     }
-    assert_eq!(rt; read(rt.alloc(), &[0x22, 0xff, 0x22]).err(), Some(JsonFault::NotUtf8));
-    assert_eq!(rt; format!(in rt.alloc(); "{}{}", JsonFault::NotUtf8, JsonFault::NoMemory)?.as_str(), "J1J7");
+    assert_eq!(rt;
+        read(rt.alloc(), &[0x22, 0xff, 0x22]).err(),
+        Some(JsonFault::NotUtf8)
+    );
+    assert_eq!(rt;
+        format!(in rt.alloc(); "{}{}", JsonFault::NotUtf8, JsonFault::NoMemory)?.as_str(),
+        "J1J7"
+    );
     assert_eq!(rt; format!(in rt.alloc(); "{NoMemory}")?.as_str(), "no memory");
     Ok(())
 }
@@ -95,7 +109,11 @@ fn fronts(rt: HostRuntime) -> Result<(), Fail> {
         let mut bytes = text.to_vec(alloc)?;
         assert!(rt; n < bytes.len());
         bytes[n] = 0xff;
-        assert_eq!(rt; read(alloc, &bytes).err(), Some(JsonFault::NotUtf8), "at {n}");
+        assert_eq!(rt;
+            read(alloc, &bytes).err(),
+            Some(JsonFault::NotUtf8),
+            "at {n}"
+        );
     }
     Ok(())
 }
@@ -107,17 +125,34 @@ fn written_back(rt: HostRuntime) -> Result<(), Fail> {
         ("\u{feff}{}", "{}"),
         ("[0.010,1E2]", "[0.010,1E2]"),
         ("[-0, 1.50, 12e-3, 1E+2]", "[-0,1.50,12e-3,1E+2]"),
-        (" { \"b\" : null , \"a\" : [ true , false ] } ", "{\"b\":null,\"a\":[true,false]}"),
-        ("\"\\u0000\\b\\f\\n\\r\\t\\u001f\\\"\\\\\\/\"", "\"\\u0000\\b\\f\\n\\r\\t\\u001f\\\"\\\\/\""),
-        ("\"\\u0041\\u00e9\\u20ac\\ud83d\\ude00\"", "\"A\u{e9}\u{20ac}\u{1f600}\""),
+        (
+            " { \"b\" : null , \"a\" : [ true , false ] } ",
+            "{\"b\":null,\"a\":[true,false]}",
+        ),
+        (
+            "\"\\u0000\\b\\f\\n\\r\\t\\u001f\\\"\\\\\\/\"",
+            "\"\\u0000\\b\\f\\n\\r\\t\\u001f\\\"\\\\/\"",
+        ),
+        (
+            "\"\\u0041\\u00e9\\u20ac\\ud83d\\ude00\"",
+            "\"A\u{e9}\u{20ac}\u{1f600}\"",
+        ),
         ("\"\u{7f}\u{2028}\"", "\"\u{7f}\u{2028}\""),
     ];
     for (text, want) in cases {
         let json = read(alloc, text.as_bytes()).ok().ok_or("not read")?;
         assert!(rt; sound(&json), "at {text}");
-        assert_eq!(rt; write(alloc, &json).ok().ok_or("not written")?.as_slice(), want.as_bytes(), "at {text}");
+        assert_eq!(rt;
+            write(alloc, &json).ok().ok_or("not written")?.as_slice(),
+            want.as_bytes(),
+            "at {text}"
+        );
         let kept = json.detach(alloc).ok().ok_or("not detached")?;
-        assert_eq!(rt; write(alloc, &kept).ok().ok_or("not written")?.as_slice(), want.as_bytes(), "at {text}");
+        assert_eq!(rt;
+            write(alloc, &kept).ok().ok_or("not written")?.as_slice(),
+            want.as_bytes(),
+            "at {text}"
+        );
     }
     Ok(())
 }
@@ -166,7 +201,11 @@ fn wide_objects(rt: HostRuntime) -> Result<(), Fail> {
         assert!(rt; read(alloc, fine.as_bytes()).is_ok(), "at {n}");
         for twice in ["\"n0\":null", "\"\\u006e0\":null"] {
             let text = wide(alloc, n, twice)?;
-            assert_eq!(rt; read(alloc, text.as_bytes()).err(), Some(JsonFault::RepeatedName), "at {n}");
+            assert_eq!(rt;
+                read(alloc, text.as_bytes()).err(),
+                Some(JsonFault::RepeatedName),
+                "at {n}"
+            );
         }
     }
     Ok(())
@@ -198,7 +237,8 @@ fn unsound_trees(rt: HostRuntime) -> Result<(), Fail> {
 
 #[test]
 fn fields(rt: HostRuntime) -> Result<(), Fail> {
-    let text = "{\"id\":\"x\",\"min\":3,\"on\":true,\"list\":[\"a\",\"b\"],\"fixedCode\":\"c\",\"mixed\":[1]}";
+    let text =
+        "{\"id\":\"x\",\"min\":3,\"on\":true,\"list\":[\"a\",\"b\"],\"fixedCode\":\"c\",\"mixed\":[1]}";
     let json = read(rt.alloc(), text.as_bytes()).ok().ok_or("not read")?;
     assert!(rt; is_object(&json) && !is_array(&json));
     assert_eq!(rt; text_in(&json, "id"), Some("x"));
@@ -208,10 +248,21 @@ fn fields(rt: HostRuntime) -> Result<(), Fail> {
     assert_eq!(rt; items_in(&json, "list").len(), 2);
     let last = items_in(&json, "list").last().ok_or("none")?;
     assert_eq!(rt; text_or_empty(last), "b");
-    assert_eq!(rt; choice_in(&json, "fixed").and_then(|value| as_text(value)), Some("c"));
-    assert_eq!(rt; field(&json, "min").and_then(|value| as_number(value)), Some("3"));
-    assert_eq!(rt; field(&json, "on").and_then(|value| as_flag(value)), Some(true));
-    assert!(rt; allows_text(&json, "id") && allows_text(&json, "none") && !allows_text(&json, "min"));
+    assert_eq!(rt;
+        choice_in(&json, "fixed").and_then(|value| as_text(value)),
+        Some("c")
+    );
+    assert_eq!(rt;
+        field(&json, "min").and_then(|value| as_number(value)),
+        Some("3")
+    );
+    assert_eq!(rt;
+        field(&json, "on").and_then(|value| as_flag(value)),
+        Some(true)
+    );
+    assert!(rt;
+        allows_text(&json, "id") && allows_text(&json, "none") && !allows_text(&json, "min")
+    );
     assert!(rt; allows_count(&json, "min") && !allows_count(&json, "id"));
     assert!(rt; allows_flag(&json, "on") && !allows_flag(&json, "id"));
     assert!(rt; allows_items(&json, "mixed") && !allows_items(&json, "id"));

@@ -33,7 +33,7 @@ items_of-returns-then-b-eq93-clause-lent t c =
     let behind : c.behind.result.now ≡ drop 1 c.as_bytes.result.now = grind arith in
     let e : get_or c.as_bytes.result.now 0 0 ≡ 93 = grind arith in
     let same : plain_strings c.args.text.now ≡ plain_strings c.behind.result.now =
-        sym (blanks_lend c.args.text.now) ∙ ap plain_strings (sym at) ∙ byte_lends c.as_bytes.result.now (omega arith) (λ is. omega arith) ∙ ap plain_strings (sym behind) in
+    sym (blanks_lend c.args.text.now) ∙ ap plain_strings (sym at) ∙ byte_lends c.as_bytes.result.now (omega arith) (λ is. omega arith) ∙ ap plain_strings (sym behind) in
     rw c.new-found.ensures.items (parts_none numbers_lent texts_lent c.args.text.now c.behind.result.now same)
 
 pub items_of-items-init : goal.items_of-items-init
@@ -83,7 +83,7 @@ items_of-returns-then-b-eq93-2-clause-lent t c =
     let behind : c.behind-then-b-eq93-2.result.now ≡ drop 1 c.as_bytes-in-items.result.now = grind arith in
     let e : get_or c.as_bytes-in-items.result.now 0 0 ≡ 93 = grind arith in
     let same : plain_strings c.in_ok-item.after.now ≡ plain_strings c.behind-then-b-eq93-2.result.now =
-        sym (blanks_lend c.in_ok-item.after.now) ∙ ap plain_strings (sym at) ∙ byte_lends c.as_bytes-in-items.result.now (omega arith) (λ is. omega arith) ∙ ap plain_strings (sym behind) in
+    sym (blanks_lend c.in_ok-item.after.now) ∙ ap plain_strings (sym at) ∙ byte_lends c.as_bytes-in-items.result.now (omega arith) (λ is. omega arith) ∙ ap plain_strings (sym behind) in
     rw (c.in_ok-push.ensures.items, ← same) (parts_push numbers_lent texts_lent c.items.found.items c.in_ok-item.item c.args.text.now c.items.rest.now c.in_ok-item.after.now inv.5 c.in_ok-item.ensures.lent)
 
 pub items_of-items-preserved : goal.items_of-items-preserved
@@ -98,7 +98,7 @@ items_of-items-preserved t c =
     let no_longer : length c.as_bytes-in-items.result.now ≤ length c.in_ok-item.after.now = grind arith in
     let e : get_or c.as_bytes-in-items.result.now 0 0 ≡ 44 = grind arith in
     let same : plain_strings c.in_ok-item.after.now ≡ plain_strings c.behind-rest.result.now =
-        sym (blanks_lend c.in_ok-item.after.now) ∙ ap plain_strings (sym at) ∙ byte_lends c.as_bytes-in-items.result.now (omega arith) (λ is. omega arith) ∙ ap plain_strings (sym behind) in (
+    sym (blanks_lend c.in_ok-item.after.now) ∙ ap plain_strings (sym at) ∙ byte_lends c.as_bytes-in-items.result.now (omega arith) (λ is. omega arith) ∙ ap plain_strings (sym behind) in (
       search rules,
       on.0,
       omega (arith, ap length behind, less, shorter, no_longer, on.1, inv.2),
@@ -127,7 +127,7 @@ members_of-returns-then-b-eq125-clause-lent t c =
     let behind : c.behind.result.now ≡ drop 1 c.as_bytes.result.now = grind arith in
     let e : get_or c.as_bytes.result.now 0 0 ≡ 125 = grind arith in
     let same : plain_strings c.args.text.now ≡ plain_strings c.behind.result.now =
-        sym (blanks_lend c.args.text.now) ∙ ap plain_strings (sym at) ∙ byte_lends c.as_bytes.result.now (omega arith) (λ is. omega arith) ∙ ap plain_strings (sym behind) in
+    sym (blanks_lend c.args.text.now) ∙ ap plain_strings (sym at) ∙ byte_lends c.as_bytes.result.now (omega arith) (λ is. omega arith) ∙ ap plain_strings (sym behind) in
     rw c.new-found.ensures.items (parts_none member_numbers_lent member_texts_lent c.args.text.now c.behind.result.now same)
 
 pub members_of-members-init : goal.members_of-members-init
@@ -178,7 +178,7 @@ members_of-returns-then-b-eq125-2-clause-lent t c =
     let behind : c.behind-then-b-eq125-2.result.now ≡ drop 1 c.as_bytes-in-members.result.now = grind arith in
     let e : get_or c.as_bytes-in-members.result.now 0 0 ≡ 125 = grind arith in
     let same : plain_strings c.in_ok-member.after.now ≡ plain_strings c.behind-then-b-eq125-2.result.now =
-        sym (blanks_lend c.in_ok-member.after.now) ∙ ap plain_strings (sym at) ∙ byte_lends c.as_bytes-in-members.result.now (omega arith) (λ is. omega arith) ∙ ap plain_strings (sym behind) in
+    sym (blanks_lend c.in_ok-member.after.now) ∙ ap plain_strings (sym at) ∙ byte_lends c.as_bytes-in-members.result.now (omega arith) (λ is. omega arith) ∙ ap plain_strings (sym behind) in
     rw (c.in_ok-push.ensures.items, ← same) (parts_push member_numbers_lent member_texts_lent c.members.found.items c.in_ok-member.member c.args.text.now c.members.rest.now c.in_ok-member.after.now inv.5 c.in_ok-member.ensures.lent)
 
 pub members_of-members-preserved : goal.members_of-members-preserved
@@ -193,7 +193,7 @@ members_of-members-preserved t c =
     let no_longer : length c.as_bytes-in-members.result.now ≤ length c.in_ok-member.after.now = grind arith in
     let e : get_or c.as_bytes-in-members.result.now 0 0 ≡ 44 = grind arith in
     let same : plain_strings c.in_ok-member.after.now ≡ plain_strings c.behind-rest.result.now =
-        sym (blanks_lend c.in_ok-member.after.now) ∙ ap plain_strings (sym at) ∙ byte_lends c.as_bytes-in-members.result.now (omega arith) (λ is. omega arith) ∙ ap plain_strings (sym behind) in (
+    sym (blanks_lend c.in_ok-member.after.now) ∙ ap plain_strings (sym at) ∙ byte_lends c.as_bytes-in-members.result.now (omega arith) (λ is. omega arith) ∙ ap plain_strings (sym behind) in (
       search rules,
       on.0,
       omega (arith, ap length behind, less, shorter, no_longer, on.1, inv.2),
@@ -232,7 +232,7 @@ value_of-returns-then-b-eq91-clause-lent t c =
     let behind : c.behind.result.now ≡ drop 1 c.as_bytes.result.now = grind arith in
     let e : get_or c.as_bytes.result.now 0 0 ≡ 91 = grind arith in
     let same : plain_strings c.args.text.now ≡ plain_strings c.behind.result.now =
-        sym (blanks_lend c.args.text.now) ∙ ap plain_strings (sym at) ∙ byte_lends c.as_bytes.result.now (omega arith) (λ is. omega arith) ∙ ap plain_strings (sym behind) in
+    sym (blanks_lend c.args.text.now) ∙ ap plain_strings (sym at) ∙ byte_lends c.as_bytes.result.now (omega arith) (λ is. omega arith) ∙ ap plain_strings (sym behind) in
     let lent = c.in_ok-items.ensures.lent in
     lends _ (joined (map texts_lent c.in_ok-items.items.items)) c.args.text.now c.in_ok-items.rest.now (numbers-arr c.in_ok-items.items ∙ lent.0) (texts-arr c.in_ok-items.items) (same ∙ lent.1)
 
@@ -242,7 +242,7 @@ value_of-returns-then-b-eq123-clause-lent t c =
     let behind : c.behind-then-b-eq123.result.now ≡ drop 1 c.as_bytes.result.now = grind arith in
     let e : get_or c.as_bytes.result.now 0 0 ≡ 123 = grind arith in
     let same : plain_strings c.args.text.now ≡ plain_strings c.behind-then-b-eq123.result.now =
-        sym (blanks_lend c.args.text.now) ∙ ap plain_strings (sym at) ∙ byte_lends c.as_bytes.result.now (omega arith) (λ is. omega arith) ∙ ap plain_strings (sym behind) in
+    sym (blanks_lend c.args.text.now) ∙ ap plain_strings (sym at) ∙ byte_lends c.as_bytes.result.now (omega arith) (λ is. omega arith) ∙ ap plain_strings (sym behind) in
     let lent = c.in_ok-members.ensures.lent in
     lends _ (joined (map member_texts_lent c.in_ok-members.members.items)) c.args.text.now c.in_ok-members.rest.now (numbers-obj c.in_ok-members.members ∙ lent.0) (texts-obj c.in_ok-members.members) (same ∙ lent.1)
 
@@ -251,7 +251,7 @@ value_of-returns-clause-value t c =
     let at : c.as_bytes.result.now ≡ after_blanks c.args.text.now = grind arith in
     let same : c.after_blanks-text.result.now ≡ c.as_bytes.result.now = grind arith in
     let is : value_at c.args.depth c.args.text.now ≡ word_at c.as_bytes.result.now =
-        value_word c.args.depth c.args.text.now c.as_bytes.result.now at (omega arith) (λ e. grind arith) (λ e. grind arith) (λ e. grind arith) in
+    value_word c.args.depth c.args.text.now c.as_bytes.result.now at (omega arith) (λ e. grind arith) (λ e. grind arith) (λ e. grind arith) in
     rw (is, ← same) c.word_of.ensures.value
 
 pub value_of-returns-clause-lent : goal.value_of-returns-clause-lent
