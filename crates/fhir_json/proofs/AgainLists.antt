@@ -14,6 +14,7 @@ use Rattle.fhir_json.specs.Grammar.{is_blank, AreBlanks, Padded, Named, Spells, 
 use Rattle.fhir_json.specs.Reading.{◌>>=◌, Parse, under, after_blanks, string_at, word_at, number_at, separated, parts_at, opened, list_at, behind_colon, unless_repeated, name_at, member_at, begun, value_at, ended, tree_at}
 use Rattle.fhir_json.proofs.Steps.{no_error}
 use Rattle.fhir_json.proofs.Names.{names_push, differ-among}
+use Rattle.fhir_json.proofs.Trees.{items_of-list_of, members_of-pairs_of}
 use Rattle.fhir_json.proofs.Numbers.{is_number_byte, Ends}
 use Rattle.fhir_json.proofs.Depths.{nests, items_nest, members_nest}
 use Rattle.fhir_json.proofs.Again.{blanks_skipped, string_again, number_read, number_begins, differs}
@@ -173,14 +174,6 @@ name_again front name before v more h p new =
   where
     quote : (v : List ℕ) → IsString name v → after_blanks (v ++ more) ≡ v ++ more
     quote v p = subst (λ (w : List ℕ). after_blanks (w ++ more) ≡ w ++ more) (sym p.1) refl
-
-items_of-list_of : (ts : Items) → items_of (list_of ts) ≡ ts
-items_of-list_of no_items = refl
-items_of-list_of (item t ts) = ap (item t) (items_of-list_of ts)
-
-members_of-pairs_of : (ms : Members) → members_of (pairs_of ms) ≡ ms
-members_of-pairs_of no_members = refl
-members_of-pairs_of (member name t ms) = ap (member name t) (members_of-pairs_of ms)
 
 word_spoken : (d : ℕ) (b : Bool) → Spoken d (boolean b) (cond b (codes "true") (codes "false"))
 unfolding word_at

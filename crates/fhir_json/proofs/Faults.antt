@@ -18,16 +18,18 @@ use Rattle.fhir_json.proofs.Steps.{chosen}
 use Rattle.fhir_json.proofs.Names.{names_push, among_append}
 use Rattle.fhir_json.proofs.Takes.{blanks_stand, string_stands, starts}
 use Rattle.fhir_json.proofs.TakesLists.{Value, Opening, padded_after, name_stands, colon_stands, field, value_stands}
-use Rattle.fhir_json.proofs.Levels.{IsLevel, level_append, level_behind, level_above, comma_level, colon_level, mark_level, blanks_level, string_level, padded_level, bracket_opened, brace_opened, value_level}
+use Rattle.fhir_json.proofs.Levels.{IsLevel, level_append, level_behind, level_outside, level_above, comma_level, colon_level, mark_level, blanks_level, string_level, padded_level, bracket_opened, brace_opened, value_level}
 use Rattle.fhir_json.proofs.Flaws.{fault_is, no_fault, bind_fails, under_fails, string_fails, word_fails, Repeats, Met, at_most_from, moved, entered, full, syntax_met, flawed_met}
 
 -- ---- lists
 
--- parts of a list, where K says what the text since the bracket says of the parts so far
-module _ {A : Type 0} (d close : ℕ) (part : List A → Parse A) (K : List A → List ℕ → Type 0)
-    (wider : (front : List A) (since v : List ℕ) → IsLevel v → K front since → K front (since ++ v))
+-- parts of a list, where K says what the text since the bracket says of the parts so far where a part begins, and J
+-- where one ends
+module _ {A : Type 0} (d close : ℕ) (part : List A → Parse A) (K J : List A → List ℕ → Type 0)
+    (begins : (blanks : List ℕ) → AreBlanks blanks → K [] blanks)
+    (behind_comma : (front : List A) (since blanks : List ℕ) → AreBlanks blanks → J front since → K front ((since ++ blanks) ++ 44 ∷ []))
     (fails_at : (front : List A) (since bs : List ℕ) (fault : JsonFault) → K front since → part front bs ≡ Err fault → Met d fault (since ++ bs))
-    (goes_on : (front : List A) (since bs : List ℕ) (t : A) (rest : List ℕ) → K front since → part front bs ≡ Ok (t, rest) → (v : List ℕ) × (bs ≡ v ++ rest) × K (front ++ t ∷ []) (since ++ v)) where
+    (goes_on : (front : List A) (since bs : List ℕ) (t : A) (rest : List ℕ) → K front since → part front bs ≡ Ok (t, rest) → (v : List ℕ) × (bs ≡ v ++ rest) × J (front ++ t ∷ []) (since ++ v)) where
   -- parts up to the bracket
   parts_fail : (n : ℕ) (front : List A) (since bs : List ℕ) (fault : JsonFault) → K front since → parts_at close part n front bs ≡ Err fault → Met d fault (since ++ bs)
   unfolding parts_at
@@ -39,14 +41,14 @@ module _ {A : Type 0} (d close : ℕ) (part : List A → Parse A) (K : List A �
             let read = goes_on front since bs step.0.0 step.0.1 k step.1 in
             let blanks = blanks_stand step.0.1 in
             let text = joined since read.0 blanks.0 bs step.0.1 (after_blanks step.0.1) read.1 blanks.1 in
-            let level = wider _ _ _ (blanks_level blanks.0 blanks.2) read.2 in
-            subst (Met d fault) (sym text) (go (after_blanks step.0.1) step.0.0 ((since ++ read.0) ++ blanks.0) level (λ us vs more l f. parts_fail n us vs more fault l f) step.2)
+            let next = behind_comma (front ++ step.0.0 ∷ []) (since ++ read.0) blanks.0 blanks.2 read.2 in
+            subst (Met d fault) (sym text) (go (after_blanks step.0.1) step.0.0 ((since ++ read.0) ++ blanks.0) next (λ us vs more l f. parts_fail n us vs more fault l f) step.2)
       ]
     where
       joined : (a b c x y z : List ℕ) → x ≡ b ++ y → y ≡ c ++ z → a ++ x ≡ ((a ++ b) ++ c) ++ z
       joined a b c x y z e f = rw (e, f) (sym (simp append_assoc))
 
-      go : (at : List ℕ) (t : A) (whole : List ℕ) → K (front ++ t ∷ []) whole → ((us : List A) (vs more : List ℕ) → K us vs → parts_at close part n us more ≡ Err fault → Met d fault (vs ++ more))
+      go : (at : List ℕ) (t : A) (whole : List ℕ) → K (front ++ t ∷ []) (whole ++ 44 ∷ []) → ((us : List A) (vs more : List ℕ) → K us vs → parts_at close part n us more ≡ Err fault → Met d fault (vs ++ more))
           → separated close (λ more. Ok (front ++ t ∷ [], more)) (λ more. parts_at close part n (front ++ t ∷ []) more) at ≡ Err fault → Met d fault (whole ++ at)
       go [] t whole k again h = syntax_met d fault (whole ++ []) (fault_is Syntax fault h)
       go (b ∷ at) t whole k again h =
@@ -56,15 +58,15 @@ module _ {A : Type 0} (d close : ℕ) (part : List A → Parse A) (K : List A �
                 elim (chosen (eqb b 44) _ _ _ goes.1) [
                   | inl comma ↦
                       subst (Met d fault) (append_assoc whole (44 ∷ []) at ∙ ap (λ (c : ℕ). whole ++ c ∷ at) (sym (eqb-true b 44 comma.0)))
-                      (again (front ++ t ∷ []) (whole ++ 44 ∷ []) at (wider _ _ _ comma_level k) comma.1)
+                      (again (front ++ t ∷ []) (whole ++ 44 ∷ []) at k comma.1)
                   | inr neither ↦ syntax_met d fault (whole ++ b ∷ at) (fault_is Syntax fault neither.1)
                 ]
           ]
 
   -- a list from behind its bracket
-  list_fails : (bs : List ℕ) (fault : JsonFault) → K [] [] → list_at close part bs ≡ Err fault → Met d fault bs
+  list_fails : (bs : List ℕ) (fault : JsonFault) → list_at close part bs ≡ Err fault → Met d fault bs
   unfolding list_at
-  list_fails bs fault k e = let blanks = blanks_stand bs in subst (Met d fault) (sym blanks.1) (go (after_blanks bs) blanks.0 (wider [] [] blanks.0 (blanks_level blanks.0 blanks.2) k) e)
+  list_fails bs fault e = let blanks = blanks_stand bs in subst (Met d fault) (sym blanks.1) (go (after_blanks bs) blanks.0 (begins blanks.0 blanks.2) e)
     where
       go : (at before : List ℕ) → K [] before → list_opened close (parts_at close part (suc (length bs)) []) at ≡ Err fault → Met d fault (before ++ at)
       go [] before k h = syntax_met d fault (before ++ []) (fault_is Syntax fault h)
@@ -76,8 +78,18 @@ module _ {A : Type 0} (d close : ℕ) (part : List A → Parse A) (K : List A �
 
 -- ---- members
 
--- the name and its colon stand in the text, at the level at which the text begins
-record Stood (name : Text) (text : List ℕ) : Type 0 where
+-- text at one level that ends in a comma
+record EndsInComma (text : List ℕ) : Type 0 where
+  level : IsLevel text
+  value : List ℕ
+  comma : text ≡ value ++ 44 ∷ []
+
+-- a comma behind text at one level
+comma_ends : (text : List ℕ) → IsLevel text → EndsInComma (text ++ 44 ∷ [])
+comma_ends text h = record { level = level_append h comma_level; value = text; comma = refl }
+
+-- the name and its colon stand in the text, at the level at which the text begins, and E says of what stands behind them
+record Stood (E : List ℕ → Type 0) (name : Text) (text : List ℕ) : Type 0 where
   before : List ℕ
   v : List ℕ
   blanks : List ℕ
@@ -86,20 +98,20 @@ record Stood (name : Text) (text : List ℕ) : Type 0 where
   level_before : IsLevel before
   is_name : IsString name v
   are_blanks : AreBlanks blanks
-  level_after : IsLevel after
+  end : E after
 
 -- each name of the members stands in the text, which is at one level
-record NamesStand (front : List Pair) (text : List ℕ) : Type 0 where
+record NamesStand (E : List ℕ → Type 0) (front : List Pair) (text : List ℕ) : Type 0 where
   level : IsLevel text
-  each : (name : Text) → is_among name (names (members_of front)) ≡ true → Stood name text
+  each : (name : Text) → is_among name (names (members_of front)) ≡ true → Stood E name text
 
--- no members, and no text
-no_names : NamesStand [] []
-no_names = record { level = blanks_level [] tt; each = λ name h. absurd (false≢true h) }
+-- no members, and blanks
+no_names : (blanks : List ℕ) → AreBlanks blanks → NamesStand EndsInComma [] blanks
+no_names blanks h = record { level = blanks_level blanks h; each = λ name is. absurd (false≢true is) }
 
 -- more text behind it
-stood_more : (name : Text) (text v : List ℕ) → IsLevel v → Stood name text → Stood name (text ++ v)
-stood_more name text v h s = record {
+stood_more : (E F : List ℕ → Type 0) (name : Text) (text v : List ℕ) → ((after : List ℕ) → E after → F (after ++ v)) → Stood E name text → Stood F name (text ++ v)
+stood_more E F name text v longer s = record {
   before = s.before;
   v = s.v;
   blanks = s.blanks;
@@ -108,27 +120,33 @@ stood_more name text v h s = record {
   level_before = s.level_before;
   is_name = s.is_name;
   are_blanks = s.are_blanks;
-  level_after = level_append s.level_after h;
+  end = longer s.after s.end;
 }
   where
     regroup : (a b c d w : List ℕ) → (a ++ (b ++ (c ++ 58 ∷ d))) ++ w ≡ a ++ (b ++ (c ++ 58 ∷ (d ++ w)))
     regroup a b c d w = simp append_assoc
 
 -- more text behind the members
-names_more : (front : List Pair) (text v : List ℕ) → IsLevel v → NamesStand front text → NamesStand front (text ++ v)
-names_more front text v h k = record { level = level_append k.level h; each = λ name is. stood_more name text v h (k.each name is) }
+names_more : (E F : List ℕ → Type 0) (front : List Pair) (text v : List ℕ) → IsLevel v → ((after : List ℕ) → E after → F (after ++ v)) → NamesStand E front text → NamesStand F front (text ++ v)
+names_more E F front text v h longer k = record { level = level_append k.level h; each = λ name is. stood_more E F name text v longer (k.each name is) }
+
+-- blanks and a comma behind the members
+names_comma : (front : List Pair) (text blanks : List ℕ) → AreBlanks blanks → NamesStand IsLevel front text → NamesStand EndsInComma front ((text ++ blanks) ++ 44 ∷ [])
+names_comma front text blanks h k =
+    let level = blanks_level blanks h in
+    names_more IsLevel EndsInComma front (text ++ blanks) (44 ∷ []) comma_level comma_ends (names_more IsLevel IsLevel front text blanks level (λ after i. level_append i level) k)
 
 -- one member more
-names_next : (front : List Pair) (m : Pair) (text v : List ℕ) → IsLevel v → Stood m.0 (text ++ v) → NamesStand front text → NamesStand (front ++ m ∷ []) (text ++ v)
+names_next : (front : List Pair) (m : Pair) (text v : List ℕ) → IsLevel v → Stood IsLevel m.0 (text ++ v) → NamesStand EndsInComma front text → NamesStand IsLevel (front ++ m ∷ []) (text ++ v)
 names_next front m text v h s k = record { level = level_append k.level h; each = λ name is. at name (sym (ap (is_among name) (names_push front m) ∙ among_append name (names (members_of front)) (m.0 ∷ [])) ∙ is) }
   where
-    at : (name : Text) → (is_among name (names (members_of front)) || is_among name (m.0 ∷ [])) ≡ true → Stood name (text ++ v)
+    at : (name : Text) → (is_among name (names (members_of front)) || is_among name (m.0 ∷ [])) ≡ true → Stood IsLevel name (text ++ v)
     at name is =
         elim (or_cases (is_among name (names (members_of front))) (is_among name (m.0 ∷ [])) is) [
-          | inl before ↦ stood_more name text v h (k.each name before)
+          | inl before ↦ stood_more EndsInComma IsLevel name text v (λ after ends. level_append ends.level h) (k.each name before)
           | inr last ↦
               elim (or_cases (bytes_eq name m.0) false last) [
-                | inl same ↦ subst (λ (x : Text). Stood x (text ++ v)) (sym ((bytes_eq-Decides name m.0).0 same)) s
+                | inl same ↦ subst (λ (x : Text). Stood IsLevel x (text ++ v)) (sym ((bytes_eq-Decides name m.0).0 same)) s
                 | inr never ↦ absurd (false≢true never)
               ]
         ]
@@ -139,17 +157,19 @@ key_opened name front v blanks h is k n part =
     h.same n (v ++ (blanks ++ 58 ∷ part)) ∙ (string_level name v is).same n (blanks ++ 58 ∷ part) ∙ (blanks_level blanks k).same n (58 ∷ part) ∙ colon_level.same n part
 
 -- a name that a member before it has
-repeats : (front : List Pair) (since bs name rest : List ℕ) → NamesStand front since → string_at (after_blanks bs) ≡ Ok (name, rest) → is_among name (names (members_of front)) ≡ true → Repeats (since ++ bs)
+repeats : (front : List Pair) (since bs name rest : List ℕ) → NamesStand EndsInComma front since → string_at (after_blanks bs) ≡ Ok (name, rest) → is_among name (names (members_of front)) ≡ true → Repeats (since ++ bs)
 repeats front since bs name rest k e is =
     let old = k.each name is in
     let blanks = blanks_stand bs in
     let new = string_stands (after_blanks bs) name rest e in
-    let between = level_append old.level_after (blanks_level blanks.0 blanks.2) in record {
+    let between = level_append old.end.level (blanks_level blanks.0 blanks.2) in record {
       name = name;
       front = old.before;
       first = old.v;
       blanks = old.blanks;
       between = old.after ++ blanks.0;
+      value = old.end.value;
+      gap = blanks.0;
       second = new.0;
       rest = rest;
       text =
@@ -158,6 +178,10 @@ repeats front since bs name rest k e is =
       is_first = old.is_name;
       are_blanks = old.are_blanks;
       is_second = new.2;
+      outside = level_outside old.level_before;
+      outside_second = level_outside (level_append old.level_before (level_append (string_level name old.v old.is_name) (level_append (blanks_level old.blanks old.are_blanks) (level_append colon_level between))));
+      comma = ap (λ (w : List ℕ). w ++ blanks.0) old.end.comma ∙ append_assoc old.end.value (44 ∷ []) blanks.0;
+      is_gap = blanks.2;
       level = λ n. level_behind old.level_before n ∙ sym (key_opened name old.before old.v old.blanks old.level_before old.is_name old.are_blanks n (old.after ++ blanks.0) ∙ level_behind between n);
       open_between = λ n part more f. at_most_from (level_behind old.level_before n) (key_opened name old.before old.v old.blanks old.level_before old.is_name old.are_blanks n part) ((level_above between n).each part more f);
     }
@@ -166,7 +190,7 @@ repeats front since bs name rest k e is =
     regroup a b c d x w = simp append_assoc
 
 -- a name
-name_fails : (d : ℕ) (front : List Pair) (since bs : List ℕ) (fault : JsonFault) → NamesStand front since → name_at front bs ≡ Err fault → Met d fault (since ++ bs)
+name_fails : (d : ℕ) (front : List Pair) (since bs : List ℕ) (fault : JsonFault) → NamesStand EndsInComma front since → name_at front bs ≡ Err fault → Met d fault (since ++ bs)
 unfolding name_at
 name_fails d front since bs fault k e =
     elim (bind_fails (string_at (after_blanks bs)) _ fault e) [
@@ -211,7 +235,7 @@ abbrev ValueFails : ℕ → Type 0
 ValueFails d = (bs : List ℕ) (fault : JsonFault) → value_at d bs ≡ Err fault → Met d fault bs
 
 -- a member
-member_fails : (d : ℕ) → ValueFails d → (front : List Pair) (since bs : List ℕ) (fault : JsonFault) → NamesStand front since → member_at (value_at d) front bs ≡ Err fault → Met d fault (since ++ bs)
+member_fails : (d : ℕ) → ValueFails d → (front : List Pair) (since bs : List ℕ) (fault : JsonFault) → NamesStand EndsInComma front since → member_at (value_at d) front bs ≡ Err fault → Met d fault (since ++ bs)
 unfolding member_at
 member_fails d value front since bs fault k e =
     elim (bind_fails (name_at front bs) _ fault e) [
@@ -242,7 +266,7 @@ opening_level : (d : ℕ) (m : Pair) (first : List ℕ) → Opening d m first �
 opening_level d m first h = subst IsLevel (sym h.2) (level_append (padded_level (IsString m.0) (string_level m.0) h.0 h.3) (level_append colon_level (front_level d m.1 h.1 h.4)))
 
 -- the name of a member stands in it
-opening_stood : (d : ℕ) (m : Pair) (since first : List ℕ) → IsLevel since → Opening d m first → Stood m.0 (since ++ first)
+opening_stood : (d : ℕ) (m : Pair) (since first : List ℕ) → IsLevel since → Opening d m first → Stood IsLevel m.0 (since ++ first)
 opening_stood d m since first k h =
     let key = h.3 in record {
       before = since ++ key.0;
@@ -253,28 +277,33 @@ opening_stood d m since first k h =
       level_before = level_append k (blanks_level key.0 key.4);
       is_name = key.5;
       are_blanks = key.6;
-      level_after = front_level d m.1 h.1 h.4;
+      end = front_level d m.1 h.1 h.4;
     }
   where
     regroup : (a b c d w : List ℕ) → a ++ ((b ++ (c ++ d)) ++ w) ≡ (a ++ b) ++ (c ++ (d ++ w))
     regroup a b c d w = simp append_assoc
 
 -- a member that was read is one member more
-member_goes : (d : ℕ) (front : List Pair) (since bs : List ℕ) (m : Pair) (rest : List ℕ) → NamesStand front since → member_at (value_at d) front bs ≡ Ok (m, rest)
-    → (v : List ℕ) × (bs ≡ v ++ rest) × NamesStand (front ++ m ∷ []) (since ++ v)
+member_goes : (d : ℕ) (front : List Pair) (since bs : List ℕ) (m : Pair) (rest : List ℕ) → NamesStand EndsInComma front since → member_at (value_at d) front bs ≡ Ok (m, rest)
+    → (v : List ℕ) × (bs ≡ v ++ rest) × NamesStand IsLevel (front ++ m ∷ []) (since ++ v)
 member_goes d front since bs m rest k e =
     let v = (field d (value_stands d) front bs m rest e).0 in
     (v.0, v.1, names_next front m since v.0 (opening_level d m v.0 v.2) (opening_stood d m since v.0 k.level v.2) k)
 
+-- blanks and a comma behind text at one level keep the level
+separator_level : (since blanks : List ℕ) → AreBlanks blanks → IsLevel since → IsLevel ((since ++ blanks) ++ 44 ∷ [])
+separator_level since blanks h k = level_append (level_append k (blanks_level blanks h)) comma_level
+
 -- the values of an array
 array_fails : (d : ℕ) → ValueFails d → (bs : List ℕ) (fault : JsonFault) → list_at 93 (λ front. value_at d) bs ≡ Err fault → Met d fault bs
 array_fails d value bs fault e =
-    list_fails d 93 (λ front. value_at d) (λ front since. IsLevel since) (λ front since v h k. level_append k h) (λ front since cs f k g. moved d f since cs k (value cs f g)) (λ front since cs t rest k g. value_goes d since cs t rest k g) bs fault
-    (blanks_level [] tt) e
+    list_fails d 93 (λ front. value_at d) (λ front since. IsLevel since) (λ front since. IsLevel since) blanks_level (λ front since blanks h k. separator_level since blanks h k)
+    (λ front since cs f k g. moved d f since cs k (value cs f g)) (λ front since cs t rest k g. value_goes d since cs t rest k g) bs fault e
 
 -- the members of an object
 object_fails : (d : ℕ) → ValueFails d → (bs : List ℕ) (fault : JsonFault) → list_at 125 (member_at (value_at d)) bs ≡ Err fault → Met d fault bs
-object_fails d value bs fault e = list_fails d 125 (member_at (value_at d)) NamesStand names_more (member_fails d value) (member_goes d) bs fault no_names e
+object_fails d value bs fault e =
+    list_fails d 125 (member_at (value_at d)) (NamesStand EndsInComma) (NamesStand IsLevel) no_names names_comma (member_fails d value) (member_goes d) bs fault e
 
 -- a value from its first byte
 begun_fails : (d : ℕ) (items : Parse (List Tree)) (members : Parse (List Pair)) → ((bs : List ℕ) (fault : JsonFault) → items bs ≡ Err fault → Met d fault (91 ∷ bs)) → ((bs : List ℕ) (fault : JsonFault) → members bs ≡ Err fault → Met d fault (123 ∷ bs))
@@ -350,12 +379,18 @@ met_means RepeatedName bs m = record {
   first = m.first;
   blanks = m.blanks;
   between = m.between;
+  value = m.value;
+  gap = m.gap;
   second = m.second;
   rest = m.rest;
   text = m.text;
   is_first = m.is_first;
   are_blanks = m.are_blanks;
   is_second = m.is_second;
+  outside = m.outside;
+  outside_second = m.outside_second;
+  comma = m.comma;
+  is_gap = m.is_gap;
   level = m.level 0;
   open_between = m.open_between 0;
 }

@@ -10,10 +10,10 @@ use Rattle.fhir_json.specs.Number.{after_number}
 use Rattle.fhir_json.specs.Text.{short_escape, code_unit, is_high, is_low, paired, is_plain, IsText, done, plain, escape, IsString}
 use Rattle.fhir_json.specs.Grammar.{AreBlanks}
 use Rattle.fhir_json.specs.Reading.{◌>>=◌, under, or_fault, followed, unit_at, low_half, low_at, unicode_at, escape_at, text_at, string_at, number_before, number_at, word_at}
-use Rattle.fhir_json.specs.Faults.{opened, BeginsWithLow, HasLoneSurrogate}
+use Rattle.fhir_json.specs.Faults.{opened, EndsOutside, BeginsWithLow, HasLoneSurrogate}
 use Rattle.fhir_json.proofs.Steps.{chosen, fine, fails}
 use Rattle.fhir_json.proofs.Takes.{or_fault_is, unit_stands, escape_stands, plain_from}
-use Rattle.fhir_json.proofs.Levels.{IsLevel, nothing_opened}
+use Rattle.fhir_json.proofs.Levels.{IsLevel, nothing_opened, nothing_outside, outside_from, outside_append}
 
 -- ---- steps
 
@@ -41,9 +41,9 @@ under_fails f (Err d) fault e = ap (λ (c : JsonFault). Err c) (sym (fault_is d 
 abbrev pub Flawed : JsonFault → List ℕ → Type 0
 Flawed fault bs = (fault ≡ Syntax) ⊎ ((fault ≡ LoneSurrogate) × HasLoneSurrogate bs)
 
--- behind any text
-lone_moved : (v bs : List ℕ) → HasLoneSurrogate bs → HasLoneSurrogate (v ++ bs)
-lone_moved v bs h = record {
+-- behind text that ends outside any string
+lone_moved : (v bs : List ℕ) → EndsOutside v → HasLoneSurrogate bs → HasLoneSurrogate (v ++ bs)
+lone_moved v bs outside h = record {
   front = v ++ h.front;
   v = h.v;
   s = h.s;
@@ -54,6 +54,7 @@ lone_moved v bs h = record {
   unit = h.unit;
   rest = h.rest;
   text = ap (λ (w : List ℕ). v ++ w) h.text ∙ sym (append_assoc v h.front _);
+  outside = outside_append v h.front outside h.outside;
   is_text = h.is_text;
   is_unit = h.is_unit;
   alone = h.alone;
@@ -114,6 +115,7 @@ behind_quote fault bs (inr h) =
       unit = l.unit;
       rest = l.rest;
       text = ap (λ (w : List ℕ). 34 ∷ w) l.text;
+      outside = nothing_outside;
       is_text = l.is_text;
       is_unit = l.is_unit;
       alone = l.alone;
@@ -256,20 +258,26 @@ word_fails bs fault e =
 
 -- ---- what a fault says from where a value is expected
 
--- a name and its colon stand in the text, and a string that is the same name behind it, at one level and in the same
--- object, however many are open before the text
+-- a name and its colon stand in the text, and a string that is the same name behind them, behind a value and a comma,
+-- at one level and in the same object, however many are open before the text
 pub record Repeats (bs : List ℕ) : Type 0 where
   pub name : Text
   pub front : List ℕ
   pub first : List ℕ
   pub blanks : List ℕ
   pub between : List ℕ
+  pub value : List ℕ
+  pub gap : List ℕ
   pub second : List ℕ
   pub rest : List ℕ
   pub text : bs ≡ front ++ (first ++ (blanks ++ 58 ∷ (between ++ (second ++ rest))))
   pub is_first : IsString name first
   pub are_blanks : AreBlanks blanks
   pub is_second : IsString name second
+  pub outside : EndsOutside front
+  pub outside_second : EndsOutside (front ++ (first ++ (blanks ++ 58 ∷ between)))
+  pub comma : between ≡ value ++ 44 ∷ gap
+  pub is_gap : AreBlanks gap
   pub level : (n : ℕ) → opened n front ≡ opened n (front ++ (first ++ (blanks ++ 58 ∷ between)))
   pub open_between : (n : ℕ) (part more : List ℕ) → between ≡ part ++ more → opened n front ≤ opened n (front ++ (first ++ (blanks ++ 58 ∷ part)))
 
@@ -308,16 +316,22 @@ shifted outer inner RepeatedName v bs up opens sum m = record {
   first = m.first;
   blanks = m.blanks;
   between = m.between;
+  value = m.value;
+  gap = m.gap;
   second = m.second;
   rest = m.rest;
   text = ap (λ (w : List ℕ). v ++ w) m.text ∙ sym (append_assoc v m.front _);
   is_first = m.is_first;
   are_blanks = m.are_blanks;
   is_second = m.is_second;
+  outside = outside_append v m.front (outside_from v up opens) m.outside;
+  outside_second = subst EndsOutside (sym (append_assoc v m.front _)) (outside_append v _ (outside_from v up opens) m.outside_second);
+  comma = m.comma;
+  is_gap = m.is_gap;
   level = λ n. opens n m.front ∙ m.level (up n) ∙ sym (opened_behind v m.front _ n (up n) (opens n));
   open_between = λ n part more e. at_most_from (opens n m.front) (opened_behind v m.front _ n (up n) (opens n)) (m.open_between (up n) part more e);
 }
-shifted outer inner LoneSurrogate v bs up opens sum m = lone_moved v bs m
+shifted outer inner LoneSurrogate v bs up opens sum m = lone_moved v bs (outside_from v up opens) m
 shifted outer inner TooDeep v bs up opens sum m = record {
   front = v ++ m.front;
   rest = m.rest;

@@ -3,7 +3,7 @@ pub mod Names
 pub mod KeySets
 pub mod Numbers
 pub mod Texts
-pub mod Lists
+pub mod Turns
 pub mod Takes
 pub mod TakesLists
 pub mod Again

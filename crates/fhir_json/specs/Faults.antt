@@ -35,20 +35,30 @@ pub record IsTooDeep (bytes : List ℕ) : Type 0 where
 
 -- ---- names
 
--- a name and its colon stand in the text, and behind it, in the same object, a string that is the same name: no front of
--- what stands between them closes what was open before the first
+-- the text behind the front is read from outside any string
+abbrev pub EndsOutside : List ℕ → Type 0
+EndsOutside front = (n : ℕ) (more : List ℕ) → opened n (front ++ more) ≡ opened (opened n front) more
+
+-- a name and its colon stand in the text, and later, behind a comma and blanks and in the same object, a string
+-- that is the same name: no front of what stands between closes what was open before the first
 pub record HasRepeatedName (bytes : List ℕ) : Type 0 where
   pub name : Text
   pub front : List ℕ
   pub first : List ℕ
   pub blanks : List ℕ
   pub between : List ℕ
+  pub value : List ℕ
+  pub gap : List ℕ
   pub second : List ℕ
   pub rest : List ℕ
   pub text : bytes ≡ front ++ (first ++ (blanks ++ 58 ∷ (between ++ (second ++ rest))))
   pub is_first : IsString name first
   pub are_blanks : AreBlanks blanks
   pub is_second : IsString name second
+  pub outside : EndsOutside front
+  pub outside_second : EndsOutside (front ++ (first ++ (blanks ++ 58 ∷ between)))
+  pub comma : between ≡ value ++ 44 ∷ gap
+  pub is_gap : AreBlanks gap
   pub level : opened 0 front ≡ opened 0 (front ++ (first ++ (blanks ++ 58 ∷ between)))
   pub open_between : (part more : List ℕ) → between ≡ part ++ more → opened 0 front ≤ opened 0 (front ++ (first ++ (blanks ++ 58 ∷ part)))
 
@@ -71,6 +81,7 @@ pub record HasLoneSurrogate (bytes : List ℕ) : Type 0 where
   pub unit : ℕ
   pub rest : List ℕ
   pub text : bytes ≡ front ++ 34 ∷ (v ++ 92 ∷ 117 ∷ a ∷ b ∷ c ∷ d ∷ rest)
+  pub outside : EndsOutside front
   pub is_text : IsText v s
   pub is_unit : code_unit a b c d ≡ Some unit
   pub alone : (is_low unit ≡ true) ⊎ ((is_high unit ≡ true) × (¬ BeginsWithLow rest))

@@ -5,6 +5,7 @@ mod detaching;
 mod fault;
 mod fields;
 mod json;
+mod laws;
 mod memory;
 mod number;
 mod reader;
@@ -21,10 +22,10 @@ pub use fields::{
     items_in, text_in, text_or_empty,
 };
 pub use json::{Json, Member};
+pub use laws::{lists, number_grammar, one_tree, sound_trees};
 pub use memory::NoMemory;
-pub use number::number_grammar;
-pub use reading::{MAX_DEPTH, one_tree, read};
-pub use soundness::{sound, sound_trees};
+pub use reading::{MAX_DEPTH, read};
+pub use soundness::sound;
 pub use writing::write;
 
 #[cfg(test)]

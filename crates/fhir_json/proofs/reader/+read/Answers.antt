@@ -7,7 +7,7 @@ use Rattle.fhir_json.specs.View.{tree_of, pair_of, members_view}
 use Rattle.fhir_json.specs.Keys.{HoldsIfAny}
 use Rattle.fhir_json.specs.Reading.{value_at, member_at, list_at, parts_at, after_blanks, word_at, under}
 use Rattle.fhir_json.specs.Loans.{is_lent, joined, Lends, MemberLends, ItemsLend, MembersLend, plain_strings, texts_lent, numbers_lent, member_texts_lent, member_numbers_lent}
-use Rattle.fhir_json.proofs.Lists.{part_fails, list_ends, list_goes_on, list_stops, list_empty, list_nothing, list_begins, value_word, value_array}
+use Rattle.fhir_json.proofs.Turns.{part_fails, list_ends, list_goes_on, list_stops, list_empty, list_nothing, list_begins, value_word, value_array}
 use Rattle.fhir_json.proofs.Steps.{fault_bind}
 use Rattle.fhir_json.proofs.Lending.{byte_lends, blanks_lend}
 use Rattle.fhir_json.proofs.Folds.{lends, parts_push, parts_none, numbers-str, texts-str, numbers-arr, texts-arr, numbers-obj, texts-obj, tree-arr, names_push_member, pair-name}
