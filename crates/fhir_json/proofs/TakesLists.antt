@@ -1,19 +1,17 @@
 -- What was read stands in the text as the grammar spells it: lists, and whole values.
-use Rattle.std.proofs.Common.{◌≡◌, ℕ, zero, suc, ◌+◌, ◌<◌, ◌≤◌, Bool, true, false, cond, eqb, ◌&&◌, List, [], ◌∷◌, ◌++◌, length, Result, Ok, Err, refl, sym, ap, ap₂, subst, ◌∙◌, append_assoc, arith, inl, inr, ◌⊎◌}
-use Rattle.std.specs.List.{AllByRecursion}
+use Rattle.std.proofs.Common.{◌≡◌, ℕ, zero, suc, true, false, eqb, List, [], ◌∷◌, ◌++◌, length, Ok, Err, refl, sym, ap, ap₂, subst, ◌∙◌, append_assoc, inl, inr}
 use Rattle.std.proofs.lemmas.Bool.{and_from, eqb-true}
 use Rattle.std.proofs.lemmas.List.{append-nil}
-use Rattle.fhir_json.specs.declared.fault.JsonFault.{JsonFault}
 use Rattle.fhir_json.specs.declared.fault.JsonFault.TheVariants.{Syntax, TooDeep, RepeatedName, Trailing}
-use Rattle.fhir_json.specs.Tree.{Tree, null, boolean, number, string, array, object, Items, no_items, item, Members, no_members, member, names, Pair, items_of, members_of}
+use Rattle.fhir_json.specs.Tree.{Tree, string, array, object, names, Pair, items_of, members_of}
 use Rattle.fhir_json.specs.Text.{IsString}
 use Rattle.fhir_json.specs.Sound.{is_among, differ, max_depth}
-use Rattle.fhir_json.specs.Grammar.{is_blank, AreBlanks, Padded, Named, Spells, SpellsItems, SpellsMoreItems, SpellsMembers, SpellsMoreMembers}
-use Rattle.fhir_json.specs.Reading.{◌>>=◌, Parse, under, after_blanks, string_at, word_at, separated, parts_at, opened, list_at, unless_repeated, behind_colon, name_at, member_at, begun, value_at, ended, tree_at}
-use Rattle.fhir_json.proofs.Steps.{bind_ok, chosen, guard_ok, ok_is, fine, fails, no_error}
+use Rattle.fhir_json.specs.Grammar.{AreBlanks, Padded, Named, Spells, SpellsItems, SpellsMoreItems, SpellsMembers, SpellsMoreMembers}
+use Rattle.fhir_json.specs.Reading.{Parse, after_blanks, string_at, separated, parts_at, opened, list_at, unless_repeated, behind_colon, name_at, member_at, begun, value_at, ended, tree_at}
+use Rattle.fhir_json.proofs.Steps.{bind_ok, chosen, guard_ok, ok_is, fine, no_error}
 use Rattle.fhir_json.proofs.Names.{names_push, differ-push}
-use Rattle.fhir_json.proofs.Depths.{nests, items_nest, members_nest, IsScalar, nests_scalar}
-use Rattle.fhir_json.proofs.Takes.{blanks_stand, string_stands, word_stands, Stands}
+use Rattle.fhir_json.proofs.Depths.{nests, items_nest, members_nest, nests_scalar}
+use Rattle.fhir_json.proofs.Takes.{blanks_stand, string_stands, word_stands}
 
 pub blanks_append : (a b : List ℕ) → AreBlanks a → AreBlanks b → AreBlanks (a ++ b)
 blanks_append [] b h k = k

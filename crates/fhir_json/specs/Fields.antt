@@ -3,7 +3,7 @@ use Rattle.std.specs.Prelude.{ℕ, ◌+◌, ◌*◌, ◌-◌, List, [], ◌∷�
 use Rattle.std.specs.Option.{option_map_or, option_and_then}
 use Rattle.std.specs.List.{list_all}
 use Rattle.std.specs.Str.{bytes_eq}
-use Rattle.fhir_json.specs.Tree.{Text, Tree, list_of, null, boolean, number, string, array, object, Items, no_items, item, Members, no_members, member}
+use Rattle.fhir_json.specs.Tree.{Text, Tree, list_of, boolean, number, string, array, object, Items, no_items, Members, no_members, member}
 
 abbrev pub named : Text → Members → Option Tree
 named name no_members = None

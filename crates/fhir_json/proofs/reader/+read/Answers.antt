@@ -1,12 +1,10 @@
-use Rattle.std.proofs.Common.{◌≡◌, ℕ, suc, ◌+◌, ◌<◌, ◌≤◌, Bool, List, [], ◌∷◌, ◌++◌, length, get_or, drop, map, Result, Ok, Err, refl, sym, ap, ◌∙◌, arith, rules}
+use Rattle.std.proofs.Common.{◌≡◌, suc, ◌≤◌, List, [], ◌∷◌, ◌++◌, length, get_or, drop, map, Ok, sym, ap, ◌∙◌, arith, rules}
 use Rattle.std.proofs.lemmas.Result.{err_from_is_err_and}
 use Rattle.std.proofs.lemmas.List.{length-drop, map_push}
-use Rattle.fhir_json.specs.declared.fault.JsonFault.{JsonFault}
-use Rattle.fhir_json.specs.Tree.{Tree, Pair, names, array, items_of}
-use Rattle.fhir_json.specs.View.{tree_of, pair_of, members_view}
-use Rattle.fhir_json.specs.Keys.{HoldsIfAny}
-use Rattle.fhir_json.specs.Reading.{value_at, member_at, list_at, parts_at, after_blanks, word_at, under}
-use Rattle.fhir_json.specs.Loans.{is_lent, joined, Lends, MemberLends, ItemsLend, MembersLend, plain_strings, texts_lent, numbers_lent, member_texts_lent, member_numbers_lent}
+use Rattle.fhir_json.specs.Tree.{Tree, array, items_of}
+use Rattle.fhir_json.specs.View.{tree_of, pair_of}
+use Rattle.fhir_json.specs.Reading.{value_at, member_at, after_blanks, word_at, under}
+use Rattle.fhir_json.specs.Loans.{is_lent, joined, plain_strings, texts_lent, numbers_lent, member_texts_lent, member_numbers_lent}
 use Rattle.fhir_json.proofs.Turns.{part_fails, list_ends, list_goes_on, list_stops, list_empty, list_nothing, list_begins, value_word, value_array}
 use Rattle.fhir_json.proofs.Steps.{fault_bind}
 use Rattle.fhir_json.proofs.Lending.{byte_lends, blanks_lend}
