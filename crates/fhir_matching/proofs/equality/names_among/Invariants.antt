@@ -1,0 +1,9 @@
+use Rattle.std.proofs.Common.{◌≡◌, drop}
+use Rattle.fhir_json.specs.Tree.{names}
+use Rattle.fhir_json.specs.View.{members_view}
+use Rattle.fhir_matching.specs.Equality.{are_among}
+use Rattle.fhir_matching.proofs.equality.names_among.Given as goal
+
+abbrev pub invariant-loop-place : goal.invariant-loop-place
+invariant-loop-place l =
+    are_among (names (members_view (drop l.place l.members))) (names (members_view l.others)) ≡ are_among (names (members_view l.members)) (names (members_view l.others))
