@@ -148,7 +148,8 @@ fn escape_of(text: &str) -> Result<(char, &str), JsonFault>
 fn is_plain(b: u8) -> bool
     ensures { result ≡ is_plain b }
 {
-    b != b'"' && b != b'\\' && b >= 32
+    // Most bytes of a text are letters, which one comparison passes.
+    b > b'\\' || (b >= 32 && b != b'"' && b != b'\\')
 }
 
 // The plain front of a string, and what follows it.
