@@ -18,3 +18,5 @@ pub mod Flaws
 pub mod Faults
 pub mod Marks
 pub mod Trees
+pub mod Lanes
+pub mod Runs

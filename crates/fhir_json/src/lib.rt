@@ -8,6 +8,7 @@ mod json;
 mod laws;
 mod memory;
 mod number;
+mod plain;
 mod reader;
 mod reading;
 mod soundness;
