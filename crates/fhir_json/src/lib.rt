@@ -20,7 +20,7 @@ pub use fault::JsonFault;
 pub use fields::{
     allows_choice, allows_count, allows_flag, allows_items, allows_text, allows_texts, as_flag,
     as_number, as_text, choice_in, count_in, count_of, field, flag_in, is_array, is_object,
-    items_in, text_in, text_or_empty,
+    items_in, text_at, text_in, text_or_empty,
 };
 pub use json::{Json, Member};
 pub use laws::{lists, number_grammar, one_tree, sound_trees};

@@ -3,7 +3,7 @@
 use crate::{
     Json, JsonFault, Member, NoMemory, allows_choice, allows_count, allows_flag, allows_items,
     allows_text, allows_texts, as_flag, as_number, as_text, choice_in, count_in, count_of, field,
-    flag_in, is_array, is_object, items_in, read, sound, text_in, text_or_empty, write,
+    flag_in, is_array, is_object, items_in, read, sound, text_at, text_in, text_or_empty, write,
 };
 use std::alloc::{AllocError, Global};
 use std::borrow::CowStr;
@@ -249,9 +249,11 @@ fn fields(rt: HostRuntime) -> Result<(), Fail> {
     let last = items_in(&json, "list").last().ok_or("none")?;
     assert_eq!(rt; text_or_empty(last), "b");
     assert_eq!(rt;
-        choice_in(&json, "fixed").and_then(|value| as_text(value)),
+        choice_in(&json, "fixed").and_then(|form| as_text(&form.value)),
         Some("c")
     );
+    assert_eq!(rt; text_at(&json, "id"), "x");
+    assert_eq!(rt; text_at(&json, "min"), "");
     assert_eq!(rt;
         field(&json, "min").and_then(|value| as_number(value)),
         Some("3")
