@@ -23,7 +23,7 @@ pub use fields::{
     items_in, text_at, text_in, text_or_empty,
 };
 pub use json::{Json, Member};
-pub use laws::{lists, number_grammar, one_tree, sound_trees};
+pub use laws::{lists, number_grammar, one_tree, reading_agrees, sound_trees};
 pub use memory::NoMemory;
 pub use reading::{MAX_DEPTH, read};
 pub use soundness::sound;

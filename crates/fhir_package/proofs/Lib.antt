@@ -1,0 +1,9 @@
+-- Lemmas on packages and folders.
+pub mod Stored
+pub mod Bars
+pub mod Seen
+pub mod Held
+pub mod Ordered
+pub mod Among
+pub mod Packs
+pub mod Sounds

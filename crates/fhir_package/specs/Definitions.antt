@@ -1,0 +1,34 @@
+-- A package without where it lies in memory: for each kind of definition (FHIR R4, StructureDefinition, ValueSet,
+-- CodeSystem) the trees under their urls, in the order in which they were put in.
+use Rattle.std.specs.Prelude.{List, [], Option}
+use Rattle.std.specs.Map.{lookup}
+use Rattle.std.specs.Str.{bytes_eq}
+use Rattle.fhir_json.specs.Tree.{Text, Tree}
+use Rattle.fhir_package.specs.declared.kind.Kind.{Kind}
+use Rattle.fhir_package.specs.declared.kind.Kind.TheVariants.{StructureDefinition, ValueSet, CodeSystem}
+
+-- trees under their urls, each url once
+abbrev pub Entries : Type 0
+Entries = List (Text × Tree)
+
+pub record Definitions : Type 0 where
+  pub structure_definitions : Entries
+  pub value_sets : Entries
+  pub code_systems : Entries
+
+abbrev pub no_definitions : Definitions
+no_definitions = record { structure_definitions = []; value_sets = []; code_systems = [] }
+
+abbrev pub of_kind : Kind → Definitions → Entries
+of_kind StructureDefinition p = p.structure_definitions
+of_kind ValueSet p = p.value_sets
+of_kind CodeSystem p = p.code_systems
+
+abbrev pub with_kind : Kind → Entries → Definitions → Definitions
+with_kind StructureDefinition es p = record p { structure_definitions = es }
+with_kind ValueSet es p = record p { value_sets = es }
+with_kind CodeSystem es p = record p { code_systems = es }
+
+-- the tree of a kind under a url
+abbrev pub at_url : Kind → Text → Definitions → Option Tree
+at_url kind url p = lookup (bytes_eq url) (of_kind kind p)

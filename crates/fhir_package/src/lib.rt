@@ -1,0 +1,23 @@
+//! Packages: the definitions of a folder of FHIR R4 files.
+#![tactic(auto)]
+
+mod canonical;
+mod fault;
+mod folder;
+mod kind;
+mod laws;
+mod loading;
+mod memory;
+mod package;
+
+pub use canonical::cut_at_bar;
+pub use fault::LoadFault;
+pub use folder::{Folder, FolderFault};
+pub use kind::Kind;
+pub use laws::packing;
+pub use loading::load;
+pub use memory::{MemoryFolder, StoredFile};
+pub use package::{Names, Package};
+
+#[cfg(test)]
+mod tests;
