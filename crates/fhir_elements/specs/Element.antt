@@ -1,0 +1,123 @@
+-- The element that a tree is (FHIR R4, ElementDefinition): first whether it is one, and then its fields. A field that
+-- isn't named here is passed over, and an empty array counts as an absent one.
+use Rattle.std.specs.Prelude.{ℕ, ℤ, List, map, Bool, true, false, not, ◌&&◌, Option, None, Some, Result, Ok, Err, if◌then◌else◌, codes}
+use Rattle.std.specs.Option.{option_map, option_map_or, option_and_then}
+use Rattle.std.specs.List.{list_all}
+use Rattle.fhir_json.specs.Tree.{Text, Tree, Pair}
+use Rattle.fhir_json.specs.Fields.{field, is_object, text_in, text_at, count_in, items_in, choice_in, allows, allows_text, allows_count, allows_items, allows_choice}
+use Rattle.fhir_elements.specs.declared.codes.Max.{Max}
+use Rattle.fhir_elements.specs.declared.reason.Reason.{Reason}
+use Rattle.fhir_elements.specs.declared.reason.Reason.TheVariants.{WrongField, MinOverMax, RepeatedType, WrongId}
+use Rattle.fhir_elements.specs.declared.fault.ElementFault.{ElementFault}
+use Rattle.fhir_elements.specs.declared.fault.ElementFault.TheVariants.{Unfit, NoMemory}
+use Rattle.fhir_elements.specs.Ids.{is_id}
+use Rattle.fhir_elements.specs.Codes.{code_in, allows_code, max_of, is_within, as_integer}
+use Rattle.fhir_elements.specs.Parts.{Entry, Constraint, Binding, Slicing, entry_fits, entry_of, codes_differ, constraint_fits, constraint_of, binding_fits, binding_of, slicing_fits, slicing_of}
+
+-- The fields of an element. A choice, as `fixed[x]`, is its whole name, as `fixedCode`, with its value.
+pub record Element : Type 0 where
+  pub id : Text
+  pub path : Option Text
+  pub slice_name : Option Text
+  pub min : Option ℕ
+  pub max : Option Max
+  pub types : List Entry
+  pub content_reference : Option Text
+  pub fixed : Option Pair
+  pub pattern : Option Pair
+  pub min_value : Option Pair
+  pub max_value : Option Pair
+  pub max_length : Option ℤ
+  pub binding : Option Binding
+  pub constraints : List Constraint
+  pub slicing : Option Slicing
+
+-- ---- whether a tree is an element
+
+-- an object in a field, absent or with its fields
+abbrev pub allows_part : (Tree → Bool) → Text → Tree → Bool
+allows_part fits name t = option_map_or fits (field name t) true
+
+-- an array in a field, absent or of objects with their fields
+abbrev pub allows_parts : (Tree → Bool) → Text → Tree → Bool
+allows_parts fits name t = allows_items name t && list_all fits (items_in name t)
+
+abbrev pub texts_fit : Tree → Bool
+texts_fit t =
+    allows_text (codes "id") t
+    && allows_text (codes "path") t
+    && allows_text (codes "sliceName") t
+    && allows_text (codes "contentReference") t
+
+abbrev pub numbers_fit : Tree → Bool
+numbers_fit t =
+    allows_count (codes "min") t
+    && allows_code max_of (codes "max") t
+    && allows as_integer (codes "maxLength") t
+
+-- no choice has two forms
+abbrev pub choices_fit : Tree → Bool
+choices_fit t =
+    allows_choice (codes "fixed") t
+    && allows_choice (codes "pattern") t
+    && allows_choice (codes "minValue") t
+    && allows_choice (codes "maxValue") t
+
+abbrev pub parts_fit : Tree → Bool
+parts_fit t =
+    allows_parts entry_fits (codes "type") t
+    && allows_parts constraint_fits (codes "constraint") t
+    && allows_part binding_fits (codes "binding") t
+    && allows_part slicing_fits (codes "slicing") t
+
+abbrev pub fields_fit : Tree → Bool
+fields_fit t = is_object t && texts_fit t && numbers_fit t && choices_fit t && parts_fit t
+
+-- the lower bound lies within the upper one, where both are there
+abbrev pub bounds_fit : Tree → Bool
+bounds_fit t =
+    option_map_or (λ m. option_map_or (λ n. is_within n m) (count_in (codes "min") t) true) (code_in max_of (codes "max") t) true
+
+abbrev pub id_fits : Tree → Bool
+id_fits t = option_map_or is_id (text_in (codes "id") t) false
+
+-- why a tree is no element: the first reason that applies
+abbrev pub element_fault : Tree → Option Reason
+element_fault t =
+    if not (fields_fit t) then Some WrongField
+    else (if not (bounds_fit t) then Some MinOverMax
+    else (if not (codes_differ (items_in (codes "type") t)) then Some RepeatedType
+    else (if not (id_fits t) then Some WrongId else None)))
+
+-- ---- the element that it is
+
+abbrev pub fields_of : Tree → Element
+fields_of t = record {
+  id = text_at (codes "id") t;
+  path = text_in (codes "path") t;
+  slice_name = text_in (codes "sliceName") t;
+  min = count_in (codes "min") t;
+  max = code_in max_of (codes "max") t;
+  types = map entry_of (items_in (codes "type") t);
+  content_reference = text_in (codes "contentReference") t;
+  fixed = choice_in (codes "fixed") t;
+  pattern = choice_in (codes "pattern") t;
+  min_value = choice_in (codes "minValue") t;
+  max_value = choice_in (codes "maxValue") t;
+  max_length = option_and_then as_integer (field (codes "maxLength") t);
+  binding = option_map binding_of (field (codes "binding") t);
+  constraints = map constraint_of (items_in (codes "constraint") t);
+  slicing = option_map slicing_of (field (codes "slicing") t);
+}
+
+abbrev pub unless : {A : Type 0} → Option Reason → A → Result A ElementFault
+unless (Some reason) x = Err (Unfit reason)
+unless None x = Ok x
+
+abbrev pub element_of : Tree → Result Element ElementFault
+element_of t = unless (element_fault t) (fields_of t)
+
+-- the fault that says that memory ran out
+abbrev pub is_memory : ElementFault → Bool
+is_memory (Unfit reason) = false
+is_memory NoMemory = true

@@ -1,0 +1,4 @@
+pub mod Ids
+pub mod Codes
+pub mod Parts
+pub mod Element

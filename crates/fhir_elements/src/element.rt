@@ -1,0 +1,375 @@
+//! Elements.
+
+ghost use Rattle.std.specs.Prelude.{◌≡◌, IfOk};
+ghost use Rattle.std.specs.Option.{option_map};
+ghost use Rattle.fhir_json.specs.View.{tree_of, pair_of, text_seen, member_seen};
+ghost use Rattle.fhir_json.specs.Fields.{field, choice_in};
+ghost use Rattle.fhir_json.specs.Memory.{Gives, GivesOr};
+ghost use Rattle.fhir_elements.specs.Parts.{entry_fits, constraint_fits, binding_fits, binding_of, slicing_fits, slicing_of};
+ghost use Rattle.fhir_elements.specs.Element.{allows_part, allows_parts, texts_fit, numbers_fit, choices_fit, parts_fit, fields_fit, bounds_fit, id_fits, element_fault, fields_of, element_of, is_memory};
+
+use crate::codes::{Max, allows_code, allows_integer, code_in, integer_in, is_within};
+use crate::fault::ElementFault;
+use crate::ids::is_id;
+use crate::parts::{
+    ConstraintDef, TypeEntry, codes_differ, constraints_fit, constraints_of, entries_fit,
+    entries_of, owned_at, owned_in, text_of,
+};
+use crate::reason::Reason;
+use crate::slicing::{BindingDef, SlicingDef, binding_fits, binding_of, slicing_fits, slicing_of};
+use fhir_json::{
+    Json, Member, NoMemory, allows_choice, allows_count, allows_items, allows_text, choice_in,
+    count_in, field, is_object, items_in, text_in,
+};
+use std::alloc::{AllocError, Global};
+use std::borrow::CowStr;
+use std::marker::Model;
+
+/// An element of a definition.
+#[derive(Debug, Drop)]
+pub struct ElementDef {
+    id: String,
+    path: Option<String>,
+    slice_name: Option<String>,
+    min: Option<u32>,
+    max: Option<Max>,
+    types: Vec<TypeEntry>,
+    content_reference: Option<String>,
+    fixed: Option<Member<'static>>,
+    pattern: Option<Member<'static>>,
+    min_value: Option<Member<'static>>,
+    max_value: Option<Member<'static>>,
+    max_length: Option<i32>,
+    binding: Option<BindingDef>,
+    constraints: Vec<ConstraintDef>,
+    slicing: Option<SlicingDef>,
+}
+
+impl Model for ElementDef {
+    ghost use Rattle.std.specs.Prelude.{string_bytes};
+    ghost use Rattle.std.specs.Option.{option_map};
+    ghost use Rattle.fhir_json.specs.View.{pair_of};
+    ghost use Rattle.fhir_elements.specs.Element.{Element};
+
+    ghost Value = { Element };
+
+    ghost use Rattle.fhir_json.specs.Coding.{tree_code};
+    ghost use Rattle.std.specs.Coded.{codes};
+
+    ghost coded = { Prim.hlevel (codes, tree_code) };
+
+    ghost view = { λ e. record {
+      id = string_bytes e.id;
+      path = option_map string_bytes e.path;
+      slice_name = option_map string_bytes e.slice_name;
+      min = e.min;
+      max = e.max;
+      types = e.types.items;
+      content_reference = option_map string_bytes e.content_reference;
+      fixed = option_map pair_of e.fixed;
+      pattern = option_map pair_of e.pattern;
+      min_value = option_map pair_of e.min_value;
+      max_value = option_map pair_of e.max_value;
+      max_length = e.max_length;
+      binding = e.binding;
+      constraints = e.constraints.items;
+      slicing = e.slicing;
+    } };
+}
+
+// ---- whether a tree is an element
+
+fn allows_types(json: &Json<'_>, name: &str) -> bool
+    ensures { result ≡ allows_parts entry_fits name.now (tree_of json.now) }
+{
+    let items = items_in(json, name);
+    allows_items(json, name) && entries_fit(items)
+}
+
+fn allows_constraints(json: &Json<'_>, name: &str) -> bool
+    ensures { result ≡ allows_parts constraint_fits name.now (tree_of json.now) }
+{
+    let items = items_in(json, name);
+    allows_items(json, name) && constraints_fit(items)
+}
+
+fn allows_binding(json: &Json<'_>, name: &str) -> bool
+    ensures { result ≡ allows_part binding_fits name.now (tree_of json.now) }
+{
+    field(json, name).map_or(true, |value| binding_fits(value))
+}
+
+fn allows_slicing(json: &Json<'_>, name: &str) -> bool
+    ensures { result ≡ allows_part slicing_fits name.now (tree_of json.now) }
+{
+    field(json, name).map_or(true, |value| slicing_fits(value))
+}
+
+fn texts_fit(json: &Json<'_>) -> bool
+    ensures { result ≡ texts_fit (tree_of json.now) }
+{
+    allows_text(json, "id")
+        && allows_text(json, "path")
+        && allows_text(json, "sliceName")
+        && allows_text(json, "contentReference")
+}
+
+fn numbers_fit(json: &Json<'_>) -> bool
+    ensures { result ≡ numbers_fit (tree_of json.now) }
+{
+    allows_count(json, "min")
+        && allows_code::<Max>(json, "max")
+        && allows_integer(json, "maxLength")
+}
+
+fn choices_fit(json: &Json<'_>) -> bool
+    ensures { result ≡ choices_fit (tree_of json.now) }
+{
+    allows_choice(json, "fixed")
+        && allows_choice(json, "pattern")
+        && allows_choice(json, "minValue")
+        && allows_choice(json, "maxValue")
+}
+
+fn parts_fit(json: &Json<'_>) -> bool
+    ensures { result ≡ parts_fit (tree_of json.now) }
+{
+    allows_types(json, "type")
+        && allows_constraints(json, "constraint")
+        && allows_binding(json, "binding")
+        && allows_slicing(json, "slicing")
+}
+
+fn fields_fit(json: &Json<'_>) -> bool
+    ensures { result ≡ fields_fit (tree_of json.now) }
+{
+    is_object(json) && texts_fit(json) && numbers_fit(json) && choices_fit(json) && parts_fit(json)
+}
+
+fn bounds_fit(json: &Json<'_>) -> bool
+    ensures { result ≡ bounds_fit (tree_of json.now) }
+{
+    let max: Option<Max> = code_in(json, "max");
+    let Some(max) = max else {
+        return true;
+    };
+    match count_in(json, "min") {
+        Some(min) => is_within(min, max),
+        None => true,
+    }
+}
+
+fn id_fits(json: &Json<'_>) -> bool
+    ensures { result ≡ id_fits (tree_of json.now) }
+{
+    text_in(json, "id").map_or(false, |id| is_id(id))
+}
+
+/// Why a tree is no element, as the first of these that applies (FHIR R4, ElementDefinition): `WrongField` where it is
+/// no object, or a field has a wrong kind or a value outside its set; `MinOverMax`; `RepeatedType`; `WrongId` where its
+/// `id` is missing or `is_id` refuses it.
+pub fn element_fault(json: &Json<'_>) -> Option<Reason>
+    ensures { result ≡ element_fault (tree_of json.now) }
+{
+    if !fields_fit(json) {
+        return Some(Reason::WrongField);
+    }
+    if !bounds_fit(json) {
+        return Some(Reason::MinOverMax);
+    }
+    if !codes_differ(items_in(json, "type")) {
+        return Some(Reason::RepeatedType);
+    }
+    if !id_fits(json) {
+        return Some(Reason::WrongId);
+    }
+    None
+}
+
+// ---- the element that it is
+
+fn owned_member(alloc: Global, member: &Member<'_>) -> Result<Member<'static>, NoMemory>
+    ensures { Gives pair_of result (pair_of member.now) }
+{
+    let name = String::from_str(alloc, member.name.as_str())?;
+    let value = member.value.detach(alloc)?;
+    Ok(Member {
+        name: CowStr::Owned(name),
+        value,
+    })
+}
+
+fn owned_choice(
+    alloc: Global,
+    json: &Json<'_>,
+    stem: &str,
+) -> Result<Option<Member<'static>>, NoMemory>
+    ensures { Gives (λ m. option_map pair_of m) result (choice_in stem.now (tree_of json.now)) }
+{
+    match choice_in(json, stem) {
+        Some(member) => Ok(Some(owned_member(alloc, member)?)),
+        None => Ok(None),
+    }
+}
+
+fn binding_in(alloc: Global, json: &Json<'_>, name: &str) -> Result<Option<BindingDef>, AllocError>
+    ensures { IfOk result (λ b. b ≡ option_map binding_of (field name.now (tree_of json.now))) }
+{
+    match field(json, name) {
+        Some(value) => Ok(Some(binding_of(alloc, value)?)),
+        None => Ok(None),
+    }
+}
+
+fn slicing_in(alloc: Global, json: &Json<'_>, name: &str) -> Result<Option<SlicingDef>, AllocError>
+    ensures { IfOk result (λ s. s ≡ option_map slicing_of (field name.now (tree_of json.now))) }
+{
+    match field(json, name) {
+        Some(value) => Ok(Some(slicing_of(alloc, value)?)),
+        None => Ok(None),
+    }
+}
+
+/// The element of a tree's fields, each as far as it fits: a field that doesn't fit counts as absent. `element_fault`
+/// says whether all do.
+pub fn fields_of(alloc: Global, json: &Json<'_>) -> Result<ElementDef, NoMemory>
+    ensures { Gives (λ e. e) result (fields_of (tree_of json.now)) }
+{
+    Ok(ElementDef {
+        id: owned_at(alloc, json, "id")?,
+        path: owned_in(alloc, json, "path")?,
+        slice_name: owned_in(alloc, json, "sliceName")?,
+        min: count_in(json, "min"),
+        max: code_in(json, "max"),
+        types: entries_of(alloc, items_in(json, "type"))?,
+        content_reference: owned_in(alloc, json, "contentReference")?,
+        fixed: owned_choice(alloc, json, "fixed")?,
+        pattern: owned_choice(alloc, json, "pattern")?,
+        min_value: owned_choice(alloc, json, "minValue")?,
+        max_value: owned_choice(alloc, json, "maxValue")?,
+        max_length: integer_in(json, "maxLength"),
+        binding: binding_in(alloc, json, "binding")?,
+        constraints: constraints_of(alloc, items_in(json, "constraint"))?,
+        slicing: slicing_in(alloc, json, "slicing")?,
+    })
+}
+
+impl ElementDef {
+    /// The element that a tree is (FHIR R4, ElementDefinition), in memory of its own. A tree that is none is refused
+    /// with the reason that `element_fault` gives. A field that isn't read here is passed over, and an empty array
+    /// counts as an absent one.
+    pub fn of(alloc: Global, json: &Json<'_>) -> Result<ElementDef, ElementFault>
+        ensures { GivesOr is_memory (λ e. e) result (element_of (tree_of json.now)) }
+    {
+        if let Some(reason) = element_fault(json) {
+            return Err(ElementFault::Unfit(reason));
+        }
+        let element = fields_of(alloc, json)?;
+        Ok(element)
+    }
+
+    /// Its id.
+    pub fn id(&self) -> &str
+        ensures { result.now ≡ self.now.id }
+    {
+        self.id.as_str()
+    }
+
+    /// Its path.
+    pub fn path(&self) -> Option<&str>
+        ensures { text_seen result ≡ self.now.path }
+    {
+        text_of(&self.path)
+    }
+
+    /// The name of the slice that it is.
+    pub fn slice_name(&self) -> Option<&str>
+        ensures { text_seen result ≡ self.now.slice_name }
+    {
+        text_of(&self.slice_name)
+    }
+
+    /// How many there are at least.
+    pub fn min(&self) -> Option<u32>
+        ensures { result ≡ self.now.min }
+    {
+        self.min
+    }
+
+    /// How many there are at most.
+    pub fn max(&self) -> Option<Max>
+        ensures { result ≡ self.now.max }
+    {
+        self.max
+    }
+
+    /// Its types.
+    pub fn types(&self) -> &[TypeEntry]
+        ensures { result.now ≡ self.now.types }
+    {
+        &self.types
+    }
+
+    /// The element whose content it takes, as `#Questionnaire.item`.
+    pub fn content_reference(&self) -> Option<&str>
+        ensures { text_seen result ≡ self.now.content_reference }
+    {
+        text_of(&self.content_reference)
+    }
+
+    /// The value that it is, under its whole name, as `fixedCode`.
+    pub fn fixed(&self) -> Option<&Member<'static>>
+        ensures { member_seen result ≡ self.now.fixed }
+    {
+        self.fixed.as_ref()
+    }
+
+    /// The value that it contains, under its whole name, as `patternCoding`.
+    pub fn pattern(&self) -> Option<&Member<'static>>
+        ensures { member_seen result ≡ self.now.pattern }
+    {
+        self.pattern.as_ref()
+    }
+
+    /// The least value that it may be, under its whole name, as `minValueInteger`.
+    pub fn min_value(&self) -> Option<&Member<'static>>
+        ensures { member_seen result ≡ self.now.min_value }
+    {
+        self.min_value.as_ref()
+    }
+
+    /// The greatest value that it may be, under its whole name, as `maxValueDate`.
+    pub fn max_value(&self) -> Option<&Member<'static>>
+        ensures { member_seen result ≡ self.now.max_value }
+    {
+        self.max_value.as_ref()
+    }
+
+    /// How long its text may be.
+    pub fn max_length(&self) -> Option<i32>
+        ensures { result ≡ self.now.max_length }
+    {
+        self.max_length
+    }
+
+    /// Its binding.
+    pub fn binding(&self) -> Option<&BindingDef>
+        ensures { option_map (λ b. b.now) result ≡ self.now.binding }
+    {
+        self.binding.as_ref()
+    }
+
+    /// Its constraints.
+    pub fn constraints(&self) -> &[ConstraintDef]
+        ensures { result.now ≡ self.now.constraints }
+    {
+        &self.constraints
+    }
+
+    /// How it is sliced.
+    pub fn slicing(&self) -> Option<&SlicingDef>
+        ensures { option_map (λ s. s.now) result ≡ self.now.slicing }
+    {
+        self.slicing.as_ref()
+    }
+}

@@ -1,0 +1,21 @@
+//! The elements of definitions (FHIR R4, ElementDefinition).
+#![tactic(auto)]
+
+mod codes;
+mod element;
+mod fault;
+mod ids;
+mod parts;
+mod reason;
+mod slicing;
+
+pub use codes::{DiscriminatorType, Max, Severity, SlicingRules, Strength, is_within};
+pub use element::{ElementDef, element_fault, fields_of};
+pub use fault::ElementFault;
+pub use ids::{front_of, is_id, name_of, slice_of, sliced_of};
+pub use parts::{ConstraintDef, TypeEntry};
+pub use reason::Reason;
+pub use slicing::{BindingDef, DiscriminatorDef, SlicingDef};
+
+#[cfg(test)]
+mod tests;

@@ -1,0 +1,262 @@
+//! Types and constraints of an element, and texts read from fields.
+
+ghost use Rattle.std.specs.Prelude.{◌≡◌, map, IfOk, string_bytes, codes};
+ghost use Rattle.std.specs.Option.{option_map};
+ghost use Rattle.std.specs.List.{list_all, list_any};
+ghost use Rattle.std.specs.Str.{bytes_eq};
+ghost use Rattle.fhir_json.specs.View.{tree_of, trees_of, text_seen};
+ghost use Rattle.fhir_json.specs.Fields.{text_in, text_at, texts_in};
+ghost use Rattle.fhir_elements.specs.Parts.{entry_fits, entry_of, codes_differ, constraint_fits, constraint_of};
+
+use crate::codes::{Severity, allows_code, code_in};
+use fhir_json::{
+    Json, allows_text, allows_texts, is_object, items_in, text_at, text_in, text_or_empty,
+};
+use std::alloc::{AllocError, Global};
+use std::marker::Model;
+
+/// One of an element's types.
+#[derive(Debug, Drop)]
+pub struct TypeEntry {
+    code: String,
+    profiles: Vec<String>,
+    targets: Vec<String>,
+}
+
+impl Model for TypeEntry {
+    ghost use Rattle.std.specs.Prelude.{map, string_bytes};
+    ghost use Rattle.fhir_elements.specs.Parts.{Entry};
+
+    ghost Value = { Entry };
+
+    ghost view = { λ e. record {
+      code = string_bytes e.code;
+      profiles = map string_bytes e.profiles.items;
+      targets = map string_bytes e.targets.items;
+    } };
+}
+
+impl TypeEntry {
+    /// The type's code.
+    pub fn code(&self) -> &str
+        ensures { result.now ≡ self.now.code }
+    {
+        self.code.as_str()
+    }
+
+    /// The urls of its profiles.
+    pub fn profiles(&self) -> &[String]
+        ensures { map string_bytes result.now ≡ self.now.profiles }
+    {
+        &self.profiles
+    }
+
+    /// The urls of its target profiles.
+    pub fn targets(&self) -> &[String]
+        ensures { map string_bytes result.now ≡ self.now.targets }
+    {
+        &self.targets
+    }
+}
+
+/// One of an element's constraints.
+#[derive(Debug, Drop)]
+pub struct ConstraintDef {
+    key: String,
+    severity: Option<Severity>,
+    expression: Option<String>,
+}
+
+impl Model for ConstraintDef {
+    ghost use Rattle.std.specs.Prelude.{string_bytes};
+    ghost use Rattle.std.specs.Option.{option_map};
+    ghost use Rattle.fhir_elements.specs.Parts.{Constraint};
+
+    ghost Value = { Constraint };
+
+    ghost view = { λ c. record {
+      key = string_bytes c.key;
+      severity = c.severity;
+      expression = option_map string_bytes c.expression;
+    } };
+}
+
+impl ConstraintDef {
+    /// The constraint's key.
+    pub fn key(&self) -> &str
+        ensures { result.now ≡ self.now.key }
+    {
+        self.key.as_str()
+    }
+
+    /// How grave it is that the constraint isn't true.
+    pub fn severity(&self) -> Option<Severity>
+        ensures { result ≡ self.now.severity }
+    {
+        self.severity
+    }
+
+    /// Its FHIRPath expression.
+    pub fn expression(&self) -> Option<&str>
+        ensures { text_seen result ≡ self.now.expression }
+    {
+        text_of(&self.expression)
+    }
+}
+
+/// The text, if there is one.
+pub(crate) fn text_of(text: &Option<String>) -> Option<&str>
+    ensures { text_seen result ≡ option_map string_bytes text.now }
+{
+    match text {
+        Some(text) => Some(text.as_str()),
+        None => None,
+    }
+}
+
+/// The text in a field, or the empty one.
+pub(crate) fn owned_at(alloc: Global, json: &Json<'_>, name: &str) -> Result<String, AllocError>
+    ensures { IfOk result (λ s. string_bytes s ≡ text_at name.now (tree_of json.now)) }
+{
+    String::from_str(alloc, text_at(json, name))
+}
+
+/// The text in a field.
+pub(crate) fn owned_in(
+    alloc: Global,
+    json: &Json<'_>,
+    name: &str,
+) -> Result<Option<String>, AllocError>
+    ensures { IfOk result (λ s. option_map string_bytes s ≡ text_in name.now (tree_of json.now)) }
+{
+    match text_in(json, name) {
+        Some(text) => Ok(Some(String::from_str(alloc, text)?)),
+        None => Ok(None),
+    }
+}
+
+fn all_owned_in(alloc: Global, json: &Json<'_>, name: &str) -> Result<Vec<String>, AllocError>
+    ensures { IfOk result (λ v. map string_bytes v.items ≡ texts_in name.now (tree_of json.now)) }
+{
+    let mut texts = Vec::new(alloc);
+    let items = items_in(json, name);
+    for item in items {
+        let text = String::from_str(alloc, text_or_empty(item))?;
+        texts.push(text)?;
+    }
+    Ok(texts)
+}
+
+fn entry_fits(json: &Json<'_>) -> bool
+    ensures { result ≡ entry_fits (tree_of json.now) }
+{
+    is_object(json)
+        && text_in(json, "code").is_some()
+        && allows_texts(json, "profile")
+        && allows_texts(json, "targetProfile")
+}
+
+/// Whether each item is a type.
+pub(crate) fn entries_fit(items: &[Json<'_>]) -> bool
+    ensures { result ≡ list_all entry_fits (trees_of items.now) }
+{
+    for item in items {
+        if !entry_fits(item) {
+            return false;
+        }
+    }
+    true
+}
+
+fn entry_of(alloc: Global, json: &Json<'_>) -> Result<TypeEntry, AllocError>
+    ensures { IfOk result (λ e. e ≡ entry_of (tree_of json.now)) }
+{
+    Ok(TypeEntry {
+        code: owned_at(alloc, json, "code")?,
+        profiles: all_owned_in(alloc, json, "profile")?,
+        targets: all_owned_in(alloc, json, "targetProfile")?,
+    })
+}
+
+/// The types that items are.
+pub(crate) fn entries_of(alloc: Global, items: &[Json<'_>]) -> Result<Vec<TypeEntry>, AllocError>
+    ensures { IfOk result (λ v. v.items ≡ map entry_of (trees_of items.now)) }
+{
+    let mut entries = Vec::new(alloc);
+    for item in items {
+        let entry = entry_of(alloc, item)?;
+        entries.push(entry)?;
+    }
+    Ok(entries)
+}
+
+fn has_code(items: &[Json<'_>], code: &str) -> bool
+    ensures { result ≡ list_any (λ u. bytes_eq code.now (text_at (codes "code") u)) (trees_of items.now) }
+{
+    for item in items {
+        if code == text_at(item, "code") {
+            return true;
+        }
+    }
+    false
+}
+
+/// Whether no two types have one code.
+pub(crate) fn codes_differ(items: &[Json<'_>]) -> bool
+    ensures { result ≡ codes_differ (trees_of items.now) }
+{
+    let mut left = items;
+    while let [item, rest @ ..] = left {
+        if has_code(rest, text_at(item, "code")) {
+            return false;
+        }
+        left = rest;
+    }
+    true
+}
+
+fn constraint_fits(json: &Json<'_>) -> bool
+    ensures { result ≡ constraint_fits (tree_of json.now) }
+{
+    is_object(json)
+        && text_in(json, "key").is_some()
+        && allows_code::<Severity>(json, "severity")
+        && allows_text(json, "expression")
+}
+
+/// Whether each item is a constraint.
+pub(crate) fn constraints_fit(items: &[Json<'_>]) -> bool
+    ensures { result ≡ list_all constraint_fits (trees_of items.now) }
+{
+    for item in items {
+        if !constraint_fits(item) {
+            return false;
+        }
+    }
+    true
+}
+
+fn constraint_of(alloc: Global, json: &Json<'_>) -> Result<ConstraintDef, AllocError>
+    ensures { IfOk result (λ c. c ≡ constraint_of (tree_of json.now)) }
+{
+    Ok(ConstraintDef {
+        key: owned_at(alloc, json, "key")?,
+        severity: code_in(json, "severity"),
+        expression: owned_in(alloc, json, "expression")?,
+    })
+}
+
+/// The constraints that items are.
+pub(crate) fn constraints_of(
+    alloc: Global,
+    items: &[Json<'_>],
+) -> Result<Vec<ConstraintDef>, AllocError>
+    ensures { IfOk result (λ v. v.items ≡ map constraint_of (trees_of items.now)) }
+{
+    let mut constraints = Vec::new(alloc);
+    for item in items {
+        let constraint = constraint_of(alloc, item)?;
+        constraints.push(constraint)?;
+    }
+    Ok(constraints)
+}
