@@ -1,0 +1,6 @@
+pub mod Texts
+pub mod Finding
+pub mod Rounds
+pub mod Gathers
+pub mod Settles
+pub mod Made

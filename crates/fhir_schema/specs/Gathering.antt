@@ -1,0 +1,10 @@
+-- Places put into lists one after another (used by private contracts alone).
+use Rattle.std.specs.Prelude.{ℕ, List, [], ◌∷◌, ◌++◌, map, get_or, set, Option, None, Some, Vec}
+use Rattle.std.specs.declared.alloc.Global.{Global}
+
+abbrev pub lists_in : List (Vec ℕ Global) → List (List ℕ)
+lists_in vs = map (λ v. v.items) vs
+
+abbrev pub put_at : Option ℕ → ℕ → List (List ℕ) → List (List ℕ)
+put_at None place lists = lists
+put_at (Some at) place lists = set lists at (get_or lists at [] ++ place ∷ [])

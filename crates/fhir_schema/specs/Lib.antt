@@ -1,0 +1,9 @@
+pub mod Slots
+pub mod Supported
+pub mod Structure
+pub mod Settling
+pub mod Usability
+pub mod Schemas
+pub mod Places
+pub mod Tables
+pub mod Gathering

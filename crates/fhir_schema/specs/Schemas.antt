@@ -1,0 +1,91 @@
+-- The schema of a package: its structures, which of them can be used, and the nodes of those.
+use Rattle.std.specs.Prelude.{ℕ, List, [], length, get_or, Bool, false, not, ◌&&◌, ◌==◌, nat_lt, Option, None, Some, is_some, if◌then◌else◌}
+use Rattle.std.specs.Option.{option_map, option_map_or, option_and_then}
+use Rattle.std.specs.List.{slice_get, find}
+use Rattle.std.specs.Str.{bytes_eq}
+use Rattle.fhir_json.specs.Tree.{Text}
+use Rattle.fhir_package.specs.Definitions.{Definitions}
+use Rattle.fhir_elements.specs.declared.reason.Reason.{Reason}
+use Rattle.fhir_elements.specs.Parts.{Entry}
+use Rattle.fhir_elements.specs.Element.{Element}
+use Rattle.fhir_schema.specs.declared.node.NodeRef.{NodeRef}
+use Rattle.fhir_schema.specs.Slots.{Slot, id_place, id_at, is_root}
+use Rattle.fhir_schema.specs.Structure.{Structure, structures_from}
+use Rattle.fhir_schema.specs.Settling.{Found, settled, url_place, reason_at}
+
+pub record SchemaValue : Type 0 where
+  pub structures : List Structure
+  -- why each can't be used
+  pub found : Found
+
+abbrev pub schema_with : List Structure → SchemaValue
+schema_with ds = record { structures = ds; found = settled ds }
+
+abbrev pub schema_of : Definitions → SchemaValue
+schema_of p = schema_with (structures_from 0 p.structure_definitions)
+
+-- why the definition at a url can't be used, if it is there and can't
+abbrev pub unusable : SchemaValue → Text → Option Reason
+unusable s url = option_and_then (reason_at s.found) (url_place s.structures url)
+
+abbrev pub is_usable : SchemaValue → ℕ → Bool
+is_usable s place = not (is_some (reason_at s.found place))
+
+-- ---- nodes
+
+abbrev pub elements_at : SchemaValue → ℕ → List Element
+elements_at s place = option_map_or (λ d. d.elements) (slice_get s.structures place) []
+
+-- the node is an element of a definition that can be used
+abbrev pub has : SchemaValue → NodeRef → Bool
+has s n = is_usable s n.definition && nat_lt n.element (length (elements_at s n.definition))
+
+abbrev pub element_at : SchemaValue → NodeRef → Option Element
+element_at s n = slice_get (elements_at s n.definition) n.element
+
+abbrev pub url_at : SchemaValue → ℕ → Text
+url_at s place = option_map_or (λ d. d.url) (slice_get s.structures place) []
+
+abbrev pub id_of_node : SchemaValue → NodeRef → Text
+id_of_node s n = id_at (elements_at s n.definition) n.element
+
+abbrev pub is_root_node : SchemaValue → NodeRef → Bool
+is_root_node s n = option_map_or is_root (element_at s n) false
+
+-- the node of an element of a definition
+abbrev pub node_in : SchemaValue → ℕ → Option ℕ → Option NodeRef
+node_in s place element =
+    if is_usable s place then option_map (λ e. record { definition = place; element = e }) element else None
+
+-- the root of the definition at a url
+abbrev pub root_place : SchemaValue → ℕ → Option ℕ
+root_place s place = option_and_then (λ d. d.root) (slice_get s.structures place)
+
+abbrev pub root_in : SchemaValue → ℕ → Option NodeRef
+root_in s place = node_in s place (root_place s place)
+
+abbrev pub root : SchemaValue → Text → Option NodeRef
+root s url = option_and_then (root_in s) (url_place s.structures url)
+
+-- the node of a url and an id
+abbrev pub node_with : SchemaValue → Text → ℕ → Option NodeRef
+node_with s id place = node_in s place (id_place (elements_at s place) id)
+
+abbrev pub node : SchemaValue → Text → Text → Option NodeRef
+node s url id = option_and_then (node_with s id) (url_place s.structures url)
+
+-- ---- what stands below a node, and its types
+
+abbrev pub slots : SchemaValue → NodeRef → List Slot
+slots s n = option_map_or (λ d. get_or d.slots n.element []) (slice_get s.structures n.definition) []
+
+-- the slot of a name
+abbrev pub kids : SchemaValue → NodeRef → Text → Option Slot
+kids s n name = find (λ slot. bytes_eq name slot.name) (slots s n)
+
+-- a root has no type entries; those that are written there are passed over
+abbrev pub types_in : Element → List Entry
+types_in e = if is_root e then [] else e.types
+
+abbrev pub types : SchemaValue → NodeRef → List Entry
+types s n = option_map_or types_in (element_at s n) []

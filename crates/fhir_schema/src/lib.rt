@@ -1,0 +1,26 @@
+//! The schema of a package: which definitions can be used, their nodes, and what stands below each.
+#![tactic(auto)]
+
+mod elements;
+mod index;
+mod kind;
+mod laws;
+mod node;
+mod reasons;
+mod schema;
+mod settling;
+mod slots;
+mod snapshot;
+mod structure;
+mod supported;
+mod table;
+mod types;
+
+pub use kind::TypeKind;
+pub use laws::least_closed;
+pub use node::NodeRef;
+pub use schema::Schema;
+pub use slots::{Slice, Slot};
+
+#[cfg(test)]
+mod tests;

@@ -1,0 +1,241 @@
+//! The schema of a package.
+
+ghost use Rattle.std.specs.Prelude.{◌≡◌, IsTrue};
+ghost use Rattle.std.specs.Option.{option_copied};
+ghost use Rattle.std.specs.List.{find};
+ghost use Rattle.std.specs.Str.{bytes_eq};
+ghost use Rattle.fhir_json.specs.Memory.{Gives};
+ghost use Rattle.fhir_schema.specs.Schemas.{schema_of, unusable, is_usable, elements_at, has, element_at, url_at, id_of_node, is_root_node, node_in, root_place, root_in, root, node_with, node, slots, kids, types_in, types};
+
+use crate::node::NodeRef;
+use crate::settling::settled;
+use crate::slots::Slot;
+use crate::snapshot::is_root;
+use crate::table::Table;
+use crate::types::reason_at;
+use fhir_elements::{ElementDef, Reason, TypeEntry};
+use fhir_json::NoMemory;
+use fhir_package::Package;
+use std::alloc::Global;
+use std::marker::Model;
+
+/// The schema of a package: its definitions, why some can't be used, and the nodes of the others.
+#[derive(Drop)]
+pub struct Schema {
+    table: Table,
+    found: Vec<Option<Reason>>,
+}
+
+impl Model for Schema {
+    ghost use Rattle.fhir_schema.specs.Schemas.{SchemaValue};
+
+    ghost Value = { SchemaValue };
+
+    ghost use Rattle.fhir_json.specs.Coding.{tree_code};
+    ghost use Rattle.std.specs.Coded.{codes};
+
+    ghost coded = { Prim.hlevel (codes, tree_code) };
+
+    ghost view = { λ s. record { structures = s.table; found = s.found.items } };
+}
+
+impl Schema {
+    /// The schema of a package. It takes time near linear in the package's size, but for the rounds in which it is found
+    /// which definitions can't be used: one more than there are definitions between a fault and what rests on it.
+    pub fn build(alloc: Global, from: &Package) -> Result<Schema, NoMemory>
+        ensures { Gives (λ s. s) result (schema_of from.now) }
+    {
+        let table = Table::of(alloc, from)?;
+        let found = settled(alloc, &table)?;
+        Ok(Schema { table, found })
+    }
+
+    /// Why the definition at a url can't be used, if it is there and can't.
+    pub fn unusable(&self, url: &str) -> Option<Reason>
+        ensures { result ≡ unusable self.now url.now }
+    {
+        match self.table.url_place(url) {
+            Some(place) => reason_at(&self.found, place),
+            None => None,
+        }
+    }
+
+    fn is_usable(&self, place: usize) -> bool
+        ensures { result ≡ is_usable self.now place }
+    {
+        !reason_at(&self.found, place).is_some()
+    }
+
+    fn elements_at(&self, place: usize) -> &[ElementDef]
+        ensures { result.now ≡ elements_at self.now place }
+    {
+        match self.table.structure(place) {
+            Some(structure) => structure.snapshot().elements(),
+            None => Default::default(),
+        }
+    }
+
+    fn element_at(&self, node: NodeRef) -> Option<&ElementDef>
+        ensures { option_copied result ≡ element_at self.now node }
+    {
+        self.elements_at(node.definition).get(node.element)
+    }
+
+    /// Whether a node is one of the schema's: an element of a definition that can be used.
+    pub fn has(&self, node: NodeRef) -> bool
+        ensures { result ≡ has self.now node }
+    {
+        let elements = self.elements_at(node.definition);
+        self.is_usable(node.definition) && node.element < elements.len()
+    }
+
+    fn url_at(&self, place: usize) -> &str
+        ensures { result.now ≡ url_at self.now place }
+    {
+        match self.table.structure(place) {
+            Some(structure) => structure.url(),
+            None => "",
+        }
+    }
+
+    fn id_of_node(&self, node: NodeRef) -> &str
+        ensures { result.now ≡ id_of_node self.now node }
+    {
+        match self.element_at(node) {
+            Some(element) => element.id(),
+            None => "",
+        }
+    }
+
+    /// The url of a node's definition, and the node's id.
+    pub fn name(&self, node: NodeRef) -> (&str, &str)
+        requires { IsTrue (has self.now node) }
+        ensures url { result.0.now ≡ url_at self.now node.definition }
+        ensures id { result.1.now ≡ id_of_node self.now node }
+    {
+        (self.url_at(node.definition), self.id_of_node(node))
+    }
+
+    fn node_in(&self, place: usize, element: Option<usize>) -> Option<NodeRef>
+        ensures { result ≡ node_in self.now place element }
+    {
+        if !self.is_usable(place) {
+            return None;
+        }
+        match element {
+            Some(element) => Some(NodeRef {
+                definition: place,
+                element,
+            }),
+            None => None,
+        }
+    }
+
+    fn root_place(&self, place: usize) -> Option<usize>
+        ensures { result ≡ root_place self.now place }
+    {
+        match self.table.structure(place) {
+            Some(structure) => structure.root(),
+            None => None,
+        }
+    }
+
+    /// The root of the definition at a url, if that can be used.
+    pub fn root(&self, url: &str) -> Option<NodeRef>
+        ensures { result ≡ root self.now url.now }
+    {
+        match self.table.url_place(url) {
+            Some(place) => self.node_in(place, self.root_place(place)),
+            None => None,
+        }
+    }
+
+    fn node_with(&self, id: &str, place: usize) -> Option<NodeRef>
+        ensures { result ≡ node_with self.now id.now place }
+    {
+        match self.table.structure(place) {
+            Some(structure) => self.node_in(place, structure.snapshot().id_place(id)),
+            None => None,
+        }
+    }
+
+    /// The node of an id in the definition at a url, if that can be used.
+    pub fn node(&self, url: &str, id: &str) -> Option<NodeRef>
+        ensures { result ≡ node self.now url.now id.now }
+    {
+        match self.table.url_place(url) {
+            Some(place) => self.node_with(id, place),
+            None => None,
+        }
+    }
+
+    /// Whether a node is the root of its definition.
+    pub fn is_root(&self, node: NodeRef) -> bool
+        requires { IsTrue (has self.now node) }
+        ensures { result ≡ is_root_node self.now node }
+    {
+        match self.element_at(node) {
+            Some(element) => is_root(element),
+            None => false,
+        }
+    }
+
+    /// The slots of a node: the names that the children of an item may have, in the definition's order.
+    pub fn slots(&self, node: NodeRef) -> &[Slot]
+        requires { IsTrue (has self.now node) }
+        ensures { result.now ≡ slots self.now node }
+    {
+        match self.table.structure(node.definition) {
+            Some(structure) => structure.slots(node.element),
+            None => Default::default(),
+        }
+    }
+
+    /// The slot of a name among a node's.
+    pub fn kids(&self, node: NodeRef, name: &str) -> Option<&Slot>
+        requires { IsTrue (has self.now node) }
+        ensures { option_copied result ≡ kids self.now node name.now }
+    {
+        slot_named(self.slots(node), name)
+    }
+
+    /// The type entries of a node. A root has none, whatever is written there.
+    pub fn types(&self, node: NodeRef) -> &[TypeEntry]
+        requires { IsTrue (has self.now node) }
+        ensures { result.now ≡ types self.now node }
+    {
+        match self.element_at(node) {
+            Some(element) => types_in(element),
+            None => Default::default(),
+        }
+    }
+
+    /// The element of a node.
+    pub fn element(&self, node: NodeRef) -> Option<&ElementDef>
+        requires { IsTrue (has self.now node) }
+        ensures { option_copied result ≡ element_at self.now node }
+    {
+        self.element_at(node)
+    }
+}
+
+fn slot_named<'s>(slots: &'s [Slot], name: &str) -> Option<&'s Slot>
+    ensures { option_copied result ≡ find (λ slot. bytes_eq name.now slot.name) slots.entry.now }
+{
+    for slot in slots {
+        if name == slot.name() {
+            return Some(slot);
+        }
+    }
+    None
+}
+
+fn types_in(element: &ElementDef) -> &[TypeEntry]
+    ensures { result.now ≡ types_in element.now }
+{
+    if is_root(element) {
+        Default::default()
+    } else {
+        element.types()
+    }
+}
