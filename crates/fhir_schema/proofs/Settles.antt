@@ -116,6 +116,66 @@ module _ (ds : List Structure) (found : Found) (d : Structure) where
   chain_applies None true true true true true false r p1 p2 p3 p4 p5 p6 p7 h = standing r NotYet h (ap not p7)
   chain_applies None true true true true true true r p1 p2 p3 p4 p5 p6 p7 h = cc
 
+  or_false : (a b : Bool) → (a || b) ≡ false → (a ≡ false) × (b ≡ false)
+  or_false true b e = cc
+  or_false false b e = (refl, e)
+
+  passes : (b : Bool) → not b ≡ false → b ≡ true
+  passes true e = refl
+  passes false e = cc
+
+  abbrev NoneApplies : Type 0
+  NoneApplies = (r : Reason) → applies ds found d r ≡ false
+
+  stands_not : NoneApplies → (r : Reason) → stands ds found d r ≡ false
+  stands_not none r = (or_false (is_faulty r d) (stands ds found d r) (none r)).1
+
+  no_fault : NoneApplies → (o : Option Reason) → d.fault ≡ o → o ≡ None
+  no_fault none None e = refl
+  no_fault none (Some r) e =
+      let is : is_faulty r d ≡ true = rw (e, number_same r) refl in
+      let isnt : is_faulty r d ≡ false = (or_false (is_faulty r d) (stands ds found d r) (none r)).0 in cc
+
+  -- where none applies, the chain has none
+  chain_empty : NoneApplies → chain d.fault (types_are_usable ds found d) (not d.has_snapshot || d.is_tree) (chain_ends ds d) d.has_snapshot (is_first_of_type ds d) (is_flat ds d) ≡ None
+  unfolding chain
+  chain_empty none =
+      rw (
+        no_fault none d.fault refl,
+        passes (types_are_usable ds found d) (stands_not none UnusableType),
+        passes (not d.has_snapshot || d.is_tree) (stands_not none NoTree),
+        passes (chain_ends ds d) (stands_not none BaseCycle),
+        passes d.has_snapshot (stands_not none NoSnapshot),
+        passes (is_first_of_type ds d) (stands_not none SecondType),
+        passes (is_flat ds d) (stands_not none NotYet),
+      ) refl
+
+  -- where the chain has none, none applies
+  none_applies : (fault : Option Reason) (a b c e f g : Bool) (r : Reason) → d.fault ≡ fault → types_are_usable ds found d ≡ a → (not d.has_snapshot || d.is_tree) ≡ b → chain_ends ds d ≡ c → d.has_snapshot ≡ e → is_first_of_type ds d ≡ f → is_flat ds d ≡ g → chain fault a b c e f g ≡ None → applies ds found d r ≡ false
+  unfolding chain
+  none_applies (Some x) a b c e f g r p1 p2 p3 p4 p5 p6 p7 h = cc
+  none_applies None false b c e f g r p1 p2 p3 p4 p5 p6 p7 h = cc
+  none_applies None true false c e f g r p1 p2 p3 p4 p5 p6 p7 h = cc
+  none_applies None true true false e f g r p1 p2 p3 p4 p5 p6 p7 h = cc
+  none_applies None true true true false f g r p1 p2 p3 p4 p5 p6 p7 h = cc
+  none_applies None true true true true false g r p1 p2 p3 p4 p5 p6 p7 h = cc
+  none_applies None true true true true true false r p1 p2 p3 p4 p5 p6 p7 h = cc
+  none_applies None true true true true true true r p1 p2 p3 p4 p5 p6 p7 h = rw p1 (by_reason r)
+    where
+      by_reason : (r : Reason) → stands ds found d r ≡ false
+      by_reason WrongField = refl
+      by_reason MinOverMax = refl
+      by_reason RepeatedType = refl
+      by_reason WrongId = refl
+      by_reason UnusableType = ap not p2
+      by_reason NoTree = ap not p3
+      by_reason MissingContent = refl
+      by_reason BaseCycle = ap not p4
+      by_reason UnsupportedSlicing = refl
+      by_reason NoSnapshot = ap not p5
+      by_reason SecondType = ap not p6
+      by_reason NotYet = ap not p7
+
 chain_less : (fault : Option Reason) (a a' b c e f g : Bool) → (a ≡ true → a' ≡ true) → chain fault a b c e f g ≡ None → chain fault a' b c e f g ≡ None
 unfolding chain
 chain_less (Some x) a a' b c e f g m h = cc
@@ -245,8 +305,15 @@ module _ (ds : List Structure) (is_placed : (i : ℕ) (d : Structure) → slice_
   length_none : (xs : List Structure) → length (none_found xs) ≡ length xs
   length_none xs = length-map xs (λ d. None)
 
-  pub closed : round ds (settled ds) ≡ settled ds
-  closed = rests (length ds) (none_found ds) (length_none ds) (omega arith)
+  at_rest : round ds (settled ds) ≡ settled ds
+  at_rest = rests (length ds) (none_found ds) (length_none ds) (omega arith)
+
+  pub closed : IsClosed ds (settled ds)
+  unfolding chain
+  closed d r at none =
+      let of : reason_of ds (settled ds) d ≡ None = sym (round_at (settled ds) d at) ∙ ap (λ l. reason_at l d.place) at_rest ∙ none in
+      let rest : chain d.fault (types_are_usable ds (settled ds) d) (not d.has_snapshot || d.is_tree) (chain_ends ds d) d.has_snapshot (is_first_of_type ds d) (is_flat ds d) ≡ None = (rw none at of) in
+      none_applies ds (settled ds) d d.fault (types_are_usable ds (settled ds) d) (not d.has_snapshot || d.is_tree) (chain_ends ds d) d.has_snapshot (is_first_of_type ds d) (is_flat ds d) r refl refl refl refl refl refl refl rest
 
   -- ---- the reasons that are found apply
 
@@ -317,8 +384,7 @@ module _ (ds : List Structure) (is_placed : (i : ℕ) (d : Structure) → slice_
           let here : slice_get ds d.place ≡ Some d = ap (slice_get ds) p ∙ s.1 in
           let other_at : reason_at other d.place ≡ None = ap (reason_at other) p ∙ at in
           let found_none : reason_at found d.place ≡ None = none_from (reason_at found d.place) (within_fewer found other h d.place (ap is_some other_at)) in
-          let of_other : reason_of ds other d ≡ None = sym (round_at other d here) ∙ ap (λ l. reason_at l d.place) shut ∙ other_at in
-          let rest_other : chain d.fault (types_are_usable ds other d) (not d.has_snapshot || d.is_tree) (chain_ends ds d) d.has_snapshot (is_first_of_type ds d) (is_flat ds d) ≡ None = (rw other_at at of_other) in
+          let rest_other : chain d.fault (types_are_usable ds other d) (not d.has_snapshot || d.is_tree) (chain_ends ds d) d.has_snapshot (is_first_of_type ds d) (is_flat ds d) ≡ None = chain_empty ds other d (λ reason. shut d reason here other_at) in
           let rest : chain d.fault (types_are_usable ds found d) (not d.has_snapshot || d.is_tree) (chain_ends ds d) d.has_snapshot (is_first_of_type ds d) (is_flat ds d) ≡ None = chain_less d.fault (types_are_usable ds other d) (types_are_usable ds found d) (not d.has_snapshot || d.is_tree) (chain_ends ds d) d.has_snapshot (is_first_of_type ds d) (is_flat ds d) (types_more ds found other (within_fewer found other h) d) rest_other in
           let of_found : reason_of ds found d ≡ None = rw found_none rest in
           let r_is : reason_of ds found d ≡ Some r = sym (round_at found d here) ∙ ap (reason_at (round ds found)) p ∙ is in cc

@@ -5,7 +5,7 @@ use Rattle.std.specs.List.{slice_get}
 use Rattle.fhir_elements.specs.declared.reason.Reason.{Reason}
 use Rattle.fhir_elements.specs.declared.reason.Reason.TheVariants.{NotYet, WrongField, MinOverMax, RepeatedType, WrongId, UnusableType, NoTree, MissingContent, BaseCycle, UnsupportedSlicing, NoSnapshot, SecondType}
 use Rattle.fhir_schema.specs.Structure.{Structure, number_of}
-use Rattle.fhir_schema.specs.Settling.{Found, reason_at, types_are_usable, chain_ends, is_first_of_type, is_flat, round}
+use Rattle.fhir_schema.specs.Settling.{Found, reason_at, types_are_usable, chain_ends, is_first_of_type, is_flat}
 
 -- the definition by itself has that fault
 abbrev pub is_faulty : Reason → Structure → Bool
@@ -32,11 +32,15 @@ applies ds found d reason = is_faulty reason d || stands ds found d reason
 
 -- each definition that can't be used has a reason that applies
 abbrev pub AllApply : List Structure → Found → Type 0
-AllApply ds found = (d : Structure) (reason : Reason) → slice_get ds d.place ≡ Some d → reason_at found d.place ≡ Some reason → IsTrue (applies ds found d reason)
+AllApply ds found =
+    (d : Structure) (reason : Reason) → slice_get ds d.place ≡ Some d → reason_at found d.place ≡ Some reason
+    → IsTrue (applies ds found d reason)
 
 -- no reason applies to a definition that can be used
 abbrev pub IsClosed : List Structure → Found → Type 0
-IsClosed ds found = round ds found ≡ found
+IsClosed ds found =
+    (d : Structure) (reason : Reason) → slice_get ds d.place ≡ Some d → reason_at found d.place ≡ None
+    → applies ds found d reason ≡ false
 
 -- what the first says can't be used, the second says too
 abbrev pub IsWithin : Found → Found → Type 0
