@@ -1,5 +1,5 @@
 -- One more element under the place under which it stands.
-use Rattle.std.proofs.Common.{◌≡◌, ℕ, zero, suc, ◌<◌, ◌≤◌, ◌+◌, true, false, Bool, cond, List, [], ◌∷◌, ◌++◌, length, take, get_or, set, replicate, nat_eq, Vec, refl, ap, sym, ◌∙◌, Some, None, Option, arith}
+use Rattle.std.proofs.Common.{◌≡◌, ℕ, zero, suc, ◌<◌, ◌+◌, true, false, cond, List, [], ◌∷◌, ◌++◌, length, take, get_or, set, replicate, nat_eq, Vec, refl, ap, sym, ◌∙◌, Some, None, Option, arith}
 use Rattle.std.proofs.lemmas.Bool.Decides.{nat_tests}
 use Rattle.std.proofs.lemmas.List.{take_more, map-set}
 use Rattle.fhir_schema.specs.Slots.{is_at, under_from, gathered_from}

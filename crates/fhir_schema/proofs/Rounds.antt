@@ -1,11 +1,11 @@
 -- Rounds, and the structures of more entries.
-use Rattle.std.proofs.Common.{◌≡◌, ℕ, zero, suc, ◌<◌, ◌≤◌, ◌+◌, ◌-◌, List, [], ◌∷◌, ◌++◌, length, drop, get_or, refl, ap, sym, ◌∙◌, subst, Some, None, Option, add-one, append_assoc, arith}
+use Rattle.std.proofs.Common.{◌≡◌, ℕ, zero, suc, ◌<◌, ◌≤◌, ◌+◌, ◌-◌, List, [], ◌∷◌, ◌++◌, length, drop, refl, ap, sym, ◌∙◌, Some, add-one, append_assoc, arith}
 use Rattle.std.specs.List.{slice_get}
 use Rattle.std.proofs.lemmas.Option.{slice_get_within, get_or_from_slice_get}
 use Rattle.std.proofs.Math.Seq.{drop-cons}
 use Rattle.fhir_json.specs.Tree.{Tree}
 use Rattle.fhir_schema.specs.Structure.{Structure, structure_of, structures_from}
-use Rattle.fhir_schema.specs.Settling.{Found, round, rounds, settled}
+use Rattle.fhir_schema.specs.Settling.{Found, round, rounds}
 
 pub rounds_fixed : (ds : List Structure) (n : ℕ) (found : Found) → round ds found ≡ found → rounds ds n found ≡ found
 rounds_fixed ds zero found e = refl

@@ -1,6 +1,6 @@
 -- The rounds come to rest: what they find is closed, and nothing closed is smaller.
-use Rattle.std.proofs.Common.{◌≡◌, ℕ, zero, suc, ◌<◌, ◌≤◌, ◌+◌, ◌-◌, List, [], ◌∷◌, map, length, drop, get_or, true, false, Bool, cond, ◌&&◌, ◌||◌, not, nat_le, nat_eq, refl, ap, sym, ◌∙◌, subst, Some, None, Option, is_some, IsTrue, arith}
-use Rattle.std.specs.List.{slice_get, count_by, list_all}
+use Rattle.std.proofs.Common.{◌≡◌, ℕ, zero, suc, ◌<◌, ◌≤◌, ◌+◌, List, [], ◌∷◌, map, length, get_or, true, false, Bool, ◌&&◌, ◌||◌, not, nat_le, nat_eq, refl, ap, sym, ◌∙◌, subst, Some, None, Option, is_some, arith}
+use Rattle.std.specs.List.{slice_get, list_all}
 use Rattle.std.specs.Option.{option_map_or}
 use Rattle.std.proofs.lemmas.Bool.Decides.{nat_tests}
 use Rattle.std.proofs.lemmas.List.{length-map}

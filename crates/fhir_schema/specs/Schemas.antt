@@ -1,5 +1,5 @@
 -- The schema of a package: its structures, which of them can be used, and the nodes of those.
-use Rattle.std.specs.Prelude.{ℕ, List, [], length, get_or, Bool, false, not, ◌&&◌, ◌==◌, nat_lt, Option, None, Some, is_some, if◌then◌else◌}
+use Rattle.std.specs.Prelude.{ℕ, List, [], length, get_or, Bool, false, not, ◌&&◌, nat_lt, Option, None, is_some, if◌then◌else◌}
 use Rattle.std.specs.Option.{option_map, option_map_or, option_and_then}
 use Rattle.std.specs.List.{slice_get, find}
 use Rattle.std.specs.Str.{bytes_eq}

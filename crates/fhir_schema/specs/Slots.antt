@@ -1,6 +1,6 @@
 -- The tree that the ids of a snapshot's elements make (FHIR R4, ElementDefinition, id), by the places of the elements.
-use Rattle.std.specs.Prelude.{ℕ, zero, suc, ◌+◌, List, [], ◌∷◌, map, length, get_or, Bool, true, false, not, ◌&&◌, ◌==◌, nat_eq, Option, None, Some, is_some, if◌then◌else◌}
-use Rattle.std.specs.Option.{option_map, option_map_or, option_and_then}
+use Rattle.std.specs.Prelude.{ℕ, zero, suc, List, [], ◌∷◌, map, length, get_or, Bool, true, false, not, ◌&&◌, ◌==◌, nat_eq, Option, None, Some, is_some, if◌then◌else◌}
+use Rattle.std.specs.Option.{option_map_or, option_and_then}
 use Rattle.std.specs.List.{list_all, count_by, slice_get}
 use Rattle.std.specs.Str.{bytes_eq}
 use Rattle.fhir_json.specs.Tree.{Text}

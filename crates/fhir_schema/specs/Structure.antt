@@ -1,8 +1,8 @@
 -- A StructureDefinition by itself (FHIR R4, StructureDefinition): its fields, and what is wrong with it whatever the
 -- other definitions are.
 use Rattle.std.specs.Prelude.{ℕ, suc, List, [], ◌∷◌, map, length, Bool, true, false, not, ◌&&◌, ◌||◌, ◌==◌, nat_le, nat_lt, Option, None, Some, is_some, if◌then◌else◌, codes}
-use Rattle.std.specs.Option.{option_map, option_map_or, option_and_then}
-use Rattle.std.specs.List.{list_all, list_any, position}
+use Rattle.std.specs.Option.{option_map_or}
+use Rattle.std.specs.List.{list_all, position}
 use Rattle.std.specs.Str.{bytes_eq}
 use Rattle.fhir_json.specs.Tree.{Text, Tree}
 use Rattle.fhir_json.specs.Fields.{field, is_object, text_in, text_at, flag_in, items_in, allows_text, allows_flag, allows_items}

@@ -1,6 +1,6 @@
 -- What is supported so far: flat definitions. Below the root their elements stand one level down, each of one type,
 -- and no element says more than how many there may be and what its value is fixed to.
-use Rattle.std.specs.Prelude.{ℕ, List, [], ◌∷◌, length, Bool, true, false, not, ◌&&◌, ◌||◌, ◌==◌, nat_eq, Option, None, Some, is_some, codes}
+use Rattle.std.specs.Prelude.{length, Bool, true, false, not, ◌&&◌, ◌||◌, ◌==◌, nat_eq, is_some, codes}
 use Rattle.std.specs.Option.{option_map_or, option_and_then}
 use Rattle.std.specs.List.{list_all, list_any, ends_with, starts_with}
 use Rattle.fhir_json.specs.Tree.{Text}

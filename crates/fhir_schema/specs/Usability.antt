@@ -1,5 +1,5 @@
 -- What it is that a definition can't be used, in words that don't speak of rounds.
-use Rattle.std.specs.Prelude.{◌≡◌, ℕ, List, Bool, true, false, not, ◌||◌, nat_eq, Option, None, Some, is_some, IsTrue}
+use Rattle.std.specs.Prelude.{◌≡◌, ℕ, List, Bool, false, not, ◌||◌, nat_eq, None, Some, is_some, IsTrue}
 use Rattle.std.specs.Option.{option_map_or}
 use Rattle.std.specs.List.{slice_get}
 use Rattle.fhir_elements.specs.declared.reason.Reason.{Reason}

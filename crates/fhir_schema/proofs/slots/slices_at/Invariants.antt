@@ -1,6 +1,5 @@
 use Rattle.std.proofs.Common.{◌≡◌, map, take}
-use Rattle.fhir_schema.specs.Slots.{slice_at, slot_at}
-use Rattle.fhir_schema.specs.Gathering.{lists_in}
+use Rattle.fhir_schema.specs.Slots.{slice_at}
 use Rattle.fhir_schema.proofs.slots.slices_at.Given as goal
 
 abbrev pub invariant-loop-place : goal.invariant-loop-place

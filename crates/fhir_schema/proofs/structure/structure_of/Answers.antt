@@ -1,4 +1,4 @@
-use Rattle.std.proofs.Common.{map, ap, sym, ◌∙◌, length, nat_lt}
+use Rattle.std.proofs.Common.{map, ap, ◌∙◌, length, nat_lt}
 use Rattle.std.specs.List.{position}
 use Rattle.fhir_json.specs.View.{tree_of}
 use Rattle.fhir_elements.specs.Element.{fields_of}
