@@ -4,3 +4,5 @@ pub mod Rounds
 pub mod Gathers
 pub mod Settles
 pub mod Made
+pub mod Covered
+pub mod Nodes

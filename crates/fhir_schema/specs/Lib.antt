@@ -7,3 +7,4 @@ pub mod Schemas
 pub mod Places
 pub mod Tables
 pub mod Gathering
+pub mod Covers

@@ -1,12 +1,15 @@
 //! Laws: what the definitions say of one another.
 
-ghost use Rattle.std.specs.Prelude.{◌≡◌, ℕ, Some};
+ghost use Rattle.std.specs.Prelude.{◌≡◌, ℕ, false, Some, IsTrue};
 ghost use Rattle.std.specs.List.{slice_get};
 ghost use Rattle.fhir_package.specs.Definitions.{Definitions};
 ghost use Rattle.fhir_schema.specs.Structure.{Structure};
 ghost use Rattle.fhir_schema.specs.Settling.{Found};
 ghost use Rattle.fhir_schema.specs.Usability.{AllApply, IsClosed, IsWithin};
-ghost use Rattle.fhir_schema.specs.Schemas.{schema_of};
+ghost use Rattle.fhir_json.specs.Tree.{Text};
+ghost use Rattle.fhir_schema.specs.declared.node.NodeRef.{NodeRef};
+ghost use Rattle.fhir_schema.specs.Schemas.{SchemaValue, schema_of, has, node};
+ghost use Rattle.fhir_schema.specs.Covers.{names_resource, covers};
 
 /// The definitions that can't be used are the least closed set: no reason applies to any other, each of them has one
 /// that applies, and no smaller set is closed.
@@ -17,4 +20,17 @@ pub fn least_closed()
     ensures apply { (p : Definitions) → AllApply (schema_of p).structures (schema_of p).found }
     ensures least { (p : Definitions) (other : Found) → IsClosed (schema_of p).structures other
         → IsWithin (schema_of p).found other }
+{}
+
+/// Covering is a matter of codes alone: each covers itself, only that of a resource covers another, and what is covered
+/// by a covered code is covered.
+pub fn covering_codes()
+    ensures itself { (s : SchemaValue) (a : Text) → IsTrue (covers s a a) }
+    ensures alone { (s : SchemaValue) (a b : Text) → names_resource s.structures a ≡ false → IsTrue (covers s a b) → a ≡ b }
+    ensures transitive { (s : SchemaValue) (a b c : Text) → IsTrue (covers s a b) → IsTrue (covers s b c) → IsTrue (covers s a c) }
+{}
+
+/// A node that is found by its url and id is one of the schema's.
+pub fn named_nodes()
+    ensures { (s : SchemaValue) (url id : Text) (n : NodeRef) → node s url id ≡ Some n → IsTrue (has s n) }
 {}

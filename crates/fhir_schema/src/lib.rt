@@ -1,6 +1,7 @@
 //! The schema of a package: which definitions can be used, their nodes, and what stands below each.
 #![tactic(auto)]
 
+mod covering;
 mod elements;
 mod index;
 mod kind;
@@ -17,7 +18,7 @@ mod table;
 mod types;
 
 pub use kind::TypeKind;
-pub use laws::least_closed;
+pub use laws::{covering_codes, least_closed, named_nodes};
 pub use node::NodeRef;
 pub use schema::Schema;
 pub use slots::{Slice, Slot};

@@ -1,12 +1,14 @@
 //! The schema of a package.
 
-ghost use Rattle.std.specs.Prelude.{◌≡◌, IsTrue};
+ghost use Rattle.std.specs.Prelude.{◌≡◌, IsTrue, Some};
 ghost use Rattle.std.specs.Option.{option_copied};
 ghost use Rattle.std.specs.List.{find};
 ghost use Rattle.std.specs.Str.{bytes_eq};
 ghost use Rattle.fhir_json.specs.Memory.{Gives};
 ghost use Rattle.fhir_schema.specs.Schemas.{schema_of, unusable, is_usable, elements_at, has, element_at, url_at, id_of_node, is_root_node, node_in, root_place, root_in, root, node_with, node, slots, kids, types_in, types};
+ghost use Rattle.fhir_schema.specs.Covers.{type_at, type_root, covers};
 
+use crate::covering::covers;
 use crate::node::NodeRef;
 use crate::settling::settled;
 use crate::slots::Slot;
@@ -211,11 +213,40 @@ impl Schema {
     }
 
     /// The element of a node.
-    pub fn element(&self, node: NodeRef) -> Option<&ElementDef>
+    pub fn element(&self, node: NodeRef) -> &ElementDef
         requires { IsTrue (has self.now node) }
-        ensures { option_copied result ≡ element_at self.now node }
+        ensures { element_at self.now node ≡ Some result.now }
     {
-        self.element_at(node)
+        &self.elements_at(node.definition)[node.element]
+    }
+
+    /// The code of the type that a node's definition defines or constrains.
+    pub fn type_code(&self, node: NodeRef) -> &str
+        requires { IsTrue (has self.now node) }
+        ensures { result.now ≡ type_at self.now node }
+    {
+        match self.table.structure(node.definition) {
+            Some(structure) => structure.type_code(),
+            None => "",
+        }
+    }
+
+    /// The root of the definition of a type, if that can be used.
+    pub fn type_root(&self, code: &str) -> Option<NodeRef>
+        ensures { result ≡ type_root self.now code.now }
+    {
+        match self.table.type_place(code) {
+            Some(place) => self.node_in(place, self.root_place(place)),
+            None => None,
+        }
+    }
+
+    /// Whether a type code covers another: it is that one, or it is of a resource from which the other derives by its
+    /// chain of bases (FHIR R4, Resource).
+    pub fn covers(&self, code: &str, other: &str) -> bool
+        ensures { result ≡ covers self.now code.now other.now }
+    {
+        covers(&self.table, code, other)
     }
 }
 

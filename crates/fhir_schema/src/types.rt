@@ -143,7 +143,8 @@ fn base_place(table: &Table, structure: &StructureDef) -> Option<usize>
     }
 }
 
-fn base_of_place(table: &Table, place: usize) -> Option<usize>
+/// The place of a definition's base.
+pub(crate) fn base_of_place(table: &Table, place: usize) -> Option<usize>
     ensures { result ≡ base_of_place table.now place }
 {
     match table.structure(place) {
@@ -152,7 +153,8 @@ fn base_of_place(table: &Table, place: usize) -> Option<usize>
     }
 }
 
-fn ends_within(table: &Table, steps: usize, start: Option<usize>) -> bool
+/// Whether the chain of bases from a place ends within so many steps.
+pub(crate) fn ends_within(table: &Table, steps: usize, start: Option<usize>) -> bool
     ensures { result ≡ ends_within table.now steps start }
 {
     let mut at = start;

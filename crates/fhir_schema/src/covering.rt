@@ -1,0 +1,85 @@
+//! Which type codes cover which.
+
+ghost use Rattle.std.specs.Prelude.{◌≡◌, ℕ};
+ghost use Rattle.std.specs.Option.{option_copied, option_map_or};
+ghost use Rattle.fhir_schema.specs.Settling.{type_place};
+ghost use Rattle.fhir_schema.specs.Covers.{is_resource_kind, is_resource, type_of_code, names_resource, meets_within, reaches, reaches_type, covers_in};
+
+use crate::kind::TypeKind;
+use crate::structure::StructureDef;
+use crate::table::Table;
+use crate::types::{base_of_place, ends_within};
+
+fn is_resource_kind(kind: TypeKind) -> bool
+    ensures { result ≡ is_resource_kind kind }
+{
+    match kind {
+        TypeKind::Primitive => false,
+        TypeKind::Complex => false,
+        TypeKind::Resource => true,
+    }
+}
+
+fn is_resource(structure: &StructureDef) -> bool
+    ensures { result ≡ is_resource structure.now }
+{
+    structure
+        .kind()
+        .map_or(false, |kind| is_resource_kind(kind))
+}
+
+fn type_of_code<'t>(table: &'t Table, code: &str) -> Option<&'t StructureDef>
+    ensures { option_copied result ≡ type_of_code table.now code.now }
+{
+    table.structure(table.type_place(code)?)
+}
+
+fn names_resource(table: &Table, code: &str) -> bool
+    ensures { result ≡ names_resource table.now code.now }
+{
+    match type_of_code(table, code) {
+        Some(structure) => is_resource(structure),
+        None => false,
+    }
+}
+
+fn meets_within(table: &Table, goal: usize, places: usize, start: usize) -> bool
+    ensures { result ≡ meets_within table.now goal places (Some start) }
+{
+    let mut at = Some(start);
+    let mut left = places;
+    while let Some(place) = at {
+        if left == 0 {
+            return false;
+        }
+        if goal == place {
+            return true;
+        }
+        left -= 1;
+        at = base_of_place(table, place);
+    }
+    false
+}
+
+fn reaches(table: &Table, start: usize, goal: usize) -> bool
+    ensures { result ≡ reaches table.now start goal }
+{
+    let places = table.structures().len();
+    ends_within(table, places, Some(start)) && meets_within(table, goal, places, start)
+}
+
+fn reaches_type(table: &Table, from: &str, code: &str) -> bool
+    ensures { result ≡ reaches_type table.now from.now code.now }
+{
+    match (table.type_place(from), table.type_place(code)) {
+        (Some(start), Some(goal)) => reaches(table, start, goal),
+        _ => false,
+    }
+}
+
+/// Whether the first code covers the other.
+pub(crate) fn covers(table: &Table, code: &str, other: &str) -> bool
+    ensures { result ≡ covers_in table.now code.now other.now }
+{
+    code == other || (names_resource(table, code) && reaches_type(table, other, code))
+}
