@@ -1,6 +1,6 @@
 //! The schema of a package.
 
-ghost use Rattle.std.specs.Prelude.{◌≡◌, IsTrue, Some};
+ghost use Rattle.std.specs.Prelude.{◌≡◌};
 ghost use Rattle.std.specs.Option.{option_copied};
 ghost use Rattle.std.specs.List.{find};
 ghost use Rattle.std.specs.Str.{bytes_eq};
@@ -77,12 +77,6 @@ impl Schema {
         }
     }
 
-    fn element_at(&self, node: NodeRef) -> Option<&ElementDef>
-        ensures { option_copied result ≡ element_at self.now node }
-    {
-        self.elements_at(node.definition).get(node.element)
-    }
-
     /// Whether a node is one of the schema's: an element of a definition that can be used.
     pub fn has(&self, node: NodeRef) -> bool
         ensures { result ≡ has self.now node }
@@ -103,15 +97,14 @@ impl Schema {
     fn id_of_node(&self, node: NodeRef) -> &str
         ensures { result.now ≡ id_of_node self.now node }
     {
-        match self.element_at(node) {
+        match self.element(node) {
             Some(element) => element.id(),
             None => "",
         }
     }
 
-    /// The url of a node's definition, and the node's id.
+    /// The url of a node's definition, and the node's id; empty texts where there is no such node.
     pub fn name(&self, node: NodeRef) -> (&str, &str)
-        requires { IsTrue (has self.now node) }
         ensures url { result.0.now ≡ url_at self.now node.definition }
         ensures id { result.1.now ≡ id_of_node self.now node }
     {
@@ -173,18 +166,17 @@ impl Schema {
 
     /// Whether a node is the root of its definition.
     pub fn is_root(&self, node: NodeRef) -> bool
-        requires { IsTrue (has self.now node) }
         ensures { result ≡ is_root_node self.now node }
     {
-        match self.element_at(node) {
+        match self.element(node) {
             Some(element) => is_root(element),
             None => false,
         }
     }
 
-    /// The slots of a node: the names that the children of an item may have, in the definition's order.
+    /// The slots of a node: the names that the children of an item may have, in the definition's order. A node that the
+    /// schema doesn't have has none.
     pub fn slots(&self, node: NodeRef) -> &[Slot]
-        requires { IsTrue (has self.now node) }
         ensures { result.now ≡ slots self.now node }
     {
         match self.table.structure(node.definition) {
@@ -195,7 +187,6 @@ impl Schema {
 
     /// The slot of a name among a node's.
     pub fn kids(&self, node: NodeRef, name: &str) -> Option<&Slot>
-        requires { IsTrue (has self.now node) }
         ensures { option_copied result ≡ kids self.now node name.now }
     {
         slot_named(self.slots(node), name)
@@ -203,26 +194,23 @@ impl Schema {
 
     /// The type entries of a node. A root has none, whatever is written there.
     pub fn types(&self, node: NodeRef) -> &[TypeEntry]
-        requires { IsTrue (has self.now node) }
         ensures { result.now ≡ types self.now node }
     {
-        match self.element_at(node) {
+        match self.element(node) {
             Some(element) => types_in(element),
             None => Default::default(),
         }
     }
 
-    /// The element of a node.
-    pub fn element(&self, node: NodeRef) -> &ElementDef
-        requires { IsTrue (has self.now node) }
-        ensures { element_at self.now node ≡ Some result.now }
+    /// The element of a node, if it is one.
+    pub fn element(&self, node: NodeRef) -> Option<&ElementDef>
+        ensures { option_copied result ≡ element_at self.now node }
     {
-        &self.elements_at(node.definition)[node.element]
+        self.elements_at(node.definition).get(node.element)
     }
 
     /// The code of the type that a node's definition defines or constrains.
     pub fn type_code(&self, node: NodeRef) -> &str
-        requires { IsTrue (has self.now node) }
         ensures { result.now ≡ type_at self.now node }
     {
         match self.table.structure(node.definition) {
