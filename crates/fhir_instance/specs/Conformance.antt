@@ -1,6 +1,6 @@
 -- When an item conforms to a node, and a resource to a profile (FHIR R4, Profiling and ElementDefinition). An item is
 -- folded into its test of nodes: what a node asks of the children is asked of their tests.
-use Rattle.std.specs.Prelude.{◌≡◌, ℕ, List, [], ◌∷◌, ◌++◌, length, filter, Bool, true, false, not, ◌&&◌, ◌||◌, nat_le, Some, IsTrue, if◌then◌else◌}
+use Rattle.std.specs.Prelude.{◌≡◌, ℕ, List, [], ◌∷◌, ◌++◌, length, filter, Bool, true, false, not, ◌&&◌, ◌||◌, nat_le, nat_eq, Some, IsTrue, if◌then◌else◌}
 use Rattle.std.specs.Option.{option_map_or}
 use Rattle.std.specs.List.{list_all, list_any, count_by}
 use Rattle.std.specs.Str.{bytes_eq}
@@ -65,6 +65,10 @@ module _ (s : SchemaValue) where
   abbrev pub kids_hold : NodeRef → List Child → Bool
   kids_hold n children = list_all (slot_holds n children) (slots s n)
 
+  -- the node names no types
+  abbrev pub is_untyped : NodeRef → Bool
+  is_untyped n = nat_eq (length (types s n)) 0
+
   -- ---- nodes
 
   module _ (x : Item) (children : List Child) where
@@ -80,7 +84,7 @@ module _ (s : SchemaValue) where
 
     -- the item is of one of the node's types, where it names any
     abbrev pub types_hold : NodeRef → Bool
-    types_hold n = nat_le (length (types s n)) 0 || list_any entry_holds (types s n)
+    types_hold n = is_untyped n || list_any entry_holds (types s n)
 
     -- the item is as the definition of its own type asks
     abbrev pub own_type_holds : Bool

@@ -1,7 +1,7 @@
 //! Nodes.
 
 /// An element of a definition, both by their places.
-#[derive(Clone, Copy, Debug, PartialEq, Eq, Hash)]
+#[derive(Clone, Copy, Debug, PartialEq, Eq, PartialOrd, Ord)]
 pub struct NodeRef {
     /// The place of the definition in the package's order.
     pub definition: usize,

@@ -1,0 +1,6 @@
+pub mod Orders
+pub mod First
+pub mod Answered
+pub mod Keeping
+pub mod Certified
+pub mod Promised

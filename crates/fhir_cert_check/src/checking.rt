@@ -1,0 +1,134 @@
+//! Checking certificates.
+
+ghost use Rattle.std.specs.Prelude.{◌≡◌, ◌↔◌, IsTrue, IfOk, Some, None, map, option_map};
+ghost use Rattle.fhir_json.specs.Memory.{Gives};
+ghost use Rattle.fhir_schema.specs.declared.node.NodeRef.{NodeRef};
+ghost use Rattle.fhir_schema.specs.Schemas.{root};
+ghost use Rattle.fhir_certificate.specs.declared.pair.NodePair.{NodePair};
+ghost use Rattle.fhir_certificate.specs.declared.pair.Pair.TheVariants as variants;
+ghost use Rattle.fhir_certificate.specs.Certificate.{fits};
+ghost use Rattle.fhir_cert_check.specs.Rules.{failing, is_local};
+ghost use Rattle.fhir_cert_check.specs.Checking.{is_among, roots_of, IsCertificate, pairs_of, first_in, first_wrong, wrong_with};
+ghost use Rattle.fhir_cert_check.specs.Inclusion.{IncludesItems, Includes};
+ghost use Rattle.fhir_cert_check.specs.Seen.{found_seen, rule_seen, is_yes, wrong_in};
+ghost use Rattle.fhir_cert_check.specs.Sets.{has_in};
+
+use crate::answer::Answer;
+use crate::laws::inclusion;
+use crate::pair_set::PairSet;
+use crate::rule::Rule;
+use crate::rules::failing;
+use fhir_certificate::{Certificate, NodePair, Pair};
+use fhir_json::NoMemory;
+use fhir_schema::Schema;
+use std::alloc::Global;
+
+fn first_item<'s>(
+    schema: &'s Schema,
+    pairs: &PairSet,
+    nodes: &[NodePair],
+) -> Option<(Pair, Rule<'s>)>
+    ensures { found_seen result ≡ first_in (failing (has_in pairs.now) schema.now) (map variants.Item nodes.now) }
+{
+    for pair in nodes {
+        let pair = Pair::Item(*pair);
+        if let Some(rule) = failing(schema, pairs, pair) {
+            return Some((pair, rule));
+        }
+    }
+    None
+}
+
+fn first_kids<'s>(
+    schema: &'s Schema,
+    pairs: &PairSet,
+    nodes: &[NodePair],
+) -> Option<(Pair, Rule<'s>)>
+    ensures { found_seen result ≡ first_in (failing (has_in pairs.now) schema.now) (map variants.Kids nodes.now) }
+{
+    for pair in nodes {
+        let pair = Pair::Kids(*pair);
+        if let Some(rule) = failing(schema, pairs, pair) {
+            return Some((pair, rule));
+        }
+    }
+    None
+}
+
+fn first_wrong<'s>(
+    schema: &'s Schema,
+    pairs: &PairSet,
+    certificate: &Certificate,
+) -> Option<(Pair, Rule<'s>)>
+    ensures { found_seen result ≡ first_in (failing (has_in pairs.now) schema.now) (pairs_of certificate.now) }
+{
+    match first_item(schema, pairs, &certificate.items) {
+        Some(found) => Some(found),
+        None => first_kids(schema, pairs, &certificate.kids),
+    }
+}
+
+fn judge<'s>(
+    schema: &'s Schema,
+    pairs: &PairSet,
+    roots: NodePair,
+    certificate: &Certificate,
+) -> Answer<'s>
+    ensures { wrong_in result ≡ first_wrong schema.now (has_in pairs.now) roots (pairs_of certificate.now) }
+{
+    if !pairs.has(Pair::Item(roots)) {
+        return Answer::No(Pair::Item(roots), Rule::Root);
+    }
+    match first_wrong(schema, pairs, certificate) {
+        Some((pair, rule)) => Answer::No(pair, rule),
+        None => Answer::Yes,
+    }
+}
+
+fn roots_of(schema: &Schema, certificate: &Certificate) -> Option<NodePair>
+    ensures { result ≡ roots_of schema.now certificate.now }
+{
+    let derived = schema.root(&certificate.derived)?;
+    let base = schema.root(&certificate.base)?;
+    Some(NodePair { derived, base })
+}
+
+/// Whether a certificate is right, or else the first pair that fails a rule, with that rule: the pair of the roots, if
+/// it lacks that, and then its pairs of items and those of children in their order. Each pair is looked up in a tree of
+/// the certificate's pairs, so that the time is near linear in their number. The one refusal is want of memory.
+pub fn check<'s>(
+    alloc: Global,
+    schema: &'s Schema,
+    certificate: &Certificate,
+) -> Result<Answer<'s>, NoMemory>
+    requires { IsTrue (fits schema.now certificate.now) }
+    ensures first { (roots : NodePair) → roots_of schema.now certificate.now ≡ Some roots
+        → Gives wrong_in result (wrong_with schema.now certificate.now roots) }
+    ensures yes { IfOk result (λ answer. IsTrue (is_yes answer) ↔ IsCertificate schema.now certificate.now) }
+    ensures includes { IfOk result (λ answer. IsTrue (is_yes answer)
+        → Includes schema.now certificate.now.derived certificate.now.base) }
+    ensures items { IfOk result (λ answer. IsTrue (is_yes answer) → (n m : NodeRef)
+        → root schema.now certificate.now.derived ≡ Some n → root schema.now certificate.now.base ≡ Some m
+        → IncludesItems schema.now n m) }
+{
+    inclusion();
+    let pairs = PairSet::of(alloc, certificate)?;
+    let Some(roots) = roots_of(schema, certificate) else {
+        unreachable!()
+    };
+    Ok(judge(schema, &pairs, roots, certificate))
+}
+
+/// The first rule that a pair fails, where the certificate's pairs count. The one refusal is want of memory.
+pub fn first_failing<'s>(
+    alloc: Global,
+    schema: &'s Schema,
+    certificate: &Certificate,
+    pair: Pair,
+) -> Result<Option<Rule<'s>>, NoMemory>
+    ensures first { Gives rule_seen result (failing (is_among certificate.now) schema.now pair) }
+    ensures right { IfOk result (λ rule. (rule_seen rule ≡ None) ↔ IsTrue (is_local (is_among certificate.now) schema.now pair)) }
+{
+    let pairs = PairSet::of(alloc, certificate)?;
+    Ok(failing(schema, &pairs, pair))
+}

@@ -1,0 +1,173 @@
+//! The rules of a pair of children.
+
+ghost use Rattle.std.specs.Prelude.{◌≡◌, ◌∷◌, option_map};
+ghost use Rattle.std.specs.Option.{option_copied};
+ghost use Rattle.std.specs.List.{flat_map};
+ghost use Rattle.fhir_instance.specs.Typing.{entry_of};
+ghost use Rattle.fhir_instance.specs.Conformance.{least_of};
+ghost use Rattle.fhir_cert_check.specs.Answering.{first_of};
+ghost use Rattle.fhir_cert_check.specs.Rules.{max_answers, most_answers, bounds_answer, is_none, is_forbidden, cardinality_answers, is_forbidden_at, cardinality, has_item, entry_rules, slot_rules, kids_rules};
+ghost use Rattle.fhir_cert_check.specs.Seen.{word_of};
+ghost use Rattle.fhir_cert_check.specs.Sets.{has_in};
+
+use crate::pair_set::PairSet;
+use crate::rule::Rule;
+use fhir_certificate::{NodePair, Pair};
+use fhir_elements::{ElementDef, Max, is_within};
+use fhir_schema::{NodeRef, Schema, Slot};
+
+fn max_answers(own: Max, most: Max) -> bool
+    ensures { result ≡ max_answers own most }
+{
+    match (own, most) {
+        (Max::Unbounded, Max::Unbounded) => true,
+        (Max::Unbounded, Max::UpTo(_)) => false,
+        (Max::UpTo(count), most) => is_within(count, most),
+    }
+}
+
+fn most_answers(own: Option<Max>, base: Option<Max>) -> bool
+    ensures { result ≡ most_answers own base }
+{
+    match (own, base) {
+        (_, None) => true,
+        (None, Some(_)) => false,
+        (Some(own), Some(most)) => max_answers(own, most),
+    }
+}
+
+fn least_of(element: &ElementDef) -> u32
+    ensures { result ≡ least_of element.now }
+{
+    element.min().unwrap_or(0)
+}
+
+fn bounds_answer(own: &ElementDef, base: &ElementDef) -> bool
+    ensures { result ≡ bounds_answer own.now base.now }
+{
+    least_of(base) <= least_of(own) && most_answers(own.max(), base.max())
+}
+
+fn is_none(most: Max) -> bool
+    ensures { result ≡ is_none most }
+{
+    match most {
+        Max::Unbounded => false,
+        Max::UpTo(count) => count == 0,
+    }
+}
+
+fn is_forbidden(element: &ElementDef) -> bool
+    ensures { result ≡ is_forbidden element.now }
+{
+    element.max().map_or(false, |most| is_none(most))
+}
+
+fn cardinality_answers(schema: &Schema, n: NodeRef, m: NodeRef) -> bool
+    ensures { result ≡ cardinality_answers schema.now n m }
+{
+    let Some(base) = schema.element(m) else {
+        return true;
+    };
+    match schema.element(n) {
+        Some(own) => bounds_answer(own, base),
+        None => false,
+    }
+}
+
+fn is_forbidden_at(schema: &Schema, node: NodeRef) -> bool
+    ensures { result ≡ is_forbidden_at schema.now node }
+{
+    match schema.element(node) {
+        Some(element) => is_forbidden(element),
+        None => false,
+    }
+}
+
+fn has_item(pairs: &PairSet, n: NodeRef, m: NodeRef) -> bool
+    ensures { result ≡ has_item (has_in pairs.now) n m }
+{
+    pairs.has(Pair::Item(NodePair {
+        derived: n,
+        base: m,
+    }))
+}
+
+fn entry_of(node: NodeRef, slot: &Slot) -> NodeRef
+    ensures { result ≡ entry_of node slot.now }
+{
+    NodeRef {
+        definition: node.definition,
+        element: slot.entry(),
+    }
+}
+
+fn entry_failing<'s>(
+    schema: &Schema,
+    pairs: &PairSet,
+    name: &'s str,
+    n: NodeRef,
+    m: NodeRef,
+) -> Option<Rule<'s>>
+    ensures { option_map word_of result ≡ first_of (entry_rules (has_in pairs.now) schema.now name.now n m) }
+{
+    if is_forbidden_at(schema, n) || has_item(pairs, n, m) {
+        None
+    } else {
+        Some(Rule::Entry(name))
+    }
+}
+
+fn found_failing<'s>(
+    schema: &Schema,
+    pairs: &PairSet,
+    name: &'s str,
+    n: NodeRef,
+    m: NodeRef,
+) -> Option<Rule<'s>>
+    ensures { option_map word_of result ≡ first_of ((cardinality_answers schema.now n m, cardinality name.now) ∷ entry_rules (has_in pairs.now) schema.now name.now n m) }
+{
+    if !cardinality_answers(schema, n, m) {
+        return Some(Rule::Cardinality(name));
+    }
+    entry_failing(schema, pairs, name, n, m)
+}
+
+fn slot_failing<'s>(
+    schema: &Schema,
+    pairs: &PairSet,
+    n: NodeRef,
+    m: NodeRef,
+    slot: &'s Slot,
+) -> Option<Rule<'s>>
+    ensures { option_map word_of result ≡ first_of (slot_rules (has_in pairs.now) schema.now n m slot.now) }
+{
+    match schema.kids(n, slot.name()) {
+        Some(own) => found_failing(
+            schema,
+            pairs,
+            slot.name(),
+            entry_of(n, own),
+            entry_of(m, slot),
+        ),
+        None => Some(Rule::Slot(slot.name())),
+    }
+}
+
+/// The first rule that a pair of children fails.
+pub(crate) fn kids_failing<'s>(
+    schema: &'s Schema,
+    pairs: &PairSet,
+    n: NodeRef,
+    m: NodeRef,
+) -> Option<Rule<'s>>
+    ensures { option_map word_of result ≡ first_of (kids_rules (has_in pairs.now) schema.now n m) }
+{
+    for slot in schema.slots(m) {
+        let rule = slot_failing(schema, pairs, n, m, slot);
+        if rule.is_some() {
+            return rule;
+        }
+    }
+    None
+}

@@ -1,0 +1,22 @@
+//! Laws: what right pairs promise.
+
+ghost use Rattle.std.specs.Prelude.{◌≡◌, Bool, IsTrue};
+ghost use Rattle.fhir_schema.specs.declared.node.NodeRef.{NodeRef};
+ghost use Rattle.fhir_schema.specs.Schemas.{SchemaValue};
+ghost use Rattle.fhir_certificate.specs.declared.pair.Pair.{Pair};
+ghost use Rattle.fhir_cert_check.specs.Rules.{has_item};
+ghost use Rattle.fhir_cert_check.specs.Checking.{IsRight};
+ghost use Rattle.fhir_cert_check.specs.Inclusion.{IncludesItems};
+
+use fhir_matching::equivalence;
+use fhir_schema::covering_codes;
+
+/// Where each pair of a set is right by the set, an item that conforms to the derived node of one of its pairs conforms
+/// to the base node, wherever it stands and whatever unread rules mean.
+pub fn inclusion()
+    ensures { (s : SchemaValue) (pairs : Pair → Bool) → IsRight s pairs
+        → (n m : NodeRef) → IsTrue (has_item pairs n m) → IncludesItems s n m }
+{
+    covering_codes();
+    equivalence();
+}

@@ -1,0 +1,40 @@
+//! Why bytes are not taken as a certificate.
+
+ghost use Rattle.std.specs.Prelude.{◌≡◌};
+ghost use Rattle.fhir_certificate.specs.declared.fault.CertFault.TheVariants as faults;
+
+use std::alloc::{AllocError, AllocFailed};
+use thiserror::Error;
+
+/// Why bytes are not taken as a certificate: the first that applies.
+#[derive(Clone, Copy, Debug, PartialEq, Eq, Error)]
+pub enum CertFault {
+    /// The bytes are not the text of a certificate.
+    #[error("C1")]
+    WrongFormat,
+    /// A definition is missing or can't be used, or an element is not its definition's.
+    #[error("C2")]
+    UnknownNode,
+    /// There are more than 1,048,576 pair lines.
+    #[error("C3")]
+    TooManyPairs,
+    /// A growth of memory was refused.
+    #[error("C4")]
+    NoMemory,
+}
+
+impl From<AllocError> for CertFault {
+    ghost from_gives = { λ _ e. e ≡ faults.NoMemory };
+
+    fn from(_error: AllocError) -> CertFault {
+        CertFault::NoMemory
+    }
+}
+
+impl<T: Drop> From<AllocFailed<T>> for CertFault {
+    ghost from_gives = { λ _ e. e ≡ faults.NoMemory };
+
+    fn from(_error: AllocFailed<T>) -> CertFault {
+        CertFault::NoMemory
+    }
+}
