@@ -4,3 +4,4 @@ pub mod Answered
 pub mod Keeping
 pub mod Certified
 pub mod Promised
+pub mod Spelled

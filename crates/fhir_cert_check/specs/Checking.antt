@@ -1,5 +1,5 @@
 -- Which certificates are right, and what is wrong with another: the first pair that fails a rule, with that rule.
-use Rattle.std.specs.Prelude.{◌≡◌, List, [], ◌∷◌, ◌++◌, map, Bool, ◌&&◌, nat_eq, Option, None, Some, IsTrue, if◌then◌else◌}
+use Rattle.std.specs.Prelude.{◌≡◌, List, [], ◌∷◌, ◌++◌, map, Bool, ◌&&◌, nat_eq, Option, None, Some, IsTrue, if◌then◌else◌, Result, Ok, Err}
 use Rattle.std.specs.Option.{option_map_or, option_map, option_and_then}
 use Rattle.std.specs.List.{list_any}
 use Rattle.fhir_schema.specs.declared.node.NodeRef.{NodeRef}
@@ -7,7 +7,11 @@ use Rattle.fhir_schema.specs.Schemas.{SchemaValue, root}
 use Rattle.fhir_certificate.specs.declared.pair.NodePair.{NodePair}
 use Rattle.fhir_certificate.specs.declared.pair.Pair.{Pair}
 use Rattle.fhir_certificate.specs.declared.pair.Pair.TheVariants.{Item, Kids}
+use Rattle.fhir_json.specs.Tree.{Text}
+use Rattle.fhir_certificate.specs.declared.fault.CertFault.{CertFault}
+use Rattle.fhir_certificate.specs.declared.fault.CertFault.TheVariants.{UnknownNode}
 use Rattle.fhir_certificate.specs.Certificate.{CertificateValue}
+use Rattle.fhir_certificate.specs.Meaning.{Stands}
 use Rattle.fhir_cert_check.specs.Rules.{Word, failing, is_local}
 use Rattle.fhir_cert_check.specs.Rules.{root as no_roots}
 
@@ -56,3 +60,15 @@ first_wrong s pairs roots order =
 -- what is wrong with the certificate first, if anything: that it lacks the pair of the roots, or a pair of its own
 abbrev pub wrong_with : SchemaValue → CertificateValue → NodePair → Option (Pair × Word)
 wrong_with s c roots = first_wrong s (is_among c) roots (pairs_of c)
+
+-- what is wrong with the certificate that the bytes spell, if anything, or why they spell none
+abbrev pub wrong_at : SchemaValue → CertificateValue → Result (Option (Pair × Word)) CertFault
+wrong_at s c = option_map_or (λ roots. Ok (wrong_with s c roots)) (roots_of s c) (Err UnknownNode)
+
+abbrev pub checked : Result CertificateValue CertFault → SchemaValue → Result (Option (Pair × Word)) CertFault
+checked (Ok c) s = wrong_at s c
+checked (Err fault) s = Err fault
+
+-- the bytes spell a right certificate
+abbrev pub SpellsCertificate : SchemaValue → Text → Type 0
+SpellsCertificate s bytes = (c : CertificateValue) × Stands s bytes c × IsCertificate s c

@@ -1,14 +1,17 @@
 //! Checking certificates.
 
-ghost use Rattle.std.specs.Prelude.{◌≡◌, ◌↔◌, IsTrue, IfOk, Some, None, map, option_map};
-ghost use Rattle.fhir_json.specs.Memory.{Gives};
+ghost use Rattle.std.specs.Prelude.{◌≡◌, ◌↔◌, IsTrue, IfOk, IfErr, Some, None, map, option_map};
+ghost use Rattle.fhir_json.specs.Memory.{Gives, GivesOr};
 ghost use Rattle.fhir_schema.specs.declared.node.NodeRef.{NodeRef};
 ghost use Rattle.fhir_schema.specs.Schemas.{root};
 ghost use Rattle.fhir_certificate.specs.declared.pair.NodePair.{NodePair};
 ghost use Rattle.fhir_certificate.specs.declared.pair.Pair.TheVariants as variants;
 ghost use Rattle.fhir_certificate.specs.Certificate.{fits};
+ghost use Rattle.fhir_certificate.specs.Format.{Written, Spells};
+ghost use Rattle.fhir_certificate.specs.Meaning.{Means, is_memory};
+ghost use Rattle.fhir_certificate.specs.Reading.{reading};
 ghost use Rattle.fhir_cert_check.specs.Rules.{failing, is_local};
-ghost use Rattle.fhir_cert_check.specs.Checking.{is_among, roots_of, IsCertificate, pairs_of, first_in, first_wrong, wrong_with};
+ghost use Rattle.fhir_cert_check.specs.Checking.{is_among, roots_of, IsCertificate, pairs_of, first_in, first_wrong, wrong_with, checked, SpellsCertificate};
 ghost use Rattle.fhir_cert_check.specs.Inclusion.{IncludesItems, Includes};
 ghost use Rattle.fhir_cert_check.specs.Seen.{found_seen, rule_seen, is_yes, wrong_in};
 ghost use Rattle.fhir_cert_check.specs.Sets.{has_in};
@@ -18,7 +21,7 @@ use crate::laws::inclusion;
 use crate::pair_set::PairSet;
 use crate::rule::Rule;
 use crate::rules::failing;
-use fhir_certificate::{Certificate, NodePair, Pair};
+use fhir_certificate::{CertFault, Certificate, NodePair, Pair, format_agrees, read};
 use fhir_json::NoMemory;
 use fhir_schema::Schema;
 use std::alloc::Global;
@@ -131,4 +134,25 @@ pub fn first_failing<'s>(
 {
     let pairs = PairSet::of(alloc, certificate)?;
     Ok(failing(schema, &pairs, pair))
+}
+
+/// Whether bytes are a right certificate, or else its first pair that fails a rule, with that rule. The refusals are
+/// those of `CertFault`: bytes that spell no certificate of the schema's nodes, and want of memory.
+pub fn check_bytes<'s>(
+    alloc: Global,
+    schema: &'s Schema,
+    bytes: &[u8],
+) -> Result<Answer<'s>, CertFault>
+    ensures first { GivesOr is_memory wrong_in result (checked (reading schema.now bytes.now) schema.now) }
+    ensures yes { IfOk result (λ answer. IsTrue (is_yes answer) ↔ SpellsCertificate schema.now bytes.now) }
+    ensures refused { IfErr result (λ fault. Means fault schema.now bytes.now) }
+    ensures includes { IfOk result (λ answer. IsTrue (is_yes answer) → (w : Written) → Spells bytes.now w
+        → Includes schema.now w.derived w.base) }
+    ensures items { IfOk result (λ answer. IsTrue (is_yes answer) → (w : Written) → Spells bytes.now w
+        → (n m : NodeRef) → root schema.now w.derived ≡ Some n → root schema.now w.base ≡ Some m
+        → IncludesItems schema.now n m) }
+{
+    format_agrees();
+    let certificate = read(alloc, schema, bytes)?;
+    Ok(check(alloc, schema, &certificate)?)
 }

@@ -11,6 +11,6 @@ mod rule;
 mod rules;
 
 pub use answer::Answer;
-pub use checking::{check, first_failing};
+pub use checking::{check, check_bytes, first_failing};
 pub use laws::inclusion;
 pub use rule::Rule;

@@ -38,3 +38,11 @@ impl<T: Drop> From<AllocFailed<T>> for CertFault {
         CertFault::NoMemory
     }
 }
+
+impl From<fhir_json::NoMemory> for CertFault {
+    ghost from_gives = { λ _ e. e ≡ faults.NoMemory };
+
+    fn from(_error: fhir_json::NoMemory) -> CertFault {
+        CertFault::NoMemory
+    }
+}

@@ -3,8 +3,16 @@
 
 mod certificate;
 mod fault;
+mod format;
+mod laws;
 mod pair;
+mod reading;
 
 pub use certificate::{Certificate, fits};
 pub use fault::CertFault;
+pub use laws::format_agrees;
 pub use pair::{NodePair, Pair};
+pub use reading::{MAX_PAIRS, read};
+
+#[cfg(test)]
+mod tests;

@@ -1,0 +1,5 @@
+pub mod Cuts
+pub mod Pairs
+pub mod Taken
+pub mod Again
+pub mod Judging

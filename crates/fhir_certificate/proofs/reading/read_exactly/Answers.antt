@@ -1,0 +1,24 @@
+use Rattle.std.proofs.Common.{◌≡◌, Some, Err, sym, ap, subst, ◌∙◌, rules, Result}
+use Rattle.std.specs.Prelude.{IsUtf8}
+use Rattle.std.specs.Option.{option_map_or}
+use Rattle.fhir_json.specs.Memory.{GivesOr}
+use Rattle.fhir_certificate.specs.declared.fault.CertFault.{CertFault}
+use Rattle.fhir_certificate.specs.declared.fault.CertFault.TheVariants.{WrongFormat}
+use Rattle.fhir_certificate.specs.Certificate.{CertificateValue}
+use Rattle.fhir_certificate.specs.Meaning.{is_memory, judged}
+use Rattle.fhir_certificate.specs.Reading.{written, reading}
+use Rattle.fhir_certificate.specs.Seen.{written_seen}
+use Rattle.fhir_certificate.proofs.Judging.{reading_other, reading_text}
+use Rattle.fhir_certificate.proofs.reading.read_exactly.Goals as goal
+
+pub returns-in_default : goal.returns-in_default
+returns-in_default c = reading_other c.args.schema.now c.args.bytes.now c.in_default.ensures.cases.0
+
+pub returns-in-Some : goal.returns-in-Some
+returns-in-Some c =
+    let u : IsUtf8 c.args.bytes.now = search rules in
+    let text : c.in-Ok.text.now ≡ c.args.bytes.now = search rules in
+    let is : written c.args.bytes.now ≡ Some (written_seen c.in-Some.layout) = rw (← text) (sym c.in-Some.ensures) in
+    let e : reading c.args.schema.now c.args.bytes.now ≡ judged c.args.schema.now (written_seen c.in-Some.layout) =
+    reading_text c.args.schema.now c.args.bytes.now u ∙ ap (λ o. option_map_or (judged c.args.schema.now) o (Err WrongFormat)) is in
+    subst (λ (answer : Result CertificateValue CertFault). GivesOr is_memory (λ c. c) c.judge.result answer) (sym e) c.judge.ensures
