@@ -1,3 +1,4 @@
 pub mod Items
 pub mod Typing
 pub mod Conformance
+pub mod Example

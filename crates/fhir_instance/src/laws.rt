@@ -1,12 +1,24 @@
 //! Laws: what the definitions say of one another.
 
-ghost use Rattle.std.specs.Prelude.{◌≡◌};
+ghost use Rattle.std.specs.Prelude.{◌≡◌, codes};
 ghost use Rattle.fhir_json.specs.Tree.{Tree};
 ghost use Rattle.fhir_schema.specs.Schemas.{SchemaValue};
-ghost use Rattle.fhir_instance.specs.Items.{Item};
+ghost use Rattle.fhir_instance.specs.Items.{Item, Interpretation};
 ghost use Rattle.fhir_instance.specs.Typing.{LexicalSets, Types};
+ghost use Rattle.fhir_instance.specs.Conformance.{Conforms};
+ghost use Rattle.fhir_instance.specs.Example.{schema, bare, noted, unknown, all_texts};
 
 /// A tree has at most one item.
 pub fn one_item()
     ensures { (sets : LexicalSets) (s : SchemaValue) (t : Tree) (x y : Item) → Types sets s t x → Types sets s t y → x ≡ y }
+{}
+
+/// The definitions at work, on a resource that may have a note, and a profile that asks for one: a resource with a note
+/// conforms to both, one without a note to the resource's own definition alone, and one with a property that the type
+/// doesn't have to neither.
+pub fn example()
+    ensures noted { (meaning : Interpretation) → Conforms all_texts schema meaning (codes "urn:noted") noted }
+    ensures own { (meaning : Interpretation) → Conforms all_texts schema meaning (codes "urn:Thing") bare }
+    ensures bare { (sets : LexicalSets) (meaning : Interpretation) → ¬ Conforms sets schema meaning (codes "urn:noted") bare }
+    ensures unknown { (sets : LexicalSets) (meaning : Interpretation) → ¬ Conforms sets schema meaning (codes "urn:Thing") unknown }
 {}

@@ -3,4 +3,4 @@
 
 mod laws;
 
-pub use laws::one_item;
+pub use laws::{example, one_item};
