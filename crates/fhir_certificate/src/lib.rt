@@ -13,6 +13,3 @@ pub use fault::CertFault;
 pub use laws::format_agrees;
 pub use pair::{NodePair, Pair};
 pub use reading::{MAX_PAIRS, read};
-
-#[cfg(test)]
-mod tests;

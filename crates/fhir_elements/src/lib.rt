@@ -16,6 +16,3 @@ pub use ids::{front_of, is_id, name_of, slice_of, sliced_of};
 pub use parts::{ConstraintDef, TypeEntry};
 pub use reason::Reason;
 pub use slicing::{BindingDef, DiscriminatorDef, SlicingDef};
-
-#[cfg(test)]
-mod tests;

@@ -4,6 +4,3 @@
 mod equality;
 
 pub use equality::{equivalence, json_eq};
-
-#[cfg(test)]
-mod tests;

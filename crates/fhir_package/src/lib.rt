@@ -18,6 +18,3 @@ pub use laws::packing;
 pub use loading::load;
 pub use memory::{MemoryFolder, StoredFile};
 pub use package::{Names, Package};
-
-#[cfg(test)]
-mod tests;

@@ -22,6 +22,3 @@ pub use laws::{covering_codes, least_closed, named_nodes};
 pub use node::NodeRef;
 pub use schema::Schema;
 pub use slots::{Slice, Slot};
-
-#[cfg(test)]
-mod tests;
