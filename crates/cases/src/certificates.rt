@@ -234,7 +234,10 @@ fn pairs_told(alloc: Global, pairs: &[NodePair]) -> Result<String, AllocError> {
     let mut text = String::new(alloc);
     for pair in pairs {
         let (n, m) = (pair.derived, pair.base);
-        let told = format!(in alloc; " {}.{}/{}.{}", n.definition, n.element, m.definition, m.element)?;
+        let told = format!(in alloc;
+            " {}.{}/{}.{}",
+            n.definition, n.element, m.definition, m.element
+        )?;
         text.push_str(told.as_str())?;
     }
     Ok(text)
@@ -256,7 +259,10 @@ fn fits_with(
 ) -> Result<bool, AllocError> {
     let none = certificate.items.len() + certificate.kids.len();
     let mut other = without(alloc, certificate, none, none)?;
-    other.kids.push(NodePair { derived: base, base })?;
+    other.kids.push(NodePair {
+        derived: base,
+        base,
+    })?;
     Ok(fits(schema, &other))
 }
 
