@@ -1,0 +1,5 @@
+pub mod Status
+pub mod Telling
+pub mod Replying
+pub mod Seen
+pub mod Ending

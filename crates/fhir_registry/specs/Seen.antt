@@ -1,0 +1,15 @@
+-- What contracts see of the engine's arguments and answers.
+use Rattle.std.specs.Prelude.{Option}
+use Rattle.std.specs.Borrow.{Bor}
+use Rattle.std.specs.Option.{option_map}
+use Rattle.fhir_json.specs.Tree.{Text}
+use Rattle.fhir_registry.specs.declared.request.Request.{Request}
+use Rattle.fhir_registry.specs.declared.request.Request.TheVariants.{Certify}
+use Rattle.fhir_registry.specs.Replying.{RequestValue, certify}
+
+-- the bytes of a file, or none where it can't be read
+abbrev pub file_seen : Option (Bor Text) → Option Text
+file_seen file = option_map (λ bytes. bytes.now) file
+
+abbrev pub request_seen : Request → RequestValue
+request_seen (Certify folder file) = certify folder.now file.now

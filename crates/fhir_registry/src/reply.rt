@@ -1,0 +1,71 @@
+//! What the program answers.
+
+ghost use Rattle.std.specs.Prelude.{◌≡◌, [], codes, IfOk};
+ghost use Rattle.fhir_registry.specs.Replying.{fault_reply};
+ghost use Rattle.fhir_registry.specs.Status.{code_of};
+
+use std::alloc::{AllocError, Global};
+use std::marker::Model;
+
+/// How the program ends.
+#[derive(Clone, Copy, Debug, PartialEq, Eq)]
+pub enum Status {
+    /// 0: yes.
+    Yes,
+    /// 1: no.
+    No,
+    /// 3: a fault of the input.
+    Fault,
+    /// 4: the words are no request.
+    Usage,
+    /// 5: a growth of memory was refused.
+    NoMemory,
+}
+
+impl Status {
+    /// The number of the status.
+    pub fn code(self) -> u8
+        ensures { result ≡ code_of self }
+    {
+        match self {
+            Status::Yes => 0,
+            Status::No => 1,
+            Status::Fault => 3,
+            Status::Usage => 4,
+            Status::NoMemory => 5,
+        }
+    }
+}
+
+/// What the program answers: its status, and what it writes to standard output and to standard error.
+#[derive(Debug, Drop)]
+pub struct Reply {
+    pub(crate) status: Status,
+    pub(crate) out: String,
+    pub(crate) err: String,
+}
+
+impl Model for Reply {
+    ghost use Rattle.std.specs.Prelude.{string_bytes};
+    ghost use Rattle.fhir_registry.specs.Status.{code_of};
+    ghost use Rattle.fhir_registry.specs.Replying.{ReplyValue};
+
+    ghost Value = { ReplyValue };
+
+    ghost view = { λ r. record { status = code_of r.status; out = string_bytes r.out; err = string_bytes r.err } };
+}
+
+// A fault of the input: its number, and what it is about.
+pub(crate) fn fault_reply(alloc: Global, number: &str, subject: &str) -> Result<Reply, AllocError>
+    ensures { IfOk result (λ r. r ≡ fault_reply number.now subject.now) }
+{
+    let mut err = String::new(alloc);
+    err.push_str(number)?;
+    err.push_str(subject)?;
+    err.push_str("\n")?;
+    Ok(Reply {
+        status: Status::Fault,
+        out: String::new(alloc),
+        err,
+    })
+}

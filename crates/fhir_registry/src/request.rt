@@ -1,0 +1,81 @@
+//! What the words of the command line ask for.
+
+ghost use Rattle.std.specs.Prelude.{◌≡◌, ◌↔◌};
+ghost use Rattle.clap.specs.declared.error.kind.ErrorKind.TheVariants as kind;
+ghost use Rattle.fhir_registry.specs.declared.request.WordsFault.TheVariants as faults;
+
+use clap::error::ErrorKind;
+use clap::{Arg, ArgMatches, Command};
+use std::alloc::{AllocError, Global};
+
+/// What the words ask for.
+#[derive(Clone, Copy, Debug, PartialEq, Eq)]
+pub enum Request<'w> {
+    /// Whether the certificate in a file is right, over the definitions in a folder.
+    Certify {
+        /// The folder.
+        folder: &'w str,
+        /// The file.
+        file: &'w str,
+    },
+}
+
+/// Why the words ask for nothing.
+#[derive(Clone, Copy, Debug, PartialEq, Eq)]
+pub enum WordsFault {
+    /// They are no request, or ask how to ask.
+    Usage,
+    /// A growth of memory was refused.
+    NoMemory,
+}
+
+impl From<AllocError> for WordsFault {
+    ghost from_gives = { λ _ e. e ≡ faults.NoMemory };
+
+    fn from(_error: AllocError) -> WordsFault {
+        WordsFault::NoMemory
+    }
+}
+
+fn certify<'a>(alloc: Global) -> Result<Command<'a>, AllocError> {
+    Command::new(alloc, "certify")
+        .arg(Arg::new(alloc, "PACKAGE").required(true))?
+        .arg(Arg::new(alloc, "CERTIFICATE").required(true))
+}
+
+fn program<'a>(alloc: Global) -> Result<Command<'a>, AllocError> {
+    Command::new(alloc, "fhirprof")
+        .subcommand_required(true)
+        .subcommand(certify(alloc)?)
+}
+
+fn fault_of(kind: ErrorKind) -> WordsFault
+    ensures { (result ≡ WordsFault.NoMemory) ↔ (kind ≡ ErrorKind.OutOfMemory) }
+{
+    match kind {
+        ErrorKind::OutOfMemory => WordsFault::NoMemory,
+        _ => WordsFault::Usage,
+    }
+}
+
+fn word<'a>(matches: &ArgMatches<'a>, id: &str) -> Result<&'a str, WordsFault> {
+    matches.get_str(id).ok_or(WordsFault::Usage)
+}
+
+/// What the words ask for, of which the first is the program's name: `certify PACKAGE CERTIFICATE`.
+pub fn request_of<'w>(alloc: Global, words: &'w [String]) -> Result<Request<'w>, WordsFault> {
+    let matches = match program(alloc)?.try_get_matches_from(words) {
+        Ok(matches) => matches,
+        Err(error) => return Err(fault_of(error.kind())),
+    };
+    let Some((name, matches)) = matches.subcommand() else {
+        return Err(WordsFault::Usage);
+    };
+    if name != "certify" {
+        return Err(WordsFault::Usage);
+    }
+    Ok(Request::Certify {
+        folder: word(matches, "PACKAGE")?,
+        file: word(matches, "CERTIFICATE")?,
+    })
+}

@@ -1,0 +1,127 @@
+//! What is printed of a certificate's answer.
+
+ghost use Rattle.std.specs.Prelude.{◌≡◌, ◌++◌, IfOk, Some, string_bytes};
+ghost use Rattle.fhir_cert_check.specs.Seen.{word_of, wrong_in};
+ghost use Rattle.fhir_registry.specs.Telling.{rule_text, node_text, pair_word, derived_of, base_of, no_text};
+ghost use Rattle.fhir_registry.specs.Replying.{yes_reply, wrong_reply};
+
+use crate::reply::{Reply, Status};
+use fhir_cert_check::{Answer, Rule};
+use fhir_certificate::Pair;
+use fhir_schema::{NodeRef, Schema};
+use std::alloc::{AllocError, Global};
+
+fn joined(alloc: Global, word: &str, name: &str) -> Result<String, AllocError>
+    ensures { IfOk result (λ text. string_bytes text ≡ word.now ++ name.now) }
+{
+    let mut text = String::new(alloc);
+    text.push_str(word)?;
+    text.push_str(name)?;
+    Ok(text)
+}
+
+fn rule_text(alloc: Global, rule: Rule<'_>) -> Result<String, AllocError>
+    ensures { IfOk result (λ text. string_bytes text ≡ rule_text (word_of rule.entry)) }
+{
+    match rule {
+        Rule::Root => String::from_str(alloc, "root"),
+        Rule::Types => String::from_str(alloc, "type"),
+        Rule::Fixed => String::from_str(alloc, "fixed"),
+        Rule::Children => String::from_str(alloc, "children"),
+        Rule::Slot(name) => joined(alloc, "slot ", name),
+        Rule::Cardinality(name) => joined(alloc, "cardinality ", name),
+        Rule::Entry(name) => joined(alloc, "entry ", name),
+    }
+}
+
+fn node_text(alloc: Global, schema: &Schema, node: NodeRef) -> Result<String, AllocError>
+    ensures { IfOk result (λ text. string_bytes text ≡ node_text schema.now node) }
+{
+    let (url, id) = schema.name(node);
+    let mut text = String::new(alloc);
+    text.push_str(url)?;
+    text.push_str("#")?;
+    text.push_str(id)?;
+    Ok(text)
+}
+
+fn pair_word(pair: Pair) -> &'static str
+    ensures { result.now ≡ pair_word pair }
+{
+    match pair {
+        Pair::Item(_) => "item ",
+        Pair::Kids(_) => "kids ",
+    }
+}
+
+fn derived_of(pair: Pair) -> NodeRef
+    ensures { result ≡ derived_of pair }
+{
+    match pair {
+        Pair::Item(nodes) => nodes.derived,
+        Pair::Kids(nodes) => nodes.derived,
+    }
+}
+
+fn base_of(pair: Pair) -> NodeRef
+    ensures { result ≡ base_of pair }
+{
+    match pair {
+        Pair::Item(nodes) => nodes.base,
+        Pair::Kids(nodes) => nodes.base,
+    }
+}
+
+fn no_text(alloc: Global, schema: &Schema, pair: Pair, rule: Rule<'_>) -> Result<String, AllocError>
+    ensures { IfOk result (λ text. string_bytes text ≡ no_text schema.now pair (word_of rule.entry)) }
+{
+    let derived = node_text(alloc, schema, derived_of(pair))?;
+    let base = node_text(alloc, schema, base_of(pair))?;
+    let rule = rule_text(alloc, rule)?;
+    let mut text = String::new(alloc);
+    text.push_str("no: ")?;
+    text.push_str(pair_word(pair))?;
+    text.push_str(derived.as_str())?;
+    text.push_str(" ")?;
+    text.push_str(base.as_str())?;
+    text.push_str(": ")?;
+    text.push_str(rule.as_str())?;
+    text.push_str("\n")?;
+    Ok(text)
+}
+
+fn yes_reply(alloc: Global) -> Result<Reply, AllocError>
+    ensures { IfOk result (λ r. r ≡ yes_reply) }
+{
+    let out = String::from_str(alloc, "yes\n")?;
+    Ok(Reply {
+        status: Status::Yes,
+        out,
+        err: String::new(alloc),
+    })
+}
+
+fn no_reply(alloc: Global, schema: &Schema, pair: Pair, rule: Rule<'_>) -> Result<Reply, AllocError>
+    ensures { IfOk result (λ r. r ≡ wrong_reply schema.now (Some (pair, word_of rule.entry))) }
+{
+    let out = no_text(alloc, schema, pair, rule)?;
+    Ok(Reply {
+        status: Status::No,
+        out,
+        err: String::new(alloc),
+    })
+}
+
+/// What is answered to a certificate that was checked.
+pub(crate) fn answer_reply(
+    alloc: Global,
+    schema: &Schema,
+    answer: Answer<'_>,
+) -> Result<Reply, AllocError>
+    ensures { IfOk result (λ r. r ≡ wrong_reply schema.now (wrong_in answer.entry)) }
+{
+    match answer {
+        Answer::Yes => yes_reply(alloc),
+        Answer::No(pair, rule) => no_reply(alloc, schema, pair, rule),
+    }
+}
