@@ -31,15 +31,7 @@ fn status_of<R: Files + Env + AllocGlobal + Input + Print + Clone + Drop, E: Wri
     let mut out = io::writer(rt);
     let Ok(Request::Certify { folder, file }) = request_of(alloc, &words) else {
         let mut folder = MemoryFolder::new(Vec::new(alloc));
-        return Some(run(
-            alloc,
-            &words,
-            &mut folder,
-            None,
-            &mut input,
-            &mut out,
-            err,
-        ));
+        return Some(run(alloc, &words, &mut folder, None, &mut input, &mut out, err));
     };
     let mut folder = DirFolder::open(rt, folder).ok()?;
     let file = bytes_at(rt, file).ok()?;

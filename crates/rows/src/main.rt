@@ -21,7 +21,10 @@ fn words_of(alloc: Global, row: &str) -> Result<Vec<String>, AllocError> {
     Ok(words)
 }
 
-fn without_the_second(alloc: Global, files: Vec<StoredFile>) -> Result<Vec<StoredFile>, AllocError> {
+fn without_the_second(
+    alloc: Global,
+    files: Vec<StoredFile>,
+) -> Result<Vec<StoredFile>, AllocError> {
     let mut others = Vec::new(alloc);
     for (i, file) in files.into_iter().enumerate() {
         let StoredFile { name, bytes } = file;
@@ -64,9 +67,25 @@ fn told<R: Files + AllocGlobal + Clone + Drop>(
     let mut full: &mut [u8] = &mut [];
     let mut input: &[u8] = b"";
     let status = if is_full {
-        run(alloc, &words, &mut folder, file.as_deref(), &mut input, &mut full, &mut err)
+        run(
+            alloc,
+            &words,
+            &mut folder,
+            file.as_deref(),
+            &mut input,
+            &mut full,
+            &mut err,
+        )
     } else {
-        run(alloc, &words, &mut folder, file.as_deref(), &mut input, &mut out, &mut err)
+        run(
+            alloc,
+            &words,
+            &mut folder,
+            file.as_deref(),
+            &mut input,
+            &mut out,
+            &mut err,
+        )
     };
     Ok(line_of(alloc, status, &out, &err)?)
 }
