@@ -4,6 +4,7 @@
 #![tactic(auto)]
 
 mod certificates;
+mod decimals;
 mod elements;
 mod fields;
 mod json;
@@ -26,6 +27,7 @@ enum Topic {
     Elements,
     Schemas,
     Certificates,
+    Decimals,
 }
 
 fn file_of(topic: Topic) -> &'static str {
@@ -37,6 +39,7 @@ fn file_of(topic: Topic) -> &'static str {
         Topic::Elements => "elements.txt",
         Topic::Schemas => "schemas.txt",
         Topic::Certificates => "certificates.txt",
+        Topic::Decimals => "decimals.txt",
     }
 }
 
@@ -55,6 +58,7 @@ fn answer(
         Topic::Elements => elements::answer(alloc, subject, call, argument),
         Topic::Schemas => schemas::answer(alloc, subject, call, argument),
         Topic::Certificates => certificates::answer(alloc, subject, call, argument),
+        Topic::Decimals => decimals::answer(alloc, subject, call, argument),
     }
 }
 
@@ -83,5 +87,6 @@ fn main(rt: HostRuntime) -> io::Result<()> {
     answer_all(&rt, Topic::Packages)?;
     answer_all(&rt, Topic::Elements)?;
     answer_all(&rt, Topic::Schemas)?;
-    answer_all(&rt, Topic::Certificates)
+    answer_all(&rt, Topic::Certificates)?;
+    answer_all(&rt, Topic::Decimals)
 }

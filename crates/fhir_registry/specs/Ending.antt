@@ -1,9 +1,13 @@
 -- How the program ends.
-use Rattle.std.specs.Prelude.{◌≡◌, ℕ, List, Option}
+use Rattle.std.specs.Prelude.{Bool, nat_lt, length, ◌≡◌, ℕ, List, Option}
 use Rattle.std.specs.Io.KnownBytes.{Appends}
 use Rattle.fhir_registry.specs.declared.reply.Status.{Status}
 use Rattle.fhir_registry.specs.declared.reply.Status.TheVariants.{Yes, No, Fault, Usage, NoMemory}
 use Rattle.fhir_registry.specs.Replying.{ReplyValue}
+
+-- the reply is a fault of the input
+abbrev pub is_fault : ReplyValue → Bool
+is_fault reply = nat_lt 0 (length reply.err)
 
 -- The status is the reply's, and standard output, whose bytes before and after are these, holds what is to be written;
 -- or it is a fault, that of the reply or of an output that failed; or memory ran out. No reply is of status 4.

@@ -1,11 +1,11 @@
 //! The engine: it does what the words ask, and writes what is answered.
 
-ghost use Rattle.std.specs.Prelude.{◌≡◌, IsTrue};
+ghost use Rattle.std.specs.Prelude.{◌≡◌, false, IsTrue};
 ghost use Rattle.std.specs.Io.KnownBytes.{Appends};
 ghost use Rattle.fhir_json.specs.Tree.{Text};
 ghost use Rattle.fhir_package.specs.Packing.{pack};
 ghost use Rattle.fhir_registry.specs.Replying.{RequestValue, reply_of, Promise};
-ghost use Rattle.fhir_registry.specs.Ending.{HasEnded};
+ghost use Rattle.fhir_registry.specs.Ending.{HasEnded, is_fault};
 ghost use Rattle.fhir_registry.specs.Seen.{file_seen, request_seen};
 
 use crate::answering::certify;
@@ -22,13 +22,21 @@ fn is_written<W: Write>(end: &mut W, text: &str) -> bool
     end.write_all(text.as_bytes()).is_ok()
 }
 
-// Writes a reply. An output that fails is a fault; standard error may fail, and the status stays.
+// Writes a reply: a fault to standard error, which may fail, and all else to standard output. An output that fails is a
+// fault.
 fn write_reply<W: Write, E: Write>(reply: &Reply, out: &mut W, err: &mut E) -> Status
-    ensures { HasEnded result (W.contents out.old) (W.contents out.new) reply.now }
+    ensures ended { HasEnded result (W.contents out.old) (W.contents out.new) reply.now }
+    ensures fault { IsTrue (is_fault reply.now) → (result ≡ Status.Fault) × (out.new ≡ out.old) }
+    ensures answer { is_fault reply.now ≡ false → err.new ≡ err.old }
 {
-    let is_told = is_written(out, reply.out.as_str());
-    let _ = is_written(err, reply.err.as_str());
-    if is_told { reply.status } else { Status::Fault }
+    if !reply.err.is_empty() {
+        return end_with(err, reply.err.as_str(), Status::Fault);
+    }
+    if is_written(out, reply.out.as_str()) {
+        reply.status
+    } else {
+        Status::Fault
+    }
 }
 
 // Says what can't be answered, and ends with that status.
@@ -52,6 +60,14 @@ pub fn serve<F: Folder, W: Write, E: Write>(
     // Where the device didn't fail, the answer is the one that is stated.
     ensures told { F.failed_calls folder.new ≡ F.failed_calls folder.old
         → HasEnded result (W.contents out.old) (W.contents out.new) (reply_of (request_seen request.entry) (pack (F.files folder.old)) (file_seen file.entry)) }
+    // A fault is answered as such, and nothing is written to standard output; of any other answer nothing is written to
+    // standard error.
+    ensures fault { F.failed_calls folder.new ≡ F.failed_calls folder.old → (result ≡ Status.NoMemory → ⊥)
+        → IsTrue (is_fault (reply_of (request_seen request.entry) (pack (F.files folder.old)) (file_seen file.entry)))
+        → (result ≡ Status.Fault) × (out.new ≡ out.old) }
+    ensures answer { F.failed_calls folder.new ≡ F.failed_calls folder.old → (result ≡ Status.NoMemory → ⊥)
+        → is_fault (reply_of (request_seen request.entry) (pack (F.files folder.old)) (file_seen file.entry)) ≡ false
+        → err.new ≡ err.old }
     // What a yes promises.
     ensures promised { result ≡ Status.Yes → Promise (F.files folder.old) (file_seen file.entry) }
     ensures files { F.files folder.new ≡ F.files folder.old }

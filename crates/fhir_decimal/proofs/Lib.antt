@@ -1,0 +1,5 @@
+pub mod Steps
+pub mod Texts
+pub mod Digits
+pub mod Order
+pub mod Same

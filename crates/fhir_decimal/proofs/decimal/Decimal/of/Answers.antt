@@ -1,0 +1,6 @@
+use Rattle.fhir_decimal.specs.Seen.{parts_seen}
+use Rattle.fhir_decimal.proofs.Texts.{read_right}
+use Rattle.fhir_decimal.proofs.decimal.Decimal.of.Goals as goal
+
+pub returns : goal.returns
+returns c = read_right parts_seen c.args.text.now c.parts_of.result c.parts_of.ensures
