@@ -130,7 +130,8 @@ pub fn first_failing<'s>(
     pair: Pair,
 ) -> Result<Option<Rule<'s>>, NoMemory>
     ensures first { Gives rule_seen result (failing (is_among certificate.now) schema.now pair) }
-    ensures right { IfOk result (λ rule. (rule_seen rule ≡ None) ↔ IsTrue (is_local (is_among certificate.now) schema.now pair)) }
+    ensures right { IfOk result (λ rule. (rule_seen rule ≡ None)
+        ↔ IsTrue (is_local (is_among certificate.now) schema.now pair)) }
 {
     let pairs = PairSet::of(alloc, certificate)?;
     Ok(failing(schema, &pairs, pair))

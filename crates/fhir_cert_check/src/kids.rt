@@ -125,7 +125,9 @@ fn found_failing<'s>(
     n: NodeRef,
     m: NodeRef,
 ) -> Option<Rule<'s>>
-    ensures { option_map word_of result ≡ first_of ((cardinality_answers schema.now n m, cardinality name.now) ∷ entry_rules (has_in pairs.now) schema.now name.now n m) }
+    ensures { option_map word_of result ≡ first_of
+        ((cardinality_answers schema.now n m, cardinality name.now)
+        ∷ entry_rules (has_in pairs.now) schema.now name.now n m) }
 {
     if !cardinality_answers(schema, n, m) {
         return Some(Rule::Cardinality(name));

@@ -52,6 +52,10 @@ pub data RequestValue : Type 0 where
 abbrev pub reply_of : RequestValue → Result Definitions Refusal → Option Text → ReplyValue
 reply_of (certify folder file) p bytes = certified file p bytes
 
+-- the answer to a request, of a folder's files and the bytes of a file
+abbrev pub answer_to : RequestValue → Files → Option Text → ReplyValue
+answer_to request files bytes = reply_of request (pack files) bytes
+
 -- the bytes spell a certificate, and each resource that conforms to its derived profile conforms to its base
 abbrev pub Promised : SchemaValue → Text → Type 0
 Promised s bytes = (w : Written) × Spells bytes w × Includes s w.derived w.base

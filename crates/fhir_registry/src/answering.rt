@@ -34,7 +34,8 @@ fn cert_number(fault: CertFault) -> &'static str
 }
 
 fn bytes_reply(alloc: Global, name: &str, schema: &Schema, bytes: &[u8]) -> Result<Reply, NoMemory>
-    ensures told { Gives (λ r. r) result (checked_reply name.now schema.now (checked (reading schema.now bytes.now) schema.now)) }
+    ensures told { Gives (λ r. r) result
+        (checked_reply name.now schema.now (checked (reading schema.now bytes.now) schema.now)) }
     ensures promised { IfOk result (λ r. r.status ≡ 0 → Promised schema.now bytes.now) }
 {
     match check_bytes(alloc, schema, bytes) {
@@ -74,8 +75,8 @@ fn package_reply(
 
 // What is answered where a folder of that name is no package.
 fn refusal_reply(alloc: Global, folder: &str, fault: &LoadFault) -> Result<Reply, NoMemory>
-    ensures told { (answer : Result Definitions Refusal) (name : Text) (file : Option Text) → failures_told fault.now ≡ 0
-        → IsRefused fault.now answer → Gives (λ r. r) result (certified name answer file) }
+    ensures told { (answer : Result Definitions Refusal) (name : Text) (file : Option Text)
+        → failures_told fault.now ≡ 0 → IsRefused fault.now answer → Gives (λ r. r) result (certified name answer file) }
     ensures fault { IfOk result (λ r. r.status ≡ 3) }
 {
     match fault {

@@ -32,8 +32,8 @@ impl DirFolder {
     }
 }
 
-/// The files of the directory at a path whose names end in `.json`, sorted by their names. A file that the device doesn't give has
-/// no bytes; an error is of the listing, or of memory.
+/// The files of the directory at a path whose names end in `.json`, sorted by their names. A file that the device doesn't
+/// give has no bytes; an error is of the listing, or of memory.
 pub fn files_at<R: Files + AllocGlobal + Clone + Drop>(
     rt: &R,
     path: &str,

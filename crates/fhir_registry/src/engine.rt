@@ -3,8 +3,7 @@
 ghost use Rattle.std.specs.Prelude.{◌≡◌, false, IsTrue};
 ghost use Rattle.std.specs.Io.KnownBytes.{Appends};
 ghost use Rattle.fhir_json.specs.Tree.{Text};
-ghost use Rattle.fhir_package.specs.Packing.{pack};
-ghost use Rattle.fhir_registry.specs.Replying.{RequestValue, reply_of, Promise};
+ghost use Rattle.fhir_registry.specs.Replying.{RequestValue, answer_to, Promise};
 ghost use Rattle.fhir_registry.specs.Ending.{HasEnded, is_fault};
 ghost use Rattle.fhir_registry.specs.Seen.{file_seen, request_seen};
 
@@ -47,8 +46,9 @@ fn end_with<E: Write>(err: &mut E, text: &str, status: Status) -> Status
     status
 }
 
-/// Does what a request asks, of the folder and the bytes of the file that it names, and writes what is answered: each end
-/// is written once. An output that fails is a fault; a failure of standard error changes nothing.
+/// Does what a request asks, of the folder and the bytes of the file that it names, and writes what is answered at once: a
+/// fault to standard error, and all else to standard output. An output that fails is a fault; a failure of standard error
+/// changes nothing.
 pub fn serve<F: Folder, W: Write, E: Write>(
     alloc: Global,
     request: Request<'_>,
@@ -59,14 +59,15 @@ pub fn serve<F: Folder, W: Write, E: Write>(
 ) -> Status
     // Where the device didn't fail, the answer is the one that is stated.
     ensures told { F.failed_calls folder.new ≡ F.failed_calls folder.old
-        → HasEnded result (W.contents out.old) (W.contents out.new) (reply_of (request_seen request.entry) (pack (F.files folder.old)) (file_seen file.entry)) }
+        → HasEnded result (W.contents out.old) (W.contents out.new)
+        (answer_to (request_seen request.entry) (F.files folder.old) (file_seen file.entry)) }
     // A fault is answered as such, and nothing is written to standard output; of any other answer nothing is written to
     // standard error.
     ensures fault { F.failed_calls folder.new ≡ F.failed_calls folder.old → (result ≡ Status.NoMemory → ⊥)
-        → IsTrue (is_fault (reply_of (request_seen request.entry) (pack (F.files folder.old)) (file_seen file.entry)))
+        → IsTrue (is_fault (answer_to (request_seen request.entry) (F.files folder.old) (file_seen file.entry)))
         → (result ≡ Status.Fault) × (out.new ≡ out.old) }
     ensures answer { F.failed_calls folder.new ≡ F.failed_calls folder.old → (result ≡ Status.NoMemory → ⊥)
-        → is_fault (reply_of (request_seen request.entry) (pack (F.files folder.old)) (file_seen file.entry)) ≡ false
+        → is_fault (answer_to (request_seen request.entry) (F.files folder.old) (file_seen file.entry)) ≡ false
         → err.new ≡ err.old }
     // What a yes promises.
     ensures promised { result ≡ Status.Yes → Promise (F.files folder.old) (file_seen file.entry) }
@@ -94,8 +95,10 @@ pub fn run<F: Folder, R: Read, W: Write, E: Write>(
     err: &mut E,
 ) -> Status
     // Where the device didn't fail, the answer is the one that is stated for the request that the words are.
-    ensures told { F.failed_calls folder.new ≡ F.failed_calls folder.old → (result ≡ Status.Usage → ⊥) →
-        (result ≡ Status.NoMemory → ⊥) → (request : RequestValue) × HasEnded result (W.contents out.old) (W.contents out.new) (reply_of request (pack (F.files folder.old)) (file_seen file.entry)) }
+    ensures told { F.failed_calls folder.new ≡ F.failed_calls folder.old → (result ≡ Status.Usage → ⊥)
+        → (result ≡ Status.NoMemory → ⊥) → (request : RequestValue)
+        × HasEnded result (W.contents out.old) (W.contents out.new)
+        (answer_to request (F.files folder.old) (file_seen file.entry)) }
     // What a yes promises.
     ensures promised { result ≡ Status.Yes → Promise (F.files folder.old) (file_seen file.entry) }
     ensures files { F.files folder.new ≡ F.files folder.old }
