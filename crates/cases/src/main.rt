@@ -9,6 +9,7 @@ mod elements;
 mod fields;
 mod json;
 mod matching;
+mod names;
 mod packages;
 mod schemas;
 mod texts;
@@ -28,6 +29,7 @@ enum Topic {
     Schemas,
     Certificates,
     Decimals,
+    Names,
 }
 
 fn file_of(topic: Topic) -> &'static str {
@@ -40,6 +42,7 @@ fn file_of(topic: Topic) -> &'static str {
         Topic::Schemas => "schemas.txt",
         Topic::Certificates => "certificates.txt",
         Topic::Decimals => "decimals.txt",
+        Topic::Names => "names.txt",
     }
 }
 
@@ -59,6 +62,7 @@ fn answer(
         Topic::Schemas => schemas::answer(alloc, subject, call, argument),
         Topic::Certificates => certificates::answer(alloc, subject, call, argument),
         Topic::Decimals => decimals::answer(alloc, subject, call, argument),
+        Topic::Names => names::answer(alloc, subject, call),
     }
 }
 
@@ -88,5 +92,6 @@ fn main(rt: HostRuntime) -> io::Result<()> {
     answer_all(&rt, Topic::Elements)?;
     answer_all(&rt, Topic::Schemas)?;
     answer_all(&rt, Topic::Certificates)?;
-    answer_all(&rt, Topic::Decimals)
+    answer_all(&rt, Topic::Decimals)?;
+    answer_all(&rt, Topic::Names)
 }

@@ -1,11 +1,12 @@
-//! Questions on equality.
+//! Questions on equality and on patterns.
 
 use crate::texts::{object_of, spelled};
 use fhir_json::{Json, read};
-use fhir_matching::json_eq;
+use fhir_matching::{json_eq, matches};
 use std::alloc::{AllocError, Global};
 
-/// Whether two trees are equal, and the second to the first: those of two texts, or objects of these members.
+/// Whether two trees are equal, and the second to the first, of two texts or of objects of these members; or whether the
+/// first fits the second.
 pub(crate) fn answer(
     alloc: Global,
     left: &str,
@@ -14,6 +15,7 @@ pub(crate) fn answer(
 ) -> Result<String, AllocError> {
     match call {
         "equals" => equal_texts(alloc, left, spelled(alloc, right)?.as_str()),
+        "matches" => fitting_texts(alloc, left, spelled(alloc, right)?.as_str()),
         _ => equal_trees(alloc, &object_of(alloc, left)?, &object_of(alloc, right)?),
     }
 }
@@ -21,6 +23,16 @@ pub(crate) fn answer(
 fn equal_texts(alloc: Global, left: &str, right: &str) -> Result<String, AllocError> {
     match (read(alloc, left.as_bytes()), read(alloc, right.as_bytes())) {
         (Ok(left), Ok(right)) => equal_trees(alloc, &left, &right),
+        _ => String::from_str(alloc, "not read"),
+    }
+}
+
+fn fitting_texts(alloc: Global, value: &str, pattern: &str) -> Result<String, AllocError> {
+    match (
+        read(alloc, value.as_bytes()),
+        read(alloc, pattern.as_bytes()),
+    ) {
+        (Ok(value), Ok(pattern)) => format!(in alloc; "{}", matches(&value, &pattern)),
         _ => String::from_str(alloc, "not read"),
     }
 }

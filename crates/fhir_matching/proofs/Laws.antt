@@ -11,7 +11,7 @@ same_flag-refl : (b : Bool) → same_flag b b ≡ true
 same_flag-refl true = refl
 same_flag-refl false = refl
 
-flag_is : (a b : Bool) → same_flag a b ≡ true → a ≡ b
+pub flag_is : (a b : Bool) → same_flag a b ≡ true → a ≡ b
 flag_is true b h = sym h
 flag_is false true h = absurd (false≢true h)
 flag_is false false h = refl

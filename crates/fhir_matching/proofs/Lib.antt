@@ -1,3 +1,4 @@
 pub mod Places
 pub mod Members
 pub mod Laws
+pub mod Fits

@@ -2,5 +2,7 @@
 #![tactic(auto)]
 
 mod equality;
+mod patterns;
 
 pub use equality::{equivalence, json_eq};
+pub use patterns::{fitting, matches};

@@ -1,0 +1,21 @@
+use Rattle.std.proofs.Common.{◌≡◌, drop}
+use Rattle.fhir_json.specs.View.{tree_of, items_view, members_view, pair_of}
+use Rattle.fhir_matching.specs.Equality.{has_passing, all_passing}
+use Rattle.fhir_matching.specs.Fitting.{pattern_test, item_patterns, member_patterns, some_passing, each_passed}
+use Rattle.fhir_matching.proofs.patterns.+fit.Given as goal
+
+abbrev pub invariant-items_fit-loop-pattern : goal.invariant-items_fit-loop-pattern
+invariant-items_fit-loop-pattern l =
+    each_passed (item_patterns (items_view (drop l.pattern-index l.patterns))) (items_view l.items) ≡ each_passed (item_patterns (items_view l.patterns)) (items_view l.items)
+
+abbrev pub invariant-some_item_fits-loop-item : goal.invariant-some_item_fits-loop-item
+invariant-some_item_fits-loop-item l =
+    some_passing (pattern_test (tree_of l.pattern)) (items_view (drop l.item-index l.items)) ≡ some_passing (pattern_test (tree_of l.pattern)) (items_view l.items)
+
+abbrev pub invariant-members_fit-loop-pattern : goal.invariant-members_fit-loop-pattern
+invariant-members_fit-loop-pattern l =
+    all_passing (member_patterns (members_view (drop l.pattern-index l.patterns))) (members_view l.members) ≡ all_passing (member_patterns (members_view l.patterns)) (members_view l.members)
+
+abbrev pub invariant-some_member_fits-loop-member : goal.invariant-some_member_fits-loop-member
+invariant-some_member_fits-loop-member l =
+    has_passing (pair_of l.pattern).0 (pattern_test (pair_of l.pattern).1) (members_view (drop l.member-index l.members)) ≡ has_passing (pair_of l.pattern).0 (pattern_test (pair_of l.pattern).1) (members_view l.members)

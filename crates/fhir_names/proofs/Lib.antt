@@ -1,0 +1,5 @@
+pub mod Cuts
+pub mod Answered
+pub mod Parts
+pub mod References
+pub mod Relative

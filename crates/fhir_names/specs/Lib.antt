@@ -1,0 +1,4 @@
+pub mod Texts
+pub mod Ids
+pub mod Canonicals
+pub mod Targets

@@ -1,0 +1,17 @@
+//! Names by which definitions and resources are meant: ids of elements, canonicals, and relative references.
+#![tactic(auto)]
+
+mod canonicals;
+mod fault;
+mod ids;
+mod laws;
+mod segments;
+mod targets;
+mod texts;
+
+pub use canonicals::Canonical;
+pub use fault::NameFault;
+pub use ids::{ElementId, Segments};
+pub use laws::{canonicals_agree, ids_agree, targets_agree};
+pub use segments::Segment;
+pub use targets::relative_target;
