@@ -11,6 +11,7 @@ mod json;
 mod matching;
 mod names;
 mod packages;
+mod prims;
 mod schemas;
 mod texts;
 
@@ -30,6 +31,7 @@ enum Topic {
     Certificates,
     Decimals,
     Names,
+    Prims,
 }
 
 fn file_of(topic: Topic) -> &'static str {
@@ -43,6 +45,7 @@ fn file_of(topic: Topic) -> &'static str {
         Topic::Certificates => "certificates.txt",
         Topic::Decimals => "decimals.txt",
         Topic::Names => "names.txt",
+        Topic::Prims => "prims.txt",
     }
 }
 
@@ -63,6 +66,7 @@ fn answer(
         Topic::Certificates => certificates::answer(alloc, subject, call, argument),
         Topic::Decimals => decimals::answer(alloc, subject, call, argument),
         Topic::Names => names::answer(alloc, subject, call),
+        Topic::Prims => prims::answer(alloc, argument),
     }
 }
 
@@ -93,5 +97,6 @@ fn main(rt: HostRuntime) -> io::Result<()> {
     answer_all(&rt, Topic::Schemas)?;
     answer_all(&rt, Topic::Certificates)?;
     answer_all(&rt, Topic::Decimals)?;
-    answer_all(&rt, Topic::Names)
+    answer_all(&rt, Topic::Names)?;
+    answer_all(&rt, Topic::Prims)
 }

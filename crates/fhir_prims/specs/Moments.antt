@@ -1,0 +1,98 @@
+-- The texts of date, dateTime, instant and time (FHIR R4, Data Types).
+use Rattle.std.specs.Prelude.{ℕ, ◌+◌, ◌*◌, ◌%◌, List, [], ◌∷◌, slice_index, take, drop, Bool, true, not, ◌&&◌, ◌||◌, ◌==◌, nat_le, codes, if◌then◌else◌}
+use Rattle.std.specs.List.{prefix_len}
+use Rattle.fhir_prims.specs.Bytes.{is_digit, are_digits}
+use Rattle.fhir_prims.specs.Shapes.{has_shape, pair_at}
+
+-- ---- days
+
+-- every fourth year, but of the centuries only every fourth
+abbrev pub is_leap : ℕ → Bool
+is_leap year = (year % 4 == 0) && (not (year % 100 == 0) || (year % 400 == 0))
+
+abbrev pub is_short_month : ℕ → Bool
+is_short_month month = (month == 4) || (month == 6) || (month == 9) || (month == 11)
+
+abbrev pub days_in : ℕ → ℕ → ℕ
+days_in year month =
+    if month == 2 then (if is_leap year then 29 else 28) else (if is_short_month month then 30 else 31)
+
+abbrev pub is_month : ℕ → Bool
+is_month month = nat_le 1 month && nat_le month 12
+
+abbrev pub year_of : List ℕ → ℕ
+year_of s = 100 * pair_at s 0 + pair_at s 2
+
+-- YYYY, from 0001
+abbrev pub is_year_text : List ℕ → Bool
+is_year_text s = has_shape (codes "0000") s && nat_le 1 (year_of s)
+
+-- YYYY-MM
+abbrev pub is_month_text : List ℕ → Bool
+is_month_text s = has_shape (codes "0000-00") s && nat_le 1 (year_of s) && is_month (pair_at s 5)
+
+-- the year has this month, and the month this day
+abbrev pub is_in_calendar : ℕ → ℕ → ℕ → Bool
+is_in_calendar year month day = is_month month && nat_le 1 day && nat_le day (days_in year month)
+
+-- that, from the year 1 to 9999
+abbrev pub has_day : ℕ → ℕ → ℕ → Bool
+has_day year month day = nat_le 1 year && nat_le year 9999 && is_in_calendar year month day
+
+-- YYYY-MM-DD
+abbrev pub is_day_text : List ℕ → Bool
+is_day_text s = has_shape (codes "0000-00-00") s && has_day (year_of s) (pair_at s 5) (pair_at s 8)
+
+-- a year, a month or a day
+abbrev pub is_date : List ℕ → Bool
+is_date s = is_year_text s || is_month_text s || is_day_text s
+
+-- ---- times
+
+-- hh:mm:ss, to 23:59:60
+abbrev pub is_clock : List ℕ → Bool
+is_clock s = has_shape (codes "00:00:00") s && nat_le (pair_at s 0) 23 && nat_le (pair_at s 3) 59 && nat_le (pair_at s 6) 60
+
+-- `(\.[0-9]+)?`
+abbrev pub is_fraction : List ℕ → Bool
+is_fraction [] = true
+is_fraction (b ∷ bs) = (b == 46) && are_digits bs
+
+-- hh:mm:ss and a fraction
+abbrev pub is_time : List ℕ → Bool
+is_time s = is_clock (take 8 s) && is_fraction (drop 8 s)
+
+-- `+` or `-`, and hh:mm
+abbrev pub is_offset_form : List ℕ → Bool
+is_offset_form s = has_shape (codes "+00:00") s || has_shape (codes "-00:00") s
+
+-- to 13:59, or 14:00
+abbrev pub is_offset_size : ℕ → ℕ → Bool
+is_offset_size hours minutes = (nat_le hours 13 && nat_le minutes 59) || ((hours == 14) && (minutes == 0))
+
+-- `Z`, or an offset
+abbrev pub is_zone : List ℕ → Bool
+is_zone s = has_shape (codes "Z") s || (is_offset_form s && is_offset_size (pair_at s 1) (pair_at s 4))
+
+abbrev pub after_digits : List ℕ → List ℕ
+after_digits s = drop (prefix_len is_digit s) s
+
+-- digits, one at least, and a zone
+abbrev pub is_digits_and_zone : List ℕ → Bool
+is_digits_and_zone s = is_digit (slice_index s 0) && is_zone (after_digits s)
+
+-- `(\.[0-9]+)?` and a zone
+abbrev pub is_fraction_and_zone : List ℕ → Bool
+is_fraction_and_zone s = if slice_index s 0 == 46 then is_digits_and_zone (drop 1 s) else is_zone s
+
+-- hh:mm:ss, a fraction or none, and a zone
+abbrev pub is_zoned_time : List ℕ → Bool
+is_zoned_time s = is_clock (take 8 s) && is_fraction_and_zone (drop 8 s)
+
+-- YYYY-MM-DDThh:mm:ss, a fraction or none, and a zone
+abbrev pub is_instant : List ℕ → Bool
+is_instant s = is_day_text (take 10 s) && (slice_index s 10 == 84) && is_zoned_time (drop 11 s)
+
+-- a date, or an instant
+abbrev pub is_date_time : List ℕ → Bool
+is_date_time s = is_date s || is_instant s

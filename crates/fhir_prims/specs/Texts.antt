@@ -1,0 +1,23 @@
+-- The texts of string, markdown, xhtml, id, uri, url and canonical (FHIR R4, Data Types).
+use Rattle.std.specs.Prelude.{ℕ, List, length, count_by, Bool, not, ◌&&◌, nat_le, nat_lt}
+use Rattle.std.specs.List.{list_all}
+use Rattle.fhir_prims.specs.Bytes.{is_blank, is_id_byte, is_text_byte, begins_char}
+
+abbrev pub is_filled : List ℕ → Bool
+is_filled s = nat_lt 0 (length s)
+
+-- how many characters the text has
+abbrev pub characters : List ℕ → ℕ
+characters s = count_by begins_char s
+
+-- `[ \r\n\t\S]+`, of at most 1,048,576 characters
+abbrev pub is_string : List ℕ → Bool
+is_string s = is_filled s && list_all is_text_byte s && nat_le (characters s) 1048576
+
+-- `\S+`
+abbrev pub is_uri : List ℕ → Bool
+is_uri s = is_filled s && list_all (λ b. not (is_blank b)) s
+
+-- `[A-Za-z0-9\-\.]{1,64}`
+abbrev pub is_id : List ℕ → Bool
+is_id s = is_filled s && nat_le (length s) 64 && list_all is_id_byte s

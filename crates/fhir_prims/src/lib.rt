@@ -1,0 +1,17 @@
+//! The primitive types of FHIR (R4, Data Types) and the JSON values that each allows.
+#![tactic(auto)]
+
+mod blanks;
+mod bytes;
+mod laws;
+mod moments;
+mod names;
+mod numbers;
+mod prim;
+mod shapes;
+mod texts;
+mod values;
+
+pub use laws::empty_values;
+pub use prim::PrimType;
+pub use values::lexical;

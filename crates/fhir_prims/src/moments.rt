@@ -1,0 +1,158 @@
+//! The texts of date, dateTime, instant and time (FHIR R4, Data Types).
+
+ghost use Rattle.std.specs.Prelude.{◌≡◌, ◌≤◌};
+ghost use Rattle.fhir_prims.specs.Moments.{is_in_calendar, is_month, year_of, is_year_text, is_month_text, has_day, is_day_text, is_date, is_clock, is_fraction, is_time, is_offset_form, is_offset_size, is_zone, after_digits, is_digits_and_zone, is_fraction_and_zone, is_zoned_time, is_instant, is_date_time};
+
+use crate::bytes::{are_digits, is_digit};
+use crate::shapes::{byte_at, cut_at, has_shape, pair_at};
+use jiff::civil::Date;
+
+fn is_month(month: u16) -> bool
+    ensures { result ≡ is_month month }
+{
+    month >= 1 && month <= 12
+}
+
+fn year_of(text: &[u8]) -> u32
+    ensures { result ≡ year_of text.now }
+{
+    let centuries = pair_at(text, 0);
+    let years = pair_at(text, 2);
+    100 * centuries as u32 + years as u32
+}
+
+fn is_year_text(text: &[u8]) -> bool
+    ensures { result ≡ is_year_text text.now }
+{
+    has_shape("0000", text) && year_of(text) >= 1
+}
+
+fn is_month_text(text: &[u8]) -> bool
+    ensures { result ≡ is_month_text text.now }
+{
+    has_shape("0000-00", text) && year_of(text) >= 1 && is_month(pair_at(text, 5))
+}
+
+// Whether the year has the month, and the month the day.
+fn is_in_calendar(year: u16, month: u8, day: u8) -> bool
+    requires year { year ≤ 9999 }
+    requires month { month ≤ 12 }
+    requires day { day ≤ 31 }
+    ensures { result ≡ is_in_calendar year month day }
+{
+    Date::new(year as i16, month as i8, day as i8).is_ok()
+}
+
+// The calendar of `jiff` takes smaller numbers, none of which is left out here.
+fn has_day(year: u32, month: u16, day: u16) -> bool
+    ensures { result ≡ has_day year month day }
+{
+    year >= 1
+        && year <= 9999
+        && month <= 12
+        && day <= 31
+        && is_in_calendar(year as u16, month as u8, day as u8)
+}
+
+fn is_day_text(text: &[u8]) -> bool
+    ensures { result ≡ is_day_text text.now }
+{
+    has_shape("0000-00-00", text) && has_day(year_of(text), pair_at(text, 5), pair_at(text, 8))
+}
+
+pub(crate) fn is_date(text: &[u8]) -> bool
+    ensures { result ≡ is_date text.now }
+{
+    is_year_text(text) || is_month_text(text) || is_day_text(text)
+}
+
+fn is_clock(text: &[u8]) -> bool
+    ensures { result ≡ is_clock text.now }
+{
+    has_shape("00:00:00", text)
+        && pair_at(text, 0) <= 23
+        && pair_at(text, 3) <= 59
+        && pair_at(text, 6) <= 60
+}
+
+fn is_fraction(text: &[u8]) -> bool
+    ensures { result ≡ is_fraction text.now }
+{
+    match text {
+        [] => true,
+        [first, digits @ ..] => *first == b'.' && are_digits(digits),
+    }
+}
+
+fn is_offset_form(text: &[u8]) -> bool
+    ensures { result ≡ is_offset_form text.now }
+{
+    has_shape("+00:00", text) || has_shape("-00:00", text)
+}
+
+fn is_offset_size(hours: u16, minutes: u16) -> bool
+    ensures { result ≡ is_offset_size hours minutes }
+{
+    (hours <= 13 && minutes <= 59) || (hours == 14 && minutes == 0)
+}
+
+fn is_zone(text: &[u8]) -> bool
+    ensures { result ≡ is_zone text.now }
+{
+    has_shape("Z", text)
+        || (is_offset_form(text) && is_offset_size(pair_at(text, 1), pair_at(text, 4)))
+}
+
+fn after_digits(text: &[u8]) -> &[u8]
+    ensures { result.now ≡ after_digits text.now }
+{
+    let mut count = 0;
+    while count < text.len() && is_digit(text[count]) {
+        count += 1;
+    }
+    text.split_at(count).1
+}
+
+fn is_digits_and_zone(text: &[u8]) -> bool
+    ensures { result ≡ is_digits_and_zone text.now }
+{
+    is_digit(byte_at(text, 0)) && is_zone(after_digits(text))
+}
+
+fn is_fraction_and_zone(text: &[u8]) -> bool
+    ensures { result ≡ is_fraction_and_zone text.now }
+{
+    if byte_at(text, 0) == b'.' {
+        is_digits_and_zone(cut_at(text, 1).1)
+    } else {
+        is_zone(text)
+    }
+}
+
+fn is_zoned_time(text: &[u8]) -> bool
+    ensures { result ≡ is_zoned_time text.now }
+{
+    let (clock, rest) = cut_at(text, 8);
+    is_clock(clock) && is_fraction_and_zone(rest)
+}
+
+pub(crate) fn is_instant(text: &[u8]) -> bool
+    ensures { result ≡ is_instant text.now }
+{
+    is_day_text(cut_at(text, 10).0)
+        && byte_at(text, 10) == b'T'
+        && is_zoned_time(cut_at(text, 11).1)
+}
+
+pub(crate) fn is_time(text: &[u8]) -> bool
+    ensures { result ≡ is_time text.now }
+{
+    let (clock, rest) = cut_at(text, 8);
+    is_clock(clock) && is_fraction(rest)
+}
+
+pub(crate) fn is_date_time(text: &[u8]) -> bool
+    ensures { result ≡ is_date_time text.now }
+{
+    is_date(text) || is_instant(text)
+}
