@@ -14,6 +14,10 @@ pub record Parts : Type 0 where
   -- the digits of the exponent
   pub exponent : List ℕ
 
+-- the parts of digits before a point and behind it, with no sign and no exponent
+abbrev pub unsigned : List ℕ → List ℕ → Parts
+unsigned whole fraction = record { negative = false; whole = whole; fraction = fraction; lowers = false; exponent = [] }
+
 abbrev pub is_digit : ℕ → Bool
 is_digit b = nat_le 48 b && nat_le b 57
 

@@ -1,7 +1,7 @@
 //! A decimal: its text's parts, and the order of its value.
 
 ghost use Rattle.std.specs.Prelude.{◌≡◌, ◌*◌, ◌^◌, ◌++◌, length, option_map, MatchOption};
-ghost use Rattle.fhir_decimal.specs.Text.{Parts, IsDecimal};
+ghost use Rattle.fhir_decimal.specs.Text.{Parts, IsDecimal, unsigned};
 ghost use Rattle.fhir_decimal.specs.Reading.{parts};
 ghost use Rattle.fhir_decimal.specs.Value.{number_of, value_of, value_order, is_same_value};
 ghost use Rattle.fhir_decimal.specs.Rows.{number_in};
@@ -50,6 +50,20 @@ impl<'a> Decimal<'a> {
             (λ d. IsDecimal text.now (parts_seen d)) }
     {
         parts_of(text)
+    }
+
+    /// The decimal of the digits before a point and behind it, as those of seconds, which may begin with a 0 and have
+    /// no sign and no exponent. A byte that is no digit counts as 0.
+    pub fn of_digits(whole: &'a [u8], fraction: &'a [u8]) -> Decimal<'a>
+        ensures { parts_seen result ≡ unsigned whole.now fraction.now }
+    {
+        Decimal {
+            negative: false,
+            whole,
+            fraction,
+            lowers: false,
+            exponent: Default::default(),
+        }
     }
 
     fn exponent_row(&self) -> Row<'a>

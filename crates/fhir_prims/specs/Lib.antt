@@ -5,4 +5,9 @@ pub mod Blanks
 pub mod Texts
 pub mod Names
 pub mod Moments
+pub mod Calendar
+pub mod Order
+pub mod Utc
+pub mod Reading
 pub mod Values
+pub mod Seen

@@ -3,15 +3,19 @@
 
 mod blanks;
 mod bytes;
+mod calendar;
 mod laws;
+mod moment;
 mod moments;
 mod names;
 mod numbers;
 mod prim;
 mod shapes;
 mod texts;
+mod utc;
 mod values;
 
 pub use laws::empty_values;
+pub use moment::{Moment, cmp_moment};
 pub use prim::PrimType;
 pub use values::lexical;

@@ -13,7 +13,7 @@ fn is_month(month: u16) -> bool
     month >= 1 && month <= 12
 }
 
-fn year_of(text: &[u8]) -> u32
+pub(crate) fn year_of(text: &[u8]) -> u32
     ensures { result ≡ year_of text.now }
 {
     let centuries = pair_at(text, 0);
@@ -21,13 +21,13 @@ fn year_of(text: &[u8]) -> u32
     100 * centuries as u32 + years as u32
 }
 
-fn is_year_text(text: &[u8]) -> bool
+pub(crate) fn is_year_text(text: &[u8]) -> bool
     ensures { result ≡ is_year_text text.now }
 {
     has_shape("0000", text) && year_of(text) >= 1
 }
 
-fn is_month_text(text: &[u8]) -> bool
+pub(crate) fn is_month_text(text: &[u8]) -> bool
     ensures { result ≡ is_month_text text.now }
 {
     has_shape("0000-00", text) && year_of(text) >= 1 && is_month(pair_at(text, 5))
@@ -44,7 +44,7 @@ fn is_in_calendar(year: u16, month: u8, day: u8) -> bool
 }
 
 // The calendar of `jiff` takes smaller numbers, none of which is left out here.
-fn has_day(year: u32, month: u16, day: u16) -> bool
+pub(crate) fn has_day(year: u32, month: u16, day: u16) -> bool
     ensures { result ≡ has_day year month day }
 {
     year >= 1
@@ -54,7 +54,7 @@ fn has_day(year: u32, month: u16, day: u16) -> bool
         && is_in_calendar(year as u16, month as u8, day as u8)
 }
 
-fn is_day_text(text: &[u8]) -> bool
+pub(crate) fn is_day_text(text: &[u8]) -> bool
     ensures { result ≡ is_day_text text.now }
 {
     has_shape("0000-00-00", text) && has_day(year_of(text), pair_at(text, 5), pair_at(text, 8))
@@ -103,7 +103,7 @@ fn is_zone(text: &[u8]) -> bool
         || (is_offset_form(text) && is_offset_size(pair_at(text, 1), pair_at(text, 4)))
 }
 
-fn after_digits(text: &[u8]) -> &[u8]
+pub(crate) fn after_digits(text: &[u8]) -> &[u8]
     ensures { result.now ≡ after_digits text.now }
 {
     let mut count = 0;
