@@ -1,3 +1,8 @@
 pub mod Decimals
 pub mod Empty
 mod Instants
+mod Partial
+mod Told
+mod Days
+mod InTime
+mod ToUtc

@@ -35,3 +35,7 @@ days_of_years (suc y) = days_of_years y + days_of_months y 12
 -- the days from the first of the year 0 to a day
 abbrev pub day_number : Day → ℕ
 day_number d = days_of_years d.year + days_of_months d.year (d.month - 1) + (d.day - 1)
+
+-- the minutes from the first of the year 0 to a minute of a day
+abbrev pub minutes_since : Day → ℕ → ℕ
+minutes_since d minutes = 1440 * day_number d + minutes

@@ -31,13 +31,24 @@ time_fields s = record {
   second = Some (second_of (drop 6 s));
 }
 
--- the minutes in UTC of YYYY-MM-DDThh:mm:ss with a fraction or none and a zone, from the start of the day before
+-- hh:mm:ss of YYYY-MM-DDThh:mm:ss, and the zone behind it and its fraction
+abbrev pub clock_of : List ℕ → List ℕ
+clock_of s = take 8 (drop 11 s)
+
+abbrev pub zone_of : List ℕ → List ℕ
+zone_of s = after_fraction (drop 8 (drop 11 s))
+
+-- the minutes in UTC, from the start of the day before
 abbrev pub minutes_of : List ℕ → ℕ
-minutes_of s = utc_minutes (after_fraction (drop 19 s)) (minutes_at s 11)
+minutes_of s = utc_minutes (zone_of s) (minutes_at (clock_of s) 0)
+
+-- the day in UTC
+abbrev pub day_of : List ℕ → Day
+day_of s = day_of_minutes (minutes_of s) (day_at (take 10 s))
 
 -- the moment in UTC
 abbrev pub instant_fields : List ℕ → Fields
-instant_fields s = moment_fields (day_of_minutes (minutes_of s) (day_at (take 10 s))) (minutes_of s % 1440) (second_of (drop 17 s))
+instant_fields s = moment_fields (day_of s) (minutes_of s % 1440) (second_of (drop 17 s))
 
 -- what a text says, if it is the text of one
 abbrev pub fields_of : List ℕ → Option Fields

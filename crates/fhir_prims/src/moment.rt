@@ -71,8 +71,8 @@ fn of_time(text: &[u8]) -> Moment<'_>
 fn minutes_of(text: &[u8]) -> u32
     ensures { result ≡ minutes_of text.now }
 {
-    let zone = after_fraction(cut_at(text, 19).1);
-    utc_minutes(zone, minutes_at(text, 11))
+    let (clock, rest) = cut_at(cut_at(text, 11).1, 8);
+    utc_minutes(after_fraction(rest), minutes_at(clock, 0))
 }
 
 fn of_instant(text: &[u8]) -> Moment<'_>
