@@ -9,6 +9,7 @@ mod elements;
 mod fields;
 mod json;
 mod matching;
+mod moments;
 mod names;
 mod packages;
 mod prims;
@@ -32,6 +33,7 @@ enum Topic {
     Decimals,
     Names,
     Prims,
+    Moments,
 }
 
 fn file_of(topic: Topic) -> &'static str {
@@ -46,6 +48,7 @@ fn file_of(topic: Topic) -> &'static str {
         Topic::Decimals => "decimals.txt",
         Topic::Names => "names.txt",
         Topic::Prims => "prims.txt",
+        Topic::Moments => "moments.txt",
     }
 }
 
@@ -67,6 +70,7 @@ fn answer(
         Topic::Decimals => decimals::answer(alloc, subject, call, argument),
         Topic::Names => names::answer(alloc, subject, call),
         Topic::Prims => prims::answer(alloc, argument),
+        Topic::Moments => moments::answer(alloc, subject, call, argument),
     }
 }
 
@@ -98,5 +102,6 @@ fn main(rt: HostRuntime) -> io::Result<()> {
     answer_all(&rt, Topic::Certificates)?;
     answer_all(&rt, Topic::Decimals)?;
     answer_all(&rt, Topic::Names)?;
-    answer_all(&rt, Topic::Prims)
+    answer_all(&rt, Topic::Prims)?;
+    answer_all(&rt, Topic::Moments)
 }

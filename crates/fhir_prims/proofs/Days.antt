@@ -1,5 +1,5 @@
 -- Days of the calendar, their numbers, and the one after and the one before.
-use Rattle.std.proofs.Common.{◌≡◌, ℕ, zero, suc, ◌+◌, ◌-◌, ◌*◌, ◌<◌, ◌≤◌, refl, sym, ap, ap₂, subst, ◌∙◌, arith, Bool, true, false, ◌&&◌, ◌==◌, nat_le, nat_lt}
+use Rattle.std.proofs.Common.{◌≡◌, ℕ, suc, ◌+◌, ◌-◌, ◌≤◌, refl, ap, ap₂, arith, Bool, true, false, ◌&&◌, ◌==◌, nat_le, nat_lt}
 use Rattle.std.specs.Prelude.{if◌then◌else◌}
 use Rattle.std.proofs.lemmas.Bool.{and_parts, leb-true, le-leb, ltb-true, ltb-false}
 use Rattle.fhir_prims.specs.declared.calendar.Day.{Day}
@@ -20,7 +20,6 @@ month_next y i = refl
 pub year_next : (i : ℕ) → days_of_years (suc i) ≡ days_of_years i + days_of_months i 12
 unfolding days_of_years
 year_next i = refl
-
 
 pub day_from : (y m d : ℕ) → 1 ≤ m → m ≤ 12 → 1 ≤ d → d ≤ days_in y m → is_in_calendar y m d ≡ true
 day_from y m d low high first last =

@@ -1,6 +1,5 @@
 -- Moments with a time are in the order of their minutes from one start.
-use Rattle.std.proofs.Common.{◌≡◌, ℕ, zero, suc, ◌+◌, ◌-◌, ◌*◌, ◌/◌, ◌%◌, ◌<◌, ◌≤◌, refl, sym, ap, ap₂, subst, ◌∙◌, arith, Bool, true, ◌&&◌, nat_le, Some}
-use Rattle.std.proofs.lemmas.Bool.{and_parts, leb-true}
+use Rattle.std.proofs.Common.{◌≡◌, ℕ, zero, suc, ◌+◌, ◌-◌, ◌*◌, ◌/◌, ◌%◌, ◌<◌, ◌≤◌, refl, sym, ap, ap₂, subst, ◌∙◌, arith, true, Some}
 use Rattle.std.proofs.lemmas.Cmp.{ranked}
 use Rattle.std.specs.declared.cmp.Ordering.{Ordering}
 use Rattle.std.specs.declared.cmp.Ordering.TheVariants.{Less, Equal, Greater}
@@ -8,7 +7,7 @@ use Rattle.std.specs.Ordering.{MatchOrdering, nat_cmp, ordering_then, partial_or
 use Rattle.std.specs.Cmp.{nat_cmp_is}
 use Rattle.fhir_decimal.specs.Value.{Value, value_order}
 use Rattle.fhir_prims.specs.declared.calendar.Day.{Day}
-use Rattle.fhir_prims.specs.Moments.{days_in, is_month, is_in_calendar}
+use Rattle.fhir_prims.specs.Moments.{days_in}
 use Rattle.fhir_prims.specs.Calendar.{is_day, days_of_months, days_of_years, day_number, minutes_since}
 use Rattle.fhir_prims.specs.Order.{moment_order}
 use Rattle.fhir_prims.proofs.Days.{day_parts, month_next, year_next}
@@ -97,7 +96,6 @@ number_is : (d : Day) → day_number d ≡ days_of_years d.year + place_in_year 
 number_is d = omega arith
 
 -- ---- orders
-
 
 where_equal : (o r s : Ordering) → (o ≡ Equal → r ≡ s) → ordering_then o r ≡ ordering_then o s
 where_equal Less r s same = refl

@@ -1,14 +1,14 @@
 -- The order of moments is a partial one.
-use Rattle.std.proofs.Common.{◌≡◌, refl, sym, ap, Bool, true, false, true≢false, Option, Some, None}
+use Rattle.std.proofs.Common.{◌≡◌, refl, sym, ap, Bool, true≢false, Option, Some, None}
 use Rattle.std.proofs.lemmas.Cmp.{nat_cmp_total}
 use Rattle.std.specs.declared.cmp.Ordering.{Ordering}
 use Rattle.std.specs.declared.cmp.Ordering.TheVariants.{Less, Equal, Greater}
-use Rattle.std.specs.Ordering.{ordering_reverse, is_eq, is_lt, is_some_and, partial_ordering_then, nat_cmp}
+use Rattle.std.specs.Ordering.{ordering_reverse, is_eq, is_lt, is_some_and}
 use Rattle.std.specs.Cmp.{IsPartialOrder, IsTotalOrder, then_po}
 use Rattle.std.specs.Bool.{Decides}
 use Rattle.std.specs.Option.{option_map, unwrap_or}
 use Rattle.fhir_decimal.specs.Value.{value_order}
-use Rattle.fhir_prims.specs.Order.{Fields, field_order, moment_order, is_same_moment}
+use Rattle.fhir_prims.specs.Order.{field_order, moment_order, is_same_moment}
 
 is_equal : (c : Option Ordering) → Decides (is_some_and is_eq c) (c ≡ Some Equal)
 is_equal None = (λ e. absurd (true≢false (sym e)), λ e. ap (is_some_and is_eq) e)
@@ -74,8 +74,8 @@ pub moments_partial : IsTotalOrder value_order → IsPartialOrder is_same_moment
 moments_partial values =
     let number = field_po nat_cmp_total in
     by_own_ties
-      (then_po (at_field number (λ a. a.year))
-      (then_po (at_field number (λ a. a.month))
-      (then_po (at_field number (λ a. a.day))
-      (then_po (at_field number (λ a. a.hour))
-      (then_po (at_field number (λ a. a.minute)) (at_field (field_po values) (λ a. a.second)))))))
+    (then_po (at_field number (λ a. a.year))
+    (then_po (at_field number (λ a. a.month))
+    (then_po (at_field number (λ a. a.day))
+    (then_po (at_field number (λ a. a.hour))
+    (then_po (at_field number (λ a. a.minute)) (at_field (field_po values) (λ a. a.second)))))))

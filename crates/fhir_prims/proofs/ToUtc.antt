@@ -1,13 +1,13 @@
 -- The move to UTC keeps the minutes.
-use Rattle.std.proofs.Common.{◌≡◌, ℕ, suc, ◌+◌, ◌-◌, ◌*◌, ◌%◌, ◌<◌, ◌≤◌, List, take, drop, slice_index, refl, sym, ap, subst, ◌∙◌, arith, Bool, true, false, true≢false, ◌&&◌, ◌||◌, ◌==◌, nat_le, nat_lt}
+use Rattle.std.proofs.Common.{◌≡◌, ℕ, suc, ◌+◌, ◌-◌, ◌*◌, ◌%◌, ◌<◌, ◌≤◌, List, take, drop, slice_index, refl, sym, ap, arith, Bool, true, false, true≢false, ◌&&◌, ◌||◌, ◌==◌, nat_le, nat_lt}
 use Rattle.std.specs.Prelude.{if◌then◌else◌, codes}
 use Rattle.std.proofs.lemmas.Bool.{and_parts, leb-true, ltb-true, ltb-false}
 use Rattle.fhir_prims.specs.declared.calendar.Day.{Day}
 use Rattle.fhir_prims.specs.Bytes.{is_digit}
 use Rattle.fhir_prims.specs.Shapes.{has_shape, pair_at}
-use Rattle.fhir_prims.specs.Moments.{year_of, has_day, is_in_calendar, is_day_text, is_clock, is_offset_form, is_offset_size, is_zone, after_digits, is_digits_and_zone, is_fraction_and_zone, is_zoned_time, is_instant}
+use Rattle.fhir_prims.specs.Moments.{year_of, is_in_calendar, is_day_text, is_clock, is_offset_form, is_offset_size, is_zone, after_digits, is_digits_and_zone, is_fraction_and_zone, is_zoned_time, is_instant}
 use Rattle.fhir_prims.specs.Calendar.{is_day, day_after, day_before, day_number, minutes_since}
-use Rattle.fhir_prims.specs.Utc.{day_at, minutes_at, after_fraction, offset_of, is_behind, utc_minutes, day_of_minutes}
+use Rattle.fhir_prims.specs.Utc.{day_at, minutes_at, offset_of, is_behind, day_of_minutes}
 use Rattle.fhir_prims.specs.Reading.{clock_of, zone_of, minutes_of, day_of}
 use Rattle.fhir_prims.proofs.Days.{number_after, number_before, day_after_exists, day_before_exists}
 use Rattle.fhir_prims.proofs.Instants.{day_of_instant}

@@ -1,5 +1,5 @@
 -- Clocks, and the move to UTC (FHIR R4, Data Types, dateTime and instant).
-use Rattle.std.specs.Prelude.{ℕ, ◌+◌, ◌-◌, ◌*◌, ◌%◌, ◌/◌, List, [], slice_index, take, drop, Bool, false, ◌==◌, nat_lt, Some, None, codes, if◌then◌else◌}
+use Rattle.std.specs.Prelude.{ℕ, ◌+◌, ◌-◌, ◌*◌, List, [], slice_index, take, drop, Bool, ◌==◌, nat_lt, codes, if◌then◌else◌}
 use Rattle.std.specs.List.{prefix_len}
 use Rattle.fhir_decimal.specs.Text.{unsigned}
 use Rattle.fhir_decimal.specs.Value.{Value, value_of}
