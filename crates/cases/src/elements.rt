@@ -2,9 +2,10 @@
 
 use fhir_elements::{
     ConstraintDef, DiscriminatorDef, ElementDef, ElementFault, Reason, TypeEntry, element_fault,
-    fields_of, front_of, is_id, is_within, name_of, slice_of, sliced_of,
+    fields_of, is_within,
 };
 use fhir_json::{Json, Member, as_number, as_text, read};
+use fhir_names::{ElementId, front_of, name_of, slice_of, sliced_of};
 use std::alloc::{AllocError, Global};
 
 /// The answer of a call on the text of an element, or on an id.
@@ -25,7 +26,8 @@ pub(crate) fn answer(
 }
 
 fn parts_of_id(alloc: Global, id: &str) -> Result<String, AllocError> {
-    let first = format!(in alloc; "{} {:?} {}", is_id(id), front_of(id), name_of(id))?;
+    let is_id = ElementId::parse(id).is_ok();
+    let first = format!(in alloc; "{is_id} {:?} {}", front_of(id), name_of(id))?;
     format!(in alloc; "{first} {:?} {:?}", slice_of(id), sliced_of(id))
 }
 

@@ -1,16 +1,16 @@
 -- The element that a tree is (FHIR R4, ElementDefinition): first whether it is one, and then its fields. A field that
 -- isn't named here is passed over, and an empty array counts as an absent one.
-use Rattle.std.specs.Prelude.{ℕ, ℤ, List, map, Bool, true, false, not, ◌&&◌, Option, None, Some, Result, Ok, Err, if◌then◌else◌, codes}
+use Rattle.std.specs.Prelude.{ℕ, ℤ, List, map, Bool, true, false, not, ◌&&◌, Option, None, Some, Result, Ok, Err, is_ok, if◌then◌else◌, codes}
 use Rattle.std.specs.Option.{option_map, option_map_or, option_and_then}
 use Rattle.std.specs.List.{list_all}
 use Rattle.fhir_json.specs.Tree.{Text, Tree, Pair}
 use Rattle.fhir_json.specs.Fields.{field, is_object, text_in, text_at, count_in, items_in, choice_in, allows, allows_text, allows_count, allows_items, allows_choice}
+use Rattle.fhir_names.specs.Ids.{read_id}
 use Rattle.fhir_elements.specs.declared.codes.Max.{Max}
 use Rattle.fhir_elements.specs.declared.reason.Reason.{Reason}
 use Rattle.fhir_elements.specs.declared.reason.Reason.TheVariants.{WrongField, MinOverMax, RepeatedType, WrongId}
 use Rattle.fhir_elements.specs.declared.fault.ElementFault.{ElementFault}
 use Rattle.fhir_elements.specs.declared.fault.ElementFault.TheVariants.{Unfit, NoMemory}
-use Rattle.fhir_elements.specs.Ids.{is_id}
 use Rattle.fhir_elements.specs.Codes.{code_in, allows_code, max_of, is_within, as_integer}
 use Rattle.fhir_elements.specs.Parts.{Entry, Constraint, Binding, Slicing, entry_fits, entry_of, codes_differ, constraint_fits, constraint_of, binding_fits, binding_of, slicing_fits, slicing_of}
 
@@ -79,7 +79,7 @@ bounds_fit t =
     option_map_or (λ m. option_map_or (λ n. is_within n m) (count_in (codes "min") t) true) (code_in max_of (codes "max") t) true
 
 abbrev pub id_fits : Tree → Bool
-id_fits t = option_map_or is_id (text_in (codes "id") t) false
+id_fits t = option_map_or (λ id. is_ok (read_id id)) (text_in (codes "id") t) false
 
 -- why a tree is no element: the first reason that applies
 abbrev pub element_fault : Tree → Option Reason

@@ -1,4 +1,3 @@
-pub mod Ids
 pub mod Codes
 pub mod Parts
 pub mod Element

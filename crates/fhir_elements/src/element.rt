@@ -10,7 +10,6 @@ ghost use Rattle.fhir_elements.specs.Element.{allows_part, allows_parts, texts_f
 
 use crate::codes::{Max, allows_code, allows_integer, code_in, integer_in, is_within};
 use crate::fault::ElementFault;
-use crate::ids::is_id;
 use crate::parts::{
     ConstraintDef, TypeEntry, codes_differ, constraints_fit, constraints_of, entries_fit,
     entries_of, owned_at, owned_in, text_of,
@@ -21,6 +20,7 @@ use fhir_json::{
     Json, Member, NoMemory, allows_choice, allows_count, allows_items, allows_text, choice_in,
     count_in, field, is_object, items_in, text_in,
 };
+use fhir_names::ElementId;
 use std::alloc::{AllocError, Global};
 use std::borrow::CowStr;
 use std::marker::Model;
@@ -162,12 +162,12 @@ fn bounds_fit(json: &Json<'_>) -> bool
 fn id_fits(json: &Json<'_>) -> bool
     ensures { result ≡ id_fits (tree_of json.now) }
 {
-    text_in(json, "id").map_or(false, |id| is_id(id))
+    text_in(json, "id").map_or(false, |id| ElementId::parse(id).is_ok())
 }
 
 /// Why a tree is no element, as the first of these that applies (FHIR R4, ElementDefinition): `WrongField` where it is
 /// no object, or a field has a wrong kind or a value outside its set; `MinOverMax`; `RepeatedType`; `WrongId` where its
-/// `id` is missing or `is_id` refuses it.
+/// `id` is missing, or a text that is none.
 pub fn element_fault(json: &Json<'_>) -> Option<Reason>
     ensures { result ≡ element_fault (tree_of json.now) }
 {

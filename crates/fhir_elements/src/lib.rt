@@ -4,7 +4,6 @@
 mod codes;
 mod element;
 mod fault;
-mod ids;
 mod parts;
 mod reason;
 mod slicing;
@@ -12,7 +11,6 @@ mod slicing;
 pub use codes::{DiscriminatorType, Max, Severity, SlicingRules, Strength, is_within};
 pub use element::{ElementDef, element_fault, fields_of};
 pub use fault::ElementFault;
-pub use ids::{front_of, is_id, name_of, slice_of, sliced_of};
 pub use parts::{ConstraintDef, TypeEntry};
 pub use reason::Reason;
 pub use slicing::{BindingDef, DiscriminatorDef, SlicingDef};

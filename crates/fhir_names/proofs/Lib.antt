@@ -1,5 +1,6 @@
 pub mod Cuts
 pub mod Answered
 pub mod Parts
+pub mod Slices
 pub mod References
 pub mod Relative

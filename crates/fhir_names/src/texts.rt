@@ -22,6 +22,12 @@ pub(crate) fn cut_at_slash(text: &str) -> Option<(&str, &str)>
     text.split_once('/')
 }
 
+pub(crate) fn cut_at_last_dot(text: &str) -> Option<(&str, &str)>
+    ensures { option_map (λ p. (p.0.now, p.1.now)) result ≡ cut_at_last dot text.now }
+{
+    text.rsplit_once('.')
+}
+
 pub(crate) fn cut_at_last_bar(text: &str) -> Option<(&str, &str)>
     ensures { option_map (λ p. (p.0.now, p.1.now)) result ≡ cut_at_last bar text.now }
 {

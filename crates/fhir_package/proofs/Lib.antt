@@ -1,6 +1,5 @@
 -- Lemmas on packages and folders.
 pub mod Stored
-pub mod Bars
 pub mod Seen
 pub mod Held
 pub mod Ordered

@@ -10,7 +10,6 @@ mod loading;
 mod memory;
 mod package;
 
-pub use canonical::cut_at_bar;
 pub use fault::LoadFault;
 pub use folder::{Folder, FolderFault};
 pub use kind::Kind;

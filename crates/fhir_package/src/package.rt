@@ -12,11 +12,12 @@ ghost use Rattle.fhir_package.specs.Canonical.{at_version, named_by};
 ghost use Rattle.fhir_package.specs.Packing.{join, or_clash};
 ghost use Rattle.fhir_package.specs.Faults.{IsRefused, IsTaken, failures_told, failed_loading};
 
-use crate::canonical::{cut_at_bar, is_of_version};
+use crate::canonical::is_of_version;
 use crate::fault::LoadFault;
 use crate::kind::Kind;
 use fhir_json::{Json, NoMemory};
 use fhir_matching::json_eq;
+use fhir_names::Canonical;
 use indexmap::IndexMap;
 use indexmap::map::Keys;
 use std::alloc::Global;
@@ -108,27 +109,24 @@ impl Package {
         }
     }
 
-    /// The definition that a canonical names: that of its url, where it has no version or the one behind `|`.
+    /// The definition that a canonical names: that of its url, where it has no version or the one behind `|`. A text
+    /// that is no canonical names none.
     pub fn get<'p>(&'p self, kind: Kind, canonical: &str) -> Option<&'p Json<'static>>
         ensures { tree_seen result ≡ named_by kind canonical.now self.now }
     {
-        match cut_at_bar(canonical) {
-            Some((url, version)) => self.at_version(kind, url, version),
-            None => self.at_url(kind, canonical),
+        match Canonical::parse(canonical) {
+            Ok(canonical) => self.at_version(kind, &canonical),
+            Err(_) => None,
         }
     }
 
-    fn at_version<'p>(&'p self, kind: Kind, url: &str, version: &str) -> Option<&'p Json<'static>>
-        ensures { tree_seen result ≡ at_version kind self.now (url.now, version.now) }
+    fn at_version<'p>(&'p self, kind: Kind, canonical: &Canonical<'_>) -> Option<&'p Json<'static>>
+        ensures { tree_seen result ≡ at_version kind self.now canonical.now }
     {
-        if url.is_empty() | version.is_empty() {
-            return None;
-        }
-        let tree = self.at_url(kind, url)?;
-        if is_of_version(tree, version) {
-            Some(tree)
-        } else {
-            None
+        let tree = self.at_url(kind, canonical.url())?;
+        match canonical.version() {
+            Some(version) if !is_of_version(tree, version) => None,
+            _ => Some(tree),
         }
     }
 

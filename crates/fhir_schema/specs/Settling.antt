@@ -2,9 +2,11 @@
 use Rattle.std.specs.Prelude.{ℕ, zero, suc, List, [], ◌∷◌, map, length, get_or, Bool, true, false, not, ◌&&◌, ◌||◌, Option, None, Some, is_some, if◌then◌else◌, codes, nat_eq}
 use Rattle.std.specs.Option.{option_map_or, option_and_then}
 use Rattle.std.specs.List.{list_all, slice_get, starts_with}
+use Rattle.std.specs.Result.{result_ok}
 use Rattle.std.specs.Str.{bytes_eq}
 use Rattle.fhir_json.specs.Tree.{Text}
-use Rattle.fhir_package.specs.Canonical.{cut_at_bar, is_empty, has_version}
+use Rattle.fhir_names.specs.Canonicals.{Reference, read_canonical}
+use Rattle.fhir_package.specs.Canonical.{has_version}
 use Rattle.fhir_elements.specs.declared.reason.Reason.{Reason}
 use Rattle.fhir_elements.specs.declared.reason.Reason.TheVariants.{NotYet, UnusableType, NoTree, BaseCycle, NoSnapshot, SecondType}
 use Rattle.fhir_elements.specs.Parts.{Entry}
@@ -26,17 +28,17 @@ url_place (d ∷ ds) url = if bytes_eq url d.url then Some d.place else url_plac
 abbrev pub is_versioned : List Structure → Text → ℕ → Bool
 is_versioned ds version place = option_map_or (λ d. has_version version d.version) (slice_get ds place) false
 
-abbrev pub where_versioned : List Structure → Text → ℕ → Option ℕ
-where_versioned ds version place = if is_versioned ds version place then Some place else None
+-- the place of a definition, where no version is asked for, or it has none or that one
+abbrev pub where_versioned : List Structure → Option Text → ℕ → Option ℕ
+where_versioned ds version place =
+    if option_map_or (λ v. is_versioned ds v place) version true then Some place else None
 
-abbrev pub version_place : List Structure → Text × Text → Option ℕ
-version_place ds c =
-    if is_empty c.0 then None
-    else (if is_empty c.1 then None else option_and_then (where_versioned ds c.1) (url_place ds c.0))
+abbrev pub version_place : List Structure → Reference → Option ℕ
+version_place ds r = option_and_then (where_versioned ds r.1) (url_place ds r.0)
 
--- a canonical names the definition of its url that has no version or that one
+-- the place of the definition that a canonical names; a text that is no canonical names none
 abbrev pub canonical_place : List Structure → Text → Option ℕ
-canonical_place ds canonical = option_map_or (version_place ds) (cut_at_bar canonical) (url_place ds canonical)
+canonical_place ds canonical = option_and_then (version_place ds) (result_ok (read_canonical canonical))
 
 -- ---- what has been found so far, in the places of the definitions
 

@@ -4,7 +4,7 @@ use Rattle.std.specs.Option.{option_map_or, option_and_then}
 use Rattle.std.specs.List.{list_all, count_by, slice_get}
 use Rattle.std.specs.Str.{bytes_eq}
 use Rattle.fhir_json.specs.Tree.{Text}
-use Rattle.fhir_elements.specs.Ids.{front_of, name_of, slice_of, sliced_of}
+use Rattle.fhir_names.specs.Parents.{front_of, name_of, slice_of, sliced_of}
 use Rattle.fhir_elements.specs.Element.{Element}
 
 -- the place of the first element with an id, where the elements' places begin at a number

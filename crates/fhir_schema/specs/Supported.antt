@@ -8,7 +8,7 @@ use Rattle.fhir_elements.specs.declared.codes.Severity.{Severity}
 use Rattle.fhir_elements.specs.declared.codes.Severity.TheVariants as severities
 use Rattle.fhir_elements.specs.declared.codes.Strength.{Strength}
 use Rattle.fhir_elements.specs.declared.codes.Strength.TheVariants as strengths
-use Rattle.fhir_elements.specs.Ids.{front_of, name_of, slice_of}
+use Rattle.fhir_names.specs.Parents.{front_of, name_of, slice_of}
 use Rattle.fhir_elements.specs.Parts.{Entry, Constraint, Binding}
 use Rattle.fhir_elements.specs.Element.{Element}
 use Rattle.fhir_schema.specs.Slots.{is_root}

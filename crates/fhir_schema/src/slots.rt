@@ -2,12 +2,13 @@
 
 ghost use Rattle.std.specs.Prelude.{◌≡◌, [], map, get_or, replicate, IfOk, OnOk};
 ghost use Rattle.std.specs.Option.{option_map_or};
-ghost use Rattle.fhir_elements.specs.Ids.{slice_of};
+ghost use Rattle.fhir_names.specs.Parents.{slice_of};
 ghost use Rattle.fhir_schema.specs.Slots.{gathered, children_of, slices_of, id_at, slice_at, slot_at, slots_with, slots_of};
 ghost use Rattle.fhir_schema.specs.Gathering.{lists_in, put_at};
 
 use crate::snapshot::Snapshot;
-use fhir_elements::{ElementDef, name_of, slice_of};
+use fhir_elements::ElementDef;
+use fhir_names::{name_of, slice_of};
 use std::alloc::{AllocError, Global};
 use std::marker::Model;
 

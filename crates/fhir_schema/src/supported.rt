@@ -3,14 +3,12 @@
 ghost use Rattle.std.specs.Prelude.{◌≡◌, false, is_some};
 ghost use Rattle.std.specs.Option.{option_map_or, option_and_then};
 ghost use Rattle.std.specs.List.{list_all, list_any};
-ghost use Rattle.fhir_elements.specs.Ids.{front_of};
+ghost use Rattle.fhir_names.specs.Parents.{front_of};
 ghost use Rattle.fhir_schema.specs.Supported.{is_error, is_required, must_hold, binds, has_plain_value, has_plain_rules, is_plain_name, is_one_down, is_bare, is_plain_child, is_plain_element};
 
 use crate::snapshot::is_root;
-use fhir_elements::{
-    BindingDef, ConstraintDef, ElementDef, Severity, Strength, TypeEntry, front_of, name_of,
-    slice_of,
-};
+use fhir_elements::{BindingDef, ConstraintDef, ElementDef, Severity, Strength, TypeEntry};
+use fhir_names::{front_of, name_of, slice_of};
 
 fn is_error(severity: Severity) -> bool
     ensures { result ≡ is_error severity }

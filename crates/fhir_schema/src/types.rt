@@ -14,7 +14,7 @@ use crate::structure::StructureDef;
 use crate::table::Table;
 use fhir_elements::{ElementDef, Reason, TypeEntry};
 use fhir_json::{Json, as_text};
-use fhir_package::cut_at_bar;
+use fhir_names::Canonical;
 
 fn has_version(version: &str, json: Option<&Json<'static>>) -> bool
     ensures { result ≡ has_version version.now (tree_seen json.entry) }
@@ -37,27 +37,24 @@ fn is_versioned(table: &Table, version: &str, place: usize) -> bool
     }
 }
 
-fn version_place(table: &Table, url: &str, version: &str) -> Option<usize>
-    ensures { result ≡ version_place table.now (url.now, version.now) }
+fn version_place(table: &Table, canonical: &Canonical<'_>) -> Option<usize>
+    ensures { result ≡ version_place table.now canonical.now }
 {
-    if url.is_empty() || version.is_empty() {
-        return None;
-    }
-    let place = table.url_place(url)?;
-    if is_versioned(table, version, place) {
-        Some(place)
-    } else {
-        None
+    let place = table.url_place(canonical.url())?;
+    match canonical.version() {
+        Some(version) if !is_versioned(table, version, place) => None,
+        _ => Some(place),
     }
 }
 
-/// The place of the definition that a canonical names: that of its url that has no version or that one.
+/// The place of the definition that a canonical names: that of its url, where it has no version or the one behind `|`.
+/// A text that is no canonical names none.
 pub(crate) fn canonical_place(table: &Table, canonical: &str) -> Option<usize>
     ensures { result ≡ canonical_place table.now canonical.now }
 {
-    match cut_at_bar(canonical) {
-        Some((url, version)) => version_place(table, url, version),
-        None => table.url_place(canonical),
+    match Canonical::parse(canonical) {
+        Ok(canonical) => version_place(table, &canonical),
+        Err(_) => None,
     }
 }
 
