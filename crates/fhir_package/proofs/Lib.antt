@@ -4,5 +4,8 @@ pub mod Seen
 pub mod Held
 pub mod Ordered
 pub mod Among
+pub mod Entries
+pub mod Joins
 pub mod Packs
+pub mod Files
 pub mod Sounds

@@ -4,4 +4,5 @@ pub mod Canonical
 pub mod Folder
 pub mod Memory
 pub mod Packing
+pub mod Found
 pub mod Faults
