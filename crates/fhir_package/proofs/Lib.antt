@@ -9,3 +9,5 @@ pub mod Joins
 pub mod Packs
 pub mod Files
 pub mod Sounds
+pub mod Rising
+pub mod Holding

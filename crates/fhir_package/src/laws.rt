@@ -1,18 +1,22 @@
 //! Laws: what the definitions say of a folder and its package.
 
-ghost use Rattle.std.specs.Prelude.{◌≡◌, Ok, Err, Some, All, Contains, IsTrue};
-ghost use Rattle.std.specs.List.{IsDistinct};
+ghost use Rattle.std.specs.Prelude.{◌≡◌, ◌≤◌, ◌↔◌, List, Ok, Err, Some, false, All, Contains, IsTrue, codes};
+ghost use Rattle.std.specs.List.{IsDistinct, flat_map};
+ghost use Rattle.std.specs.List.Sorted.{IsStrictlySortedBy};
+ghost use Rattle.std.specs.Cmp.Lexicographic.{slice_cmp};
+ghost use Rattle.std.specs.Ordering.{nat_cmp};
 ghost use Rattle.std.specs.Map.{keys_of};
 ghost use Rattle.std.specs.Str.{bytes_eq};
 ghost use Rattle.fhir_json.specs.Tree.{Text, Tree};
 ghost use Rattle.fhir_json.specs.Grammar.{Reads};
-ghost use Rattle.fhir_json.specs.Sound.{IsSound};
+ghost use Rattle.fhir_json.specs.Fields.{items_in};
+ghost use Rattle.fhir_json.specs.Sound.{IsSound, depth, max_depth};
 ghost use Rattle.fhir_matching.specs.Equality.{equal};
 ghost use Rattle.fhir_package.specs.declared.kind.Kind.{Kind};
 ghost use Rattle.fhir_package.specs.Definitions.{Definitions, of_kind, at_url};
 ghost use Rattle.fhir_package.specs.Folder.{Files};
-ghost use Rattle.fhir_package.specs.Packing.{Definition, not_json, clash, is_json_name, bytes_at, pack};
-ghost use Rattle.fhir_package.specs.Found.{IsInFolder, Clashes};
+ghost use Rattle.fhir_package.specs.Packing.{Definition, not_json, clash, is_bundle, definitions_in, is_json_name, json_names, bytes_at, pack};
+ghost use Rattle.fhir_package.specs.Found.{IsInFolder, Clashes, itself, in_resource};
 
 use fhir_json::reading_agrees;
 use fhir_matching::equivalence;
@@ -50,3 +54,18 @@ pub fn packages()
     reading_agrees();
     equivalence();
 }
+
+/// The names of the files that are read rise by their bytes, and they are those of the folder that end in `.json`.
+pub fn ordered_names()
+    ensures rising { (names : List Text) → IsStrictlySortedBy (slice_cmp nat_cmp) (json_names names) }
+    ensures same { (names : List Text) (n : Text) → Contains (json_names names) n
+        ↔ (Contains names n × IsTrue (is_json_name n)) }
+{}
+
+/// A Bundle of no more than `max_depth` levels, as each is that is read from bytes, holds what the resources of its
+/// entries hold, in order. A tree that is no Bundle holds the definition that it is, if it is one, and nothing else.
+pub fn bundles()
+    ensures bundle { (t : Tree) → depth t ≤ max_depth → IsTrue (is_bundle t)
+        → definitions_in t ≡ flat_map in_resource (items_in (codes "entry") t) }
+    ensures other { (t : Tree) → is_bundle t ≡ false → definitions_in t ≡ itself t }
+{}

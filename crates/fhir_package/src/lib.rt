@@ -13,7 +13,7 @@ mod package;
 pub use fault::LoadFault;
 pub use folder::{Folder, FolderFault};
 pub use kind::Kind;
-pub use laws::{packages, packing};
+pub use laws::{bundles, ordered_names, packages, packing};
 pub use loading::load;
 pub use memory::{MemoryFolder, StoredFile};
 pub use package::{Names, Package};
