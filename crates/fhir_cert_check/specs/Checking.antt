@@ -61,10 +61,11 @@ first_wrong s pairs roots order =
 abbrev pub wrong_with : SchemaValue → CertificateValue → NodePair → Option (Pair × Word)
 wrong_with s c roots = first_wrong s (is_among c) roots (pairs_of c)
 
--- what is wrong with the certificate that the bytes spell, if anything, or why they spell none
+-- the same of a certificate whose roots are still to be found; it has none where a definition can't be used
 abbrev pub wrong_at : SchemaValue → CertificateValue → Result (Option (Pair × Word)) CertFault
 wrong_at s c = option_map_or (λ roots. Ok (wrong_with s c roots)) (roots_of s c) (Err UnknownNode)
 
+-- what is wrong with the certificate that was read, if anything, or why none was
 abbrev pub checked : Result CertificateValue CertFault → SchemaValue → Result (Option (Pair × Word)) CertFault
 checked (Ok c) s = wrong_at s c
 checked (Err fault) s = Err fault
