@@ -21,7 +21,7 @@ fn compared(alloc: Global, one: &str, other: &str) -> Result<String, AllocError>
     let (Some(one), Some(other)) = (Decimal::of(one), Decimal::of(other)) else {
         return String::from_str(alloc, "no decimal");
     };
-    let order = one.compare(&other);
+    let order = one.cmp(&other);
     if one.eq_value(&other) == order.is_eq() {
         format!(in alloc; "{order:?}")
     } else {

@@ -101,7 +101,7 @@ impl<'a> Decimal<'a> {
     }
 
     /// The order of the values, whatever the exponents, in time linear in the texts and with no memory taken.
-    pub fn compare(&self, other: &Decimal<'_>) -> Ordering
+    pub fn cmp(&self, other: &Decimal<'_>) -> Ordering
         ensures { result ≡ value_order (value_of (parts_seen self.now))
             (value_of (parts_seen other.now)) }
     {
@@ -119,6 +119,6 @@ impl<'a> Decimal<'a> {
         ensures { result ≡ is_same_value (value_of (parts_seen self.now))
             (value_of (parts_seen other.now)) }
     {
-        self.compare(other).is_eq()
+        self.cmp(other).is_eq()
     }
 }

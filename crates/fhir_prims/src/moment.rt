@@ -132,7 +132,7 @@ fn second_order(left: Option<Decimal<'_>>, right: Option<Decimal<'_>>) -> Option
         (option_map (λ d. value_of (parts_seen d)) right.entry) }
 {
     match (left, right) {
-        (Some(left), Some(right)) => Some(left.compare(&right)),
+        (Some(left), Some(right)) => Some(left.cmp(&right)),
         (None, None) => Some(Ordering::Equal),
         _ => None,
     }

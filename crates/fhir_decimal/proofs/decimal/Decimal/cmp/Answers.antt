@@ -4,7 +4,7 @@ use Rattle.fhir_decimal.specs.Seen.{parts_seen}
 use Rattle.fhir_decimal.specs.declared.rows.TheConstants.{FAR}
 use Rattle.fhir_decimal.proofs.Digits.{apart_same}
 use Rattle.fhir_decimal.proofs.Order.{answer_right}
-use Rattle.fhir_decimal.proofs.decimal.Decimal.compare.Goals as goal
+use Rattle.fhir_decimal.proofs.decimal.Decimal.cmp.Goals as goal
 
 pub returns : goal.returns
 returns c =
