@@ -12,7 +12,7 @@ use crate::rows::{FAR, Row, rows_apart};
 use std::cmp::Ordering;
 
 /// A decimal (FHIR R4, Data Types, decimal), as the parts of its text, which it borrows.
-#[derive(Clone, Copy)]
+#[derive(Clone, Copy, Debug)]
 pub struct Decimal<'a> {
     negative: bool,
     whole: &'a [u8],

@@ -19,7 +19,7 @@ use std::cmp::Ordering;
 /// A date, a moment or a time of day (FHIR R4, Data Types, date, dateTime, instant, time), as the fields that its text
 /// gives: those of a date, as far as it goes; all of a moment, in UTC; those of a time of day. The fraction of the
 /// second is borrowed.
-#[derive(Clone, Copy)]
+#[derive(Clone, Copy, Debug)]
 pub struct Moment<'a> {
     year: Option<u32>,
     month: Option<u32>,
