@@ -13,7 +13,7 @@ mod texts;
 pub use canonicals::Canonical;
 pub use fault::NameFault;
 pub use ids::{ElementId, Segments};
-pub use laws::{canonicals_agree, ids_agree, targets_agree};
+pub use laws::{canonicals_agree, ids_agree, parents_agree, targets_agree};
 pub use parents::{front_of, name_of, slice_of, sliced_of};
 pub use segments::Segment;
 pub use targets::relative_target;
