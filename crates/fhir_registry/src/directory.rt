@@ -1,8 +1,13 @@
 //! A folder of a file system.
 
+ghost use Rattle.std.specs.Prelude.{◌≡◌, IfOk, IfErr};
+ghost use Rattle.std.specs.IoError.{error_kind};
+ghost use Rattle.fhir_registry.specs.Seen.{failures_kept};
+
 use fhir_json::NoMemory;
 use fhir_package::{Folder, FolderFault, MemoryFolder, StoredFile};
 use std::alloc::Global;
+use std::io::ErrorKind;
 use std::rt::Files;
 use std::{fs, io};
 
@@ -19,12 +24,14 @@ impl DirFolder {
     pub fn open<R: Files + AllocGlobal + Clone + Drop>(
         rt: &R,
         path: &str,
-    ) -> Result<DirFolder, NoMemory> {
+    ) -> Result<DirFolder, NoMemory>
+        ensures { IfOk result (λ d. failures_kept d ≡ 0) }
+    {
         match files_at(rt, path) {
             Ok(files) => Ok(DirFolder {
                 kept: MemoryFolder::new(files),
             }),
-            Err(error) if error.kind() == io::ErrorKind::OutOfMemory => Err(NoMemory),
+            Err(error) if error.kind() == ErrorKind::OutOfMemory => Err(NoMemory),
             Err(_) => Ok(DirFolder {
                 kept: MemoryFolder::unlisted(),
             }),
@@ -53,20 +60,22 @@ pub fn files_at<R: Files + AllocGlobal + Clone + Drop>(
 }
 
 /// The bytes of the file at a path, or none where the device doesn't give them. An error is of memory alone.
-pub fn bytes_at<R: Files + AllocGlobal>(rt: &R, path: &str) -> io::Result<Option<Vec<u8>>> {
+pub fn bytes_at<R: Files + AllocGlobal>(rt: &R, path: &str) -> io::Result<Option<Vec<u8>>>
+    ensures { IfErr result (λ e. error_kind e ≡ ErrorKind.OutOfMemory) }
+{
     match fs::read(rt, path) {
         Ok(bytes) => Ok(Some(bytes)),
-        Err(error) if error.kind() == io::ErrorKind::OutOfMemory => Err(error),
+        Err(error) if error.kind() == ErrorKind::OutOfMemory => Err(error),
         Err(_) => Ok(None),
     }
 }
 
 impl Folder for DirFolder {
-    ghost use Rattle.fhir_package.specs.Memory.{files_of, failures_of};
+    ghost use Rattle.fhir_registry.specs.Seen.{files_kept, failures_kept};
 
-    ghost files = { λ d. files_of d.kept };
+    ghost files = { files_kept };
 
-    ghost failed_calls = { λ d. failures_of d.kept };
+    ghost failed_calls = { failures_kept };
 
     fn list(&mut self, alloc: Global) -> Result<Vec<String>, FolderFault> {
         self.kept.list(alloc)
