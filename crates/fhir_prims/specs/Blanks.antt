@@ -1,25 +1,20 @@
 -- Texts in which blanks may stand (FHIR R4, Data Types, code, base64Binary).
-use Rattle.std.specs.Prelude.{ℕ, ◌+◌, List, [], ◌∷◌, Bool, true, false, ◌&&◌, ◌==◌, if◌then◌else◌}
-use Rattle.std.specs.List.{list_any}
+use Rattle.std.specs.Prelude.{ℕ, ◌%◌, List, length, Bool, ◌&&◌, ◌==◌, nat_lt}
+use Rattle.std.specs.List.{list_all, list_any, slice_split}
 use Rattle.fhir_prims.specs.Bytes.{is_blank, is_base64_byte}
 
--- what is left of words with one blank between them, where we stand in a word or are to begin one
-abbrev pub words : Bool → List ℕ → Bool
-words within [] = within
-words within (b ∷ bs) = if is_blank b then within && words false bs else words true bs
+abbrev pub is_word : List ℕ → Bool
+is_word s = nat_lt 0 (length s)
 
--- `[^\s]+(\s[^\s]+)*`
+-- `[^\s]+(\s[^\s]+)*`: between the blanks, and before and behind them, stand words
 abbrev pub is_code : List ℕ → Bool
-is_code s = words false s
+is_code s = list_all is_word (slice_split is_blank s)
 
-abbrev pub next_of_four : ℕ → ℕ
-next_of_four n = if n == 3 then 0 else n + 1
+-- groups of four, or none
+abbrev pub are_fours : List ℕ → Bool
+are_fours s = (length s % 4 == 0) && list_all is_base64_byte s
 
--- what is left of groups of four with blanks between them, behind `n` of a group
-abbrev pub groups : ℕ → List ℕ → Bool
-groups n [] = n == 0
-groups n (b ∷ bs) = if is_blank b then (n == 0) && groups 0 bs else is_base64_byte b && groups (next_of_four n) bs
-
--- `(\s*([0-9a-zA-Z\+\/=]){4}\s*)+`: groups of four, of which there is one
+-- `(\s*([0-9a-zA-Z\+\/=]){4}\s*)+`: between the blanks, and before and behind them, stand groups of four, and one at
+-- least in the text
 abbrev pub is_base64 : List ℕ → Bool
-is_base64 s = list_any is_base64_byte s && groups 0 s
+is_base64 s = list_any is_base64_byte s && list_all are_fours (slice_split is_blank s)

@@ -1,27 +1,22 @@
 //! Texts in which blanks may stand (FHIR R4, Data Types, code, base64Binary).
 
-ghost use Rattle.std.specs.Prelude.{◌≡◌, ◌≤◌, false};
-ghost use Rattle.std.specs.List.{list_any};
-ghost use Rattle.fhir_prims.specs.Bytes.{is_base64_byte};
-ghost use Rattle.fhir_prims.specs.Blanks.{words, is_code, next_of_four, groups, is_base64};
+ghost use Rattle.std.specs.Prelude.{◌≡◌};
+ghost use Rattle.std.specs.List.{list_all, list_any, slice_split};
+ghost use Rattle.fhir_prims.specs.Bytes.{is_blank, is_base64_byte};
+ghost use Rattle.fhir_prims.specs.Blanks.{is_word, is_code, are_fours, is_base64};
 
 use crate::bytes::{is_base64_byte, is_blank};
 
-fn are_words(text: &[u8]) -> bool
-    ensures { result ≡ words false text.now }
+fn is_word(text: &[u8]) -> bool
+    ensures { result ≡ is_word text.now }
 {
-    let mut within = false;
-    for byte in text {
-        if is_blank(*byte) {
-            if !within {
-                return false;
-            }
-            within = false;
-        } else {
-            within = true;
-        }
-    }
-    within
+    text.len() > 0
+}
+
+fn are_words(text: &[u8]) -> bool
+    ensures { result ≡ list_all is_word (slice_split is_blank text.now) }
+{
+    text.split(|byte| is_blank(*byte)).all(|word| is_word(word))
 }
 
 pub(crate) fn is_code(text: &str) -> bool
@@ -30,32 +25,23 @@ pub(crate) fn is_code(text: &str) -> bool
     are_words(text.as_bytes())
 }
 
-fn next_of_four(count: u8) -> u8
-    requires { count ≤ 3 }
-    ensures value { result ≡ next_of_four count }
-    ensures small { result ≤ 3 }
+fn are_base64_bytes(text: &[u8]) -> bool
+    ensures { result ≡ list_all is_base64_byte text.now }
 {
-    if count == 3 { 0 } else { count + 1 }
+    text.iter().all(|byte| is_base64_byte(*byte))
+}
+
+fn are_fours(text: &[u8]) -> bool
+    ensures { result ≡ are_fours text.now }
+{
+    text.len() % 4 == 0 && are_base64_bytes(text)
 }
 
 fn are_groups(text: &[u8]) -> bool
-    ensures { result ≡ groups 0 text.now }
+    ensures { result ≡ list_all are_fours (slice_split is_blank text.now) }
 {
-    let mut count = 0;
-    for byte in text {
-        let byte = *byte;
-        if is_blank(byte) {
-            if count != 0 {
-                return false;
-            }
-        } else {
-            if !is_base64_byte(byte) {
-                return false;
-            }
-            count = next_of_four(count);
-        }
-    }
-    count == 0
+    text.split(|byte| is_blank(*byte))
+        .all(|group| are_fours(group))
 }
 
 fn has_base64(text: &[u8]) -> bool
