@@ -4,6 +4,7 @@
 mod canonicals;
 mod fault;
 mod ids;
+mod index;
 mod laws;
 mod parents;
 mod segments;
@@ -13,6 +14,7 @@ mod texts;
 pub use canonicals::Canonical;
 pub use fault::NameFault;
 pub use ids::{ElementId, Segments};
+pub use index::Index;
 pub use laws::{canonicals_agree, ids_agree, parents_agree, targets_agree};
 pub use parents::{front_of, name_of, slice_of, sliced_of};
 pub use segments::Segment;

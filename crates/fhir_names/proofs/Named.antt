@@ -1,0 +1,33 @@
+-- Look-ups by name, among keys in the order of their bytes.
+use Rattle.std.proofs.Common.{◌≡◌, ℕ, Bool, cond, true, false, List, [], ◌∷◌, map, Option, Some, refl, ap, sym, ◌∙◌, String, string_bytes}
+use Rattle.std.specs.declared.alloc.Global.{Global}
+use Rattle.std.specs.Map.{lookup, update}
+use Rattle.std.specs.Str.{bytes_eq}
+use Rattle.std.specs.Ordering.{nat_cmp}
+use Rattle.std.specs.Cmp.Lexicographic.{slice_cmp}
+use Rattle.std.specs.String.{string_cmp}
+use Rattle.std.specs.BTreeMap.{BTreeMap, is_at, UpdatesBy, get_by_text}
+use Rattle.std.proofs.lemmas.Map.Text.{is_eq-slice_cmp, btree_map_updates_text}
+use Rattle.std.proofs.lemmas.Slice.Eq.{bytes_eq-Decides}
+use Rattle.fhir_names.specs.Places.{by_name, place_of, Puts}
+
+pub lookup-named : {Y V : Type 0} (name : List ℕ) (es : List (String Y × V)) → lookup (is_at (λ k. slice_cmp nat_cmp name (string_bytes k))) es ≡ lookup (bytes_eq name) (by_name es)
+lookup-named name [] = refl
+lookup-named {Y} {V} name (e ∷ es) =
+    ap (λ (b : Bool). cond b (Some e.1) (lookup (is_at (λ k. slice_cmp nat_cmp name (string_bytes k))) es)) (is_eq-slice_cmp name (string_bytes e.0))
+    ∙ ap (λ (r : Option V). cond (bytes_eq name (string_bytes e.0)) (Some e.1) r) (lookup-named name es)
+
+-- names are equal whichever comes first
+turned : (xs ys : List ℕ) (b : Bool) → bytes_eq xs ys ≡ b → (a : Bool) → bytes_eq ys xs ≡ a → bytes_eq xs ys ≡ bytes_eq ys xs
+turned xs ys true e a f = e ∙ sym ((bytes_eq-Decides ys xs).1 (sym ((bytes_eq-Decides xs ys).0 e)))
+turned xs ys false e true f = ((bytes_eq-Decides xs ys).1 (sym ((bytes_eq-Decides ys xs).0 f))) ∙ sym f
+turned xs ys false e false f = e ∙ sym f
+
+pub put-named : (old new : BTreeMap (String Global) ℕ) (key : String Global) (name : List ℕ) (place : ℕ) → string_bytes key ≡ name
+    → UpdatesBy string_cmp (string_cmp key) old new (Some place) → Puts (by_name old.entries) (by_name new.entries) name place
+put-named old new key name place is h = λ other.
+    sym (lookup-named other new.entries)
+    ∙ btree_map_updates_text (string_bytes key) old new (Some place) h other
+    ∙ ap (λ (n : List ℕ). cond (bytes_eq n other) (Some place) (get_by_text old other)) is
+    ∙ ap (λ (b : Bool). cond b (Some place) (get_by_text old other)) (turned name other (bytes_eq name other) refl (bytes_eq other name) refl)
+    ∙ ap (λ (r : Option ℕ). cond (bytes_eq other name) (Some place) r) (lookup-named other old.entries)

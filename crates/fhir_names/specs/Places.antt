@@ -1,0 +1,21 @@
+-- Places under names, as contracts see them.
+use Rattle.std.specs.Prelude.{◌≡◌, ℕ, List, map, String, string_bytes, Option, Some, if◌then◌else◌}
+use Rattle.std.specs.Map.{lookup}
+use Rattle.std.specs.Str.{bytes_eq}
+
+-- names, each with a place
+abbrev pub Places : Type 0
+Places = List (List ℕ × ℕ)
+
+-- the entries of a map, with each key as its bytes
+abbrev pub by_name : {Y V : Type 0} → List (String Y × V) → List (List ℕ × V)
+by_name es = map (λ e. (string_bytes e.0, e.1)) es
+
+-- the place of a name, if it has one
+abbrev pub place_of : Places → List ℕ → Option ℕ
+place_of places name = lookup (bytes_eq name) places
+
+-- the name has that place, and each other name the place that it had
+abbrev pub Puts : Places → Places → List ℕ → ℕ → Type 0
+Puts old new name place =
+    (other : List ℕ) → place_of new other ≡ (if bytes_eq other name then Some place else place_of old other)

@@ -1,0 +1,51 @@
+//! Places under names.
+
+ghost use Rattle.std.specs.Prelude.{◌≡◌, [], OnOk, OnErr};
+ghost use Rattle.fhir_names.specs.Places.{place_of, Puts};
+
+use std::alloc::{AllocError, Global};
+use std::collections::BTreeMap;
+use std::marker::Model;
+
+/// Places under names, each a place in some list. The names are kept in the order of their bytes, so that a look-up takes
+/// time logarithmic in their number whatever they are.
+#[derive(Drop)]
+pub struct Index {
+    places: BTreeMap<String, usize>,
+}
+
+impl Model for Index {
+    ghost use Rattle.fhir_names.specs.Places.{Places, by_name};
+
+    ghost Value = { Places };
+
+    ghost view = { λ x. by_name x.places.entries };
+}
+
+impl Index {
+    /// No places, which allocates nothing.
+    pub fn new(alloc: Global) -> Index
+        ensures { result ≡ [] }
+    {
+        Index {
+            places: BTreeMap::new(alloc),
+        }
+    }
+
+    /// The place of a name, if it has one.
+    pub fn get(&self, name: &str) -> Option<usize>
+        ensures { result ≡ place_of self.now name.now }
+    {
+        self.places.get(name).copied()
+    }
+
+    /// Gives a name a place, in place of the one that it has. The one refusal is want of memory, which changes nothing.
+    pub fn put(&mut self, alloc: Global, name: &str, place: usize) -> Result<(), AllocError>
+        ensures put { OnOk result (Puts self.old self.new name.now place) }
+        ensures unchanged { OnErr result (self.new ≡ self.old) }
+    {
+        let name = String::from_str(alloc, name)?;
+        self.places.insert(name, place)?;
+        Ok(())
+    }
+}
