@@ -1,1 +1,2 @@
 mod Integers
+pub mod SeenCodes

@@ -1,3 +1,4 @@
 pub mod Codes
 pub mod Parts
 pub mod Element
+pub mod Seen

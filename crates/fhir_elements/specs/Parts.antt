@@ -31,11 +31,14 @@ entry_of t = record {
   targets = texts_in (codes "targetProfile") t;
 }
 
+-- one of the types has the code of this one
+abbrev pub has_code : Tree → List Tree → Bool
+has_code t ts = list_any (λ u. bytes_eq (text_at (codes "code") t) (text_at (codes "code") u)) ts
+
 -- no two have one code
 abbrev pub codes_differ : List Tree → Bool
 codes_differ [] = true
-codes_differ (t ∷ ts) =
-    not (list_any (λ u. bytes_eq (text_at (codes "code") t) (text_at (codes "code") u)) ts) && codes_differ ts
+codes_differ (t ∷ ts) = not (has_code t ts) && codes_differ ts
 
 pub record Constraint : Type 0 where
   pub key : Text

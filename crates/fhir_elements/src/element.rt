@@ -167,23 +167,24 @@ fn id_fits(json: &Json<'_>) -> bool
 
 /// Why a tree is no element, as the first of these that applies (FHIR R4, ElementDefinition): `WrongField` where it is
 /// no object, or a field has a wrong kind or a value outside its set; `MinOverMax`; `RepeatedType`; `WrongId` where its
-/// `id` is missing, or a text that is none.
-pub fn element_fault(json: &Json<'_>) -> Option<Reason>
-    ensures { result ≡ element_fault (tree_of json.now) }
+/// `id` is missing, or a text that is none. The one refusal is want of memory.
+pub fn element_fault(alloc: Global, json: &Json<'_>) -> Result<Option<Reason>, NoMemory>
+    ensures { Gives (λ fault. fault) result (element_fault (tree_of json.now)) }
 {
     if !fields_fit(json) {
-        return Some(Reason::WrongField);
+        return Ok(Some(Reason::WrongField));
     }
     if !bounds_fit(json) {
-        return Some(Reason::MinOverMax);
+        return Ok(Some(Reason::MinOverMax));
     }
-    if !codes_differ(items_in(json, "type")) {
-        return Some(Reason::RepeatedType);
+    let codes_differ = codes_differ(alloc, items_in(json, "type"))?;
+    if !codes_differ {
+        return Ok(Some(Reason::RepeatedType));
     }
     if !id_fits(json) {
-        return Some(Reason::WrongId);
+        return Ok(Some(Reason::WrongId));
     }
-    None
+    Ok(None)
 }
 
 // ---- the element that it is
@@ -261,7 +262,7 @@ impl ElementDef {
     pub fn of(alloc: Global, json: &Json<'_>) -> Result<ElementDef, ElementFault>
         ensures { GivesOr is_memory (λ e. e) result (element_of (tree_of json.now)) }
     {
-        if let Some(reason) = element_fault(json) {
+        if let Some(reason) = element_fault(alloc, json)? {
             return Err(ElementFault::Unfit(reason));
         }
         let element = fields_of(alloc, json)?;

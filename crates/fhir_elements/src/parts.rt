@@ -1,17 +1,20 @@
 //! Types and constraints of an element, and texts read from fields.
 
-ghost use Rattle.std.specs.Prelude.{◌≡◌, map, IfOk, string_bytes, codes};
+ghost use Rattle.std.specs.Prelude.{◌≡◌, ◌∷◌, List, map, not, IfOk, OnOk, string_bytes, codes};
 ghost use Rattle.std.specs.Option.{option_map};
 ghost use Rattle.std.specs.List.{list_all, list_any};
 ghost use Rattle.std.specs.Str.{bytes_eq};
+ghost use Rattle.fhir_json.specs.Tree.{Tree};
 ghost use Rattle.fhir_json.specs.View.{tree_of, trees_of, text_seen};
 ghost use Rattle.fhir_json.specs.Fields.{text_in, text_at, texts_in};
-ghost use Rattle.fhir_elements.specs.Parts.{entry_fits, entry_of, codes_differ, constraint_fits, constraint_of};
+ghost use Rattle.fhir_elements.specs.Parts.{entry_fits, entry_of, has_code, codes_differ, constraint_fits, constraint_of};
+ghost use Rattle.fhir_elements.specs.Seen.{HaveCodes};
 
 use crate::codes::{Severity, allows_code, code_in};
 use fhir_json::{
     Json, allows_text, allows_texts, is_object, items_in, text_at, text_in, text_or_empty,
 };
+use fhir_names::Index;
 use std::alloc::{AllocError, Global};
 use std::marker::Model;
 
@@ -201,8 +204,7 @@ fn has_code(items: &[Json<'_>], code: &str) -> bool
     false
 }
 
-/// Whether no two types have one code.
-pub(crate) fn codes_differ(items: &[Json<'_>]) -> bool
+fn few_codes_differ(items: &[Json<'_>]) -> bool
     ensures { result ≡ codes_differ (trees_of items.now) }
 {
     let mut left = items;
@@ -213,6 +215,49 @@ pub(crate) fn codes_differ(items: &[Json<'_>]) -> bool
         left = rest;
     }
     true
+}
+
+// Whether the code of an item has no place yet; it then has this one.
+fn is_new(
+    alloc: Global,
+    seen: &mut Index,
+    item: &Json<'_>,
+    place: usize,
+) -> Result<bool, AllocError>
+    ensures new { IfOk result (λ new. (ts : List Tree) → HaveCodes seen.old ts → new ≡ not (has_code (tree_of item.now) ts)) }
+    ensures seen { OnOk result ((ts : List Tree) → HaveCodes seen.old ts → HaveCodes seen.new (tree_of item.now ∷ ts)) }
+{
+    let code = text_at(item, "code");
+    let is_new = !seen.get(code).is_some();
+    seen.put(alloc, code, place)?;
+    Ok(is_new)
+}
+
+fn many_codes_differ(alloc: Global, items: &[Json<'_>]) -> Result<bool, AllocError>
+    ensures { IfOk result (λ differ. differ ≡ codes_differ (trees_of items.now)) }
+{
+    let mut seen = Index::new(alloc);
+    let mut i = items.len();
+    while i > 0 {
+        i -= 1;
+        let item = &items[i];
+        if !is_new(alloc, &mut seen, item, i)? {
+            return Ok(false);
+        }
+    }
+    Ok(true)
+}
+
+/// Whether no two types have one code. Beyond a few the codes are kept in order, so that n of them cost n log n
+/// comparisons.
+pub(crate) fn codes_differ(alloc: Global, items: &[Json<'_>]) -> Result<bool, AllocError>
+    ensures { IfOk result (λ differ. differ ≡ codes_differ (trees_of items.now)) }
+{
+    if items.len() <= 16 {
+        Ok(few_codes_differ(items))
+    } else {
+        many_codes_differ(alloc, items)
+    }
 }
 
 fn constraint_fits(json: &Json<'_>) -> bool
