@@ -1,5 +1,6 @@
 -- Places under names, as contracts see them.
 use Rattle.std.specs.Prelude.{◌≡◌, ℕ, List, map, String, string_bytes, Option, Some, if◌then◌else◌}
+use Rattle.std.specs.List.{position_from}
 use Rattle.std.specs.Map.{lookup}
 use Rattle.std.specs.Str.{bytes_eq}
 
@@ -19,3 +20,7 @@ place_of places name = lookup (bytes_eq name) places
 abbrev pub Puts : Places → Places → List ℕ → ℕ → Type 0
 Puts old new name place =
     (other : List ℕ) → place_of new other ≡ (if bytes_eq other name then Some place else place_of old other)
+
+-- each name of the list has the place at which it first stands there, and no other name has one
+abbrev pub Finds : Places → List (List ℕ) → Type 0
+Finds places names = (name : List ℕ) → place_of places name ≡ position_from (bytes_eq name) 0 names

@@ -1,7 +1,7 @@
 //! Places under names.
 
-ghost use Rattle.std.specs.Prelude.{◌≡◌, [], OnOk, OnErr};
-ghost use Rattle.fhir_names.specs.Places.{place_of, Puts};
+ghost use Rattle.std.specs.Prelude.{◌≡◌, ℕ, List, [], ◌∷◌, ◌++◌, length, OnOk, OnErr};
+ghost use Rattle.fhir_names.specs.Places.{place_of, Puts, Finds};
 
 use std::alloc::{AllocError, Global};
 use std::collections::BTreeMap;
@@ -46,6 +46,20 @@ impl Index {
     {
         let name = String::from_str(alloc, name)?;
         self.places.insert(name, place)?;
+        Ok(())
+    }
+
+    /// Gives a name a place, unless it has one: so names that are added in turn have the places at which they first stand.
+    /// The one refusal is want of memory, which changes nothing.
+    pub fn add(&mut self, alloc: Global, name: &str, place: usize) -> Result<(), AllocError>
+        ensures added { OnOk result ((names : List (List ℕ)) → Finds self.old names → length names ≡ place
+            → Finds self.new (names ++ name.now ∷ [])) }
+        ensures unchanged { OnErr result (self.new ≡ self.old) }
+    {
+        if self.get(name).is_some() {
+            return Ok(());
+        }
+        self.put(alloc, name, place)?;
         Ok(())
     }
 }
