@@ -1,49 +1,41 @@
--- The words on entries, at the entries as contracts see them.
-use Rattle.std.proofs.Common.{◌≡◌, true, false, cond, List, [], ◌∷◌, ◌++◌, map, String, string_bytes, refl, sym, ap, ◌∙◌, Some, None, Option, Ok}
-use Rattle.std.specs.String.{string_eq}
-use Rattle.std.specs.Str.{bytes_eq}
-use Rattle.std.specs.Option.{option_map, option_copied}
-use Rattle.std.specs.Borrow.{Bor}
+-- Look-ups in entries, by the places at which their names first stand.
+use Rattle.std.proofs.Common.{◌≡◌, ℕ, ◌+◌, Bool, true, false, cond, List, [], ◌∷◌, ◌++◌, Option, None, Some, refl, ap, ◌∙◌, add-one, Ok}
+use Rattle.std.specs.Option.{option_map, option_and_then}
+use Rattle.std.specs.List.{position_from, slice_get}
 use Rattle.std.specs.Map.{keys_of, lookup}
-use Rattle.indexmap.specs.IndexMap.{insert_entry}
-use Rattle.fhir_json.specs.Tree.{Text, Tree}
-use Rattle.fhir_json.specs.View.{tree_of, tree_seen}
-use Rattle.fhir_json.specs.declared.json.Json.{Json}
-use Rattle.fhir_package.specs.View.{entries_seen}
-use Rattle.fhir_package.specs.Definitions.{Definitions, Entries, of_kind, with_kind, at_url}
+use Rattle.std.specs.Str.{bytes_eq}
+use Rattle.fhir_json.specs.Tree.{Tree}
+use Rattle.fhir_names.specs.Places.{Places, place_of, Finds}
+use Rattle.fhir_package.specs.Definitions.{Definitions, of_kind, with_kind, at_url}
 use Rattle.fhir_package.specs.Packing.{Definition, join, joined, or_clash}
 
-module _ {Y : Type 0} where
-  pub lookup-seen : (bs : Text) (es : List (String Y × Json)) → lookup (bytes_eq bs) (entries_seen es) ≡ option_map tree_of (lookup (λ k. bytes_eq bs (string_bytes k)) es)
-  lookup-seen bs [] = refl
-  lookup-seen bs (e ∷ es) =
-      let rest = lookup-seen bs es in
-      elim (bytes_eq bs (string_bytes e.0)) as (λ b. cond b (Some (tree_of e.1)) (lookup (bytes_eq bs) (entries_seen es)) ≡ option_map tree_of (cond b (Some e.1) (lookup (λ k. bytes_eq bs (string_bytes k)) es))) [ true ↦ refl | false ↦ rest ]
+-- places that are counted from one more
+position-shift : (t : List ℕ → Bool) (i : ℕ) (xs : List (List ℕ)) → position_from t (i + 1) xs ≡ option_map (λ p. p + 1) (position_from t i xs)
+position-shift t i [] = refl
+position-shift t i (x ∷ xs) =
+    let rest = position-shift t (i + 1) xs in
+    elim (t x) as (λ b. cond b (Some (i + 1)) (position_from t (i + 1 + 1) xs) ≡ option_map (λ p. p + 1) (cond b (Some i) (position_from t (i + 1) xs))) [ true ↦ refl | false ↦ rest ]
 
-  pub seen-insert : (k : String Y) (v : Json) (es : List (String Y × Json)) → entries_seen (insert_entry string_eq es k v) ≡ insert_entry bytes_eq (entries_seen es) (string_bytes k) (tree_of v)
-  seen-insert k v [] = refl
-  seen-insert k v (e ∷ es) =
-      let rest = ap (λ l. (string_bytes e.0, tree_of e.1) ∷ l) (seen-insert k v es) in
-      elim (bytes_eq (string_bytes k) (string_bytes e.0)) as (λ b. entries_seen (cond b ((e.0, v) ∷ es) (e ∷ insert_entry string_eq es k v)) ≡ cond b ((string_bytes e.0, tree_of v) ∷ entries_seen es) ((string_bytes e.0, tree_of e.1) ∷ insert_entry bytes_eq (entries_seen es) (string_bytes k) (tree_of v))) [ true ↦ refl | false ↦ rest ]
+module _ {V : Type 0} where
+  -- the value at a place
+  abbrev pub value_at : List (List ℕ × V) → Option ℕ → Option V
+  value_at es place = option_and_then (λ p. option_map (λ e. e.1) (slice_get es p)) place
 
-  pub keys_of-seen : (es : List (String Y × Json)) → keys_of (entries_seen es) ≡ map string_bytes (keys_of es)
-  keys_of-seen [] = refl
-  keys_of-seen (e ∷ es) = ap (λ l. string_bytes e.0 ∷ l) (keys_of-seen es)
+  value_behind : (e : List ℕ × V) (es : List (List ℕ × V)) (place : Option ℕ) → value_at (e ∷ es) (option_map (λ p. p + 1) place) ≡ value_at es place
+  value_behind e es None = refl
+  value_behind e es (Some p) = ap (λ (n : ℕ). option_map (λ e. e.1) (slice_get (e ∷ es) n)) (add-one p)
 
-pub tree_seen-copied : (r : Option (Bor Json)) → tree_seen r ≡ option_map tree_of (option_copied r)
-tree_seen-copied None = refl
-tree_seen-copied (Some x) = refl
+  -- what stands where a name first stands is what the name finds
+  pub value-first : (t : List ℕ → Bool) (es : List (List ℕ × V)) → value_at es (position_from t 0 (keys_of es)) ≡ lookup t es
+  value-first t [] = refl
+  value-first t (e ∷ es) =
+      let rest : value_at (e ∷ es) (position_from t (0 + 1) (keys_of es)) ≡ lookup t es =
+      ap (value_at (e ∷ es)) (position-shift t 0 (keys_of es)) ∙ value_behind e es (position_from t 0 (keys_of es)) ∙ value-first t es in
+      elim (t e.0) as (λ b. value_at (e ∷ es) (cond b (Some 0) (position_from t (0 + 1) (keys_of es))) ≡ cond b (Some e.1) (lookup t es)) [ true ↦ refl | false ↦ rest ]
 
--- a new url goes last
-pub insert-new : (url : Text) (t : Tree) (es : Entries) → lookup (bytes_eq url) es ≡ None → insert_entry bytes_eq es url t ≡ es ++ (url, t) ∷ []
-insert-new url t [] none = refl
-insert-new url t (e ∷ es) none =
-    elim (bytes_eq url e.0) as (λ b. cond b (Some e.1) (lookup (bytes_eq url) es) ≡ None → cond b ((e.0, t) ∷ es) (e ∷ insert_entry bytes_eq es url t) ≡ e ∷ (es ++ (url, t) ∷ [])) [
-      | true ↦ λ h. absurd (cc)
-      | false ↦ λ h. ap (λ (l : Entries). e ∷ l) (insert-new url t es h)
-    ] none
+-- so a name is looked up by its place
+pub found : {V : Type 0} (places : Places) (es : List (List ℕ × V)) (name : List ℕ) (r : Option ℕ) → Finds places (keys_of es) → r ≡ place_of places name → value_at es r ≡ lookup (bytes_eq name) es
+found places es name r h e = ap (value_at es) (e ∙ h name) ∙ value-first (bytes_eq name) es
 
-pub join-new : (d : Definition) (p : Definitions) → at_url d.kind d.url p ≡ None → or_clash (join d p) ≡ Ok (with_kind d.kind (insert_entry bytes_eq (of_kind d.kind p) d.url d.tree) p)
-join-new d p none =
-    ap (λ (t : Option Tree). or_clash (joined t d p)) none
-    ∙ ap (λ (es : Entries). Ok (with_kind d.kind es p)) (sym (insert-new d.url d.tree (of_kind d.kind p) none))
+pub join-new : (d : Definition) (p : Definitions) → at_url d.kind d.url p ≡ None → or_clash (join d p) ≡ Ok (with_kind d.kind (of_kind d.kind p ++ (d.url, d.tree) ∷ []) p)
+join-new d p none = ap (λ (t : Option Tree). or_clash (joined t d p)) none

@@ -2,23 +2,30 @@
 use Rattle.std.specs.Prelude.{ℕ, List, [], map, Option, Some, None, Vec, string_bytes}
 use Rattle.std.specs.declared.alloc.Global.{Global}
 use Rattle.fhir_package.specs.declared.memory.StoredFile.{StoredFile}
-use Rattle.fhir_package.specs.declared.memory.MemoryFolder.{MemoryFolder}
 use Rattle.fhir_package.specs.Folder.{Files}
+
+-- a folder's files, and how many calls on it have failed
+pub record FolderValue : Type 0 where
+  pub files : Files
+  pub failures : ℕ
 
 -- a file's bytes; where there are none no read of the file succeeds, so that any bytes serve
 abbrev pub kept_bytes : Option (Vec ℕ Global) → List ℕ
 kept_bytes None = []
 kept_bytes (Some bytes) = bytes.items
 
+abbrev pub file_seen : StoredFile → List ℕ × List ℕ
+file_seen f = (string_bytes f.name, kept_bytes f.bytes)
+
 abbrev pub stored : List StoredFile → Files
-stored fs = map (λ f. (string_bytes f.name, kept_bytes f.bytes)) fs
+stored fs = map file_seen fs
 
 abbrev pub listed : Option (Vec StoredFile Global) → Files
 listed None = []
 listed (Some fs) = stored fs.items
 
-abbrev pub files_of : MemoryFolder → Files
-files_of m = listed m.files
+abbrev pub files_of : FolderValue → Files
+files_of m = m.files
 
-abbrev pub failures_of : MemoryFolder → ℕ
+abbrev pub failures_of : FolderValue → ℕ
 failures_of m = m.failures

@@ -9,6 +9,7 @@ mod laws;
 mod loading;
 mod memory;
 mod package;
+mod url_map;
 
 pub use fault::LoadFault;
 pub use folder::{Folder, FolderFault};

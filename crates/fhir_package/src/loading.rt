@@ -108,6 +108,23 @@ fn take_tree(alloc: Global, json: &Json<'_>, into: &mut Package) -> Result<(), L
     take_held(alloc, json, MAX_DEPTH, into)
 }
 
+// Puts in the definitions of a file of that name with these bytes.
+fn take_bytes(
+    alloc: Global,
+    bytes: &[u8],
+    name: String,
+    into: &mut Package,
+) -> Result<(), LoadFault>
+    ensures taken { IsTaken result into.new (take_file (string_bytes name) bytes.now into.old) }
+    ensures blameless { failed_loading result ≡ 0 }
+{
+    match read(alloc, bytes) {
+        Ok(json) => take_tree(alloc, &json, into),
+        Err(JsonFault::NoMemory) => Err(LoadFault::NoMemory),
+        Err(_) => Err(LoadFault::NotJson(name)),
+    }
+}
+
 // Puts in the definitions of one file.
 fn take_file<F: Folder>(
     alloc: Global,
@@ -120,15 +137,13 @@ fn take_file<F: Folder>(
     ensures files { F.files folder.new ≡ F.files folder.old }
     ensures counted { F.failed_calls folder.new ≡ F.failed_calls folder.old + failed_loading result }
 {
-    let bytes = match folder.read(alloc, name.as_str()) {
-        Ok(bytes) => bytes,
-        Err(FolderFault::Device) => return Err(LoadFault::Unread(name)),
-        Err(FolderFault::NoMemory) => return Err(LoadFault::NoMemory),
-    };
-    match read(alloc, &bytes) {
-        Ok(json) => take_tree(alloc, &json, into),
-        Err(JsonFault::NoMemory) => Err(LoadFault::NoMemory),
-        Err(_) => Err(LoadFault::NotJson(name)),
+    if let Some(bytes) = folder.lend(name.as_str()) {
+        return take_bytes(alloc, bytes, name, into);
+    }
+    match folder.read(alloc, name.as_str()) {
+        Ok(bytes) => take_bytes(alloc, &bytes, name, into),
+        Err(FolderFault::Device) => Err(LoadFault::Unread(name)),
+        Err(FolderFault::NoMemory) => Err(LoadFault::NoMemory),
     }
 }
 

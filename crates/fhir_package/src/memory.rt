@@ -1,19 +1,26 @@
 //! A folder over memory.
 
-ghost use Rattle.std.specs.Prelude.{◌≡◌, ◌+◌, [], Some, option_map, string_bytes, map, IfOk, IfSome};
+ghost use Rattle.std.specs.Prelude.{◌≡◌, ◌+◌, [], Some, option_map, string_bytes, map, IfOk, IfSome, OnOk};
 ghost use Rattle.std.specs.Option.{option_copied};
+ghost use Rattle.std.specs.List.{slice_get};
 ghost use Rattle.std.specs.Map.{keys_of, lookup};
 ghost use Rattle.std.specs.Str.{bytes_eq};
+ghost use Rattle.fhir_names.specs.Places.{Finds};
 ghost use Rattle.fhir_package.specs.Folder.{failures_in, failed};
-ghost use Rattle.fhir_package.specs.Memory.{kept_bytes, stored, listed, files_of, failures_of};
+ghost use Rattle.fhir_package.specs.Memory.{kept_bytes, file_seen, stored, listed, files_of, failures_of};
 
 use crate::folder::{Folder, FolderFault};
-use std::alloc::Global;
+use fhir_json::NoMemory;
+use fhir_names::Index;
+use std::alloc::{AllocError, Global};
+use std::marker::Model;
 
 /// A file that is kept: its name, and its bytes, or none where the device fails to give them.
 #[derive(Debug, Drop)]
 pub struct StoredFile {
+    /// The file's name in its folder.
     pub name: String,
+    /// Its bytes, if the device gives them.
     pub bytes: Option<Vec<u8>>,
 }
 
@@ -21,59 +28,86 @@ pub struct StoredFile {
 #[derive(Drop)]
 pub struct MemoryFolder {
     files: Option<Vec<StoredFile>>,
+    names: Index,
     failures: u64,
 }
 
+impl Model for MemoryFolder {
+    ghost use Rattle.fhir_package.specs.Memory.{FolderValue, listed};
+
+    ghost Value = { FolderValue };
+
+    ghost use Rattle.std.specs.Map.{keys_of};
+    ghost use Rattle.fhir_names.specs.Places.{Finds};
+
+    ghost view = { λ m. record { files = listed m.files; failures = m.failures } };
+
+    ghost invariant = { λ m. Finds m.names (keys_of (listed m.files)) };
+}
+
+fn index_of(alloc: Global, files: &[StoredFile]) -> Result<Index, AllocError>
+    ensures { IfOk result (λ names. Finds names (keys_of (stored files.now))) }
+{
+    let mut names = Index::new(alloc);
+    for (place, file) in files.iter().enumerate() {
+        names.add(alloc, file.name.as_str(), place)?;
+    }
+    Ok(names)
+}
+
 impl MemoryFolder {
-    /// A folder of these files. Of files of one name the first is read.
-    pub fn new(files: Vec<StoredFile>) -> MemoryFolder
-        ensures files { files_of result ≡ stored files.items }
-        ensures failures { failures_of result ≡ 0 }
+    /// A folder of these files. Of files of one name the first is read. The one refusal is want of memory.
+    pub fn new(alloc: Global, files: Vec<StoredFile>) -> Result<MemoryFolder, NoMemory>
+        ensures files { IfOk result (λ folder. files_of folder ≡ stored files.items) }
+        ensures failures { IfOk result (λ folder. failures_of folder ≡ 0) }
     {
-        MemoryFolder {
+        let names = index_of(alloc, &files)?;
+        Ok(MemoryFolder {
             files: Some(files),
+            names,
             failures: 0,
-        }
+        })
     }
 
     /// A folder that the device doesn't list. It has no files, and each listing and each read of it fails.
-    pub fn unlisted() -> MemoryFolder
+    pub fn unlisted(alloc: Global) -> MemoryFolder
         ensures files { files_of result ≡ [] }
         ensures failures { failures_of result ≡ 0 }
     {
         MemoryFolder {
             files: None,
+            names: Index::new(alloc),
             failures: 0,
         }
     }
 }
 
-fn is_named(file: &StoredFile, name: &str) -> bool
-    ensures { result ≡ bytes_eq name.now (string_bytes file.now.name) }
+fn file_at(files: &[StoredFile], place: usize) -> Option<&StoredFile>
+    ensures { option_map file_seen (option_copied result) ≡ slice_get (stored files.now) place }
 {
-    name == file.name.as_str()
+    files.get(place)
 }
 
-fn file_of<'f>(files: &'f [StoredFile], name: &str) -> Option<&'f StoredFile>
+fn file_of<'f>(files: &'f [StoredFile], names: &Index, name: &str) -> Option<&'f StoredFile>
+    requires { Finds names.now (keys_of (stored files.now)) }
     ensures { option_map (λ f. kept_bytes f.bytes) (option_copied result)
         ≡ lookup (bytes_eq name.now) (stored files.now) }
 {
-    for file in files {
-        if is_named(file, name) {
-            return Some(file);
-        }
+    match names.get(name) {
+        Some(place) => file_at(files, place),
+        None => None,
     }
-    None
 }
 
 // The bytes of a name, where the device gives them.
-fn bytes_of<'f>(files: &'f Option<Vec<StoredFile>>, name: &str) -> Option<&'f [u8]>
+fn bytes_of<'f>(files: &'f Option<Vec<StoredFile>>, names: &Index, name: &str) -> Option<&'f [u8]>
+    requires { Finds names.now (keys_of (listed files.now)) }
     ensures { IfSome result (λ bytes. lookup (bytes_eq name.now) (listed files.now) ≡ Some bytes.now) }
 {
     let Some(files) = files else {
         return None;
     };
-    match file_of(files, name) {
+    match file_of(files, names, name) {
         Some(
             StoredFile {
                 bytes: Some(bytes),
@@ -123,8 +157,12 @@ impl Folder for MemoryFolder {
         }
     }
 
+    fn lend(&self, name: &str) -> Option<&[u8]> {
+        bytes_of(&self.files, &self.names, name)
+    }
+
     fn read(&mut self, alloc: Global, name: &str) -> Result<Vec<u8>, FolderFault> {
-        match bytes_of(&self.files, name) {
+        match bytes_of(&self.files, &self.names, name) {
             Some(bytes) => Ok(bytes.to_vec(alloc)?),
             None => Err(device_fault(&mut self.failures)),
         }

@@ -1,12 +1,10 @@
 //! The definitions of a package.
 
-ghost use Rattle.std.specs.Prelude.{◌≡◌, length, string_bytes, slice_get, OnOk};
+ghost use Rattle.std.specs.Prelude.{◌≡◌, [], ◌∷◌, ◌++◌, length, slice_get, Ok, Err, OnOk};
 ghost use Rattle.std.specs.Map.{keys_of, lookup};
 ghost use Rattle.std.specs.Option.{option_map};
 ghost use Rattle.std.specs.Str.{bytes_eq};
-ghost use Rattle.indexmap.specs.IndexMap.{insert_entry};
 ghost use Rattle.fhir_json.specs.View.{tree_of, tree_seen};
-ghost use Rattle.fhir_package.specs.View.{entries_seen};
 ghost use Rattle.fhir_package.specs.Definitions.{no_definitions, of_kind, with_kind, at_url};
 ghost use Rattle.fhir_package.specs.Canonical.{at_version, named_by};
 ghost use Rattle.fhir_package.specs.Packing.{join, or_clash};
@@ -15,20 +13,19 @@ ghost use Rattle.fhir_package.specs.Faults.{IsRefused, IsTaken, failures_told, f
 use crate::canonical::is_of_version;
 use crate::fault::LoadFault;
 use crate::kind::Kind;
+use crate::url_map::{UrlEntry, UrlMap};
 use fhir_json::{Json, NoMemory};
 use fhir_matching::json_eq;
 use fhir_names::Canonical;
-use indexmap::IndexMap;
-use indexmap::map::Keys;
 use std::alloc::Global;
 use std::marker::Model;
 
 /// The definitions of a package, of each kind in the order in which they were put in, under their urls.
 #[derive(Drop)]
 pub struct Package {
-    structure_definitions: IndexMap<String, Json<'static>>,
-    value_sets: IndexMap<String, Json<'static>>,
-    code_systems: IndexMap<String, Json<'static>>,
+    structure_definitions: UrlMap,
+    value_sets: UrlMap,
+    code_systems: UrlMap,
 }
 
 impl Model for Package {
@@ -41,50 +38,11 @@ impl Model for Package {
 
     ghost coded = { Prim.hlevel (codes, tree_code) };
 
-    ghost use Rattle.fhir_package.specs.View.{entries_seen};
-
     ghost view = { λ p. record {
-      structure_definitions = entries_seen p.structure_definitions.entries;
-      value_sets = entries_seen p.value_sets.entries;
-      code_systems = entries_seen p.code_systems.entries;
+      structure_definitions = p.structure_definitions;
+      value_sets = p.value_sets;
+      code_systems = p.code_systems;
     } };
-}
-
-fn found<'p>(map: &'p IndexMap<String, Json<'static>>, url: &str) -> Option<&'p Json<'static>>
-    ensures { tree_seen result ≡ lookup (bytes_eq url.now) (entries_seen map.now.entries) }
-{
-    map.get(url)
-}
-
-fn at_place<'p>(
-    map: &'p IndexMap<String, Json<'static>>,
-    place: usize,
-) -> Option<(&'p str, &'p Json<'static>)>
-    ensures { option_map (λ e. (e.0.now, tree_of e.1.now)) result
-        ≡ slice_get (entries_seen map.now.entries) place }
-{
-    match map.get_index(place) {
-        Some((url, tree)) => Some((url.as_str(), tree)),
-        None => None,
-    }
-}
-
-fn keys<'p>(map: &'p IndexMap<String, Json<'static>>) -> Names<'p>
-    ensures { result ≡ keys_of (entries_seen map.now.entries) }
-{
-    Names { keys: map.keys() }
-}
-
-fn put_in(
-    map: &mut IndexMap<String, Json<'static>>,
-    url: String,
-    tree: Json<'static>,
-) -> Result<(), NoMemory>
-    ensures { OnOk result (entries_seen map.new.entries
-        ≡ insert_entry bytes_eq (entries_seen map.old.entries) (string_bytes url) (tree_of tree.entry)) }
-{
-    map.insert(url, tree)?;
-    Ok(())
 }
 
 fn clash(alloc: Global, url: &str) -> LoadFault
@@ -103,9 +61,9 @@ impl Package {
         ensures { result ≡ no_definitions }
     {
         Package {
-            structure_definitions: IndexMap::new(alloc),
-            value_sets: IndexMap::new(alloc),
-            code_systems: IndexMap::new(alloc),
+            structure_definitions: UrlMap::new(alloc),
+            value_sets: UrlMap::new(alloc),
+            code_systems: UrlMap::new(alloc),
         }
     }
 
@@ -130,26 +88,28 @@ impl Package {
         }
     }
 
+    fn of_kind(&self, kind: Kind) -> &UrlMap
+        ensures { result.now ≡ of_kind kind self.now }
+    {
+        match kind {
+            Kind::StructureDefinition => &self.structure_definitions,
+            Kind::ValueSet => &self.value_sets,
+            Kind::CodeSystem => &self.code_systems,
+        }
+    }
+
     /// The definition at a url.
     pub fn at_url<'p>(&'p self, kind: Kind, url: &str) -> Option<&'p Json<'static>>
         ensures { tree_seen result ≡ at_url kind url.now self.now }
     {
-        match kind {
-            Kind::StructureDefinition => found(&self.structure_definitions, url),
-            Kind::ValueSet => found(&self.value_sets, url),
-            Kind::CodeSystem => found(&self.code_systems, url),
-        }
+        self.of_kind(kind).get(url)
     }
 
     /// How many definitions of a kind there are.
     pub fn len(&self, kind: Kind) -> usize
         ensures { result ≡ length (of_kind kind self.now) }
     {
-        match kind {
-            Kind::StructureDefinition => self.structure_definitions.len(),
-            Kind::ValueSet => self.value_sets.len(),
-            Kind::CodeSystem => self.code_systems.len(),
-        }
+        self.of_kind(kind).len()
     }
 
     /// The url and the tree at a place.
@@ -157,38 +117,38 @@ impl Package {
         ensures { option_map (λ e. (e.0.now, tree_of e.1.now)) result
             ≡ slice_get (of_kind kind self.now) place }
     {
-        match kind {
-            Kind::StructureDefinition => at_place(&self.structure_definitions, place),
-            Kind::ValueSet => at_place(&self.value_sets, place),
-            Kind::CodeSystem => at_place(&self.code_systems, place),
-        }
+        self.of_kind(kind).at(place)
     }
 
     /// The urls of a kind, in order.
     pub fn names(&self, kind: Kind) -> Names<'_>
         ensures { result ≡ keys_of (of_kind kind self.now) }
     {
-        match kind {
-            Kind::StructureDefinition => keys(&self.structure_definitions),
-            Kind::ValueSet => keys(&self.value_sets),
-            Kind::CodeSystem => keys(&self.code_systems),
+        Names {
+            rest: self.of_kind(kind).entries(),
         }
     }
 
-    // Puts a tree under a url of its kind; one that was there is replaced.
-    fn put(&mut self, kind: Kind, url: String, tree: Json<'static>) -> Result<(), NoMemory>
+    // Puts a tree behind the others of its kind.
+    fn push(
+        &mut self,
+        alloc: Global,
+        kind: Kind,
+        url: &str,
+        tree: Json<'static>,
+    ) -> Result<(), NoMemory>
         ensures { OnOk result (self.new ≡ with_kind kind
-            (insert_entry bytes_eq (of_kind kind self.old) (string_bytes url) (tree_of tree.entry)) self.old) }
+            (of_kind kind self.old ++ (url.now, tree_of tree.entry) ∷ []) self.old) }
     {
         match kind {
-            Kind::StructureDefinition => put_in(&mut self.structure_definitions, url, tree),
-            Kind::ValueSet => put_in(&mut self.value_sets, url, tree),
-            Kind::CodeSystem => put_in(&mut self.code_systems, url, tree),
+            Kind::StructureDefinition => self.structure_definitions.push(alloc, url, tree),
+            Kind::ValueSet => self.value_sets.push(alloc, url, tree),
+            Kind::CodeSystem => self.code_systems.push(alloc, url, tree),
         }
     }
 
-    // Puts a copy of a tree under a url of its kind.
-    fn put_copy(
+    // Puts a copy of a tree behind the others of its kind.
+    fn push_copy(
         &mut self,
         alloc: Global,
         kind: Kind,
@@ -196,12 +156,11 @@ impl Package {
         tree: &Json<'_>,
     ) -> Result<(), LoadFault>
         ensures taken { IsTaken result self.new (Ok (with_kind kind
-            (insert_entry bytes_eq (of_kind kind self.old) url.now (tree_of tree.now)) self.old)) }
+            (of_kind kind self.old ++ (url.now, tree_of tree.now) ∷ []) self.old)) }
         ensures blameless { failed_loading result ≡ 0 }
     {
-        let url = String::from_str(alloc, url)?;
         let tree = tree.detach(alloc)?;
-        Ok(self.put(kind, url, tree)?)
+        Ok(self.push(alloc, kind, url, tree)?)
     }
 
     /// Puts a definition behind the others of its kind, unless an equal one is there. Another one there is a clash.
@@ -217,7 +176,7 @@ impl Package {
         ensures blameless { failed_loading result ≡ 0 }
     {
         match self.at_url(kind, url) {
-            None => self.put_copy(alloc, kind, url, tree),
+            None => self.push_copy(alloc, kind, url, tree),
             Some(there) => {
                 if json_eq(there, tree) {
                     Ok(())
@@ -232,15 +191,17 @@ impl Package {
 /// The urls of a kind, in order.
 #[derive(Drop)]
 pub struct Names<'a> {
-    keys: Keys<'a, String, Json<'static>>,
+    rest: &'a [UrlEntry],
 }
 
 impl<'a> Model for Names<'a> {
-    ghost use Rattle.std.specs.Prelude.{ℕ, List, map, string_bytes};
+    ghost use Rattle.std.specs.Prelude.{ℕ, List};
+    ghost use Rattle.std.specs.Map.{keys_of};
+    ghost use Rattle.fhir_package.specs.View.{entries_seen};
 
     ghost Value = { List (List ℕ) };
 
-    ghost view = { λ n. map string_bytes n.keys };
+    ghost view = { λ n. keys_of (entries_seen n.rest.now) };
 }
 
 impl<'a> Iterator for Names<'a> {
@@ -253,9 +214,10 @@ impl<'a> Iterator for Names<'a> {
     ghost remaining = { item_count (λ n. n) };
 
     fn next(&mut self) -> Option<&'a str> {
-        match self.keys.next() {
-            Some(url) => Some(url.as_str()),
-            None => None,
-        }
+        let [first, rest @ ..] = self.rest else {
+            return None;
+        };
+        self.rest = rest;
+        Some(first.url.as_str())
     }
 }

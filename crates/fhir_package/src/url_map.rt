@@ -1,0 +1,124 @@
+//! Trees under urls.
+
+ghost use Rattle.std.specs.Prelude.{◌≡◌, [], ◌∷◌, ◌++◌, length, slice_get, OnOk};
+ghost use Rattle.std.specs.Option.{option_map, option_copied};
+ghost use Rattle.std.specs.Map.{keys_of, lookup};
+ghost use Rattle.std.specs.Str.{bytes_eq};
+ghost use Rattle.fhir_json.specs.View.{tree_of, tree_seen};
+ghost use Rattle.fhir_package.specs.View.{entries_seen, entry_seen};
+
+use fhir_json::{Json, NoMemory};
+use fhir_names::Index;
+use std::alloc::Global;
+use std::marker::Model;
+
+/// A tree and its url.
+#[derive(Drop)]
+pub(crate) struct UrlEntry {
+    pub(crate) url: String,
+    pub(crate) tree: Json<'static>,
+}
+
+/// Trees under their urls, in the order in which they were put in.
+#[derive(Drop)]
+pub(crate) struct UrlMap {
+    entries: Vec<UrlEntry>,
+    urls: Index,
+}
+
+impl Model for UrlMap {
+    ghost use Rattle.fhir_package.specs.Definitions.{Entries};
+
+    ghost Value = { Entries };
+
+    ghost use Rattle.fhir_json.specs.Coding.{tree_code};
+    ghost use Rattle.std.specs.Coded.{codes};
+
+    ghost coded = { Prim.hlevel (codes, tree_code) };
+
+    ghost use Rattle.std.specs.Map.{keys_of};
+    ghost use Rattle.fhir_names.specs.Places.{Finds};
+    ghost use Rattle.fhir_package.specs.View.{entries_seen};
+
+    ghost view = { λ m. entries_seen m.entries.items };
+
+    ghost invariant = { λ m. Finds m.urls (keys_of (entries_seen m.entries.items)) };
+}
+
+fn entry_at(entries: &[UrlEntry], place: usize) -> Option<&UrlEntry>
+    ensures { option_map entry_seen (option_copied result) ≡ slice_get (entries_seen entries.now) place }
+{
+    entries.get(place)
+}
+
+fn tree_at(entries: &[UrlEntry], place: usize) -> Option<&Json<'static>>
+    ensures { tree_seen result ≡ option_map (λ e. e.1) (slice_get (entries_seen entries.now) place) }
+{
+    match entry_at(entries, place) {
+        Some(entry) => Some(&entry.tree),
+        None => None,
+    }
+}
+
+impl UrlMap {
+    /// No trees, which allocates nothing.
+    pub(crate) fn new(alloc: Global) -> UrlMap
+        ensures { result ≡ [] }
+    {
+        UrlMap {
+            entries: Vec::new(alloc),
+            urls: Index::new(alloc),
+        }
+    }
+
+    /// The tree under a url.
+    pub(crate) fn get(&self, url: &str) -> Option<&Json<'static>>
+        ensures { tree_seen result ≡ lookup (bytes_eq url.now) self.now }
+    {
+        match self.urls.get(url) {
+            Some(place) => tree_at(&self.entries, place),
+            None => None,
+        }
+    }
+
+    /// The url and the tree at a place.
+    pub(crate) fn at(&self, place: usize) -> Option<(&str, &Json<'static>)>
+        ensures { option_map (λ e. (e.0.now, tree_of e.1.now)) result ≡ slice_get self.now place }
+    {
+        let entry = entry_at(&self.entries, place)?;
+        Some((entry.url.as_str(), &entry.tree))
+    }
+
+    /// How many there are.
+    pub(crate) fn len(&self) -> usize
+        ensures { result ≡ length self.now }
+    {
+        self.entries.len()
+    }
+
+    /// The urls with their trees, in order.
+    pub(crate) fn entries(&self) -> &[UrlEntry]
+        ensures { entries_seen result.now ≡ self.now }
+    {
+        &self.entries
+    }
+
+    /// Puts a tree under a url behind the others. Where another is there, that one is still found.
+    pub(crate) fn push(
+        &mut self,
+        alloc: Global,
+        url: &str,
+        tree: Json<'static>,
+    ) -> Result<(), NoMemory>
+        ensures { OnOk result (self.new ≡ self.old ++ (url.now, tree_of tree.entry) ∷ []) }
+    {
+        let own_url = String::from_str(alloc, url)?;
+        let place = self.entries.len();
+        self.entries.push(UrlEntry { url: own_url, tree })?;
+        if self.urls.add(alloc, url, place).is_err() {
+            let _entry = self.entries.pop();
+            return Err(NoMemory);
+        }
+        Ok(())
+    }
+}
