@@ -1,4 +1,3 @@
-pub mod Texts
 pub mod Finding
 pub mod Rounds
 pub mod Gathers
@@ -6,3 +5,6 @@ pub mod Settles
 pub mod Made
 pub mod Covered
 pub mod Nodes
+pub mod Stepping
+pub mod Roots
+pub mod Firsts

@@ -4,7 +4,7 @@ pub mod Structure
 pub mod Settling
 pub mod Usability
 pub mod Schemas
-pub mod Places
+pub mod Chains
 pub mod Tables
 pub mod Gathering
 pub mod Covers

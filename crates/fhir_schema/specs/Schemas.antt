@@ -1,5 +1,5 @@
 -- The schema of a package: its structures, which of them can be used, and the nodes of those.
-use Rattle.std.specs.Prelude.{ℕ, List, [], length, get_or, Bool, false, not, ◌&&◌, nat_lt, Option, None, is_some, if◌then◌else◌}
+use Rattle.std.specs.Prelude.{ℕ, List, [], length, get_or, Bool, not, ◌&&◌, nat_lt, nat_eq, Option, None, Some, is_some, if◌then◌else◌}
 use Rattle.std.specs.Option.{option_map, option_map_or, option_and_then}
 use Rattle.std.specs.List.{slice_get, find}
 use Rattle.std.specs.Str.{bytes_eq}
@@ -9,7 +9,7 @@ use Rattle.fhir_elements.specs.declared.reason.Reason.{Reason}
 use Rattle.fhir_elements.specs.Parts.{Entry}
 use Rattle.fhir_elements.specs.Element.{Element}
 use Rattle.fhir_schema.specs.declared.node.NodeRef.{NodeRef}
-use Rattle.fhir_schema.specs.Slots.{Slot, id_place, id_at, is_root}
+use Rattle.fhir_schema.specs.Slots.{Slot, id_place, id_at, is_at}
 use Rattle.fhir_schema.specs.Structure.{Structure, structures_from}
 use Rattle.fhir_schema.specs.Settling.{Found, settled, url_place, reason_at}
 
@@ -49,18 +49,20 @@ url_at s place = option_map_or (λ d. d.url) (slice_get s.structures place) []
 abbrev pub id_of_node : SchemaValue → NodeRef → Text
 id_of_node s n = id_at (elements_at s n.definition) n.element
 
-abbrev pub is_root_node : SchemaValue → NodeRef → Bool
-is_root_node s n = option_map_or is_root (element_at s n) false
-
 -- the node of an element of a definition
 abbrev pub node_in : SchemaValue → ℕ → Option ℕ → Option NodeRef
 node_in s place element =
     if is_usable s place then option_map (λ e. record { definition = place; element = e }) element else None
 
--- the root of the definition at a url
+-- the place of a definition's root
 abbrev pub root_place : SchemaValue → ℕ → Option ℕ
 root_place s place = option_and_then (λ d. d.root) (slice_get s.structures place)
 
+-- the node is its definition's root
+abbrev pub is_root_node : SchemaValue → NodeRef → Bool
+is_root_node s n = is_at n.element (root_place s n.definition)
+
+-- the root of a definition, and that of the definition at a url
 abbrev pub root_in : SchemaValue → ℕ → Option NodeRef
 root_in s place = node_in s place (root_place s place)
 
@@ -83,9 +85,10 @@ slots s n = option_map_or (λ d. get_or d.slots n.element []) (slice_get s.struc
 abbrev pub kids : SchemaValue → NodeRef → Text → Option Slot
 kids s n name = find (λ slot. bytes_eq name slot.name) (slots s n)
 
--- a root has no type entries; those that are written there are passed over
-abbrev pub types_in : Element → List Entry
-types_in e = if is_root e then [] else e.types
+-- the node that has the node's children, which is the node itself, if it has any
+abbrev pub holder : SchemaValue → NodeRef → Option NodeRef
+holder s n = if nat_eq (length (slots s n)) 0 then None else Some n
 
+-- the node's type entries; a root has none, and those that are written there are passed over
 abbrev pub types : SchemaValue → NodeRef → List Entry
-types s n = option_map_or types_in (element_at s n) []
+types s n = if is_root_node s n then [] else option_map_or (λ e. e.types) (element_at s n) []

@@ -24,16 +24,16 @@ pub(crate) fn element_trees<'t, 'j>(json: &'t Json<'j>) -> &'t [Json<'j>]
 }
 
 /// The reason of the lowest number among those of the elements.
-pub(crate) fn least_fault(items: &[Json<'_>]) -> Option<Reason>
-    ensures { result ≡ least_fault (trees_of items.now) }
+pub(crate) fn least_fault(alloc: Global, items: &[Json<'_>]) -> Result<Option<Reason>, NoMemory>
+    ensures { IfOk result (λ fault. fault ≡ least_fault (trees_of items.now)) }
 {
     let mut least = None;
     let mut i = items.len();
     while i > 0 {
         i -= 1;
-        least = least_of(element_fault(&items[i]), least);
+        least = least_of(element_fault(alloc, &items[i])?, least);
     }
-    least
+    Ok(least)
 }
 
 /// What the elements say.

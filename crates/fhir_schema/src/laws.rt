@@ -8,8 +8,8 @@ ghost use Rattle.fhir_schema.specs.Settling.{Found};
 ghost use Rattle.fhir_schema.specs.Usability.{AllApply, IsClosed, IsWithin};
 ghost use Rattle.fhir_json.specs.Tree.{Text};
 ghost use Rattle.fhir_schema.specs.declared.node.NodeRef.{NodeRef};
-ghost use Rattle.fhir_schema.specs.Schemas.{SchemaValue, schema_of, has, node};
-ghost use Rattle.fhir_schema.specs.Covers.{names_resource, covers};
+ghost use Rattle.fhir_schema.specs.Schemas.{SchemaValue, schema_of, has, node, root, is_root_node};
+ghost use Rattle.fhir_schema.specs.Covers.{names_resource, covers, type_root};
 
 /// The definitions that can't be used are the least closed set: no reason applies to any other, each of them has one
 /// that applies, and no smaller set is closed.
@@ -33,4 +33,10 @@ pub fn covering_codes()
 /// A node that is found by its url and id is one of the schema's.
 pub fn named_nodes()
     ensures { (s : SchemaValue) (url id : Text) (n : NodeRef) → node s url id ≡ Some n → IsTrue (has s n) }
+{}
+
+/// The root of a definition that is found by its url, or by the type that it defines, is a root.
+pub fn roots_are_roots()
+    ensures of_url { (s : SchemaValue) (url : Text) (n : NodeRef) → root s url ≡ Some n → IsTrue (is_root_node s n) }
+    ensures of_type { (s : SchemaValue) (code : Text) (n : NodeRef) → type_root s code ≡ Some n → IsTrue (is_root_node s n) }
 {}

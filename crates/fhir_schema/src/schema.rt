@@ -2,17 +2,14 @@
 
 ghost use Rattle.std.specs.Prelude.{◌≡◌};
 ghost use Rattle.std.specs.Option.{option_copied};
-ghost use Rattle.std.specs.List.{find};
-ghost use Rattle.std.specs.Str.{bytes_eq};
 ghost use Rattle.fhir_json.specs.Memory.{Gives};
-ghost use Rattle.fhir_schema.specs.Schemas.{schema_of, unusable, is_usable, elements_at, has, element_at, url_at, id_of_node, is_root_node, node_in, root_place, root_in, root, node_with, node, slots, kids, types_in, types};
+ghost use Rattle.fhir_schema.specs.Schemas.{schema_of, unusable, is_usable, elements_at, has, element_at, url_at, id_of_node, is_root_node, node_in, root_place, root_in, root, node_with, node, slots, kids, holder, types};
 ghost use Rattle.fhir_schema.specs.Covers.{type_at, type_root, covers};
 
 use crate::covering::covers;
 use crate::node::NodeRef;
 use crate::settling::settled;
 use crate::slots::Slot;
-use crate::snapshot::is_root;
 use crate::table::Table;
 use crate::types::reason_at;
 use fhir_elements::{ElementDef, Reason, TypeEntry};
@@ -168,8 +165,8 @@ impl Schema {
     pub fn is_root(&self, node: NodeRef) -> bool
         ensures { result ≡ is_root_node self.now node }
     {
-        match self.element(node) {
-            Some(element) => is_root(element),
+        match self.root_place(node.definition) {
+            Some(root) => node.element == root,
             None => false,
         }
     }
@@ -189,15 +186,32 @@ impl Schema {
     pub fn kids(&self, node: NodeRef, name: &str) -> Option<&Slot>
         ensures { option_copied result ≡ kids self.now node name.now }
     {
-        slot_named(self.slots(node), name)
+        match self.table.structure(node.definition) {
+            Some(structure) => structure.find_slot(node.element, name),
+            None => None,
+        }
+    }
+
+    /// The node that has a node's children: the node itself, if it has any. A node without children has none.
+    pub fn holder(&self, node: NodeRef) -> Option<NodeRef>
+        ensures { result ≡ holder self.now node }
+    {
+        if self.slots(node).is_empty() {
+            None
+        } else {
+            Some(node)
+        }
     }
 
     /// The type entries of a node. A root has none, whatever is written there.
     pub fn types(&self, node: NodeRef) -> &[TypeEntry]
         ensures { result.now ≡ types self.now node }
     {
+        if self.is_root(node) {
+            return Default::default();
+        }
         match self.element(node) {
-            Some(element) => types_in(element),
+            Some(element) => element.types(),
             None => Default::default(),
         }
     }
@@ -235,26 +249,5 @@ impl Schema {
         ensures { result ≡ covers self.now code.now other.now }
     {
         covers(&self.table, code, other)
-    }
-}
-
-fn slot_named<'s>(slots: &'s [Slot], name: &str) -> Option<&'s Slot>
-    ensures { option_copied result ≡ find (λ slot. bytes_eq name.now slot.name) slots.entry.now }
-{
-    for slot in slots {
-        if name == slot.name() {
-            return Some(slot);
-        }
-    }
-    None
-}
-
-fn types_in(element: &ElementDef) -> &[TypeEntry]
-    ensures { result.now ≡ types_in element.now }
-{
-    if is_root(element) {
-        Default::default()
-    } else {
-        element.types()
     }
 }

@@ -1,16 +1,24 @@
 //! Which definitions can't be used, found in rounds.
 
-ghost use Rattle.std.specs.Prelude.{◌≡◌, IfOk, IsTrue};
-ghost use Rattle.fhir_schema.specs.Settling.{reason_of, round, none_found, settled};
+ghost use Rattle.std.specs.Prelude.{◌≡◌, map, IfOk, IsTrue};
+ghost use Rattle.fhir_schema.specs.Settling.{chain_ends, reason_of, round, none_found, settled};
 
+use crate::chains::chains_end;
 use crate::reasons::where_not;
 use crate::structure::StructureDef;
 use crate::table::Table;
-use crate::types::{chain_ends, is_first_of_type, is_flat, reason_at, types_are_usable};
+use crate::types::{is_first_of_type, is_flat, reason_at, types_are_usable};
 use fhir_elements::Reason;
 use std::alloc::{AllocError, Global};
 
-fn reason_of(table: &Table, found: &[Option<Reason>], structure: &StructureDef) -> Option<Reason>
+// Why a definition can't be used, as far as is found; its chain of bases ends, or doesn't.
+fn reason_of(
+    table: &Table,
+    found: &[Option<Reason>],
+    structure: &StructureDef,
+    is_ending: bool,
+) -> Option<Reason>
+    requires { is_ending ≡ chain_ends table.now structure.now }
     ensures { result ≡ reason_of table.now found.now structure.now }
 {
     if let Some(reason) = reason_at(found, structure.place()) {
@@ -26,7 +34,7 @@ fn reason_of(table: &Table, found: &[Option<Reason>], structure: &StructureDef) 
     if !is_tree {
         return Some(Reason::NoTree);
     }
-    if !chain_ends(table, structure) {
+    if !is_ending {
         return Some(Reason::BaseCycle);
     }
     if !structure.has_snapshot() {
@@ -41,13 +49,22 @@ fn reason_of(table: &Table, found: &[Option<Reason>], structure: &StructureDef) 
 fn round(
     alloc: Global,
     table: &Table,
+    ends: &[bool],
     found: &[Option<Reason>],
 ) -> Result<Vec<Option<Reason>>, AllocError>
+    requires { ends.now ≡ map (chain_ends table.now) table.now }
     ensures { IfOk result (λ v. v.items ≡ round table.now found.now) }
 {
     let mut all = Vec::new(alloc);
-    for structure in table.structures() {
-        all.push(reason_of(table, found, structure))?;
+    let mut left = table.structures();
+    let mut ends_left = ends;
+    while let [structure, structures @ ..] = left {
+        let [is_ending, endings @ ..] = ends_left else {
+            return Ok(all);
+        };
+        all.push(reason_of(table, found, structure, *is_ending))?;
+        left = structures;
+        ends_left = endings;
     }
     Ok(all)
 }
@@ -100,9 +117,10 @@ fn are_same(a: &[Option<Reason>], b: &[Option<Reason>]) -> bool
 pub(crate) fn settled(alloc: Global, table: &Table) -> Result<Vec<Option<Reason>>, AllocError>
     ensures { IfOk result (λ v. v.items ≡ settled table.now) }
 {
+    let ends = chains_end(alloc, table)?;
     let mut found = none_found(alloc, table)?;
     for k in 0..table.structures().len() {
-        let next = round(alloc, table, &found)?;
+        let next = round(alloc, table, &ends, &found)?;
         if are_same(&next, &found) {
             return Ok(found);
         }

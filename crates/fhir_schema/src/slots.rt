@@ -6,6 +6,7 @@ ghost use Rattle.fhir_names.specs.Parents.{slice_of};
 ghost use Rattle.fhir_schema.specs.Slots.{gathered, children_of, slices_of, id_at, slice_at, slot_at, slots_with, slots_of};
 ghost use Rattle.fhir_schema.specs.Gathering.{lists_in, put_at};
 
+use crate::slot_list::SlotList;
 use crate::snapshot::Snapshot;
 use fhir_elements::ElementDef;
 use fhir_names::{name_of, slice_of};
@@ -180,14 +181,14 @@ fn slots_with(
     elements: &[ElementDef],
     slices: &[Vec<usize>],
     places: &[usize],
-) -> Result<Vec<Slot>, AllocError>
-    ensures { IfOk result (λ v. v.items ≡ slots_with elements.now (lists_in slices.now) places.now) }
+) -> Result<SlotList, AllocError>
+    ensures { IfOk result (λ l. l ≡ slots_with elements.now (lists_in slices.now) places.now) }
 {
-    let mut slots = Vec::new(alloc);
+    let mut slots = Vec::with_capacity(alloc, places.len())?;
     for place in places {
         slots.push(slot_at(alloc, elements, slices, *place)?)?;
     }
-    Ok(slots)
+    SlotList::of(alloc, slots)
 }
 
 fn all_slots(
@@ -195,8 +196,8 @@ fn all_slots(
     elements: &[ElementDef],
     slices: &[Vec<usize>],
     children: &[Vec<usize>],
-) -> Result<Vec<Vec<Slot>>, AllocError>
-    ensures { IfOk result (λ v. map (λ w. w.items) v.items
+) -> Result<Vec<SlotList>, AllocError>
+    ensures { IfOk result (λ v. v.items
         ≡ map (slots_with elements.now (lists_in slices.now)) (lists_in children.now)) }
 {
     let mut all = Vec::new(alloc);
@@ -223,8 +224,8 @@ fn slices_of(alloc: Global, snapshot: &Snapshot) -> Result<Vec<Vec<usize>>, Allo
 }
 
 /// The slots of each element.
-pub(crate) fn slots_of(alloc: Global, snapshot: &Snapshot) -> Result<Vec<Vec<Slot>>, AllocError>
-    ensures { IfOk result (λ v. map (λ w. w.items) v.items ≡ slots_of snapshot.now) }
+pub(crate) fn slots_of(alloc: Global, snapshot: &Snapshot) -> Result<Vec<SlotList>, AllocError>
+    ensures { IfOk result (λ v. v.items ≡ slots_of snapshot.now) }
 {
     let children = children_of(alloc, snapshot)?;
     let slices = slices_of(alloc, snapshot)?;

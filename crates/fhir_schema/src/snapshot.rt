@@ -7,9 +7,8 @@ ghost use Rattle.fhir_elements.specs.Element.{Element};
 ghost use Rattle.fhir_schema.specs.Slots.{id_place, is_at, are_first, ids_differ, up_of, is_root, has_parent, is_tree, child_place, slice_place};
 ghost use Rattle.fhir_schema.specs.Tables.{FindsIds};
 
-use crate::index::Index;
 use fhir_elements::ElementDef;
-use fhir_names::{front_of, slice_of, sliced_of};
+use fhir_names::{Index, front_of, slice_of, sliced_of};
 use std::alloc::{AllocError, Global};
 use std::marker::Model;
 

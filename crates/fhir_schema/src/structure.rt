@@ -1,8 +1,9 @@
 //! A definition by itself.
 
 ghost use Rattle.std.specs.Prelude.{◌≡◌, ◌&&◌, ◌==◌, ◌||◌, not, length, map, get_or, [], is_some, true, false, IfOk, codes, string_bytes, nat_lt};
-ghost use Rattle.std.specs.Option.{option_map, option_map_or};
-ghost use Rattle.std.specs.List.{list_all, position};
+ghost use Rattle.std.specs.Option.{option_map, option_map_or, option_copied};
+ghost use Rattle.std.specs.List.{list_all, position, find};
+ghost use Rattle.std.specs.Str.{bytes_eq};
 ghost use Rattle.fhir_json.specs.Fields.{field, text_in, flag_in};
 ghost use Rattle.fhir_json.specs.View.{tree_of, text_seen, tree_seen};
 ghost use Rattle.fhir_schema.specs.Slots.{is_root};
@@ -12,6 +13,7 @@ ghost use Rattle.fhir_schema.specs.Structure.{is_blank, is_uri, kind_in, is_prim
 use crate::elements::{are_whole, element_trees, elements_of, least_fault};
 use crate::kind::{TypeKind, is_primitive_kind, kind_of};
 use crate::reasons::{first_of, where_not};
+use crate::slot_list::SlotList;
 use crate::slots::{Slot, slots_of};
 use crate::snapshot::{Snapshot, is_root};
 use crate::supported::are_plain;
@@ -40,11 +42,11 @@ pub(crate) struct StructureDef {
     is_plain: bool,
     snapshot: Snapshot,
     root: Option<usize>,
-    slots: Vec<Vec<Slot>>,
+    slots: Vec<SlotList>,
 }
 
 impl Model for StructureDef {
-    ghost use Rattle.std.specs.Prelude.{map, string_bytes};
+    ghost use Rattle.std.specs.Prelude.{string_bytes};
     ghost use Rattle.std.specs.Option.{option_map};
     ghost use Rattle.fhir_json.specs.View.{tree_of};
     ghost use Rattle.fhir_schema.specs.Structure.{Structure};
@@ -71,7 +73,7 @@ impl Model for StructureDef {
       is_plain = d.is_plain;
       elements = d.snapshot;
       root = d.root;
-      slots = map (λ v. v.items) d.slots.items;
+      slots = d.slots.items;
     } };
 }
 
@@ -203,16 +205,21 @@ fn head_fits(url: &str, json: &Json<'_>) -> bool
         && snapshot_fits(json)
 }
 
-fn own_fault(url: &str, json: &Json<'_>, snapshot: &Snapshot) -> Option<Reason>
-    ensures { result ≡ own_fault url.now (tree_of json.now) snapshot.now }
+fn own_fault(
+    alloc: Global,
+    url: &str,
+    json: &Json<'_>,
+    snapshot: &Snapshot,
+) -> Result<Option<Reason>, NoMemory>
+    ensures { IfOk result (λ fault. fault ≡ own_fault url.now (tree_of json.now) snapshot.now) }
 {
     let fields_fit = head_fits(url, json) && are_whole(snapshot.elements());
-    let of_elements = least_fault(element_trees(json));
+    let of_elements = least_fault(alloc, element_trees(json))?;
     let of_ids = where_not(snapshot.ids_differ(), Reason::WrongId);
-    first_of(
+    Ok(first_of(
         where_not(fields_fit, Reason::WrongField),
         first_of(of_elements, of_ids),
-    )
+    ))
 }
 
 fn is_abstract(json: &Json<'_>) -> bool
@@ -273,6 +280,7 @@ pub(crate) fn structure_of(
     let version = version_of(alloc, json)?;
     let type_code = String::from_str(alloc, text_at(json, "type"))?;
     let base = base_of(alloc, json)?;
+    let fault = own_fault(alloc, url, json, &snapshot)?;
     Ok(StructureDef {
         place,
         url: url_text,
@@ -282,7 +290,7 @@ pub(crate) fn structure_of(
         type_code,
         is_type: is_type_definition(json),
         base,
-        fault: own_fault(url, json, &snapshot),
+        fault,
         has_snapshot: snapshot.elements().len() > 0,
         is_tree: snapshot.is_tree(),
         is_plain: is_plain(json, &snapshot),
@@ -382,8 +390,18 @@ impl StructureDef {
         ensures { result.now ≡ get_or self.now.slots element [] }
     {
         match self.slots.get(element) {
-            Some(slots) => slots,
+            Some(list) => list.slots(),
             None => Default::default(),
+        }
+    }
+
+    /// The first slot of a name among those of an element.
+    pub(crate) fn find_slot(&self, element: usize, name: &str) -> Option<&Slot>
+        ensures { option_copied result ≡ find (λ slot. bytes_eq name.now slot.name) (get_or self.now.slots element []) }
+    {
+        match self.slots.get(element) {
+            Some(list) => list.find(name),
+            None => None,
         }
     }
 }

@@ -8,9 +8,9 @@ ghost use Rattle.fhir_schema.specs.Structure.{Structure, structures_from};
 ghost use Rattle.fhir_schema.specs.Settling.{type_place, url_place};
 ghost use Rattle.fhir_schema.specs.Tables.{FindsTypes, FindsUrls};
 
-use crate::index::Index;
 use crate::structure::{StructureDef, structure_of};
 use fhir_json::NoMemory;
+use fhir_names::Index;
 use fhir_package::{Kind, Package};
 use std::alloc::{AllocError, Global};
 use std::marker::Model;

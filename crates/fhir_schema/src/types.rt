@@ -6,7 +6,7 @@ ghost use Rattle.std.specs.List.{list_all, slice_get};
 ghost use Rattle.fhir_json.specs.View.{tree_seen};
 ghost use Rattle.fhir_package.specs.Canonical.{has_version};
 ghost use Rattle.fhir_schema.specs.Slots.{is_at};
-ghost use Rattle.fhir_schema.specs.Settling.{is_versioned, where_versioned, version_place, canonical_place, reason_at, is_usable_type, is_system, entry_is_usable, element_is_usable, types_are_usable, base_place, base_of_place, ends_within, chain_ends, is_first_of_type, is_primitive, names_primitive, element_is_flat, is_flat};
+ghost use Rattle.fhir_schema.specs.Settling.{is_versioned, where_versioned, version_place, canonical_place, reason_at, is_usable_type, is_system, entry_is_usable, element_is_usable, types_are_usable, base_place, base_of_place, ends_within, is_first_of_type, is_primitive, names_primitive, element_is_flat, is_flat};
 
 use crate::kind::is_primitive_kind;
 use crate::snapshot::is_root;
@@ -131,7 +131,8 @@ pub(crate) fn types_are_usable(
         && elements_are_usable(table, found, structure.snapshot().elements())
 }
 
-fn base_place(table: &Table, structure: &StructureDef) -> Option<usize>
+/// The place of its base.
+pub(crate) fn base_place(table: &Table, structure: &StructureDef) -> Option<usize>
     ensures { result ≡ base_place table.now structure.now }
 {
     match structure.base() {
@@ -164,17 +165,6 @@ pub(crate) fn ends_within(table: &Table, steps: usize, start: Option<usize>) -> 
         at = base_of_place(table, place);
     }
     true
-}
-
-/// Whether the chain of its bases ends.
-pub(crate) fn chain_ends(table: &Table, structure: &StructureDef) -> bool
-    ensures { result ≡ chain_ends table.now structure.now }
-{
-    ends_within(
-        table,
-        table.structures().len(),
-        base_place(table, structure),
-    )
 }
 
 /// Whether it is the first of its type, if it is a type definition.

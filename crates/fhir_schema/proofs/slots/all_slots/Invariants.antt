@@ -4,4 +4,4 @@ use Rattle.fhir_schema.specs.Gathering.{lists_in}
 use Rattle.fhir_schema.proofs.slots.all_slots.Given as goal
 
 abbrev pub invariant-loop-places : goal.invariant-loop-places
-invariant-loop-places l = map (λ w. w.items) l.all.items ≡ map (slots_with l.elements (lists_in l.slices)) (lists_in (take l.places-index l.children))
+invariant-loop-places l = l.all.items ≡ map (slots_with l.elements (lists_in l.slices)) (lists_in (take l.places-index l.children))

@@ -18,7 +18,7 @@ returns c =
     (c.in_ok-type_code.ensures.ok ∙ c.text_at.ensures)
     c.is_type_definition.ensures
     c.in_ok-base.ensures
-    c.own_fault.ensures
+    c.in_ok-fault.ensures
     (ap (λ l. nat_lt 0 (length l)) c.elements.ensures)
     c.is_tree.ensures
     c.is_plain.ensures

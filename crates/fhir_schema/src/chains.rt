@@ -1,0 +1,91 @@
+//! The chains of bases: which of them end.
+
+ghost use Rattle.std.specs.Prelude.{◌≡◌, map, length, get_or, None, IfOk, if◌then◌else◌};
+ghost use Rattle.std.specs.Option.{option_and_then};
+ghost use Rattle.fhir_schema.specs.Settling.{base_place, chain_ends};
+ghost use Rattle.fhir_schema.specs.Chains.{bases_after};
+
+use crate::table::Table;
+use crate::types::base_place;
+use std::alloc::{AllocError, Global};
+
+// The place of each definition's base.
+fn bases_of(alloc: Global, table: &Table) -> Result<Vec<Option<usize>>, AllocError>
+    ensures { IfOk result (λ v. v.items ≡ bases_after table.now 0) }
+{
+    let mut places = Vec::new(alloc);
+    for structure in table.structures() {
+        places.push(base_place(table, structure))?;
+    }
+    Ok(places)
+}
+
+fn place_at(places: &[Option<usize>], at: Option<usize>) -> Option<usize>
+    ensures { result ≡ option_and_then (λ p. get_or places.now p None) at }
+{
+    match at {
+        Some(place) => places.get(place).copied().unwrap_or(None),
+        None => None,
+    }
+}
+
+// For each place the one to which further steps lead from it.
+fn followed(
+    alloc: Global,
+    places: &[Option<usize>],
+    further: &[Option<usize>],
+) -> Result<Vec<Option<usize>>, AllocError>
+    ensures { IfOk result (λ v. v.items ≡ map (option_and_then (λ p. get_or further.now p None)) places.now) }
+{
+    let mut ends = Vec::new(alloc);
+    for place in places {
+        ends.push(place_at(further, *place))?;
+    }
+    Ok(ends)
+}
+
+// The places, or those to which further steps lead from them.
+fn followed_if(
+    alloc: Global,
+    is_further: bool,
+    places: Vec<Option<usize>>,
+    further: &[Option<usize>],
+) -> Result<Vec<Option<usize>>, AllocError>
+    ensures { IfOk result (λ v. v.items ≡ (if is_further
+        then map (option_and_then (λ p. get_or further.now p None)) places.items else places.items)) }
+{
+    if is_further {
+        followed(alloc, &places, further)
+    } else {
+        Ok(places)
+    }
+}
+
+// Where each definition's chain of bases is after as many steps as there are definitions. Powers of a step are doubled, so
+// that n definitions cost n log n look-ups, whatever their chains are.
+fn places_at_end(alloc: Global, table: &Table) -> Result<Vec<Option<usize>>, AllocError>
+    ensures { IfOk result (λ v. v.items ≡ bases_after table.now (length table.now)) }
+{
+    let mut places = bases_of(alloc, table)?;
+    let mut power = bases_of(alloc, table)?;
+    let mut steps = table.structures().len();
+    while steps > 0 {
+        let is_odd = steps % 2 == 1;
+        places = followed_if(alloc, is_odd, places, &power)?;
+        power = followed(alloc, &power, &power)?;
+        steps /= 2;
+    }
+    Ok(places)
+}
+
+/// Of each definition, whether its chain of bases ends.
+pub(crate) fn chains_end(alloc: Global, table: &Table) -> Result<Vec<bool>, AllocError>
+    ensures { IfOk result (λ v. v.items ≡ map (chain_ends table.now) table.now) }
+{
+    let places = places_at_end(alloc, table)?;
+    let mut ends = Vec::with_capacity(alloc, places.len())?;
+    for place in &places {
+        ends.push(!place.is_some())?;
+    }
+    Ok(ends)
+}
