@@ -1,80 +1,77 @@
--- A schema of one resource with one element, and a profile that asks for it: what conforms, and what doesn't.
-use Rattle.std.specs.Prelude.{ℕ, List, [], ◌∷◌, Bool, true, false, None, Some, codes}
-use Rattle.fhir_json.specs.Tree.{Text, Tree, string, object, no_members, member}
-use Rattle.fhir_elements.specs.declared.codes.Max.TheVariants.{UpTo}
-use Rattle.fhir_elements.specs.Parts.{Entry}
-use Rattle.fhir_elements.specs.Element.{Element}
-use Rattle.fhir_schema.specs.declared.kind.TypeKind.{TypeKind}
-use Rattle.fhir_schema.specs.declared.kind.TypeKind.TheVariants.{Primitive, Resource}
-use Rattle.fhir_schema.specs.Slots.{slots_of}
-use Rattle.fhir_schema.specs.Structure.{Structure}
-use Rattle.fhir_schema.specs.Schemas.{SchemaValue}
+-- A package of one resource with a few elements, and two profiles of it: what conforms, and what doesn't.
+use Rattle.std.specs.Prelude.{[], ◌∷◌, true, codes}
+use Rattle.fhir_json.specs.Tree.{Text, Tree, string, number, array, object, no_items, item, Members, no_members, member}
+use Rattle.fhir_package.specs.Definitions.{Definitions}
+use Rattle.fhir_schema.specs.Schemas.{SchemaValue, schema_of}
 use Rattle.fhir_instance.specs.Typing.{LexicalSets}
 
-abbrev pub element : Text → ℕ → List Entry → Element
-element id least types = record {
-  id = id;
-  path = None;
-  slice_name = None;
-  min = Some least;
-  max = Some (UpTo 1);
-  types = types;
-  content_reference = None;
-  fixed = None;
-  pattern = None;
-  min_value = None;
-  max_value = None;
-  max_length = None;
-  binding = None;
-  constraints = [];
-  slicing = None;
-}
+-- an element of so many items
+abbrev pub element : Text → Text → Text → Members → Tree
+element id min max more =
+    object (member (codes "id") (string id) (member (codes "min") (number min) (member (codes "max") (string max) more)))
 
-abbrev pub structure : ℕ → Text → TypeKind → Text → Bool → List Element → Structure
-structure place url kind type is_type elements = record {
-  place = place;
-  url = url;
-  version = None;
-  kind = Some kind;
-  abstract = false;
-  type = type;
-  is_type = is_type;
-  base = None;
-  fault = None;
-  has_snapshot = true;
-  is_tree = true;
-  is_plain = true;
-  elements = elements;
-  root = Some 0;
-  slots = slots_of elements;
-}
+-- its one type is `string`
+abbrev pub of_string : Members
+of_string = member (codes "type") (array (item (object (member (codes "code") (string (codes "string")) no_members)) no_items)) no_members
 
-abbrev pub note : ℕ → Element
-note least =
-    element (codes "Thing.note") least (record { code = codes "string"; profiles = []; targets = [] } ∷ [])
+-- a StructureDefinition with a snapshot
+abbrev pub definition : Text → Text → Members → Tree
+definition kind type more =
+    object (member (codes "kind") (string kind) (member (codes "type") (string type) more))
 
-abbrev pub things : ℕ → List Element
-things least = element (codes "Thing") 0 [] ∷ note least ∷ []
+abbrev pub string_type : Tree
+string_type =
+    definition (codes "primitive-type") (codes "string")
+    (member (codes "snapshot") (object (member (codes "element")
+    (array (item (element (codes "string") (codes "0") (codes "*") no_members) no_items))
+    no_members)) no_members)
 
--- a primitive type, a resource with perhaps a note, and a profile with a note
-abbrev pub schema : SchemaValue
-schema = record {
-  structures =
-      structure 0 (codes "urn:string") Primitive (codes "string") true (element (codes "string") 0 [] ∷ [])
-      ∷ structure 1 (codes "urn:Thing") Resource (codes "Thing") true (things 0)
-      ∷ structure 2 (codes "urn:noted") Resource (codes "Thing") false (things 1)
+-- a resource of so many notes and resource types at least, and one of each at most
+abbrev pub snapshot_of_things : Text → Text → Members
+snapshot_of_things notes types =
+    member (codes "snapshot") (object (member (codes "element") (array
+    (item (element (codes "Thing") (codes "0") (codes "*") no_members)
+    (item (element (codes "Thing.note") notes (codes "1") of_string)
+    (item (element (codes "Thing.resourceType") types (codes "1") of_string)
+    no_items)))) no_members)) no_members
+
+abbrev pub thing_type : Tree
+thing_type = definition (codes "resource") (codes "Thing") (snapshot_of_things (codes "0") (codes "0"))
+
+abbrev pub thing_profile : Text → Text → Tree
+thing_profile notes types =
+    definition (codes "resource") (codes "Thing")
+    (member (codes "derivation") (string (codes "constraint"))
+    (member (codes "baseDefinition") (string (codes "urn:Thing")) (snapshot_of_things notes types)))
+
+-- a primitive type, a resource with perhaps a note, a profile that asks for a note, and one that asks for an element
+-- `resourceType`
+abbrev pub definitions : Definitions
+definitions = record {
+  structure_definitions =
+      (codes "urn:string", string_type)
+      ∷ (codes "urn:Thing", thing_type)
+      ∷ (codes "urn:noted", thing_profile (codes "1") (codes "0"))
+      ∷ (codes "urn:named", thing_profile (codes "0") (codes "1"))
       ∷ [];
-  found = None ∷ None ∷ None ∷ [];
+  value_sets = [];
+  code_systems = [];
 }
+
+abbrev pub schema : SchemaValue
+schema = schema_of definitions
+
+abbrev pub thing : Members → Tree
+thing more = object (member (codes "resourceType") (string (codes "Thing")) more)
 
 abbrev pub bare : Tree
-bare = object (member (codes "resourceType") (string (codes "Thing")) no_members)
+bare = thing no_members
 
 abbrev pub noted : Tree
-noted = object (member (codes "resourceType") (string (codes "Thing")) (member (codes "note") (string (codes "x")) no_members))
+noted = thing (member (codes "note") (string (codes "x")) no_members)
 
 abbrev pub unknown : Tree
-unknown = object (member (codes "resourceType") (string (codes "Thing")) (member (codes "other") (string (codes "x")) no_members))
+unknown = thing (member (codes "other") (string (codes "x")) no_members)
 
 -- any value is one of any primitive type
 abbrev pub all_texts : LexicalSets

@@ -1,6 +1,6 @@
 -- Which item a tree is (FHIR R4, JSON representation of resources). Type definitions alone say so, never a profile. So
 -- far of flat types: the elements of a resource are of primitive types, and each has its value.
-use Rattle.std.specs.Prelude.{◌≡◌, List, [], ◌∷◌, map, Bool, true, false, not, ◌&&◌, ◌||◌, nat_lt, Some, IsTrue, if◌then◌else◌, codes}
+use Rattle.std.specs.Prelude.{◌≡◌, List, [], ◌∷◌, map, filter, Bool, true, false, not, ◌&&◌, ◌||◌, nat_lt, Some, IsTrue, if◌then◌else◌, codes}
 use Rattle.std.specs.Option.{option_map_or}
 use Rattle.std.specs.List.{list_all, list_any, flat_map, slice_get}
 use Rattle.std.specs.Str.{bytes_eq}
@@ -36,9 +36,17 @@ abbrev pub property_names : Tree → List Text
 property_names (object ms) = names ms
 property_names _ = []
 
--- the property is `resourceType`, which names the type, or one of the type's elements
+-- the property of a resource that names its type
+abbrev pub names_type : Text → Bool
+names_type name = bytes_eq name (codes "resourceType")
+
+-- the elements of a resource: `resourceType` is none, whatever its type has
+abbrev pub elements_in : List Slot → List Slot
+elements_in slots = filter (λ slot. not (names_type slot.name)) slots
+
+-- the property names the type, or is one of the type's elements
 abbrev pub is_property : List Slot → Text → Bool
-is_property slots name = bytes_eq name (codes "resourceType") || list_any (λ slot. bytes_eq name slot.name) slots
+is_property slots name = names_type name || list_any (λ slot. bytes_eq name slot.name) slots
 
 -- the node of a slot's element
 abbrev pub entry_of : NodeRef → Slot → NodeRef
@@ -85,7 +93,7 @@ module _ (s : SchemaValue) (root : NodeRef) (t : Tree) where
       option_map_or (λ v. map (λ value. (slot.name, item (code_at slot) (Some value) no_kids)) (values_in v)) (field slot.name t) []
 
 -- The tree is a resource, and this is its item: its `resourceType` names a type that a resource may be of; each of its
--- properties is an element of the type, and holds what that may; and the item has an item for each value.
+-- other properties is an element of the type, and holds what that may; and the item has an item for each value.
 pub record Types (sets : LexicalSets) (s : SchemaValue) (t : Tree) (x : Item) : Type 0 where
   pub code : Text
   pub root : NodeRef
@@ -93,5 +101,5 @@ pub record Types (sets : LexicalSets) (s : SchemaValue) (t : Tree) (x : Item) : 
   pub instantiable : IsTrue (is_instantiable s code)
   pub usable : type_root s code ≡ Some root
   pub properties : IsTrue (list_all (is_property (slots s root)) (property_names t))
-  pub values : IsTrue (list_all (slot_fits s root t sets) (slots s root))
-  pub items : x ≡ item code (Some t) (kids_in (flat_map (items_at s root t) (slots s root)))
+  pub values : IsTrue (list_all (slot_fits s root t sets) (elements_in (slots s root)))
+  pub items : x ≡ item code (Some t) (kids_in (flat_map (items_at s root t) (elements_in (slots s root))))

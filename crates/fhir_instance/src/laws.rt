@@ -15,10 +15,11 @@ pub fn one_item()
 
 /// The definitions at work, on a resource that may have a note, and a profile that asks for one: a resource with a note
 /// conforms to both, one without a note to the resource's own definition alone, and one with a property that the type
-/// doesn't have to neither.
+/// doesn't have to neither. `resourceType` is no element: none conforms to a profile that asks for such a one.
 pub fn example()
     ensures noted { (meaning : Interpretation) → Conforms all_texts schema meaning (codes "urn:noted") noted }
     ensures own { (meaning : Interpretation) → Conforms all_texts schema meaning (codes "urn:Thing") bare }
     ensures bare { (sets : LexicalSets) (meaning : Interpretation) → ¬ Conforms sets schema meaning (codes "urn:noted") bare }
+    ensures named { (sets : LexicalSets) (meaning : Interpretation) → ¬ Conforms sets schema meaning (codes "urn:named") bare }
     ensures unknown { (sets : LexicalSets) (meaning : Interpretation) → ¬ Conforms sets schema meaning (codes "urn:Thing") unknown }
 {}
