@@ -37,7 +37,7 @@ fails_none s pairs p h = is_none-None (failing pairs s p) (is_none-first_of (rul
 
 module _ (wrap : NodePair → Pair) (f : Pair → Option Word) where
   -- where none of a list fails, a pair that is among them doesn't
-  none_fails : (ps : List NodePair) → first_in f (map wrap ps) ≡ None → (p : NodePair) → IsTrue (list_any (same_nodes p) ps) → f (wrap p) ≡ None
+  pub none_fails : (ps : List NodePair) → first_in f (map wrap ps) ≡ None → (p : NodePair) → IsTrue (list_any (same_nodes p) ps) → f (wrap p) ≡ None
   none_fails [] e p h = absurd (false≢true h)
   none_fails (x ∷ ps) e p h = go (f (wrap x)) refl e (none_fails ps)
     where

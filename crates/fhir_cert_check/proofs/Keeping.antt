@@ -1,5 +1,5 @@
 -- What the pairs of a right certificate say holds at each item.
-use Rattle.std.proofs.Common.{◌≡◌, ℕ, Bool, true, false, List, [], ◌∷◌, Option, Some, None, refl, sym, subst, ◌∙◌, inl, inr, arith, ◌&&◌, ◌||◌, IsTrue, not, nat_eq, nat_le, length}
+use Rattle.std.proofs.Common.{◌≡◌, ℕ, Bool, true, false, List, [], ◌∷◌, Option, Some, None, refl, sym, subst, ◌∙◌, inl, inr, arith, ◌&&◌, ◌||◌, IsTrue, not, nat_eq, nat_le, length, cond}
 use Rattle.std.specs.Prelude.{if◌then◌else◌}
 use Rattle.std.specs.List.{list_all, list_any, AllByRecursion}
 use Rattle.std.specs.Option.{option_map_or, option_and_then}
@@ -32,6 +32,24 @@ use Rattle.fhir_cert_check.proofs.Answered.{cases_if, answers_any, all_step, all
 
 same_text : (a b : Text) → IsTrue (bytes_eq a b) → a ≡ b
 same_text a b h = (bytes_decides a b).0 h
+
+-- ---- the one of two that is asked
+
+as_true : (b r i : Bool) → b ≡ true → IsTrue r → IsTrue (cond b r i)
+as_true true r i e h = h
+as_true false r i e h = absurd (false≢true e)
+
+of_true : (b r i : Bool) → b ≡ true → IsTrue (cond b r i) → IsTrue r
+of_true true r i e h = h
+of_true false r i e h = absurd (false≢true e)
+
+as_false : (b r i : Bool) → b ≡ false → IsTrue i → IsTrue (cond b r i)
+as_false true r i e h = absurd (true≢false e)
+as_false false r i e h = h
+
+of_false : (b r i : Bool) → b ≡ false → IsTrue (cond b r i) → IsTrue i
+of_false true r i e h = absurd (true≢false e)
+of_false false r i e h = h
 
 -- ---- bounds
 
@@ -156,10 +174,12 @@ module _ (s : SchemaValue) (covers_on : (a b c : Text) → IsTrue (covers s a b)
     module _ (x : Item) (children : List Child) (keeps : EachKeeps children) where
       children_step : (n m : NodeRef) → IsTrue (children_answer pairs s n m) → IsTrue (kids_hold s n children) → IsTrue (kids_hold s m children)
       children_step n m answers holds =
-          elim (or_cases (nat_eq (length (slots s m)) 0) (has_kids pairs n m) answers) [
-            | inl leaf ↦ rw (none_of_length (slots s m) leaf) refl
-            | inr pair ↦ kids_step children keeps n m pair holds
-          ]
+          go (nat_eq (length (slots s m)) 0) refl (nat_eq (length (slots s n)) 0) answers
+        where
+          go : (b : Bool) → nat_eq (length (slots s m)) 0 ≡ b → (a : Bool) → IsTrue (option_map_or (λ base. option_map_or (λ derived. has_kids pairs derived base) (cond a None (Some n)) false) (cond b None (Some m)) true) → IsTrue (kids_hold s m children)
+          go true leaf a h = rw (none_of_length (slots s m) leaf) refl
+          go false is true h = absurd (false≢true h)
+          go false is false h = kids_step children keeps n m h holds
 
       root_step : (n m : NodeRef) → IsTrue (covers s (type_at s m) (type_at s n)) → IsTrue (fixed_answers s n m) → IsTrue (children_answer pairs s n m) → IsTrue (root_holds s x children n) → IsTrue (root_holds s x children m)
       root_step n m type fixed below holds =
@@ -205,10 +225,12 @@ module _ (s : SchemaValue) (covers_on : (a b c : Text) → IsTrue (covers s a b)
           elim (cases_if (is_root_node s n) (roots_answer s n m) (not (is_root_node s m) && types_answer s n m) t.0) [
             | inl root ↦
                 let r = and_parts (is_root_node s m) (covers s (type_at s m) (type_at s n)) root.1 in
-                rw r.0 (root_step n m r.1 f.0 c.0 (rw root.0 at holds))
+                as_true (is_root_node s m) (root_holds s x children m) (inner_holds s x children m) r.0
+                (root_step n m r.1 f.0 c.0 (of_true (is_root_node s n) (root_holds s x children n) (inner_holds s x children n) root.0 holds))
             | inr inner ↦
                 let r = and_parts (not (is_root_node s m)) (types_answer s n m) inner.1 in
-                rw (not-true (is_root_node s m) r.0) (inner_step n m r.1 f.0 c.0 (rw inner.0 at holds))
+                as_false (is_root_node s m) (root_holds s x children m) (inner_holds s x children m) (not-true (is_root_node s m) r.0)
+                (inner_step n m r.1 f.0 c.0 (of_false (is_root_node s n) (root_holds s x children n) (inner_holds s x children n) inner.0 holds))
           ]
 
     mutual

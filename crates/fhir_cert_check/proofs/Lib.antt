@@ -5,3 +5,4 @@ pub mod Keeping
 pub mod Certified
 pub mod Promised
 pub mod Spelled
+pub mod Distinct

@@ -1,10 +1,10 @@
 -- The order of pairs, by which a set finds them, answers `Equal` exactly on equal pairs.
-use Rattle.std.proofs.Common.{◌≡◌, ◌<◌, ◌+◌, ℕ, Bool, true, false, List, refl, sym, ap, cond, ◌&&◌, ◌||◌, ◌∙◌, length, take, get_or, nat_eq, arith, IsTrue}
+use Rattle.std.proofs.Common.{◌≡◌, ℕ, Bool, true, false, List, [], ◌∷◌, ◌++◌, refl, sym, ap, cond, ◌&&◌, ◌||◌, ◌∙◌, nat_eq, arith, IsTrue}
 use Rattle.std.specs.List.{list_any}
 use Rattle.std.specs.BTreeMap.{is_at}
 use Rattle.std.specs.Cmp.{both_tied, unsigned_tied}
 use Rattle.std.proofs.lemmas.Bool.{and_parts, and_from, eqb-true, eq-eqb}
-use Rattle.std.proofs.lemmas.List.Folds.{list_any_more}
+use Rattle.std.proofs.lemmas.List.Folds.{list_any-append}
 use Rattle.fhir_schema.specs.declared.node.NodeRef.{NodeRef}
 use Rattle.fhir_certificate.specs.declared.pair.NodePair.{NodePair}
 use Rattle.fhir_certificate.specs.contracts.pair.NodePairOrd.TheImpl.{cmp-value}
@@ -53,14 +53,14 @@ same_nodes-refl p =
     and_from (same_node p.derived p.derived) (same_node p.base p.base) (same_node-refl p.derived) (same_node-refl p.base)
 
 -- one pair more in the set, and one more of the list
-pub one_more : (old new ps : List NodePair) (i : ℕ) (d : NodePair) → i < length ps → ((q : NodePair) → list_any (is_at (cmp-value.it q)) new ≡ cond (is_at (cmp-value.it (get_or ps i d)) q) true (list_any (is_at (cmp-value.it q)) old)) → AreSame old (take i ps) → AreSame new (take (i + 1) ps)
-one_more old new ps i d within updates same q =
+pub one_more : (old new ps : List NodePair) (p : NodePair) → ((q : NodePair) → list_any (is_at (cmp-value.it q)) new ≡ cond (is_at (cmp-value.it p) q) true (list_any (is_at (cmp-value.it q)) old)) → AreSame old ps → AreSame new (ps ++ p ∷ [])
+one_more old new ps p updates same q =
     sym (any_at_pair q new) ∙ updates q
-    ∙ (λ j. cond ((is_at_pair (get_or ps i d) q ∙ same_nodes_back (get_or ps i d) q) j) true ((any_at_pair q old ∙ same q) j))
-    ∙ either (same_nodes q (get_or ps i d)) (list_any (same_nodes q) (take i ps))
-    ∙ sym (list_any_more (same_nodes q) ps i d within)
+    ∙ (λ j. cond ((is_at_pair p q ∙ same_nodes_back p q) j) true ((any_at_pair q old ∙ same q) j))
+    ∙ either (same_nodes q p) (list_any (same_nodes q) ps)
+    ∙ sym (list_any-append (same_nodes q) ps (p ∷ []))
   where
-    either : (a b : Bool) → cond a true b ≡ (b || a)
+    either : (a b : Bool) → cond a true b ≡ (b || (a || false))
     either true true = refl
     either true false = refl
     either false true = refl

@@ -1,7 +1,7 @@
 -- The rules of a certificate's pairs: when a pair is right by the certificate's others. A pair of items says that each
 -- item which conforms to its derived node conforms to its base node, and a pair of children the same of an item's
 -- children; no item occurs in the rules.
-use Rattle.std.specs.Prelude.{ℕ, List, [], ◌∷◌, length, Bool, true, false, not, ◌&&◌, ◌||◌, nat_le, nat_eq, Option, None, Some, if◌then◌else◌}
+use Rattle.std.specs.Prelude.{ℕ, List, [], ◌∷◌, Bool, true, false, not, ◌&&◌, ◌||◌, nat_le, nat_eq, Option, None, Some, if◌then◌else◌}
 use Rattle.std.specs.Option.{option_map_or, option_and_then}
 use Rattle.std.specs.List.{flat_map}
 use Rattle.fhir_json.specs.Tree.{Text}
@@ -14,7 +14,7 @@ use Rattle.fhir_elements.specs.Parts.{Entry}
 use Rattle.fhir_elements.specs.Element.{Element}
 use Rattle.fhir_schema.specs.declared.node.NodeRef.{NodeRef}
 use Rattle.fhir_schema.specs.Slots.{Slot}
-use Rattle.fhir_schema.specs.Schemas.{SchemaValue, element_at, is_root_node, slots, kids, types}
+use Rattle.fhir_schema.specs.Schemas.{SchemaValue, element_at, is_root_node, slots, kids, holder, types}
 use Rattle.fhir_schema.specs.Covers.{covers, type_at}
 use Rattle.fhir_instance.specs.Typing.{entry_of}
 use Rattle.fhir_instance.specs.Conformance.{least_of, is_untyped}
@@ -90,9 +90,10 @@ module _ (pairs : Pair → Bool) where
   has_kids n m = pairs (Kids (record { derived = n; base = m }))
 
   module _ (s : SchemaValue) where
-    -- the base node has no children, or there is a pair for them
+    -- the base node has no children, or there is a pair of the two nodes that have the children
     abbrev pub children_answer : NodeRef → NodeRef → Bool
-    children_answer n m = nat_eq (length (slots s m)) 0 || has_kids n m
+    children_answer n m =
+        option_map_or (λ base. option_map_or (λ derived. has_kids derived base) (holder s n) false) (holder s m) true
 
     abbrev pub item_rules : NodeRef → NodeRef → List (Bool × Word)
     item_rules n m =

@@ -14,7 +14,7 @@ ghost use Rattle.fhir_cert_check.specs.Rules.{failing, is_local};
 ghost use Rattle.fhir_cert_check.specs.Checking.{is_among, roots_of, IsCertificate, pairs_of, first_in, first_wrong, wrong_with, checked, SpellsCertificate};
 ghost use Rattle.fhir_cert_check.specs.Inclusion.{IncludesItems, Includes};
 ghost use Rattle.fhir_cert_check.specs.Seen.{found_seen, rule_seen, is_yes, wrong_in};
-ghost use Rattle.fhir_cert_check.specs.Sets.{has_in};
+ghost use Rattle.fhir_cert_check.specs.Sets.{has_in, OrdersFirsts};
 
 use crate::answer::Answer;
 use crate::laws::inclusion;
@@ -58,16 +58,18 @@ fn first_kids<'s>(
     None
 }
 
+// The first pair that fails a rule: each is judged once, however often it stands in the certificate.
 fn first_wrong<'s>(
     schema: &'s Schema,
     pairs: &PairSet,
     certificate: &Certificate,
 ) -> Option<(Pair, Rule<'s>)>
+    requires { OrdersFirsts pairs.now certificate.now }
     ensures { found_seen result ≡ first_in (failing (has_in pairs.now) schema.now) (pairs_of certificate.now) }
 {
-    match first_item(schema, pairs, &certificate.items) {
+    match first_item(schema, pairs, pairs.items()) {
         Some(found) => Some(found),
-        None => first_kids(schema, pairs, &certificate.kids),
+        None => first_kids(schema, pairs, pairs.kids()),
     }
 }
 
@@ -77,6 +79,7 @@ fn judge<'s>(
     roots: NodePair,
     certificate: &Certificate,
 ) -> Answer<'s>
+    requires { OrdersFirsts pairs.now certificate.now }
     ensures { wrong_in result ≡ first_wrong schema.now (has_in pairs.now) roots (pairs_of certificate.now) }
 {
     if !pairs.has(Pair::Item(roots)) {

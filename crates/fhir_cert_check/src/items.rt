@@ -90,11 +90,11 @@ fn fixed_answers(schema: &Schema, n: NodeRef, m: NodeRef) -> bool
 fn children_answer(schema: &Schema, pairs: &PairSet, n: NodeRef, m: NodeRef) -> bool
     ensures { result ≡ children_answer (has_in pairs.now) schema.now n m }
 {
-    schema.slots(m).is_empty()
-        || pairs.has(Pair::Kids(NodePair {
-            derived: n,
-            base: m,
-        }))
+    match (schema.holder(m), schema.holder(n)) {
+        (None, _) => true,
+        (Some(_), None) => false,
+        (Some(base), Some(derived)) => pairs.has(Pair::Kids(NodePair { derived, base })),
+    }
 }
 
 /// The first rule that a pair of items fails.
