@@ -1,5 +1,6 @@
 pub mod Status
 pub mod Telling
 pub mod Replying
+pub mod Words
 pub mod Seen
 pub mod Ending

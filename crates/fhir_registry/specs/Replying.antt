@@ -23,6 +23,10 @@ pub record ReplyValue : Type 0 where
 abbrev pub fault_reply : Text → Text → ReplyValue
 fault_reply number subject = record { status = 3; out = []; err = number ++ subject ++ codes "\n" }
 
+-- the device didn't give a listing or a file of that name
+abbrev pub IsDeviceReply : ReplyValue → Type 0
+IsDeviceReply reply = (name : Text) × (reply ≡ fault_reply (codes "P1 ") name)
+
 abbrev pub yes_reply : ReplyValue
 yes_reply = record { status = 0; out = codes "yes\n"; err = [] }
 

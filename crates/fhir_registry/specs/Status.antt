@@ -1,11 +1,12 @@
 -- The numbers of the statuses.
 use Rattle.std.specs.Prelude.{ℕ}
 use Rattle.fhir_registry.specs.declared.reply.Status.{Status}
-use Rattle.fhir_registry.specs.declared.reply.Status.TheVariants.{Yes, No, Fault, Usage, NoMemory}
+use Rattle.fhir_registry.specs.declared.reply.Status.TheVariants.{Yes, No, Fault, Unwritten, Usage, NoMemory}
 
 abbrev pub code_of : Status → ℕ
 code_of Yes = 0
 code_of No = 1
 code_of Fault = 3
+code_of Unwritten = 3
 code_of Usage = 4
 code_of NoMemory = 5

@@ -9,7 +9,7 @@ ghost use Rattle.fhir_package.specs.Faults.{IsRefused, failures_told};
 ghost use Rattle.fhir_schema.specs.Schemas.{schema_of};
 ghost use Rattle.fhir_cert_check.specs.Checking.{checked};
 ghost use Rattle.fhir_certificate.specs.Reading.{reading};
-ghost use Rattle.fhir_registry.specs.Replying.{checked_reply, file_reply, certified, Promised, FilePromised, Promise};
+ghost use Rattle.fhir_registry.specs.Replying.{checked_reply, file_reply, certified, IsDeviceReply, Promised, FilePromised, Promise};
 ghost use Rattle.fhir_registry.specs.Seen.{file_seen};
 ghost use Rattle.fhir_registry.specs.Telling.{cert_number};
 
@@ -77,6 +77,7 @@ fn package_reply(
 fn refusal_reply(alloc: Global, folder: &str, fault: &LoadFault) -> Result<Reply, NoMemory>
     ensures told { (answer : Result Definitions Refusal) (name : Text) (file : Option Text)
         → failures_told fault.now ≡ 0 → IsRefused fault.now answer → Gives (λ r. r) result (certified name answer file) }
+    ensures device { IfOk result (λ r. failures_told fault.now ≡ 1 → IsDeviceReply r) }
     ensures fault { IfOk result (λ r. r.status ≡ 3) }
 {
     match fault {
@@ -98,6 +99,7 @@ pub fn certify<F: Folder>(
 ) -> Result<Reply, NoMemory>
     ensures told { F.failed_calls folder.new ≡ F.failed_calls folder.old
         → Gives (λ r. r) result (certified file_name.now (pack (F.files folder.old)) (file_seen file.entry)) }
+    ensures device { (F.failed_calls folder.new ≡ F.failed_calls folder.old → ⊥) → IfOk result IsDeviceReply }
     ensures promised { IfOk result (λ r. r.status ≡ 0 → Promise (F.files folder.old) (file_seen file.entry)) }
     ensures files { F.files folder.new ≡ F.files folder.old }
 {

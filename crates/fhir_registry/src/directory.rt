@@ -7,7 +7,8 @@ ghost use Rattle.fhir_registry.specs.Seen.{failures_kept};
 use fhir_json::NoMemory;
 use fhir_package::{Folder, FolderFault, MemoryFolder, StoredFile};
 use std::alloc::Global;
-use std::io::ErrorKind;
+use std::fs::DirEntry;
+use std::io::{ErrorKind, Read};
 use std::rt::Files;
 use std::{fs, io};
 
@@ -27,43 +28,67 @@ impl DirFolder {
     ) -> Result<DirFolder, NoMemory>
         ensures { IfOk result (λ d. failures_kept d ≡ 0) }
     {
-        match files_at(rt, path) {
-            Ok(files) => Ok(DirFolder {
-                kept: MemoryFolder::new(files),
-            }),
-            Err(error) if error.kind() == ErrorKind::OutOfMemory => Err(NoMemory),
-            Err(_) => Ok(DirFolder {
-                kept: MemoryFolder::unlisted(),
-            }),
-        }
+        let kept = match files_at(rt, path) {
+            Ok(files) => MemoryFolder::new(rt.alloc(), files)?,
+            Err(error) if error.kind() == ErrorKind::OutOfMemory => return Err(NoMemory),
+            Err(_) => MemoryFolder::unlisted(rt.alloc()),
+        };
+        Ok(DirFolder { kept })
     }
 }
 
 /// The files of the directory at a path whose names end in `.json`, sorted by their names. A file that the device doesn't
-/// give has no bytes; an error is of the listing, or of memory.
+/// give has no bytes; an error is of the listing, or of memory. A file whose name isn't UTF-8 is passed over.
 pub fn files_at<R: Files + AllocGlobal + Clone + Drop>(
     rt: &R,
     path: &str,
 ) -> io::Result<Vec<StoredFile>> {
     let mut files = Vec::new(rt.alloc());
     for entry in fs::read_dir(rt, path)? {
-        let entry = entry?;
-        let name = entry.file_name();
-        if name.ends_with(".json") {
-            let bytes = bytes_at(rt, entry.path().as_str())?;
-            let name = String::from_str(rt.alloc(), name)?;
-            files.push(StoredFile { name, bytes })?;
+        if let Some(file) = file_of(rt, entry)? {
+            files.push(file)?;
         }
     }
     files.sort_unstable_by(|a, b| a.name.cmp(&b.name));
     Ok(files)
 }
 
-/// The bytes of the file at a path, or none where the device doesn't give them. An error is of memory alone.
+fn file_of<R: Files + AllocGlobal + Clone + Drop>(
+    rt: &R,
+    entry: io::Result<DirEntry<R, Global>>,
+) -> io::Result<Option<StoredFile>> {
+    let entry = match entry {
+        Ok(entry) => entry,
+        Err(error) if error.kind() == ErrorKind::InvalidFilename => return Ok(None),
+        Err(error) => return Err(error),
+    };
+    let name = entry.file_name();
+    if !name.ends_with(".json") {
+        return Ok(None);
+    }
+    let bytes = bytes_at(rt, entry.path().as_str())?;
+    let name = String::from_str(rt.alloc(), name)?;
+    Ok(Some(StoredFile { name, bytes }))
+}
+
+// The bytes of a regular file: neither a directory, nor a device or a pipe, whose end may never come.
+fn regular_bytes<R: Files + AllocGlobal>(rt: &R, path: &str) -> io::Result<Vec<u8>> {
+    let metadata = fs::metadata(rt, path)?;
+    if !metadata.is_file() {
+        return Err(io::Error::from(ErrorKind::InvalidInput));
+    }
+    let size = usize::try_from(metadata.len()).unwrap_or(0);
+    let mut bytes = Vec::with_capacity(rt.alloc(), size)?;
+    fs::open(rt, path)?.read_to_end(&mut bytes)?;
+    Ok(bytes)
+}
+
+/// The bytes of the regular file at a path, or none where there is none or the device doesn't give them. An error is of
+/// memory alone.
 pub fn bytes_at<R: Files + AllocGlobal>(rt: &R, path: &str) -> io::Result<Option<Vec<u8>>>
     ensures { IfErr result (λ e. error_kind e ≡ ErrorKind.OutOfMemory) }
 {
-    match fs::read(rt, path) {
+    match regular_bytes(rt, path) {
         Ok(bytes) => Ok(Some(bytes)),
         Err(error) if error.kind() == ErrorKind::OutOfMemory => Err(error),
         Err(_) => Ok(None),
@@ -79,6 +104,10 @@ impl Folder for DirFolder {
 
     fn list(&mut self, alloc: Global) -> Result<Vec<String>, FolderFault> {
         self.kept.list(alloc)
+    }
+
+    fn lend(&self, name: &str) -> Option<&[u8]> {
+        self.kept.lend(name)
     }
 
     fn read(&mut self, alloc: Global, name: &str) -> Result<Vec<u8>, FolderFault> {

@@ -21,9 +21,9 @@ fn is_written<W: Write>(end: &mut W, text: &str) -> bool
     end.write_all(text.as_bytes()).is_ok()
 }
 
-// Writes a reply: a fault to standard error, which may fail, and all else to standard output. An output that fails is a
-// fault.
+// Writes a reply: a fault to standard error, which may fail, and all else to standard output.
 fn write_reply<W: Write, E: Write>(reply: &Reply, out: &mut W, err: &mut E) -> Status
+    requires { IsTrue (is_fault reply.now) → reply.now.status ≡ 3 }
     ensures ended { HasEnded result (W.contents out.old) (W.contents out.new) reply.now }
     ensures fault { IsTrue (is_fault reply.now) → (result ≡ Status.Fault) × (out.new ≡ out.old) }
     ensures answer { is_fault reply.now ≡ false → err.new ≡ err.old }
@@ -34,7 +34,7 @@ fn write_reply<W: Write, E: Write>(reply: &Reply, out: &mut W, err: &mut E) -> S
     if is_written(out, reply.out.as_str()) {
         reply.status
     } else {
-        Status::Fault
+        Status::Unwritten
     }
 }
 

@@ -6,6 +6,7 @@ ghost use Rattle.fhir_registry.specs.Status.{code_of};
 
 use std::alloc::{AllocError, Global};
 use std::marker::Model;
+use std::process::ExitCode;
 
 /// How the program ends.
 #[derive(Clone, Copy, Debug, PartialEq, Eq)]
@@ -16,6 +17,8 @@ pub enum Status {
     No,
     /// 3: a fault of the input.
     Fault,
+    /// 3: an output failed.
+    Unwritten,
     /// 4: the words are no request.
     Usage,
     /// 5: a growth of memory was refused.
@@ -31,9 +34,22 @@ impl Status {
             Status::Yes => 0,
             Status::No => 1,
             Status::Fault => 3,
+            Status::Unwritten => 3,
             Status::Usage => 4,
             Status::NoMemory => 5,
         }
+    }
+}
+
+impl From<Status> for ExitCode {
+    ghost use Rattle.std.specs.Prelude.{◌≡◌};
+    ghost use Rattle.std.specs.Process.{exit_status};
+    ghost use Rattle.fhir_registry.specs.Status.{code_of};
+
+    ghost from_gives = { λ status code. exit_status code ≡ code_of status };
+
+    fn from(status: Status) -> ExitCode {
+        ExitCode::from(status.code())
     }
 }
 

@@ -1,8 +1,12 @@
 //! What the words of the command line ask for.
 
-ghost use Rattle.std.specs.Prelude.{◌≡◌, ◌↔◌};
+ghost use Rattle.std.specs.Prelude.{◌≡◌, ◌↔◌, Some, map, string_bytes, option_map};
+ghost use Rattle.std.specs.Result.{result_ok};
 ghost use Rattle.clap.specs.declared.error.kind.ErrorKind.TheVariants as kind;
 ghost use Rattle.fhir_registry.specs.declared.request.WordsFault.TheVariants as faults;
+ghost use Rattle.fhir_registry.specs.Replying.{RequestValue};
+ghost use Rattle.fhir_registry.specs.Words.{is_option, command_request, plain_request};
+ghost use Rattle.fhir_registry.specs.Seen.{request_seen};
 
 use clap::error::ErrorKind;
 use clap::{Arg, ArgMatches, Command};
@@ -58,12 +62,53 @@ fn fault_of(kind: ErrorKind) -> WordsFault
     }
 }
 
+fn is_option(word: &str) -> bool
+    ensures { result ≡ is_option word.now }
+{
+    word.as_bytes().starts_with(b"-")
+}
+
+fn command_request<'w>(command: &str, first: &'w str, second: &'w str) -> Option<Request<'w>>
+    ensures { option_map request_seen result ≡ command_request command.now first.now second.now }
+{
+    if command == "certify" && !is_option(first) && !is_option(second) {
+        Some(Request::Certify {
+            folder: first,
+            file: second,
+        })
+    } else {
+        None
+    }
+}
+
+fn plain_request(words: &[String]) -> Option<Request<'_>>
+    ensures { option_map request_seen result ≡ plain_request (map string_bytes words.now) }
+{
+    match words {
+        [_, command, first, second] => {
+            command_request(command.as_str(), first.as_str(), second.as_str())
+        }
+        _ => None,
+    }
+}
+
 fn word<'a>(matches: &ArgMatches<'a>, id: &str) -> Result<&'a str, WordsFault> {
     matches.get_str(id).ok_or(WordsFault::Usage)
 }
 
-/// What the words ask for, of which the first is the program's name: `certify PACKAGE CERTIFICATE`.
-pub fn request_of<'w>(alloc: Global, words: &'w [String]) -> Result<Request<'w>, WordsFault> {
+/// What the words ask for, of which the first is the program's name: `certify PACKAGE CERTIFICATE`. Words without options
+/// are read as they stand, and all others by `clap`.
+pub fn request_of<'w>(alloc: Global, words: &'w [String]) -> Result<Request<'w>, WordsFault>
+    ensures plain { (request : RequestValue) → plain_request (map string_bytes words.now) ≡ Some request
+        → option_map request_seen (result_ok result) ≡ Some request }
+{
+    match plain_request(words) {
+        Some(request) => Ok(request),
+        None => other_request(alloc, words),
+    }
+}
+
+fn other_request<'w>(alloc: Global, words: &'w [String]) -> Result<Request<'w>, WordsFault> {
     let matches = match program(alloc)?.try_get_matches_from(words) {
         Ok(matches) => matches,
         Err(error) => return Err(fault_of(error.kind())),
