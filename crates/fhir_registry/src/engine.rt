@@ -1,11 +1,12 @@
 //! The engine: it does what the words ask, and writes what is answered.
 
-ghost use Rattle.std.specs.Prelude.{◌≡◌, false, IsTrue};
+ghost use Rattle.std.specs.Prelude.{◌≡◌, false, Some, map, string_bytes, IsTrue};
 ghost use Rattle.std.specs.Io.KnownBytes.{Appends};
 ghost use Rattle.fhir_json.specs.Tree.{Text};
 ghost use Rattle.fhir_registry.specs.Replying.{RequestValue, answer_to, Promise};
 ghost use Rattle.fhir_registry.specs.Ending.{HasEnded, is_fault};
 ghost use Rattle.fhir_registry.specs.Seen.{file_seen, request_seen};
+ghost use Rattle.fhir_registry.specs.Words.{plain_request};
 
 use crate::answering::certify;
 use crate::reply::{Reply, Status};
@@ -69,6 +70,9 @@ pub fn serve<F: Folder, W: Write, E: Write>(
     ensures answer { F.failed_calls folder.new ≡ F.failed_calls folder.old → (result ≡ Status.NoMemory → ⊥)
         → is_fault (answer_to (request_seen request.entry) (F.files folder.old) (file_seen file.entry)) ≡ false
         → err.new ≡ err.old }
+    // Where the device failed, the answer says so.
+    ensures device { (F.failed_calls folder.new ≡ F.failed_calls folder.old → ⊥) → (result ≡ Status.NoMemory → ⊥)
+        → (result ≡ Status.Fault) × (out.new ≡ out.old) }
     // What a yes promises.
     ensures promised { result ≡ Status.Yes → Promise (F.files folder.old) (file_seen file.entry) }
     ensures files { F.files folder.new ≡ F.files folder.old }
@@ -94,7 +98,12 @@ pub fn run<F: Folder, R: Read, W: Write, E: Write>(
     out: &mut W,
     err: &mut E,
 ) -> Status
-    // Where the device didn't fail, the answer is the one that is stated for the request that the words are.
+    // Where the device didn't fail, the answer is the one that is stated for the request that the words are, as they stand
+    // or, where they have options, as `clap` reads them.
+    ensures plain { (request : RequestValue) → plain_request (map string_bytes words.now) ≡ Some request
+        → F.failed_calls folder.new ≡ F.failed_calls folder.old
+        → HasEnded result (W.contents out.old) (W.contents out.new)
+        (answer_to request (F.files folder.old) (file_seen file.entry)) }
     ensures told { F.failed_calls folder.new ≡ F.failed_calls folder.old → (result ≡ Status.Usage → ⊥)
         → (result ≡ Status.NoMemory → ⊥) → (request : RequestValue)
         × HasEnded result (W.contents out.old) (W.contents out.new)
