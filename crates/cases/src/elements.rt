@@ -78,7 +78,7 @@ fn answer_of_tree(
 fn fault_told(alloc: Global, json: &Json<'_>) -> Result<String, AllocError> {
     format!(in alloc;
         "{:?} {:?}",
-        element_fault(json),
+        element_fault(alloc, json).unwrap_or(None),
         ElementDef::of(alloc, json).err()
     )
 }

@@ -40,7 +40,7 @@ pub(crate) fn folder_of(alloc: Global, text: &str) -> Result<MemoryFolder, Alloc
             files.push(file_of(alloc, file)?)?;
         }
     }
-    Ok(MemoryFolder::new(files))
+    MemoryFolder::new(alloc, files).map_err(|_| AllocError)
 }
 
 // The answer of a call on a folder, and behind it how often the device has failed.
@@ -60,7 +60,7 @@ fn answer_of_folder(
 }
 
 fn answer_of_unlisted(alloc: Global) -> Result<String, AllocError> {
-    let mut folder = MemoryFolder::unlisted();
+    let mut folder = MemoryFolder::unlisted(alloc);
     let first = answer_of_folder(alloc, &mut folder, "load", "")?;
     let second = answer_of_folder(alloc, &mut folder, "load", "")?;
     let third = answer_of_folder(alloc, &mut folder, "list", "")?;

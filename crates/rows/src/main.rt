@@ -4,8 +4,8 @@
 //! second file can't be read. A row that begins with `full` writes to an output that takes nothing.
 #![tactic(auto)]
 
-use fhir_package::{MemoryFolder, StoredFile};
-use fhir_registry::{Request, Status, bytes_at, files_at, request_of, run};
+use fhir_package::{Folder, MemoryFolder, StoredFile};
+use fhir_registry::{DirFolder, Request, Status, bytes_at, files_at, request_of, run};
 use std::alloc::{AllocError, Global};
 use std::rt::Files;
 use std::{fs, io};
@@ -34,22 +34,16 @@ fn without_the_second(
     Ok(others)
 }
 
-fn folder_of<R: Files + AllocGlobal + Clone + Drop>(
+// A folder of `data/` whose second file can't be read.
+fn broken_folder<R: Files + AllocGlobal + Clone + Drop>(
     rt: &R,
     name: &str,
-) -> Result<MemoryFolder, AllocError> {
-    let (name, is_broken) = match name.strip_suffix("!") {
-        Some(name) => (name, true),
-        None => (name, false),
-    };
-    match files_at(rt, name) {
-        Ok(files) if is_broken => Ok(MemoryFolder::new(without_the_second(rt.alloc(), files)?)),
-        Ok(files) => Ok(MemoryFolder::new(files)),
-        Err(_) => Ok(MemoryFolder::unlisted()),
-    }
+) -> io::Result<MemoryFolder> {
+    let files = without_the_second(rt.alloc(), files_at(rt, name)?)?;
+    MemoryFolder::new(rt.alloc(), files).map_err(|_| io::Error::from(io::ErrorKind::OutOfMemory))
 }
 
-// The status of a row, with what it writes; to an output that takes nothing, if it is full.
+// The status of a row, with what it writes.
 fn told<R: Files + AllocGlobal + Clone + Drop>(
     rt: &R,
     row: &str,
@@ -61,17 +55,40 @@ fn told<R: Files + AllocGlobal + Clone + Drop>(
         Ok(Request::Certify { folder, file }) => (folder, file),
         Err(_) => ("", ""),
     };
-    let mut folder = folder_of(rt, folder)?;
     let file = bytes_at(rt, file)?;
+    match folder.strip_suffix("!") {
+        Some(name) => answer(
+            alloc,
+            &words,
+            broken_folder(rt, name)?,
+            file.as_deref(),
+            is_full,
+        ),
+        None => {
+            let folder = DirFolder::open(rt, folder);
+            let folder = folder.map_err(|_| io::Error::from(io::ErrorKind::OutOfMemory))?;
+            answer(alloc, &words, folder, file.as_deref(), is_full)
+        }
+    }
+}
+
+// What the engine answers; to an output that takes nothing, if it is full.
+fn answer<F: Folder + Drop>(
+    alloc: Global,
+    words: &[String],
+    mut folder: F,
+    file: Option<&[u8]>,
+    is_full: bool,
+) -> io::Result<String> {
     let (mut out, mut err) = (Vec::new(alloc), Vec::new(alloc));
     let mut full: &mut [u8] = &mut [];
     let mut input: &[u8] = b"";
     let status = if is_full {
         run(
             alloc,
-            &words,
+            words,
             &mut folder,
-            file.as_deref(),
+            file,
             &mut input,
             &mut full,
             &mut err,
@@ -79,9 +96,9 @@ fn told<R: Files + AllocGlobal + Clone + Drop>(
     } else {
         run(
             alloc,
-            &words,
+            words,
             &mut folder,
-            file.as_deref(),
+            file,
             &mut input,
             &mut out,
             &mut err,
