@@ -3,8 +3,7 @@
 ghost use Rattle.std.specs.Prelude.{◌≡◌, ℕ, ◌+◌, ◌<◌, ◌%◌, ◌||◌, suc, List, [], take, Some, None, is_some, true, false, IsTrue};
 ghost use Rattle.std.specs.Ordering.{nat_cmp, ordering_then};
 ghost use Rattle.std.specs.Cmp.{IsPartialOrder};
-ghost use Rattle.fhir_json.specs.Tree.{Tree};
-ghost use Rattle.fhir_json.specs.Fields.{as_flag, text_or_empty};
+ghost use Rattle.fhir_json.specs.Tree.{Text, Items, Members, null, string, array, object};
 ghost use Rattle.fhir_decimal.specs.Value.{Value, value_order};
 ghost use Rattle.fhir_prims.specs.declared.prim.PrimType.{PrimType};
 ghost use Rattle.fhir_prims.specs.declared.prim.PrimType.TheVariants.{Date, DateTime, Instant, Time};
@@ -14,21 +13,22 @@ ghost use Rattle.fhir_prims.specs.Calendar.{is_day, day_after, day_before, day_n
 ghost use Rattle.fhir_prims.specs.Order.{moment_order, is_same_moment};
 ghost use Rattle.fhir_prims.specs.Utc.{day_at, minutes_at, offset_of, is_behind};
 ghost use Rattle.fhir_prims.specs.Reading.{moment_fields, clock_of, zone_of, minutes_of, day_of, fields_of};
-ghost use Rattle.fhir_prims.specs.Values.{number_or_empty, lexical};
+ghost use Rattle.fhir_prims.specs.Values.{lexical};
 
 use fhir_decimal::order_of_values;
 
-/// No type has a value that is neither a flag nor a number nor a string, or that is an empty string (FHIR R4, Data
-/// Types, primitive types).
+/// No type has an empty string, `null`, an array or an object (FHIR R4, Data Types, primitive types).
 pub fn empty_values()
-    ensures { (p : PrimType) (t : Tree) → as_flag t ≡ None → number_or_empty t ≡ []
-        → text_or_empty t ≡ [] → lexical p t ≡ false }
+    ensures text { (p : PrimType) → lexical p (string []) ≡ false }
+    ensures null { (p : PrimType) → lexical p null ≡ false }
+    ensures arrays { (p : PrimType) (items : Items) → lexical p (array items) ≡ false }
+    ensures objects { (p : PrimType) (members : Members) → lexical p (object members) ≡ false }
 {}
 
 /// The texts that `Moment::of` reads are those of the values of date, dateTime, instant and time (FHIR R4, Data Types).
 pub fn texts_of_moments()
-    ensures { (t : Tree) → is_some (fields_of (text_or_empty t))
-        ≡ (lexical Date t || lexical DateTime t || lexical Instant t || lexical Time t) }
+    ensures { (s : Text) → is_some (fields_of s) ≡ (lexical Date (string s)
+        || lexical DateTime (string s) || lexical Instant (string s) || lexical Time (string s)) }
 {}
 
 /// The order of moments is a partial one: turned round it is turned, it is transitive where it decides, and moments
