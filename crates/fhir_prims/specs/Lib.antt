@@ -4,6 +4,7 @@ pub mod Numbers
 pub mod Blanks
 pub mod Texts
 pub mod Names
+pub mod Cut
 pub mod Moments
 pub mod Calendar
 pub mod Order

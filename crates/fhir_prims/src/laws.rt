@@ -1,6 +1,6 @@
 //! Laws: what the definitions say.
 
-ghost use Rattle.std.specs.Prelude.{◌≡◌, ℕ, ◌+◌, ◌<◌, ◌%◌, ◌||◌, suc, List, [], take, Some, None, is_some, true, false, IsTrue};
+ghost use Rattle.std.specs.Prelude.{◌≡◌, ℕ, ◌+◌, ◌<◌, ◌%◌, ◌||◌, suc, [], Some, None, is_some, true, false, IsTrue};
 ghost use Rattle.std.specs.Ordering.{nat_cmp, ordering_then};
 ghost use Rattle.std.specs.Cmp.{IsPartialOrder};
 ghost use Rattle.fhir_json.specs.Tree.{Text, Items, Members, null, string, array, object};
@@ -8,11 +8,12 @@ ghost use Rattle.fhir_decimal.specs.Value.{Value, value_order};
 ghost use Rattle.fhir_prims.specs.declared.prim.PrimType.{PrimType};
 ghost use Rattle.fhir_prims.specs.declared.prim.PrimType.TheVariants.{Date, DateTime, Instant, Time};
 ghost use Rattle.fhir_prims.specs.declared.calendar.Day.{Day};
-ghost use Rattle.fhir_prims.specs.Moments.{is_instant};
+ghost use Rattle.fhir_prims.specs.Cut.{MomentParts};
+ghost use Rattle.fhir_prims.specs.Moments.{is_moment};
 ghost use Rattle.fhir_prims.specs.Calendar.{is_day, day_after, day_before, day_number, minutes_since};
 ghost use Rattle.fhir_prims.specs.Order.{moment_order, is_same_moment};
 ghost use Rattle.fhir_prims.specs.Utc.{day_at, minutes_at, offset_of, is_behind};
-ghost use Rattle.fhir_prims.specs.Reading.{moment_fields, clock_of, zone_of, minutes_of, day_of, fields_of};
+ghost use Rattle.fhir_prims.specs.Reading.{moment_fields, minutes_of, day_of, fields_of};
 ghost use Rattle.fhir_prims.specs.Values.{lexical};
 
 use fhir_decimal::order_of_values;
@@ -50,11 +51,11 @@ pub fn moments_in_time()
 /// The move to UTC: a clock ahead of UTC shows the minutes of UTC and the offset, and one behind it shows less; and the
 /// day in UTC is one of the calendar.
 pub fn move_to_utc()
-    ensures ahead { (s : List ℕ) → IsTrue (is_instant s) → is_behind (zone_of s) ≡ false
-        → minutes_since (day_of s) (minutes_of s % 1440) + offset_of (zone_of s)
-        ≡ minutes_since (day_at (take 10 s)) (minutes_at (clock_of s) 0) }
-    ensures behind { (s : List ℕ) → IsTrue (is_instant s) → IsTrue (is_behind (zone_of s))
-        → minutes_since (day_of s) (minutes_of s % 1440)
-        ≡ minutes_since (day_at (take 10 s)) (minutes_at (clock_of s) 0) + offset_of (zone_of s) }
-    ensures calendar { (s : List ℕ) → IsTrue (is_instant s) → IsTrue (is_day (day_of s)) }
+    ensures ahead { (p : MomentParts) → IsTrue (is_moment p) → is_behind p.time.zone ≡ false
+        → minutes_since (day_of p) (minutes_of p.time % 1440) + offset_of p.time.zone
+        ≡ minutes_since (day_at p.day) (minutes_at p.time.clock 0) }
+    ensures behind { (p : MomentParts) → IsTrue (is_moment p) → IsTrue (is_behind p.time.zone)
+        → minutes_since (day_of p) (minutes_of p.time % 1440)
+        ≡ minutes_since (day_at p.day) (minutes_at p.time.clock 0) + offset_of p.time.zone }
+    ensures calendar { (p : MomentParts) → IsTrue (is_moment p) → IsTrue (is_day (day_of p)) }
 {}

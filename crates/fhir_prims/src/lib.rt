@@ -4,6 +4,7 @@
 mod blanks;
 mod bytes;
 mod calendar;
+mod cut;
 mod laws;
 mod moment;
 mod moments;

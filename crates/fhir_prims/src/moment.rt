@@ -4,15 +4,16 @@ ghost use Rattle.std.specs.Prelude.{◌≡◌, IsTrue, option_map};
 ghost use Rattle.std.specs.Ordering.{nat_cmp, partial_ordering_then};
 ghost use Rattle.fhir_decimal.specs.Value.{value_of, value_order};
 ghost use Rattle.fhir_decimal.specs.Seen.{parts_seen};
-ghost use Rattle.fhir_prims.specs.Moments.{is_instant};
+ghost use Rattle.fhir_prims.specs.Moments.{is_moment};
 ghost use Rattle.fhir_prims.specs.Order.{field_order, moment_order};
 ghost use Rattle.fhir_prims.specs.Reading.{date_fields, moment_fields, time_fields, minutes_of, instant_fields, fields_of};
-ghost use Rattle.fhir_prims.specs.Seen.{fields_seen};
+ghost use Rattle.fhir_prims.specs.Seen.{fields_seen, time_seen, moment_seen};
 
 use crate::calendar::Day;
+use crate::cut::{MomentText, TimeText, cut_moment, cut_time};
 use crate::moments::{is_day_text, is_instant, is_month_text, is_time, is_year_text, year_of};
-use crate::shapes::{cut_at, pair_at};
-use crate::utc::{after_fraction, day_at, day_of_minutes, minutes_at, second_of, utc_minutes};
+use crate::shapes::pair_at;
+use crate::utc::{day_at, day_of_minutes, minutes_at, second_of, utc_minutes};
 use fhir_decimal::Decimal;
 use std::cmp::Ordering;
 
@@ -55,33 +56,32 @@ fn of_moment(day: Day, minutes: u32, second: Decimal<'_>) -> Moment<'_>
     }
 }
 
-fn of_time(text: &[u8]) -> Moment<'_>
-    ensures { fields_seen result ≡ time_fields text.now }
+fn of_time<'a>(time: &TimeText<'a>) -> Moment<'a>
+    ensures { fields_seen result ≡ time_fields (time_seen time.now) }
 {
     Moment {
         year: None,
         month: None,
         day: None,
-        hour: Some(u32::from(pair_at(text, 0))),
-        minute: Some(u32::from(pair_at(text, 3))),
-        second: Some(second_of(cut_at(text, 6).1)),
+        hour: Some(u32::from(pair_at(time.clock, 0))),
+        minute: Some(u32::from(pair_at(time.clock, 3))),
+        second: Some(second_of(time)),
     }
 }
 
-fn minutes_of(text: &[u8]) -> u32
-    ensures { result ≡ minutes_of text.now }
+fn minutes_of(time: &TimeText<'_>) -> u32
+    ensures { result ≡ minutes_of (time_seen time.now) }
 {
-    let (clock, rest) = cut_at(cut_at(text, 11).1, 8);
-    utc_minutes(after_fraction(rest), minutes_at(clock, 0))
+    utc_minutes(time.zone, minutes_at(time.clock, 0))
 }
 
-fn of_instant(text: &[u8]) -> Moment<'_>
-    requires { IsTrue (is_instant text.now) }
-    ensures { fields_seen result ≡ instant_fields text.now }
+fn of_instant<'a>(moment: &MomentText<'a>) -> Moment<'a>
+    requires { IsTrue (is_moment (moment_seen moment.now)) }
+    ensures { fields_seen result ≡ instant_fields (moment_seen moment.now) }
 {
-    let minutes = minutes_of(text);
-    let day = day_of_minutes(minutes, day_at(cut_at(text, 10).0));
-    of_moment(day, minutes % 1440, second_of(cut_at(text, 17).1))
+    let minutes = minutes_of(&moment.time);
+    let day = day_of_minutes(minutes, day_at(moment.day));
+    of_moment(day, minutes % 1440, second_of(&moment.time))
 }
 
 fn of_bytes(text: &[u8]) -> Option<Moment<'_>>
@@ -97,9 +97,9 @@ fn of_bytes(text: &[u8]) -> Option<Moment<'_>>
         let day = u32::from(pair_at(text, 8));
         Some(of_date(Some(year_of(text)), Some(month), Some(day)))
     } else if is_instant(text) {
-        Some(of_instant(text))
+        Some(of_instant(&cut_moment(text)))
     } else if is_time(text) {
-        Some(of_time(text))
+        Some(of_time(&cut_time(text)))
     } else {
         None
     }
