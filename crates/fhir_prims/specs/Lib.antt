@@ -8,6 +8,7 @@ pub mod Cut
 pub mod Moments
 pub mod Calendar
 pub mod Order
+pub mod Written
 pub mod Utc
 pub mod Reading
 pub mod Values

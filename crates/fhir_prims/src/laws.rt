@@ -1,6 +1,6 @@
 //! Laws: what the definitions say.
 
-ghost use Rattle.std.specs.Prelude.{◌≡◌, ℕ, ◌+◌, ◌<◌, ◌%◌, ◌||◌, suc, [], Some, None, is_some, true, false, IsTrue};
+ghost use Rattle.std.specs.Prelude.{◌≡◌, ◌↔◌, ℕ, ◌<◌, ◌||◌, suc, [], Some, is_some, true, false, IsTrue, IsSome};
 ghost use Rattle.std.specs.Ordering.{nat_cmp, ordering_then};
 ghost use Rattle.std.specs.Cmp.{IsPartialOrder};
 ghost use Rattle.fhir_json.specs.Tree.{Text, Items, Members, null, string, array, object};
@@ -8,12 +8,10 @@ ghost use Rattle.fhir_decimal.specs.Value.{Value, value_order};
 ghost use Rattle.fhir_prims.specs.declared.prim.PrimType.{PrimType};
 ghost use Rattle.fhir_prims.specs.declared.prim.PrimType.TheVariants.{Date, DateTime, Instant, Time};
 ghost use Rattle.fhir_prims.specs.declared.calendar.Day.{Day};
-ghost use Rattle.fhir_prims.specs.Cut.{MomentParts};
-ghost use Rattle.fhir_prims.specs.Moments.{is_moment};
 ghost use Rattle.fhir_prims.specs.Calendar.{is_day, day_after, day_before, day_number, minutes_since};
-ghost use Rattle.fhir_prims.specs.Order.{moment_order, is_same_moment};
-ghost use Rattle.fhir_prims.specs.Utc.{day_at, minutes_at, offset_of, is_behind};
-ghost use Rattle.fhir_prims.specs.Reading.{moment_fields, minutes_of, day_of, fields_of};
+ghost use Rattle.fhir_prims.specs.Order.{Fields, moment_order, is_same_moment};
+ghost use Rattle.fhir_prims.specs.Reading.{moment_fields, fields_of};
+ghost use Rattle.fhir_prims.specs.Written.{Written, text_of, is_possible, IsSaid};
 ghost use Rattle.fhir_prims.specs.Values.{lexical};
 
 use fhir_decimal::order_of_values;
@@ -48,14 +46,12 @@ pub fn moments_in_time()
         ≡ Some (ordering_then (nat_cmp (minutes_since d m) (minutes_since e n)) (value_order a b)) }
 {}
 
-/// The move to UTC: a clock ahead of UTC shows the minutes of UTC and the offset, and one behind it shows less; and the
-/// day in UTC is one of the calendar.
-pub fn move_to_utc()
-    ensures ahead { (p : MomentParts) → IsTrue (is_moment p) → is_behind p.time.zone ≡ false
-        → minutes_since (day_of p) (minutes_of p.time % 1440) + offset_of p.time.zone
-        ≡ minutes_since (day_at p.day) (minutes_at p.time.clock 0) }
-    ensures behind { (p : MomentParts) → IsTrue (is_moment p) → IsTrue (is_behind p.time.zone)
-        → minutes_since (day_of p) (minutes_of p.time % 1440)
-        ≡ minutes_since (day_at p.day) (minutes_at p.time.clock 0) + offset_of p.time.zone }
-    ensures calendar { (p : MomentParts) → IsTrue (is_moment p) → IsTrue (is_day (day_of p)) }
+/// What `Moment::of` reads is what is written: a text has the fields that are said by a date, a
+/// moment or a time of day that is written so, and no others. Each of these is read, and no text
+/// is that of two (FHIR R4, Data Types, date, dateTime, instant, time).
+pub fn moments_as_written()
+    ensures said { (s : Text) (f : Fields) → (fields_of s ≡ Some f) ↔ IsSaid s f }
+    ensures every { (w : Written) → IsTrue (is_possible w) → IsSome (fields_of (text_of w)) }
+    ensures one { (w v : Written) → IsTrue (is_possible w) → IsTrue (is_possible v)
+        → text_of w ≡ text_of v → w ≡ v }
 {}

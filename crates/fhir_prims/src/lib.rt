@@ -16,7 +16,9 @@ mod texts;
 mod utc;
 mod values;
 
-pub use laws::{empty_values, moments_in_time, move_to_utc, order_of_moments, texts_of_moments};
+pub use laws::{
+    empty_values, moments_as_written, moments_in_time, order_of_moments, texts_of_moments,
+};
 pub use moment::{Moment, cmp_moment};
 pub use prim::PrimType;
 pub use values::lexical;
