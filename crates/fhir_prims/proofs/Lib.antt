@@ -12,3 +12,4 @@ mod Said
 mod Found
 mod Once
 mod Written
+mod Bounded
