@@ -3,10 +3,11 @@
 ghost use Rattle.std.specs.Prelude.{◌≡◌, ◌↔◌, ℕ, ◌<◌, ◌||◌, suc, [], Some, is_some, true, false, IsTrue, IsSome};
 ghost use Rattle.std.specs.Ordering.{nat_cmp, ordering_then};
 ghost use Rattle.std.specs.Cmp.{IsPartialOrder};
-ghost use Rattle.fhir_json.specs.Tree.{Text, Items, Members, null, string, array, object};
+ghost use Rattle.fhir_json.specs.Tree.{Text, Items, Members, null, number, string, array, object};
+ghost use Rattle.fhir_decimal.specs.Text.{Parts, IsDecimal};
 ghost use Rattle.fhir_decimal.specs.Value.{Value, value_order};
 ghost use Rattle.fhir_prims.specs.declared.prim.PrimType.{PrimType};
-ghost use Rattle.fhir_prims.specs.declared.prim.PrimType.TheVariants.{Date, DateTime, Instant, Time};
+ghost use Rattle.fhir_prims.specs.declared.prim.PrimType.TheVariants.{Decimal, Date, DateTime, Instant, Time};
 ghost use Rattle.fhir_prims.specs.declared.calendar.Day.{Day};
 ghost use Rattle.fhir_prims.specs.Calendar.{is_day, day_after, day_before, day_number, minutes_since};
 ghost use Rattle.fhir_prims.specs.Order.{Fields, moment_order, is_same_moment};
@@ -14,7 +15,7 @@ ghost use Rattle.fhir_prims.specs.Reading.{moment_fields, fields_of};
 ghost use Rattle.fhir_prims.specs.Written.{Written, text_of, is_possible, IsSaid};
 ghost use Rattle.fhir_prims.specs.Values.{lexical};
 
-use fhir_decimal::order_of_values;
+use fhir_decimal::{grammar, order_of_values};
 
 /// No type has an empty string, `null`, an array or an object (FHIR R4, Data Types, primitive types).
 pub fn empty_values()
@@ -23,6 +24,14 @@ pub fn empty_values()
     ensures arrays { (p : PrimType) (items : Items) → lexical p (array items) ≡ false }
     ensures objects { (p : PrimType) (members : Members) → lexical p (object members) ≡ false }
 {}
+
+/// A number is a value of `decimal` exactly where its text is a decimal's, by the grammar (FHIR R4,
+/// Data Types, decimal).
+pub fn decimal_numbers()
+    ensures { (s : Text) → IsTrue (lexical Decimal (number s)) ↔ ((p : Parts) × IsDecimal s p) }
+{
+    grammar();
+}
 
 /// The texts that `Moment::of` reads are those of the values of date, dateTime, instant and time (FHIR R4, Data Types).
 pub fn texts_of_moments()
