@@ -1,5 +1,5 @@
--- The texts of numbers (FHIR R4, Data Types, integer, unsignedInt, positiveInt, decimal). The standard's expressions take
--- a `+` too, with which no JSON number begins.
+-- The texts of numbers (FHIR R4, Data Types, integer, unsignedInt, positiveInt, decimal). The standard's expressions for
+-- integer and positiveInt take a `+` too, with which no JSON number begins.
 use Rattle.std.specs.Prelude.{ℕ, List, length, slice_index, drop, Bool, ◌&&◌, ◌||◌, ◌==◌, nat_le, nat_lt, is_some}
 use Rattle.fhir_decimal.specs.Value.{number_of}
 use Rattle.fhir_decimal.specs.Reading.{parts}
