@@ -1,6 +1,6 @@
 -- What is read is written from its parts.
-use Rattle.std.proofs.Common.{◌≡◌, ◌∙◌, ap, ap₂, refl, sym, ℕ, List, [], ◌∷◌, ◌++◌, length, take, drop, slice_index, Bool, true, false, true≢false, ◌&&◌, ◌||◌, ◌==◌, nat_le, nat_lt, Some, None, append_assoc, drop-cons, inl, inr, arith}
-use Rattle.std.specs.Prelude.{codes, if◌then◌else◌, is_some}
+use Rattle.std.proofs.Common.{◌≡◌, ◌∙◌, ap, ap₂, refl, sym, ℕ, List, [], ◌∷◌, ◌++◌, length, take, drop, slice_index, Bool, true, false, true≢false, ◌&&◌, ◌||◌, ◌==◌, nat_le, nat_lt, Some, append_assoc, drop-cons, inl, inr, arith}
+use Rattle.std.specs.Prelude.{codes, is_some}
 use Rattle.std.proofs.Math.ListN.{get_or-eq_default}
 use Rattle.std.proofs.lemmas.List.{take-append-drop, append-nil}
 use Rattle.std.proofs.lemmas.Bool.{and_parts, and_from, or_cases, le-leb, eqb-true, cases_lt}
@@ -12,6 +12,7 @@ use Rattle.fhir_prims.specs.Order.{Fields}
 use Rattle.fhir_prims.specs.Utc.{day_at}
 use Rattle.fhir_prims.specs.Reading.{fields_of}
 use Rattle.fhir_prims.specs.Written.{Clock, Zone, utc, ahead, behind, Written, year, month, day, moment, time, fraction_text, clock_text, zone_text, text_of, is_possible_zone, is_possible}
+use Rattle.fhir_prims.proofs.Told.{which}
 use Rattle.fhir_prims.proofs.Instants.{moment_facts}
 use Rattle.fhir_prims.proofs.Forms.{year_back, month_back, day_back, clock_back, zulu_back, ahead_back, behind_back, shape_length}
 
@@ -145,7 +146,7 @@ moment_written s is =
 -- ---- all
 
 by_form : (s : List ℕ) (a b c d e : Bool) → is_year_text s ≡ a → is_month_text s ≡ b → is_day_text s ≡ c
-    → is_instant s ≡ d → is_time s ≡ e → (a || b || c || d || e) ≡ true → IsWritten s
+    → is_instant s ≡ d → is_time s ≡ e → ((a || b || c) || (a || b || c || d) || d || e) ≡ true → IsWritten s
 by_form s true b c d e p q r t u some = year_written s p
 by_form s false true c d e p q r t u some = month_written s q
 by_form s false false true d e p q r t u some = day_written s r
@@ -153,17 +154,7 @@ by_form s false false false true e p q r t u some = moment_written s t
 by_form s false false false false true p q r t u some = time_written s u
 by_form s false false false false false p q r t u some = absurd (true≢false (sym some))
 
-one_of : {X : Type 0} (a b c d e : Bool) (x y z v w : X)
-    → is_some (if a then Some x else (if b then Some y else (if c then Some z else (if d then Some v else (if e then Some w else None)))))
-    ≡ (a || b || c || d || e)
-one_of true b c d e x y z v w = refl
-one_of false true c d e x y z v w = refl
-one_of false false true d e x y z v w = refl
-one_of false false false true e x y z v w = refl
-one_of false false false false true x y z v w = refl
-one_of false false false false false x y z v w = refl
-
 pub all_written : (s : List ℕ) (f : Fields) → fields_of s ≡ Some f → IsWritten s
 all_written s f read =
     by_form s (is_year_text s) (is_month_text s) (is_day_text s) (is_instant s) (is_time s) refl refl refl refl refl
-    (sym (one_of (is_year_text s) (is_month_text s) (is_day_text s) (is_instant s) (is_time s) _ _ _ _ _) ∙ ap is_some read)
+    (sym (which s) ∙ ap is_some read)

@@ -12,4 +12,5 @@ mod Said
 mod Found
 mod Once
 mod Written
+mod Types
 mod Bounded

@@ -11,7 +11,7 @@ use Rattle.fhir_prims.specs.Moments.{is_month, year_of, has_day, is_year_text, i
 use Rattle.fhir_prims.specs.Calendar.{minutes_since}
 use Rattle.fhir_prims.specs.Order.{Fields}
 use Rattle.fhir_prims.specs.Utc.{day_at, minutes_at, second_of, offset_of, is_behind}
-use Rattle.fhir_prims.specs.Reading.{date_fields, moment_fields, time_fields, minutes_of, day_of, instant_fields, fields_of}
+use Rattle.fhir_prims.specs.Reading.{date_fields, year_fields, month_fields, day_fields, moment_fields, time_fields, minutes_of, day_of, instant_fields, fields_of}
 use Rattle.fhir_prims.specs.Written.{Clock, Zone, utc, ahead, behind, Written, year, month, day, moment, time, four_digits, day_text, fraction_text, clock_text, zone_text, text_of, is_year, is_possible_clock, is_possible_zone, is_possible, second_in, Shows, SaysMoment, Says}
 use Rattle.fhir_prims.proofs.ToUtc as to_utc
 use Rattle.fhir_prims.proofs.Forms.{two_fit, other_length, hms_text}
@@ -25,14 +25,14 @@ pub record IsRead (w : Written) : Type 0 where
 
 -- ---- the form that a text has
 
-as_year : (s : List ℕ) → is_year_text s ≡ true → fields_of s ≡ Some (date_fields (Some (year_of s)) None None)
+as_year : (s : List ℕ) → is_year_text s ≡ true → fields_of s ≡ Some (year_fields s)
 as_year s a = rw a refl
 
-as_month : (s : List ℕ) → is_year_text s ≡ false → is_month_text s ≡ true → fields_of s ≡ Some (date_fields (Some (year_of s)) (Some (pair_at s 5)) None)
+as_month : (s : List ℕ) → is_year_text s ≡ false → is_month_text s ≡ true → fields_of s ≡ Some (month_fields s)
 as_month s a b = rw (a, b) refl
 
 as_day : (s : List ℕ) → is_year_text s ≡ false → is_month_text s ≡ false → is_day_text s ≡ true
-    → fields_of s ≡ Some (date_fields (Some (year_of s)) (Some (pair_at s 5)) (Some (pair_at s 8)))
+    → fields_of s ≡ Some (day_fields s)
 as_day s a b c = rw (a, b, c) refl
 
 as_instant : (s : List ℕ) → is_year_text s ≡ false → is_month_text s ≡ false → is_day_text s ≡ false → is_instant s ≡ true
@@ -73,7 +73,7 @@ year_read : (y : ℕ) → is_year y ≡ true → IsRead (year y)
 year_read y is =
     let s = four_digits y in
     let facts = year_form y is in
-    record { fields = date_fields (Some (year_of s)) None None; read = as_year s facts.form; says = ap (λ k. date_fields (Some k) None None) facts.number }
+    record { fields = year_fields s; read = as_year s facts.form; says = ap (λ k. date_fields (Some k) None None) facts.number }
 
 pub record MonthForm (y m : ℕ) : Type 0 where
   pub number : year_of (text_of (month y m)) ≡ y
@@ -105,7 +105,7 @@ month_read y m is =
     let s = text_of (month y m) in
     let facts = month_form y m is in
     record {
-      fields = date_fields (Some (year_of s)) (Some (pair_at s 5)) None;
+      fields = month_fields s;
       read = as_month s facts.no_year facts.form;
       says = ap₂ (λ k l. date_fields (Some k) (Some l) None) facts.number facts.of_month;
     }
@@ -123,7 +123,7 @@ day_said d is =
     let s = day_text d in
     let other = longer s (omega arith) in
     record {
-      fields = date_fields (Some (year_of s)) (Some (pair_at s 5)) (Some (pair_at s 8));
+      fields = day_fields s;
       read = as_day s other.no_year other.no_month (day_is d is);
       says = ap (λ d. date_fields (Some d.year) (Some d.month) (Some d.day)) (day_read d (day_range d is));
     }
@@ -156,7 +156,7 @@ no_instant c =
 pub no_day_time : (c : Clock) → is_day_text (clock_text c) ≡ false
 no_day_time c = no_day (clock_text c) (no_day_shape c)
 
-time_form : (c : Clock) → is_possible_clock c ≡ true → is_time (clock_text c) ≡ true
+pub time_form : (c : Clock) → is_possible_clock c ≡ true → is_time (clock_text c) ≡ true
 time_form c is =
     let p = time_parts c [] in
     ap (λ t. has_clock t && (length t.zone == 0)) (time_cut c is) ∙ and_from (has_clock p) (length p.zone == 0) (clock_is c [] is) refl

@@ -11,6 +11,15 @@ use Rattle.fhir_prims.specs.Utc.{day_at, minutes_at, second_of, utc_minutes, day
 abbrev pub date_fields : Option ℕ → Option ℕ → Option ℕ → Fields
 date_fields year month day = record { year = year; month = month; day = day; hour = None; minute = None; second = None }
 
+abbrev pub year_fields : List ℕ → Fields
+year_fields s = date_fields (Some (year_of s)) None None
+
+abbrev pub month_fields : List ℕ → Fields
+month_fields s = date_fields (Some (year_of s)) (Some (pair_at s 5)) None
+
+abbrev pub day_fields : List ℕ → Fields
+day_fields s = date_fields (Some (year_of s)) (Some (pair_at s 5)) (Some (pair_at s 8))
+
 -- the minutes are those from the start of the day
 abbrev pub moment_fields : Day → ℕ → Value → Fields
 moment_fields day minutes second = record {
@@ -47,8 +56,8 @@ instant_fields p = moment_fields (day_of p) (minutes_of p.time % 1440) (second_o
 -- what a text says, if it is the text of one
 abbrev pub fields_of : List ℕ → Option Fields
 fields_of s =
-    if is_year_text s then Some (date_fields (Some (year_of s)) None None)
-    else (if is_month_text s then Some (date_fields (Some (year_of s)) (Some (pair_at s 5)) None)
-    else (if is_day_text s then Some (date_fields (Some (year_of s)) (Some (pair_at s 5)) (Some (pair_at s 8)))
+    if is_year_text s then Some (year_fields s)
+    else (if is_month_text s then Some (month_fields s)
+    else (if is_day_text s then Some (day_fields s)
     else (if is_instant s then Some (instant_fields (cut_moment s))
     else (if is_time s then Some (time_fields (cut_time s)) else None))))

@@ -1,5 +1,5 @@
 -- How dates, moments and times of day are written, and what they say (FHIR R4, Data Types, date, dateTime, instant, time).
-use Rattle.std.specs.Prelude.{◌≡◌, ℕ, ◌+◌, ◌*◌, ◌/◌, ◌%◌, ◌<◌, List, [], ◌∷◌, ◌++◌, Bool, true, ◌&&◌, nat_le, Some, None, codes, IsTrue}
+use Rattle.std.specs.Prelude.{◌≡◌, ℕ, ◌+◌, ◌*◌, ◌/◌, ◌%◌, ◌<◌, List, [], ◌∷◌, ◌++◌, Bool, true, false, ◌&&◌, nat_le, Some, None, codes, IsTrue}
 use Rattle.fhir_decimal.specs.Text.{unsigned}
 use Rattle.fhir_decimal.specs.Value.{Value, value_of}
 use Rattle.fhir_prims.specs.declared.calendar.Day.{Day}
@@ -30,6 +30,21 @@ pub data Written : Type 0 where
   day : Day → Written
   moment : Day → Clock → Zone → Written
   time : Clock → Written
+
+-- a year, a month or a day; a moment with a time; a time of day
+abbrev pub is_written_date : Written → Bool
+is_written_date (year y) = true
+is_written_date (month y m) = true
+is_written_date (day d) = true
+is_written_date _ = false
+
+abbrev pub is_written_moment : Written → Bool
+is_written_moment (moment d c z) = true
+is_written_moment _ = false
+
+abbrev pub is_written_time : Written → Bool
+is_written_time (time c) = true
+is_written_time _ = false
 
 -- ---- how
 

@@ -12,12 +12,13 @@ ghost use Rattle.fhir_prims.specs.declared.calendar.Day.{Day};
 ghost use Rattle.fhir_prims.specs.Calendar.{is_day, day_after, day_before, day_number, minutes_since};
 ghost use Rattle.fhir_prims.specs.Order.{Fields, moment_order, is_same_moment};
 ghost use Rattle.fhir_prims.specs.Reading.{moment_fields, fields_of};
-ghost use Rattle.fhir_prims.specs.Written.{Written, text_of, is_possible, IsSaid};
+ghost use Rattle.fhir_prims.specs.Written.{Written, is_written_date, is_written_moment, is_written_time, text_of, is_possible, IsSaid};
 ghost use Rattle.fhir_prims.specs.Values.{lexical};
 
 use fhir_decimal::{grammar, order_of_values};
 
-/// No type has an empty string, `null`, an array or an object (FHIR R4, Data Types, primitive types).
+/// No type has an empty string, `null`, an array or an object (FHIR R4, Data Types, primitive
+/// types).
 pub fn empty_values()
     ensures text { (p : PrimType) → lexical p (string []) ≡ false }
     ensures null { (p : PrimType) → lexical p null ≡ false }
@@ -33,22 +34,32 @@ pub fn decimal_numbers()
     grammar();
 }
 
-/// The texts that `Moment::of` reads are those of the values of date, dateTime, instant and time (FHIR R4, Data Types).
+/// The texts that `Moment::of` reads are those of the values of date, dateTime, instant and time. A
+/// year, a month or a day is a value of date and dateTime, a moment with a time one of dateTime and
+/// instant, and a time of day one of time (FHIR R4, Data Types).
 pub fn texts_of_moments()
-    ensures { (s : Text) → is_some (fields_of s) ≡ (lexical Date (string s)
+    ensures texts { (s : Text) → is_some (fields_of s) ≡ (lexical Date (string s)
         || lexical DateTime (string s) || lexical Instant (string s) || lexical Time (string s)) }
+    ensures date { (w : Written) → IsTrue (is_possible w)
+        → lexical Date (string (text_of w)) ≡ is_written_date w }
+    ensures date_time { (w : Written) → IsTrue (is_possible w)
+        → lexical DateTime (string (text_of w)) ≡ (is_written_date w || is_written_moment w) }
+    ensures instant { (w : Written) → IsTrue (is_possible w)
+        → lexical Instant (string (text_of w)) ≡ is_written_moment w }
+    ensures time { (w : Written) → IsTrue (is_possible w)
+        → lexical Time (string (text_of w)) ≡ is_written_time w }
 {}
 
-/// The order of moments is a partial one: turned round it is turned, it is transitive where it decides, and moments
-/// that are the same can stand for each other.
+/// The order of moments is a partial one: turned round it is turned, it is transitive where it
+/// decides, and moments that are the same can stand for each other.
 pub fn order_of_moments()
     ensures { IsPartialOrder is_same_moment moment_order }
 {
     order_of_values();
 }
 
-/// Two moments with a time are in the order of the minutes from one start to them, and in the same minute in that of
-/// their seconds, wherever their days lie.
+/// Two moments with a time are in the order of the minutes from one start to them, and in the same
+/// minute in that of their seconds, wherever their days lie.
 pub fn moments_in_time()
     ensures { (d e : Day) (m n : ℕ) (a b : Value) → IsTrue (is_day d) → IsTrue (is_day e)
         → m < 1440 → n < 1440 → moment_order (moment_fields d m a) (moment_fields e n b)

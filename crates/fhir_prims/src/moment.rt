@@ -6,7 +6,7 @@ ghost use Rattle.fhir_decimal.specs.Value.{value_of, value_order};
 ghost use Rattle.fhir_decimal.specs.Seen.{parts_seen};
 ghost use Rattle.fhir_prims.specs.Moments.{is_moment};
 ghost use Rattle.fhir_prims.specs.Order.{field_order, moment_order};
-ghost use Rattle.fhir_prims.specs.Reading.{date_fields, moment_fields, time_fields, minutes_of, instant_fields, fields_of};
+ghost use Rattle.fhir_prims.specs.Reading.{date_fields, year_fields, month_fields, day_fields, moment_fields, time_fields, minutes_of, instant_fields, fields_of};
 ghost use Rattle.fhir_prims.specs.Seen.{fields_seen, time_seen, moment_seen};
 
 use crate::calendar::Day;
@@ -17,9 +17,9 @@ use crate::utc::{day_at, day_of_minutes, minutes_at, second_of, utc_minutes};
 use fhir_decimal::Decimal;
 use std::cmp::Ordering;
 
-/// A date, a moment or a time of day (FHIR R4, Data Types, date, dateTime, instant, time), as the fields that its text
-/// gives: those of a date, as far as it goes; all of a moment, in UTC; those of a time of day. The fraction of the
-/// second is borrowed.
+/// A date, a moment or a time of day (FHIR R4, Data Types, date, dateTime, instant, time), as the
+/// fields that its text gives: those of a date, as far as it goes; all of a moment, in UTC; those
+/// of a time of day. The fraction of the second is borrowed.
 #[derive(Clone, Copy, Debug)]
 pub struct Moment<'a> {
     year: Option<u32>,
@@ -41,6 +41,26 @@ fn of_date<'a>(year: Option<u32>, month: Option<u32>, day: Option<u32>) -> Momen
         minute: None,
         second: None,
     }
+}
+
+fn of_year(text: &[u8]) -> Moment<'_>
+    ensures { fields_seen result ≡ year_fields text.now }
+{
+    of_date(Some(year_of(text)), None, None)
+}
+
+fn of_month(text: &[u8]) -> Moment<'_>
+    ensures { fields_seen result ≡ month_fields text.now }
+{
+    of_date(Some(year_of(text)), Some(u32::from(pair_at(text, 5))), None)
+}
+
+fn of_day(text: &[u8]) -> Moment<'_>
+    ensures { fields_seen result ≡ day_fields text.now }
+{
+    let month = u32::from(pair_at(text, 5));
+    let day = u32::from(pair_at(text, 8));
+    of_date(Some(year_of(text)), Some(month), Some(day))
 }
 
 fn of_moment(day: Day, minutes: u32, second: Decimal<'_>) -> Moment<'_>
@@ -88,14 +108,11 @@ fn of_bytes(text: &[u8]) -> Option<Moment<'_>>
     ensures { option_map fields_seen result ≡ fields_of text.now }
 {
     if is_year_text(text) {
-        Some(of_date(Some(year_of(text)), None, None))
+        Some(of_year(text))
     } else if is_month_text(text) {
-        let month = u32::from(pair_at(text, 5));
-        Some(of_date(Some(year_of(text)), Some(month), None))
+        Some(of_month(text))
     } else if is_day_text(text) {
-        let month = u32::from(pair_at(text, 5));
-        let day = u32::from(pair_at(text, 8));
-        Some(of_date(Some(year_of(text)), Some(month), Some(day)))
+        Some(of_day(text))
     } else if is_instant(text) {
         Some(of_instant(&cut_moment(text)))
     } else if is_time(text) {
@@ -106,9 +123,9 @@ fn of_bytes(text: &[u8]) -> Option<Moment<'_>>
 }
 
 impl<'a> Moment<'a> {
-    /// What the text of a date, dateTime, instant or time says, and none for any other text (FHIR R4, Data Types). A
-    /// moment with a time is moved to UTC by whole minutes, so that the second 60 stays, and the years 0 and 10000 may
-    /// come.
+    /// What the text of a date, dateTime, instant or time says, and none for any other text (FHIR
+    /// R4, Data Types). A moment with a time is moved to UTC by whole minutes, so that the second
+    /// 60 stays, and the years 0 and 10000 may come.
     pub fn of(text: &'a str) -> Option<Moment<'a>>
         ensures { option_map fields_seen result ≡ fields_of text.now }
     {
@@ -147,9 +164,9 @@ fn then_by(first: Option<Ordering>, next: Option<Ordering>) -> Option<Ordering>
     }
 }
 
-/// The order of two dates, moments or times of day, where they have one: the first field in which they differ decides,
-/// from the year on. Two that are equal as far as the shorter goes have none, and so a time of day and a moment
-/// (FHIRPath N1, Comparison).
+/// The order of two dates, moments or times of day, where they have one: the first field in which
+/// they differ decides, from the year on. Two that are equal as far as the shorter goes have none,
+/// and so a time of day and a moment (FHIRPath N1, Comparison).
 pub fn cmp_moment(left: &Moment<'_>, right: &Moment<'_>) -> Option<Ordering>
     ensures { result ≡ moment_order (fields_seen left.now) (fields_seen right.now) }
 {

@@ -53,8 +53,8 @@ fn allows_text(prim: PrimType, text: &str) -> bool
     }
 }
 
-/// Whether a JSON value is of the type's JSON kind, and its text of the type's form (FHIR R4, Data Types, primitive
-/// types). A number is judged by its text, and no text of a type is empty.
+/// Whether a JSON value is of the type's JSON kind, and its text of the type's form (FHIR R4, Data
+/// Types, primitive types). A number is judged by its text, and no text of a type is empty.
 pub fn lexical(prim: PrimType, json: &Json<'_>) -> bool
     ensures { result ≡ lexical prim (tree_of json.now) }
 {
