@@ -30,10 +30,6 @@ is_base64_byte b = is_letter b || is_digit b || (b == 43) || (b == 47) || (b == 
 abbrev pub is_text_byte : ℕ → Bool
 is_text_byte b = nat_le 32 b || (b == 9) || (b == 10) || (b == 13)
 
--- the byte begins a character in UTF-8: it isn't one of 128 to 191, which go on with one
-abbrev pub begins_char : ℕ → Bool
-begins_char b = nat_lt b 128 || nat_lt 191 b
-
 -- `[0-9]*`
 abbrev pub all_digits : List ℕ → Bool
 all_digits s = list_all is_digit s
