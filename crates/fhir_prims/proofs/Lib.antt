@@ -14,3 +14,4 @@ mod Once
 mod Written
 mod Types
 mod Bounded
+mod Whole

@@ -15,7 +15,7 @@ pub record MomentParts : Type 0 where
   pub mark : ℕ
   pub time : TimeParts
 
--- how many bytes a text has from its start on in a point and the digits behind it
+-- how many bytes a point and the digits behind it take at the start of a text
 abbrev pub fraction_len : List ℕ → ℕ
 fraction_len [] = 0
 fraction_len (b ∷ bs) = if b == 46 then 1 + prefix_len is_digit bs else 0

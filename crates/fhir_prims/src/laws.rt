@@ -1,13 +1,15 @@
 //! Laws: what the definitions say.
 
-ghost use Rattle.std.specs.Prelude.{◌≡◌, ◌↔◌, ℕ, ◌<◌, ◌||◌, suc, [], Some, is_some, true, false, IsTrue, IsSome};
+ghost use Rattle.std.specs.Prelude.{◌≡◌, ◌↔◌, ℕ, ℤ, ◌^◌, ◌<◌, ◌||◌, suc, [], Some, is_some, true, false, IsTrue, IsSome, FitsSigned};
+ghost use Rattle.std.specs.Int.{w32};
+ghost use Rattle.std.specs.Fmt.{decimal, signed_decimal};
 ghost use Rattle.std.specs.Ordering.{nat_cmp, ordering_then};
 ghost use Rattle.std.specs.Cmp.{IsPartialOrder};
 ghost use Rattle.fhir_json.specs.Tree.{Text, Items, Members, null, number, string, array, object};
 ghost use Rattle.fhir_decimal.specs.Text.{Parts, IsDecimal};
 ghost use Rattle.fhir_decimal.specs.Value.{Value, value_order};
 ghost use Rattle.fhir_prims.specs.declared.prim.PrimType.{PrimType};
-ghost use Rattle.fhir_prims.specs.declared.prim.PrimType.TheVariants.{Decimal, Date, DateTime, Instant, Time};
+ghost use Rattle.fhir_prims.specs.declared.prim.PrimType.TheVariants.{Integer, UnsignedInt, PositiveInt, Decimal, Date, DateTime, Instant, Time};
 ghost use Rattle.fhir_prims.specs.declared.calendar.Day.{Day};
 ghost use Rattle.fhir_prims.specs.Calendar.{is_day, day_after, day_before, day_number, minutes_since};
 ghost use Rattle.fhir_prims.specs.Order.{Fields, moment_order, is_same_moment};
@@ -24,6 +26,18 @@ pub fn empty_values()
     ensures null { (p : PrimType) → lexical p null ≡ false }
     ensures arrays { (p : PrimType) (items : Items) → lexical p (array items) ≡ false }
     ensures objects { (p : PrimType) (members : Members) → lexical p (object members) ≡ false }
+{}
+
+/// A number is a value of `integer` exactly where its text is what a whole number of 32 bits with a
+/// sign is written as, one of `unsignedInt` where that number isn't negative, and one of
+/// `positiveInt` where it is above 0 (FHIR R4, Data Types, integer, unsignedInt, positiveInt).
+pub fn whole_numbers()
+    ensures integer { (s : Text) → IsTrue (lexical Integer (number s))
+        ↔ ((z : ℤ) × FitsSigned w32 z × (s ≡ signed_decimal z)) }
+    ensures unsigned_int { (s : Text) → IsTrue (lexical UnsignedInt (number s))
+        ↔ ((n : ℕ) × (n < 2 ^ 31) × (s ≡ decimal n)) }
+    ensures positive_int { (s : Text) → IsTrue (lexical PositiveInt (number s))
+        ↔ ((n : ℕ) × (0 < n) × (n < 2 ^ 31) × (s ≡ decimal n)) }
 {}
 
 /// A number is a value of `decimal` exactly where its text is a decimal's, by the grammar (FHIR R4,
