@@ -17,7 +17,8 @@ mod utc;
 mod values;
 
 pub use laws::{
-    empty_values, moments_as_written, moments_in_time, order_of_moments, texts_of_moments,
+    decimal_numbers, empty_values, moments_as_written, moments_in_time, order_of_moments,
+    texts_of_moments, whole_numbers,
 };
 pub use moment::{Moment, cmp_moment};
 pub use prim::PrimType;
