@@ -69,8 +69,8 @@ year_form y is =
     let shape : has_shape (codes "0000") s ≡ true = two_fit (y / 100) _ (omega arith) (two_fit (y % 100) _ (omega arith) refl) in
     record { number = omega arith; form = and_from (has_shape (codes "0000") s) (nat_le 1 (year_of s)) shape (le-leb 1 (year_of s) (omega arith)) }
 
-year_read : (y : ℕ) → is_year y ≡ true → IsRead (year y)
-year_read y is =
+year_said : (y : ℕ) → is_year y ≡ true → IsRead (year y)
+year_said y is =
     let s = four_digits y in
     let facts = year_form y is in
     record { fields = year_fields s; read = as_year s facts.form; says = ap (λ k. date_fields (Some k) None None) facts.number }
@@ -100,8 +100,8 @@ month_form y m is =
       form = and_from (has_shape (codes "0000-00") s && nat_le 1 (year_of s)) (is_month (pair_at s 5)) front (ap is_month of_month ∙ whole.1);
     }
 
-month_read : (y m : ℕ) → is_possible (month y m) ≡ true → IsRead (month y m)
-month_read y m is =
+month_said : (y m : ℕ) → is_possible (month y m) ≡ true → IsRead (month y m)
+month_said y m is =
     let s = text_of (month y m) in
     let facts = month_form y m is in
     record {
@@ -261,8 +261,8 @@ moment_said d c z is =
     }
 
 pub all_read : (w : Written) → is_possible w ≡ true → IsRead w
-all_read (year y) is = year_read y is
-all_read (month y m) is = month_read y m is
+all_read (year y) is = year_said y is
+all_read (month y m) is = month_said y m is
 all_read (day d) is = day_said d is
 all_read (moment d c z) is = moment_said d c z is
 all_read (time c) is = time_said c is

@@ -88,7 +88,9 @@ positive_is s = (there, back)
 
 natural_back : (n : ℕ) (s : List ℕ) → n < 2 ^ 31 → s ≡ decimal n → (is_zero s || is_positive_to bound s) ≡ true
 natural_back n s small text = elim (cases_lt 0 n) [
-  | inl some ↦ or_right (is_zero s) (is_positive_to bound s) (positive_back bound s (omega arith) (record { number = n; least = omega arith; small = omega arith; text = text }))
+  | inl some ↦
+      let is : IsPositive bound s = record { number = n; least = omega arith; small = omega arith; text = text } in
+      or_right (is_zero s) (is_positive_to bound s) (positive_back bound s (omega arith) is)
   | inr none ↦
       let zero : n ≡ 0 = omega arith in
       or_left (is_zero s) (is_positive_to bound s) (zero_back s (text ∙ ap decimal zero))
