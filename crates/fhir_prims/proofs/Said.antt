@@ -110,7 +110,7 @@ month_said y m is =
       says = ap₂ (λ k l. date_fields (Some k) (Some l) None) facts.number facts.of_month;
     }
 
--- the text of a day is that of no year and no month
+-- a text of 8 bytes or more is that of no year and no month
 pub record IsLonger (s : List ℕ) : Type 0 where
   pub no_year : is_year_text s ≡ false
   pub no_month : is_month_text s ≡ false
