@@ -1,5 +1,5 @@
 -- What the cut of a written time and a written moment gives, and that the parts pass the tests.
-use Rattle.std.proofs.Common.{◌≡◌, ◌∙◌, ap, ap₂, refl, sym, ℕ, ◌+◌, ◌%◌, ◌/◌, ◌≤◌, List, [], ◌∷◌, ◌++◌, length, take, drop, Bool, true, ◌&&◌, ◌==◌, nat_le, nat_lt, one-add, arith}
+use Rattle.std.proofs.Common.{◌≡◌, ◌∙◌, ap, ap₂, refl, sym, ℕ, ◌+◌, ◌*◌, ◌%◌, ◌/◌, ◌≤◌, List, [], ◌∷◌, ◌++◌, length, take, drop, Bool, true, ◌&&◌, ◌==◌, nat_le, nat_lt, one-add, arith}
 use Rattle.std.specs.Prelude.{codes, if◌then◌else◌}
 use Rattle.std.specs.List.{prefix_len}
 use Rattle.std.proofs.Math.Seq.{take-append_seam, drop-append_seam}
@@ -12,7 +12,7 @@ use Rattle.fhir_prims.specs.Cut.{TimeParts, MomentParts, fraction_len, cut_time,
 use Rattle.fhir_prims.specs.Moments.{is_leap, is_short_month, year_of, is_in_calendar, has_day, is_day_text, is_time_of_day, is_clock, is_fraction, is_offset_form, is_offset_size, is_zone, has_clock, is_moment}
 use Rattle.fhir_prims.specs.Calendar.{is_day}
 use Rattle.fhir_prims.specs.Utc.{day_at}
-use Rattle.fhir_prims.specs.Written.{Clock, Zone, utc, ahead, behind, day_text, fraction_text, clock_text, zone_text, is_possible_clock, is_possible_zone}
+use Rattle.fhir_prims.specs.Written.{is_offset, Clock, Zone, utc, ahead, behind, day_text, fraction_text, clock_text, zone_text, is_possible_clock, is_possible_zone}
 use Rattle.fhir_prims.proofs.Days.{day_parts}
 use Rattle.fhir_prims.proofs.Forms.{two_fit, hms_text}
 
@@ -161,8 +161,18 @@ clock_is c z is =
 
 -- ---- zones
 
-pub offset_range : (h m : ℕ) → is_offset_size h m ≡ true → (h ≤ 14) × (m ≤ 59)
-offset_range h m is = grind arith
+pub offset_range : (h m : ℕ) → is_offset h m ≡ true → (h ≤ 14) × (m ≤ 59)
+offset_range h m is =
+    let parts = and_parts (nat_le m 59) (nat_le (60 * h + m) 840) is in
+    let small = leb-true m 59 parts.0 in
+    let whole = leb-true (60 * h + m) 840 parts.1 in
+    (omega arith, small)
+
+pub offset_size : (h m : ℕ) → is_offset h m ≡ true → is_offset_size h m ≡ true
+offset_size h m is = grind arith
+
+pub offset_back : (h m : ℕ) → is_offset_size h m ≡ true → is_offset h m ≡ true
+offset_back h m is = grind arith
 
 pub zone_is : (z : Zone) → is_possible_zone z ≡ true → is_zone (zone_text z) ≡ true
 zone_is utc is = refl
@@ -175,7 +185,7 @@ zone_is (ahead h m) is =
     let shape : has_shape (codes "+00:00") (zone_text (ahead h m)) ≡ true = two_fit h _ (omega arith) (two_fit m _ (omega arith) refl) in
     let form = or_left (has_shape (codes "+00:00") (zone_text (ahead h m))) (has_shape (codes "-00:00") (zone_text (ahead h m))) shape in
     and_from (is_offset_form (zone_text (ahead h m))) (is_offset_size (pair_at (zone_text (ahead h m)) 1) (pair_at (zone_text (ahead h m)) 4))
-    form (ap₂ is_offset_size hours minutes ∙ is)
+    form (ap₂ is_offset_size hours minutes ∙ offset_size h m is)
 zone_is (behind h m) is =
     let range = offset_range h m is in
     let h_high = range.0 in
@@ -185,7 +195,7 @@ zone_is (behind h m) is =
     let shape : has_shape (codes "-00:00") (zone_text (behind h m)) ≡ true = two_fit h _ (omega arith) (two_fit m _ (omega arith) refl) in
     let form = or_right (has_shape (codes "+00:00") (zone_text (behind h m))) (has_shape (codes "-00:00") (zone_text (behind h m))) shape in
     and_from (is_offset_form (zone_text (behind h m))) (is_offset_size (pair_at (zone_text (behind h m)) 1) (pair_at (zone_text (behind h m)) 4))
-    form (ap₂ is_offset_size hours minutes ∙ is)
+    form (ap₂ is_offset_size hours minutes ∙ offset_size h m is)
 
 -- ---- moments
 

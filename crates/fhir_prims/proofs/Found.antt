@@ -14,6 +14,7 @@ use Rattle.fhir_prims.specs.Reading.{fields_of}
 use Rattle.fhir_prims.specs.Written.{Clock, Zone, utc, ahead, behind, Written, year, month, day, moment, time, fraction_text, clock_text, zone_text, text_of, is_possible_zone, is_possible}
 use Rattle.fhir_prims.proofs.Told.{which}
 use Rattle.fhir_prims.proofs.Instants.{moment_facts}
+use Rattle.fhir_prims.proofs.Cuts.{offset_back}
 use Rattle.fhir_prims.proofs.Forms.{year_back, month_back, day_back, clock_back, zulu_back, ahead_back, behind_back, shape_length}
 
 -- the text is written from parts
@@ -111,9 +112,10 @@ zone_back z is = elim (or_cases (has_shape (codes "Z") z) (is_offset_form z && i
   | inl h ↦ record { zone = utc; possible = refl; text = zulu_back z h }
   | inr h ↦
       let parts = and_parts (is_offset_form z) (is_offset_size (pair_at z 1) (pair_at z 4)) h in
+      let size = offset_back (pair_at z 1) (pair_at z 4) parts.1 in
       elim (or_cases (has_shape (codes "+00:00") z) (has_shape (codes "-00:00") z) parts.0) [
-        | inl plus ↦ record { zone = ahead (pair_at z 1) (pair_at z 4); possible = parts.1; text = ahead_back z plus }
-        | inr minus ↦ record { zone = behind (pair_at z 1) (pair_at z 4); possible = parts.1; text = behind_back z minus }
+        | inl plus ↦ record { zone = ahead (pair_at z 1) (pair_at z 4); possible = size; text = ahead_back z plus }
+        | inr minus ↦ record { zone = behind (pair_at z 1) (pair_at z 4); possible = size; text = behind_back z minus }
       ]
 ]
 

@@ -4,7 +4,6 @@ use Rattle.fhir_decimal.specs.Text.{unsigned}
 use Rattle.fhir_decimal.specs.Value.{Value, value_of}
 use Rattle.fhir_prims.specs.declared.calendar.Day.{Day}
 use Rattle.fhir_prims.specs.Bytes.{all_digits}
-use Rattle.fhir_prims.specs.Moments.{is_month, has_day, is_time_of_day, is_offset_size}
 use Rattle.fhir_prims.specs.Calendar.{is_day, minutes_since}
 use Rattle.fhir_prims.specs.Order.{Fields}
 
@@ -87,21 +86,28 @@ text_of (time c) = clock_text c
 abbrev pub is_year : ℕ → Bool
 is_year y = nat_le 1 y && nat_le y 9999
 
+-- a day of the calendar
+abbrev pub is_possible_day : Day → Bool
+is_possible_day d = is_year d.year && is_day d
+
 -- to 23:59:60
 abbrev pub is_possible_clock : Clock → Bool
-is_possible_clock c = is_time_of_day c.hour c.minute c.second && all_digits c.fraction
+is_possible_clock c = nat_le c.hour 23 && nat_le c.minute 59 && nat_le c.second 60 && all_digits c.fraction
 
 -- to 14:00
+abbrev pub is_offset : ℕ → ℕ → Bool
+is_offset hours minutes = nat_le minutes 59 && nat_le (60 * hours + minutes) 840
+
 abbrev pub is_possible_zone : Zone → Bool
 is_possible_zone utc = true
-is_possible_zone (ahead hours minutes) = is_offset_size hours minutes
-is_possible_zone (behind hours minutes) = is_offset_size hours minutes
+is_possible_zone (ahead hours minutes) = is_offset hours minutes
+is_possible_zone (behind hours minutes) = is_offset hours minutes
 
 abbrev pub is_possible : Written → Bool
 is_possible (year y) = is_year y
-is_possible (month y m) = is_year y && is_month m
-is_possible (day d) = has_day d.year d.month d.day
-is_possible (moment d c z) = has_day d.year d.month d.day && is_possible_clock c && is_possible_zone z
+is_possible (month y m) = is_year y && (nat_le 1 m && nat_le m 12)
+is_possible (day d) = is_possible_day d
+is_possible (moment d c z) = is_possible_day d && is_possible_clock c && is_possible_zone z
 is_possible (time c) = is_possible_clock c
 
 -- ---- what it says
