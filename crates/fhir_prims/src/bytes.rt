@@ -1,7 +1,6 @@
 //! Classes of bytes.
 
-ghost use Rattle.std.specs.Prelude.{◌≡◌, not};
-ghost use Rattle.std.specs.List.{list_all};
+ghost use Rattle.std.specs.Prelude.{◌≡◌};
 ghost use Rattle.fhir_prims.specs.Bytes.{is_digit, is_blank, is_letter, is_hex, is_id_byte, is_base64_byte, is_text_byte, all_digits, are_digits};
 
 pub(crate) fn is_digit(byte: u8) -> bool

@@ -1,6 +1,6 @@
 //! Laws: what the definitions say.
 
-ghost use Rattle.std.specs.Prelude.{◌≡◌, ◌↔◌, ℕ, ℤ, ◌^◌, ◌<◌, ◌||◌, suc, [], Some, is_some, true, false, IsTrue, IsSome, FitsSigned};
+ghost use Rattle.std.specs.Prelude.{◌≡◌, ◌↔◌, ℕ, ℤ, ◌^◌, ◌<◌, ◌||◌, [], Some, is_some, false, IsTrue, IsSome, FitsSigned};
 ghost use Rattle.std.specs.Int.{w32};
 ghost use Rattle.std.specs.Fmt.{decimal, signed_decimal};
 ghost use Rattle.std.specs.Ordering.{nat_cmp, ordering_then};
@@ -11,7 +11,7 @@ ghost use Rattle.fhir_decimal.specs.Value.{Value, value_order};
 ghost use Rattle.fhir_prims.specs.declared.prim.PrimType.{PrimType};
 ghost use Rattle.fhir_prims.specs.declared.prim.PrimType.TheVariants.{Integer, UnsignedInt, PositiveInt, Decimal, Date, DateTime, Instant, Time};
 ghost use Rattle.fhir_prims.specs.declared.calendar.Day.{Day};
-ghost use Rattle.fhir_prims.specs.Calendar.{is_day, day_after, day_before, day_number, minutes_since};
+ghost use Rattle.fhir_prims.specs.Calendar.{is_day, minutes_since};
 ghost use Rattle.fhir_prims.specs.Order.{Fields, moment_order, is_same_moment};
 ghost use Rattle.fhir_prims.specs.Reading.{moment_fields, fields_of};
 ghost use Rattle.fhir_prims.specs.Written.{Written, is_written_date, is_written_moment, is_written_time, text_of, is_possible, IsSaid};
