@@ -102,11 +102,11 @@ where_equal Less r s same = refl
 where_equal Equal r s same = same refl
 where_equal Greater r s same = refl
 
-equal_numbers : (x y : ℕ) → nat_cmp x y ≡ Equal → x ≡ y
+pub equal_numbers : (x y : ℕ) → nat_cmp x y ≡ Equal → x ≡ y
 equal_numbers x y e = ranked x y Equal (sym e)
 
 -- the order of days by year, month and day
-abbrev by_fields : Day → Day → Ordering
+abbrev pub by_fields : Day → Day → Ordering
 by_fields d e = ordering_then (nat_cmp d.year e.year) (ordering_then (nat_cmp d.month e.month) (nat_cmp d.day e.day))
 
 in_one_year : (d e : Day) → is_day d ≡ true → is_day e ≡ true → d.year ≡ e.year → nat_cmp (place_in_year d) (place_in_year e) ≡ ordering_then (nat_cmp d.month e.month) (nat_cmp d.day e.day)
@@ -138,7 +138,7 @@ minutes_ordered m n =
     let n_small : n % 60 < 60 = omega arith in
     ap₂ nat_cmp m_is n_is ∙ stepped (λ i. 60 * i) (λ i. 60) (even 60) (m / 60) (n / 60) (m % 60) (n % 60) m_small n_small
 
-counted : (d e : Day) (m n : ℕ) → is_day d ≡ true → is_day e ≡ true → m < 1440 → n < 1440 → nat_cmp (minutes_since d m) (minutes_since e n) ≡ ordering_then (by_fields d e) (ordering_then (nat_cmp (m / 60) (n / 60)) (nat_cmp (m % 60) (n % 60)))
+pub counted : (d e : Day) (m n : ℕ) → is_day d ≡ true → is_day e ≡ true → m < 1440 → n < 1440 → nat_cmp (minutes_since d m) (minutes_since e n) ≡ ordering_then (by_fields d e) (ordering_then (nat_cmp (m / 60) (n / 60)) (nat_cmp (m % 60) (n % 60)))
 counted d e m n p q small other =
     stepped (λ i. 1440 * i) (λ i. 1440) (even 1440) (day_number d) (day_number e) m n small other
     ∙ ap₂ ordering_then (days_ordered d e p q) (minutes_ordered m n)

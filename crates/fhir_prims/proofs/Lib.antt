@@ -6,3 +6,12 @@ mod Told
 mod Days
 mod InTime
 mod ToUtc
+mod Forms
+mod Cuts
+mod Said
+mod Found
+mod Once
+mod Written
+mod Types
+mod Bounded
+mod Whole

@@ -1,16 +1,16 @@
 -- The move to UTC keeps the minutes.
-use Rattle.std.proofs.Common.{◌≡◌, ℕ, suc, ◌+◌, ◌-◌, ◌*◌, ◌%◌, ◌<◌, ◌≤◌, List, take, drop, slice_index, refl, sym, ap, arith, Bool, true, false, true≢false, ◌&&◌, ◌||◌, ◌==◌, nat_le, nat_lt}
+use Rattle.std.proofs.Common.{◌≡◌, ℕ, suc, ◌+◌, ◌-◌, ◌*◌, ◌%◌, ◌<◌, ◌≤◌, List, refl, sym, ap, arith, Bool, true, false, true≢false, ◌&&◌, ◌||◌, nat_le, nat_lt}
 use Rattle.std.specs.Prelude.{if◌then◌else◌, codes}
 use Rattle.std.proofs.lemmas.Bool.{and_parts, leb-true, ltb-true, ltb-false}
 use Rattle.fhir_prims.specs.declared.calendar.Day.{Day}
-use Rattle.fhir_prims.specs.Bytes.{is_digit}
 use Rattle.fhir_prims.specs.Shapes.{has_shape, pair_at}
-use Rattle.fhir_prims.specs.Moments.{year_of, is_in_calendar, is_day_text, is_clock, is_offset_form, is_offset_size, is_zone, after_digits, is_digits_and_zone, is_fraction_and_zone, is_zoned_time, is_instant}
+use Rattle.fhir_prims.specs.Cut.{MomentParts}
+use Rattle.fhir_prims.specs.Moments.{year_of, is_in_calendar, is_time_of_day, is_clock, is_fraction, is_offset_form, is_offset_size, is_moment}
 use Rattle.fhir_prims.specs.Calendar.{is_day, day_after, day_before, day_number, minutes_since}
 use Rattle.fhir_prims.specs.Utc.{day_at, minutes_at, offset_of, is_behind, day_of_minutes}
-use Rattle.fhir_prims.specs.Reading.{clock_of, zone_of, minutes_of, day_of}
+use Rattle.fhir_prims.specs.Reading.{minutes_of, day_of}
 use Rattle.fhir_prims.proofs.Days.{number_after, number_before, day_after_exists, day_before_exists}
-use Rattle.fhir_prims.proofs.Instants.{day_of_instant}
+use Rattle.fhir_prims.proofs.Instants.{moment_facts, day_exists}
 
 -- ---- where minutes from the start of the day before fall
 
@@ -60,24 +60,16 @@ move_behind d m o true p q late is h =
 
 -- ---- what an instant's text gives
 
-is_zoned : (s : List ℕ) → is_instant s ≡ true → is_zoned_time (drop 11 s) ≡ true
-is_zoned s is = (and_parts (is_day_text (take 10 s) && (slice_index s 10 == 84)) (is_zoned_time (drop 11 s)) is).1
-
-minutes_small : (s : List ℕ) → is_instant s ≡ true → minutes_at (clock_of s) 0 < 1440
-minutes_small s is =
-    let clock : is_clock (clock_of s) ≡ true = (and_parts (is_clock (take 8 (drop 11 s))) (is_fraction_and_zone (drop 8 (drop 11 s))) (is_zoned s is)).0 in
-    let most = and_parts (has_shape (codes "00:00:00") (clock_of s) && nat_le (pair_at (clock_of s) 0) 23 && nat_le (pair_at (clock_of s) 3) 59) (nat_le (pair_at (clock_of s) 6) 60) clock in
-    let two = and_parts (has_shape (codes "00:00:00") (clock_of s) && nat_le (pair_at (clock_of s) 0) 23) (nat_le (pair_at (clock_of s) 3) 59) most.0 in
-    let hours = leb-true (pair_at (clock_of s) 0) 23 (and_parts (has_shape (codes "00:00:00") (clock_of s)) (nat_le (pair_at (clock_of s) 0) 23) two.0).1 in
-    let minutes = leb-true (pair_at (clock_of s) 3) 59 two.1 in
+minutes_small : (p : MomentParts) → is_moment p ≡ true → minutes_at p.time.clock 0 < 1440
+minutes_small p is =
+    let c = p.time.clock in
+    let clock = (and_parts (is_clock c) (is_fraction p.time.fraction) (moment_facts p is).clock).0 in
+    let day = (and_parts (has_shape (codes "00:00:00") c) (is_time_of_day (pair_at c 0) (pair_at c 3) (pair_at c 6)) clock).1 in
+    let two = (and_parts (nat_le (pair_at c 0) 23 && nat_le (pair_at c 3) 59) (nat_le (pair_at c 6) 60) day).0 in
+    let one = and_parts (nat_le (pair_at c 0) 23) (nat_le (pair_at c 3) 59) two in
+    let hours = leb-true (pair_at c 0) 23 one.0 in
+    let minutes = leb-true (pair_at c 3) 59 one.1 in
     omega arith
-
-zone_behind : (rest : List ℕ) (b : Bool) → (if b then is_digits_and_zone (drop 1 rest) else is_zone rest) ≡ true → is_zone (if b then after_digits (drop 1 rest) else rest) ≡ true
-zone_behind rest true is = (and_parts (is_digit (slice_index (drop 1 rest) 0)) (is_zone (after_digits (drop 1 rest))) is).1
-zone_behind rest false is = is
-
-has_zone : (s : List ℕ) → is_instant s ≡ true → is_zone (zone_of s) ≡ true
-has_zone s is = zone_behind (drop 8 (drop 11 s)) (slice_index (drop 8 (drop 11 s)) 0 == 46) (and_parts (is_clock (take 8 (drop 11 s))) (is_fraction_and_zone (drop 8 (drop 11 s))) (is_zoned s is)).1
 
 size_small : (h m : ℕ) → is_offset_size h m ≡ true → 60 * h + m ≤ 840
 size_small h m is = grind arith
@@ -86,27 +78,27 @@ offset_by : (z : List ℕ) (b : Bool) → (b || (is_offset_form z && is_offset_s
 offset_by z true is = omega arith
 offset_by z false is = size_small (pair_at z 1) (pair_at z 4) (and_parts (is_offset_form z) (is_offset_size (pair_at z 1) (pair_at z 4)) is).1
 
-offset_small : (s : List ℕ) → is_instant s ≡ true → offset_of (zone_of s) ≤ 840
-offset_small s is = offset_by (zone_of s) (has_shape (codes "Z") (zone_of s)) (has_zone s is)
+offset_small : (p : MomentParts) → is_moment p ≡ true → offset_of p.time.zone ≤ 840
+offset_small p is = offset_by p.time.zone (has_shape (codes "Z") p.time.zone) (moment_facts p is).zone
 
-local_day : (s : List ℕ) → is_instant s ≡ true → is_day (day_at (take 10 s)) ≡ true
-local_day s is =
-    let d = day_at (take 10 s) in
-    (and_parts (nat_le 1 d.year && nat_le d.year 9999) (is_in_calendar d.year d.month d.day) (day_of_instant s is)).1
+local_day : (p : MomentParts) → is_moment p ≡ true → is_day (day_at p.day) ≡ true
+local_day p is =
+    let d = day_at p.day in
+    (and_parts (nat_le 1 d.year && nat_le d.year 9999) (is_in_calendar d.year d.month d.day) (day_exists p is)).1
 
-local_year : (s : List ℕ) → is_instant s ≡ true → 1 ≤ year_of (take 10 s)
-local_year s is =
-    let d = day_at (take 10 s) in
-    let years = (and_parts (nat_le 1 d.year && nat_le d.year 9999) (is_in_calendar d.year d.month d.day) (day_of_instant s is)).0 in
+local_year : (p : MomentParts) → is_moment p ≡ true → 1 ≤ year_of p.day
+local_year p is =
+    let d = day_at p.day in
+    let years = (and_parts (nat_le 1 d.year && nat_le d.year 9999) (is_in_calendar d.year d.month d.day) (day_exists p is)).0 in
     leb-true 1 d.year (and_parts (nat_le 1 d.year) (nat_le d.year 9999) years).0
 
--- ---- the laws
+-- ---- the move
 
-pub ahead : (s : List ℕ) → is_instant s ≡ true → is_behind (zone_of s) ≡ false → minutes_since (day_of s) (minutes_of s % 1440) + offset_of (zone_of s) ≡ minutes_since (day_at (take 10 s)) (minutes_at (clock_of s) 0)
-ahead s is = move_ahead (day_at (take 10 s)) (minutes_at (clock_of s) 0) (offset_of (zone_of s)) (is_behind (zone_of s)) (minutes_small s is) (offset_small s is) (local_year s is) (local_day s is)
+pub ahead : (p : MomentParts) → is_moment p ≡ true → is_behind p.time.zone ≡ false → minutes_since (day_of p) (minutes_of p.time % 1440) + offset_of p.time.zone ≡ minutes_since (day_at p.day) (minutes_at p.time.clock 0)
+ahead p is = move_ahead (day_at p.day) (minutes_at p.time.clock 0) (offset_of p.time.zone) (is_behind p.time.zone) (minutes_small p is) (offset_small p is) (local_year p is) (local_day p is)
 
-pub behind : (s : List ℕ) → is_instant s ≡ true → is_behind (zone_of s) ≡ true → minutes_since (day_of s) (minutes_of s % 1440) ≡ minutes_since (day_at (take 10 s)) (minutes_at (clock_of s) 0) + offset_of (zone_of s)
-behind s is = move_behind (day_at (take 10 s)) (minutes_at (clock_of s) 0) (offset_of (zone_of s)) (is_behind (zone_of s)) (minutes_small s is) (offset_small s is) (local_year s is) (local_day s is)
+pub behind : (p : MomentParts) → is_moment p ≡ true → is_behind p.time.zone ≡ true → minutes_since (day_of p) (minutes_of p.time % 1440) ≡ minutes_since (day_at p.day) (minutes_at p.time.clock 0) + offset_of p.time.zone
+behind p is = move_behind (day_at p.day) (minutes_at p.time.clock 0) (offset_of p.time.zone) (is_behind p.time.zone) (minutes_small p is) (offset_small p is) (local_year p is) (local_day p is)
 
-pub on_a_day : (s : List ℕ) → is_instant s ≡ true → is_day (day_of s) ≡ true
-on_a_day s is = lands (minutes_of s) (day_at (take 10 s)) (local_day s is)
+pub on_a_day : (p : MomentParts) → is_moment p ≡ true → is_day (day_of p) ≡ true
+on_a_day p is = lands (minutes_of p.time) (day_at p.day) (local_day p is)

@@ -6,7 +6,7 @@ use Rattle.std.specs.List.{list_all}
 abbrev pub is_digit : ℕ → Bool
 is_digit b = nat_le 48 b && nat_le b 57
 
--- `\s`: space, tab, line feed, carriage return
+-- `\s`: space, tab, line feed and carriage return alone
 abbrev pub is_blank : ℕ → Bool
 is_blank b = (b == 32) || (b == 9) || (b == 10) || (b == 13)
 
@@ -26,13 +26,9 @@ is_id_byte b = is_letter b || is_digit b || (b == 45) || (b == 46)
 abbrev pub is_base64_byte : ℕ → Bool
 is_base64_byte b = is_letter b || is_digit b || (b == 43) || (b == 47) || (b == 61)
 
--- no control but tab, line feed and carriage return
+-- not below U+0020, but for tab, line feed and carriage return
 abbrev pub is_text_byte : ℕ → Bool
 is_text_byte b = nat_le 32 b || (b == 9) || (b == 10) || (b == 13)
-
--- the byte begins a character in UTF-8: it isn't one of 128 to 191, which go on with one
-abbrev pub begins_char : ℕ → Bool
-begins_char b = nat_lt b 128 || nat_lt 191 b
 
 -- `[0-9]*`
 abbrev pub all_digits : List ℕ → Bool

@@ -4,9 +4,11 @@ pub mod Numbers
 pub mod Blanks
 pub mod Texts
 pub mod Names
+pub mod Cut
 pub mod Moments
 pub mod Calendar
 pub mod Order
+pub mod Written
 pub mod Utc
 pub mod Reading
 pub mod Values

@@ -1,8 +1,8 @@
 -- The texts of date, dateTime, instant and time (FHIR R4, Data Types).
-use Rattle.std.specs.Prelude.{ℕ, ◌+◌, ◌*◌, ◌%◌, List, [], ◌∷◌, slice_index, take, drop, Bool, true, not, ◌&&◌, ◌||◌, ◌==◌, nat_le, codes, if◌then◌else◌}
-use Rattle.std.specs.List.{prefix_len}
-use Rattle.fhir_prims.specs.Bytes.{is_digit, are_digits}
+use Rattle.std.specs.Prelude.{ℕ, ◌+◌, ◌*◌, ◌%◌, List, [], ◌∷◌, length, Bool, true, not, ◌&&◌, ◌||◌, ◌==◌, nat_le, codes, if◌then◌else◌}
+use Rattle.fhir_prims.specs.Bytes.{are_digits}
 use Rattle.fhir_prims.specs.Shapes.{has_shape, pair_at}
+use Rattle.fhir_prims.specs.Cut.{TimeParts, MomentParts, cut_time, cut_moment}
 
 -- ---- days
 
@@ -49,18 +49,17 @@ is_date s = is_year_text s || is_month_text s || is_day_text s
 
 -- ---- times
 
+abbrev pub is_time_of_day : ℕ → ℕ → ℕ → Bool
+is_time_of_day hour minute second = nat_le hour 23 && nat_le minute 59 && nat_le second 60
+
 -- hh:mm:ss, to 23:59:60
 abbrev pub is_clock : List ℕ → Bool
-is_clock s = has_shape (codes "00:00:00") s && nat_le (pair_at s 0) 23 && nat_le (pair_at s 3) 59 && nat_le (pair_at s 6) 60
+is_clock s = has_shape (codes "00:00:00") s && is_time_of_day (pair_at s 0) (pair_at s 3) (pair_at s 6)
 
 -- `(\.[0-9]+)?`
 abbrev pub is_fraction : List ℕ → Bool
 is_fraction [] = true
 is_fraction (b ∷ bs) = (b == 46) && are_digits bs
-
--- hh:mm:ss and a fraction
-abbrev pub is_time : List ℕ → Bool
-is_time s = is_clock (take 8 s) && is_fraction (drop 8 s)
 
 -- `+` or `-`, and hh:mm
 abbrev pub is_offset_form : List ℕ → Bool
@@ -74,24 +73,20 @@ is_offset_size hours minutes = (nat_le hours 13 && nat_le minutes 59) || ((hours
 abbrev pub is_zone : List ℕ → Bool
 is_zone s = has_shape (codes "Z") s || (is_offset_form s && is_offset_size (pair_at s 1) (pair_at s 4))
 
-abbrev pub after_digits : List ℕ → List ℕ
-after_digits s = drop (prefix_len is_digit s) s
+-- a clock and a fraction
+abbrev pub has_clock : TimeParts → Bool
+has_clock t = is_clock t.clock && is_fraction t.fraction
 
--- digits, one at least, and a zone
-abbrev pub is_digits_and_zone : List ℕ → Bool
-is_digits_and_zone s = is_digit (slice_index s 0) && is_zone (after_digits s)
+-- that, and no zone
+abbrev pub is_time : List ℕ → Bool
+is_time s = has_clock (cut_time s) && (length (cut_time s).zone == 0)
 
--- `(\.[0-9]+)?` and a zone
-abbrev pub is_fraction_and_zone : List ℕ → Bool
-is_fraction_and_zone s = if slice_index s 0 == 46 then is_digits_and_zone (drop 1 s) else is_zone s
+-- a day, `T`, a clock and a fraction, and a zone
+abbrev pub is_moment : MomentParts → Bool
+is_moment p = is_day_text p.day && (p.mark == 84) && has_clock p.time && is_zone p.time.zone
 
--- hh:mm:ss, a fraction or none, and a zone
-abbrev pub is_zoned_time : List ℕ → Bool
-is_zoned_time s = is_clock (take 8 s) && is_fraction_and_zone (drop 8 s)
-
--- YYYY-MM-DDThh:mm:ss, a fraction or none, and a zone
 abbrev pub is_instant : List ℕ → Bool
-is_instant s = is_day_text (take 10 s) && (slice_index s 10 == 84) && is_zoned_time (drop 11 s)
+is_instant s = is_moment (cut_moment s)
 
 -- a date, or an instant
 abbrev pub is_date_time : List ℕ → Bool

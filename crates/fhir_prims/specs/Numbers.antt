@@ -1,22 +1,23 @@
--- The texts of numbers (FHIR R4, Data Types, integer, unsignedInt, positiveInt, decimal).
-use Rattle.std.specs.Prelude.{ℕ, ◌+◌, ◌-◌, ◌*◌, List, [], ◌∷◌, length, slice_index, drop, Bool, true, ◌&&◌, ◌||◌, ◌==◌, nat_le, nat_lt, is_some}
+-- The texts of numbers (FHIR R4, Data Types, integer, unsignedInt, positiveInt, decimal). The standard's expressions for
+-- integer and positiveInt take a `+` too, with which no JSON number begins.
+use Rattle.std.specs.Prelude.{ℕ, List, length, slice_index, drop, Bool, ◌&&◌, ◌||◌, ◌==◌, nat_le, nat_lt, is_some}
+use Rattle.fhir_decimal.specs.Value.{number_of}
 use Rattle.fhir_decimal.specs.Reading.{parts}
-use Rattle.fhir_prims.specs.Bytes.{is_digit}
+use Rattle.fhir_prims.specs.Bytes.{all_digits}
 
--- digits, whose number with `n` before them is at most `most`
-abbrev pub digits_to : ℕ → ℕ → List ℕ → Bool
-digits_to most n [] = true
-digits_to most n (b ∷ bs) = is_digit b && nat_le (10 * n + (b - 48)) most && digits_to most (10 * n + (b - 48)) bs
+-- digits alone, whose number is at most `most`
+abbrev pub are_digits_to : ℕ → List ℕ → Bool
+are_digits_to most s = all_digits s && nat_le (number_of s) most
 
 -- `[1-9][0-9]*`, at most `most`
 abbrev pub is_positive_to : ℕ → List ℕ → Bool
-is_positive_to most s = nat_lt 48 (slice_index s 0) && digits_to most 0 s
+is_positive_to most s = nat_lt 48 (slice_index s 0) && are_digits_to most s
 
 -- `0`
 abbrev pub is_zero : List ℕ → Bool
 is_zero s = (length s == 1) && (slice_index s 0 == 48)
 
--- `-`, and `[1-9][0-9]*`, at most `most`
+-- `-[1-9][0-9]*`, at least `-most`
 abbrev pub is_negative_to : ℕ → List ℕ → Bool
 is_negative_to most s = (slice_index s 0 == 45) && is_positive_to most (drop 1 s)
 
@@ -24,11 +25,11 @@ is_negative_to most s = (slice_index s 0 == 45) && is_positive_to most (drop 1 s
 abbrev pub is_positive_int : List ℕ → Bool
 is_positive_int s = is_positive_to 2147483647 s
 
--- `0` or `[1-9][0-9]*`, to 2147483647
+-- `0|[1-9][0-9]*`, to 2147483647
 abbrev pub is_unsigned_int : List ℕ → Bool
 is_unsigned_int s = is_zero s || is_positive_to 2147483647 s
 
--- `0` or `-?[1-9][0-9]*`, from -2147483648 to 2147483647
+-- `0|-?[1-9][0-9]*`, from -2147483648 to 2147483647
 abbrev pub is_integer : List ℕ → Bool
 is_integer s = is_zero s || is_positive_to 2147483647 s || is_negative_to 2147483648 s
 

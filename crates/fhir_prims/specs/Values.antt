@@ -1,9 +1,7 @@
 -- The primitive types (FHIR R4, Data Types), and the JSON values that each allows.
-use Rattle.std.specs.Prelude.{[], Bool, Option, Some, None, is_some, codes, if◌then◌else◌}
-use Rattle.std.specs.Option.{option_map_or}
+use Rattle.std.specs.Prelude.{Bool, true, false, Option, Some, None, codes, if◌then◌else◌}
 use Rattle.std.specs.Str.{bytes_eq}
-use Rattle.fhir_json.specs.Tree.{Text, Tree}
-use Rattle.fhir_json.specs.Fields.{as_flag, as_number, text_or_empty}
+use Rattle.fhir_json.specs.Tree.{Text, Tree, boolean, number, string}
 use Rattle.fhir_prims.specs.declared.prim.PrimType.{PrimType}
 use Rattle.fhir_prims.specs.declared.prim.PrimType.TheVariants.{Boolean, Integer, UnsignedInt, PositiveInt, Decimal, String, Markdown, Xhtml, Code, Base64Binary, Id, Uri, Url, Canonical, Oid, Uuid, Date, DateTime, Instant, Time}
 use Rattle.fhir_prims.specs.Numbers.{is_integer, is_unsigned_int, is_positive_int, is_decimal}
@@ -12,69 +10,63 @@ use Rattle.fhir_prims.specs.Blanks.{is_code, is_base64}
 use Rattle.fhir_prims.specs.Names.{is_oid, is_uuid}
 use Rattle.fhir_prims.specs.Moments.{is_date, is_date_time, is_instant, is_time}
 
-abbrev pub scalar_of : Text → Option PrimType
-scalar_of s =
+-- the type of a code
+abbrev pub prim_of : Text → Option PrimType
+prim_of s =
     if bytes_eq s (codes "boolean") then Some Boolean
     else (if bytes_eq s (codes "integer") then Some Integer
     else (if bytes_eq s (codes "unsignedInt") then Some UnsignedInt
     else (if bytes_eq s (codes "positiveInt") then Some PositiveInt
-    else (if bytes_eq s (codes "decimal") then Some Decimal else None))))
-
-abbrev pub text_of : Text → Option PrimType
-text_of s =
-    if bytes_eq s (codes "string") then Some String
+    else (if bytes_eq s (codes "decimal") then Some Decimal
+    else (if bytes_eq s (codes "string") then Some String
     else (if bytes_eq s (codes "markdown") then Some Markdown
     else (if bytes_eq s (codes "xhtml") then Some Xhtml
     else (if bytes_eq s (codes "code") then Some Code
-    else (if bytes_eq s (codes "base64Binary") then Some Base64Binary else None))))
-
-abbrev pub name_of : Text → Option PrimType
-name_of s =
-    if bytes_eq s (codes "id") then Some Id
+    else (if bytes_eq s (codes "base64Binary") then Some Base64Binary
+    else (if bytes_eq s (codes "id") then Some Id
     else (if bytes_eq s (codes "uri") then Some Uri
     else (if bytes_eq s (codes "url") then Some Url
     else (if bytes_eq s (codes "canonical") then Some Canonical
     else (if bytes_eq s (codes "oid") then Some Oid
-    else (if bytes_eq s (codes "uuid") then Some Uuid else None)))))
-
-abbrev pub moment_of : Text → Option PrimType
-moment_of s =
-    if bytes_eq s (codes "date") then Some Date
+    else (if bytes_eq s (codes "uuid") then Some Uuid
+    else (if bytes_eq s (codes "date") then Some Date
     else (if bytes_eq s (codes "dateTime") then Some DateTime
     else (if bytes_eq s (codes "instant") then Some Instant
-    else (if bytes_eq s (codes "time") then Some Time else None)))
+    else (if bytes_eq s (codes "time") then Some Time else None)))))))))))))))))))
 
-abbrev pub first_of : Option PrimType → Option PrimType → Option PrimType
-first_of (Some p) other = Some p
-first_of None other = other
+-- whether a type has flags, and the numbers and the strings that are values of it
+abbrev pub allows_flag : PrimType → Bool
+allows_flag Boolean = true
+allows_flag _ = false
 
--- the type of a code
-abbrev pub prim_of : Text → Option PrimType
-prim_of s = first_of (first_of (scalar_of s) (text_of s)) (first_of (name_of s) (moment_of s))
+abbrev pub allows_number : PrimType → Text → Bool
+allows_number Integer s = is_integer s
+allows_number UnsignedInt s = is_unsigned_int s
+allows_number PositiveInt s = is_positive_int s
+allows_number Decimal s = is_decimal s
+allows_number _ s = false
 
--- the text of a number, and the empty one of anything else, which no set holds
-abbrev pub number_or_empty : Tree → Text
-number_or_empty t = option_map_or (λ s. s) (as_number t) []
+abbrev pub allows_text : PrimType → Text → Bool
+allows_text String s = is_string s
+allows_text Markdown s = is_string s
+allows_text Xhtml s = is_filled s
+allows_text Code s = is_code s
+allows_text Base64Binary s = is_base64 s
+allows_text Id s = is_id s
+allows_text Uri s = is_uri s
+allows_text Url s = is_uri s
+allows_text Canonical s = is_uri s
+allows_text Oid s = is_oid s
+allows_text Uuid s = is_uuid s
+allows_text Date s = is_date s
+allows_text DateTime s = is_date_time s
+allows_text Instant s = is_instant s
+allows_text Time s = is_time s
+allows_text _ s = false
 
--- the JSON values of a type: a flag, a number or a string, whose text is in the type's set
+-- the JSON values of a type
 abbrev pub lexical : PrimType → Tree → Bool
-lexical Boolean t = is_some (as_flag t)
-lexical Integer t = is_integer (number_or_empty t)
-lexical UnsignedInt t = is_unsigned_int (number_or_empty t)
-lexical PositiveInt t = is_positive_int (number_or_empty t)
-lexical Decimal t = is_decimal (number_or_empty t)
-lexical String t = is_string (text_or_empty t)
-lexical Markdown t = is_string (text_or_empty t)
-lexical Xhtml t = is_filled (text_or_empty t)
-lexical Code t = is_code (text_or_empty t)
-lexical Id t = is_id (text_or_empty t)
-lexical Uri t = is_uri (text_or_empty t)
-lexical Url t = is_uri (text_or_empty t)
-lexical Canonical t = is_uri (text_or_empty t)
-lexical Oid t = is_oid (text_or_empty t)
-lexical Uuid t = is_uuid (text_or_empty t)
-lexical Base64Binary t = is_base64 (text_or_empty t)
-lexical Date t = is_date (text_or_empty t)
-lexical DateTime t = is_date_time (text_or_empty t)
-lexical Instant t = is_instant (text_or_empty t)
-lexical Time t = is_time (text_or_empty t)
+lexical p (boolean b) = allows_flag p
+lexical p (number n) = allows_number p n
+lexical p (string s) = allows_text p s
+lexical p _ = false

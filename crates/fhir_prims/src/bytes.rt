@@ -1,8 +1,7 @@
 //! Classes of bytes.
 
-ghost use Rattle.std.specs.Prelude.{◌≡◌, not};
-ghost use Rattle.std.specs.List.{list_all};
-ghost use Rattle.fhir_prims.specs.Bytes.{is_digit, is_blank, is_letter, is_hex, is_id_byte, is_base64_byte, is_text_byte, begins_char, all_digits, are_digits};
+ghost use Rattle.std.specs.Prelude.{◌≡◌};
+ghost use Rattle.fhir_prims.specs.Bytes.{is_digit, is_blank, is_letter, is_hex, is_id_byte, is_base64_byte, is_text_byte, all_digits, are_digits};
 
 pub(crate) fn is_digit(byte: u8) -> bool
     ensures { result ≡ is_digit byte }
@@ -44,13 +43,6 @@ pub(crate) fn is_text_byte(byte: u8) -> bool
     ensures { result ≡ is_text_byte byte }
 {
     byte >= 32 || byte == b'\t' || byte == b'\n' || byte == b'\r'
-}
-
-// In UTF-8 the bytes from 128 to 191 go on with a character.
-pub(crate) fn begins_char(byte: u8) -> bool
-    ensures { result ≡ begins_char byte }
-{
-    byte < 128 || byte > 191
 }
 
 fn all_digits(text: &[u8]) -> bool

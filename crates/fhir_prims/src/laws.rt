@@ -1,60 +1,91 @@
 //! Laws: what the definitions say.
 
-ghost use Rattle.std.specs.Prelude.{◌≡◌, ℕ, ◌+◌, ◌<◌, ◌%◌, ◌||◌, suc, List, [], take, Some, None, is_some, true, false, IsTrue};
+ghost use Rattle.std.specs.Prelude.{◌≡◌, ◌↔◌, ℕ, ℤ, ◌^◌, ◌<◌, ◌||◌, [], Some, is_some, false, IsTrue, IsSome, FitsSigned};
+ghost use Rattle.std.specs.Int.{w32};
+ghost use Rattle.std.specs.Fmt.{decimal, signed_decimal};
 ghost use Rattle.std.specs.Ordering.{nat_cmp, ordering_then};
 ghost use Rattle.std.specs.Cmp.{IsPartialOrder};
-ghost use Rattle.fhir_json.specs.Tree.{Tree};
-ghost use Rattle.fhir_json.specs.Fields.{as_flag, text_or_empty};
+ghost use Rattle.fhir_json.specs.Tree.{Text, Items, Members, null, number, string, array, object};
+ghost use Rattle.fhir_decimal.specs.Text.{Parts, IsDecimal};
 ghost use Rattle.fhir_decimal.specs.Value.{Value, value_order};
 ghost use Rattle.fhir_prims.specs.declared.prim.PrimType.{PrimType};
-ghost use Rattle.fhir_prims.specs.declared.prim.PrimType.TheVariants.{Date, DateTime, Instant, Time};
+ghost use Rattle.fhir_prims.specs.declared.prim.PrimType.TheVariants.{Integer, UnsignedInt, PositiveInt, Decimal, Date, DateTime, Instant, Time};
 ghost use Rattle.fhir_prims.specs.declared.calendar.Day.{Day};
-ghost use Rattle.fhir_prims.specs.Moments.{is_instant};
-ghost use Rattle.fhir_prims.specs.Calendar.{is_day, day_after, day_before, day_number, minutes_since};
-ghost use Rattle.fhir_prims.specs.Order.{moment_order, is_same_moment};
-ghost use Rattle.fhir_prims.specs.Utc.{day_at, minutes_at, offset_of, is_behind};
-ghost use Rattle.fhir_prims.specs.Reading.{moment_fields, clock_of, zone_of, minutes_of, day_of, fields_of};
-ghost use Rattle.fhir_prims.specs.Values.{number_or_empty, lexical};
+ghost use Rattle.fhir_prims.specs.Calendar.{is_day, minutes_since};
+ghost use Rattle.fhir_prims.specs.Order.{Fields, moment_order, is_same_moment};
+ghost use Rattle.fhir_prims.specs.Reading.{moment_fields, fields_of};
+ghost use Rattle.fhir_prims.specs.Written.{Written, is_written_date, is_written_moment, is_written_time, text_of, is_possible, IsSaid};
+ghost use Rattle.fhir_prims.specs.Values.{lexical};
 
-use fhir_decimal::order_of_values;
+use fhir_decimal::{grammar, order_of_values};
 
-/// No type has a value that is neither a flag nor a number nor a string, or that is an empty string (FHIR R4, Data
-/// Types, primitive types).
+/// No type has an empty string, `null`, an array or an object (FHIR R4, Data Types, primitive
+/// types).
 pub fn empty_values()
-    ensures { (p : PrimType) (t : Tree) → as_flag t ≡ None → number_or_empty t ≡ []
-        → text_or_empty t ≡ [] → lexical p t ≡ false }
+    ensures text { (p : PrimType) → lexical p (string []) ≡ false }
+    ensures null { (p : PrimType) → lexical p null ≡ false }
+    ensures arrays { (p : PrimType) (items : Items) → lexical p (array items) ≡ false }
+    ensures objects { (p : PrimType) (members : Members) → lexical p (object members) ≡ false }
 {}
 
-/// The texts that `Moment::of` reads are those of the values of date, dateTime, instant and time (FHIR R4, Data Types).
+/// A number is a value of `integer` exactly where its text is what a whole number of 32 bits with a
+/// sign is written as, one of `unsignedInt` where that number isn't negative, and one of
+/// `positiveInt` where it is above 0 (FHIR R4, Data Types, integer, unsignedInt, positiveInt).
+pub fn whole_numbers()
+    ensures integer { (s : Text) → IsTrue (lexical Integer (number s))
+        ↔ ((z : ℤ) × FitsSigned w32 z × (s ≡ signed_decimal z)) }
+    ensures unsigned_int { (s : Text) → IsTrue (lexical UnsignedInt (number s))
+        ↔ ((n : ℕ) × (n < 2 ^ 31) × (s ≡ decimal n)) }
+    ensures positive_int { (s : Text) → IsTrue (lexical PositiveInt (number s))
+        ↔ ((n : ℕ) × (0 < n) × (n < 2 ^ 31) × (s ≡ decimal n)) }
+{}
+
+/// A number is a value of `decimal` exactly where its text is a decimal's, by the grammar (FHIR R4,
+/// Data Types, decimal).
+pub fn decimal_numbers()
+    ensures { (s : Text) → IsTrue (lexical Decimal (number s)) ↔ ((p : Parts) × IsDecimal s p) }
+{
+    grammar();
+}
+
+/// The texts that `Moment::of` reads are those of the values of date, dateTime, instant and time. A
+/// year, a month or a day is a value of date and dateTime, a moment with a time one of dateTime and
+/// instant, and a time of day one of time (FHIR R4, Data Types).
 pub fn texts_of_moments()
-    ensures { (t : Tree) → is_some (fields_of (text_or_empty t))
-        ≡ (lexical Date t || lexical DateTime t || lexical Instant t || lexical Time t) }
+    ensures texts { (s : Text) → is_some (fields_of s) ≡ (lexical Date (string s)
+        || lexical DateTime (string s) || lexical Instant (string s) || lexical Time (string s)) }
+    ensures date { (w : Written) → IsTrue (is_possible w)
+        → lexical Date (string (text_of w)) ≡ is_written_date w }
+    ensures date_time { (w : Written) → IsTrue (is_possible w)
+        → lexical DateTime (string (text_of w)) ≡ (is_written_date w || is_written_moment w) }
+    ensures instant { (w : Written) → IsTrue (is_possible w)
+        → lexical Instant (string (text_of w)) ≡ is_written_moment w }
+    ensures time { (w : Written) → IsTrue (is_possible w)
+        → lexical Time (string (text_of w)) ≡ is_written_time w }
 {}
 
-/// The order of moments is a partial one: turned round it is turned, it is transitive where it decides, and moments
-/// that are the same can stand for each other.
+/// The order of moments is a partial one: turned round it is turned, it is transitive where it
+/// decides, and moments that are the same can stand for each other.
 pub fn order_of_moments()
     ensures { IsPartialOrder is_same_moment moment_order }
 {
     order_of_values();
 }
 
-/// Two moments with a time are in the order of the minutes from one start to them, and in the same minute in that of
-/// their seconds, wherever their days lie.
+/// Two moments with a time are in the order of the minutes from one start to them, and in the same
+/// minute in that of their seconds, wherever their days lie.
 pub fn moments_in_time()
     ensures { (d e : Day) (m n : ℕ) (a b : Value) → IsTrue (is_day d) → IsTrue (is_day e)
         → m < 1440 → n < 1440 → moment_order (moment_fields d m a) (moment_fields e n b)
         ≡ Some (ordering_then (nat_cmp (minutes_since d m) (minutes_since e n)) (value_order a b)) }
 {}
 
-/// The move to UTC: a clock ahead of UTC shows the minutes of UTC and the offset, and one behind it shows less; and the
-/// day in UTC is one of the calendar.
-pub fn move_to_utc()
-    ensures ahead { (s : List ℕ) → IsTrue (is_instant s) → is_behind (zone_of s) ≡ false
-        → minutes_since (day_of s) (minutes_of s % 1440) + offset_of (zone_of s)
-        ≡ minutes_since (day_at (take 10 s)) (minutes_at (clock_of s) 0) }
-    ensures behind { (s : List ℕ) → IsTrue (is_instant s) → IsTrue (is_behind (zone_of s))
-        → minutes_since (day_of s) (minutes_of s % 1440)
-        ≡ minutes_since (day_at (take 10 s)) (minutes_at (clock_of s) 0) + offset_of (zone_of s) }
-    ensures calendar { (s : List ℕ) → IsTrue (is_instant s) → IsTrue (is_day (day_of s)) }
+/// What `Moment::of` reads is what is written: a text has the fields that are said by a date, a
+/// moment or a time of day that is written so, and no others. Each of these is read, and no text
+/// is that of two (FHIR R4, Data Types, date, dateTime, instant, time).
+pub fn moments_as_written()
+    ensures said { (s : Text) (f : Fields) → (fields_of s ≡ Some f) ↔ IsSaid s f }
+    ensures every { (w : Written) → IsTrue (is_possible w) → IsSome (fields_of (text_of w)) }
+    ensures one { (w v : Written) → IsTrue (is_possible w) → IsTrue (is_possible v)
+        → text_of w ≡ text_of v → w ≡ v }
 {}

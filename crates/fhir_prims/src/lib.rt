@@ -4,6 +4,7 @@
 mod blanks;
 mod bytes;
 mod calendar;
+mod cut;
 mod laws;
 mod moment;
 mod moments;
@@ -15,7 +16,10 @@ mod texts;
 mod utc;
 mod values;
 
-pub use laws::{empty_values, moments_in_time, move_to_utc, order_of_moments, texts_of_moments};
+pub use laws::{
+    decimal_numbers, empty_values, moments_as_written, moments_in_time, order_of_moments,
+    texts_of_moments, whole_numbers,
+};
 pub use moment::{Moment, cmp_moment};
 pub use prim::PrimType;
 pub use values::lexical;

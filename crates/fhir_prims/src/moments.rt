@@ -1,10 +1,12 @@
 //! The texts of date, dateTime, instant and time (FHIR R4, Data Types).
 
 ghost use Rattle.std.specs.Prelude.{◌≡◌, ◌≤◌};
-ghost use Rattle.fhir_prims.specs.Moments.{is_in_calendar, is_month, year_of, is_year_text, is_month_text, has_day, is_day_text, is_date, is_clock, is_fraction, is_time, is_offset_form, is_offset_size, is_zone, after_digits, is_digits_and_zone, is_fraction_and_zone, is_zoned_time, is_instant, is_date_time};
+ghost use Rattle.fhir_prims.specs.Moments.{is_in_calendar, is_month, year_of, is_year_text, is_month_text, has_day, is_day_text, is_date, is_time_of_day, is_clock, is_fraction, is_offset_form, is_offset_size, is_zone, has_clock, is_time, is_moment, is_instant, is_date_time};
+ghost use Rattle.fhir_prims.specs.Seen.{time_seen, moment_seen};
 
-use crate::bytes::{are_digits, is_digit};
-use crate::shapes::{byte_at, cut_at, has_shape, pair_at};
+use crate::bytes::are_digits;
+use crate::cut::{MomentText, TimeText, cut_moment, cut_time};
+use crate::shapes::{has_shape, pair_at};
 use jiff::civil::Date;
 
 fn is_month(month: u16) -> bool
@@ -66,13 +68,17 @@ pub(crate) fn is_date(text: &[u8]) -> bool
     is_year_text(text) || is_month_text(text) || is_day_text(text)
 }
 
+fn is_time_of_day(hour: u16, minute: u16, second: u16) -> bool
+    ensures { result ≡ is_time_of_day hour minute second }
+{
+    hour <= 23 && minute <= 59 && second <= 60
+}
+
 fn is_clock(text: &[u8]) -> bool
     ensures { result ≡ is_clock text.now }
 {
     has_shape("00:00:00", text)
-        && pair_at(text, 0) <= 23
-        && pair_at(text, 3) <= 59
-        && pair_at(text, 6) <= 60
+        && is_time_of_day(pair_at(text, 0), pair_at(text, 3), pair_at(text, 6))
 }
 
 fn is_fraction(text: &[u8]) -> bool
@@ -103,52 +109,32 @@ fn is_zone(text: &[u8]) -> bool
         || (is_offset_form(text) && is_offset_size(pair_at(text, 1), pair_at(text, 4)))
 }
 
-pub(crate) fn after_digits(text: &[u8]) -> &[u8]
-    ensures { result.now ≡ after_digits text.now }
+fn has_clock(time: &TimeText<'_>) -> bool
+    ensures { result ≡ has_clock (time_seen time.now) }
 {
-    let mut count = 0;
-    while count < text.len() && is_digit(text[count]) {
-        count += 1;
-    }
-    text.split_at(count).1
-}
-
-fn is_digits_and_zone(text: &[u8]) -> bool
-    ensures { result ≡ is_digits_and_zone text.now }
-{
-    is_digit(byte_at(text, 0)) && is_zone(after_digits(text))
-}
-
-fn is_fraction_and_zone(text: &[u8]) -> bool
-    ensures { result ≡ is_fraction_and_zone text.now }
-{
-    if byte_at(text, 0) == b'.' {
-        is_digits_and_zone(cut_at(text, 1).1)
-    } else {
-        is_zone(text)
-    }
-}
-
-fn is_zoned_time(text: &[u8]) -> bool
-    ensures { result ≡ is_zoned_time text.now }
-{
-    let (clock, rest) = cut_at(text, 8);
-    is_clock(clock) && is_fraction_and_zone(rest)
-}
-
-pub(crate) fn is_instant(text: &[u8]) -> bool
-    ensures { result ≡ is_instant text.now }
-{
-    is_day_text(cut_at(text, 10).0)
-        && byte_at(text, 10) == b'T'
-        && is_zoned_time(cut_at(text, 11).1)
+    is_clock(time.clock) && is_fraction(time.fraction)
 }
 
 pub(crate) fn is_time(text: &[u8]) -> bool
     ensures { result ≡ is_time text.now }
 {
-    let (clock, rest) = cut_at(text, 8);
-    is_clock(clock) && is_fraction(rest)
+    let time = cut_time(text);
+    has_clock(&time) && time.zone.is_empty()
+}
+
+fn is_moment(moment: &MomentText<'_>) -> bool
+    ensures { result ≡ is_moment (moment_seen moment.now) }
+{
+    is_day_text(moment.day)
+        && moment.mark == b'T'
+        && has_clock(&moment.time)
+        && is_zone(moment.time.zone)
+}
+
+pub(crate) fn is_instant(text: &[u8]) -> bool
+    ensures { result ≡ is_instant text.now }
+{
+    is_moment(&cut_moment(text))
 }
 
 pub(crate) fn is_date_time(text: &[u8]) -> bool

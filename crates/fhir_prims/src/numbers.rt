@@ -1,14 +1,15 @@
 //! The texts of numbers (FHIR R4, Data Types, integer, unsignedInt, positiveInt, decimal).
 
 ghost use Rattle.std.specs.Prelude.{◌≡◌};
-ghost use Rattle.fhir_prims.specs.Numbers.{digits_to, is_positive_to, is_zero, is_negative_to, is_positive_int, is_unsigned_int, is_integer, is_decimal};
+ghost use Rattle.fhir_prims.specs.Numbers.{are_digits_to, is_positive_to, is_zero, is_negative_to, is_positive_int, is_unsigned_int, is_integer, is_decimal};
 
 use crate::bytes::is_digit;
 use crate::shapes::{byte_at, cut_at};
 use fhir_decimal::{Decimal, grammar};
 
-fn digits_to(most: u32, digits: &[u8]) -> bool
-    ensures { result ≡ digits_to most 0 digits.now }
+// Whether a text is of digits alone, whose number is at most `most`.
+fn are_digits_to(most: u32, digits: &[u8]) -> bool
+    ensures { result ≡ are_digits_to most digits.now }
 {
     let mut number: u64 = 0;
     for digit in digits {
@@ -27,7 +28,7 @@ fn digits_to(most: u32, digits: &[u8]) -> bool
 fn is_positive_to(most: u32, text: &[u8]) -> bool
     ensures { result ≡ is_positive_to most text.now }
 {
-    byte_at(text, 0) > b'0' && digits_to(most, text)
+    byte_at(text, 0) > b'0' && are_digits_to(most, text)
 }
 
 fn is_zero(text: &[u8]) -> bool

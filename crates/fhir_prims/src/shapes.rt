@@ -26,7 +26,8 @@ fn all_fit(shape: &[u8], text: &[u8]) -> bool
         .all(|(mark, byte)| fits(*mark, *byte))
 }
 
-// Whether a text has a shape, in which `0` stands for a digit, `h` for a hexadecimal digit, and each other byte for itself.
+// Whether a text has a shape, in which `0` stands for a digit, `h` for a hexadecimal digit, and
+// each other byte for itself.
 pub(crate) fn has_shape(shape: &str, text: &[u8]) -> bool
     ensures { result ≡ has_shape shape.now text.now }
 {

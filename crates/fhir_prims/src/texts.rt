@@ -1,11 +1,12 @@
 //! The texts of string, markdown, xhtml, id, uri, url and canonical (FHIR R4, Data Types).
 
-ghost use Rattle.std.specs.Prelude.{◌≡◌, not};
+ghost use Rattle.std.specs.Prelude.{◌≡◌, not, length};
 ghost use Rattle.std.specs.List.{list_all};
+ghost use Rattle.std.specs.Str.{chars};
 ghost use Rattle.fhir_prims.specs.Bytes.{is_blank, is_id_byte, is_text_byte};
-ghost use Rattle.fhir_prims.specs.Texts.{is_filled, characters, is_string, is_uri, is_id};
+ghost use Rattle.fhir_prims.specs.Texts.{is_filled, is_string, is_uri, is_id};
 
-use crate::bytes::{begins_char, is_blank, is_id_byte, is_text_byte};
+use crate::bytes::{is_blank, is_id_byte, is_text_byte};
 
 pub(crate) fn is_filled(text: &str) -> bool
     ensures { result ≡ is_filled text.now }
@@ -13,10 +14,10 @@ pub(crate) fn is_filled(text: &str) -> bool
     text.len() > 0
 }
 
-fn characters(text: &[u8]) -> usize
-    ensures { result ≡ characters text.now }
+fn characters(text: &str) -> usize
+    ensures { result ≡ length (chars text.now) }
 {
-    text.iter().filter(|byte| begins_char(**byte)).count()
+    text.chars().count()
 }
 
 fn is_all_text(text: &[u8]) -> bool
@@ -28,7 +29,7 @@ fn is_all_text(text: &[u8]) -> bool
 pub(crate) fn is_string(text: &str) -> bool
     ensures { result ≡ is_string text.now }
 {
-    is_filled(text) && is_all_text(text.as_bytes()) && characters(text.as_bytes()) <= 1_048_576
+    is_filled(text) && is_all_text(text.as_bytes()) && characters(text) <= 1_048_576
 }
 
 fn has_no_blank(text: &[u8]) -> bool

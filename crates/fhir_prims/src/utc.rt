@@ -1,16 +1,15 @@
 //! Clocks in texts, and the move to UTC (FHIR R4, Data Types, dateTime and instant).
 
-ghost use Rattle.std.specs.Prelude.{◌≡◌, ◌≤◌, IsTrue, take};
-ghost use Rattle.std.specs.List.{prefix_len};
+ghost use Rattle.std.specs.Prelude.{◌≡◌, ◌≤◌, IsTrue};
 ghost use Rattle.fhir_decimal.specs.Value.{value_of};
 ghost use Rattle.fhir_decimal.specs.Seen.{parts_seen};
-ghost use Rattle.fhir_prims.specs.Bytes.{is_digit};
-ghost use Rattle.fhir_prims.specs.Moments.{has_day, is_day_text};
-ghost use Rattle.fhir_prims.specs.Utc.{day_at, minutes_at, fraction_of, after_fraction, second_of, offset_of, is_behind, utc_minutes, day_of_minutes};
+ghost use Rattle.fhir_prims.specs.Moments.{has_day};
+ghost use Rattle.fhir_prims.specs.Utc.{day_at, minutes_at, second_of, offset_of, is_behind, utc_minutes, day_of_minutes};
+ghost use Rattle.fhir_prims.specs.Seen.{time_seen};
 
-use crate::bytes::is_digit;
 use crate::calendar::{Day, day_after, day_before};
-use crate::moments::{after_digits, year_of};
+use crate::cut::TimeText;
+use crate::moments::year_of;
 use crate::shapes::{byte_at, cut_at, has_shape, pair_at};
 use fhir_decimal::Decimal;
 
@@ -32,38 +31,10 @@ pub(crate) fn minutes_at(text: &[u8], place: u8) -> u32
     60 * u32::from(pair_at(text, place)) + u32::from(pair_at(text, place + 3))
 }
 
-fn leading_digits(text: &[u8]) -> &[u8]
-    ensures { result.now ≡ take (prefix_len is_digit text.now) text.now }
+pub(crate) fn second_of<'a>(time: &TimeText<'a>) -> Decimal<'a>
+    ensures { value_of (parts_seen result) ≡ second_of (time_seen time.now) }
 {
-    let rest = after_digits(text);
-    text.split_at(text.len() - rest.len()).0
-}
-
-fn fraction_of(text: &[u8]) -> &[u8]
-    ensures { result.now ≡ fraction_of text.now }
-{
-    if byte_at(text, 0) == b'.' {
-        leading_digits(cut_at(text, 1).1)
-    } else {
-        Default::default()
-    }
-}
-
-pub(crate) fn after_fraction(text: &[u8]) -> &[u8]
-    ensures { result.now ≡ after_fraction text.now }
-{
-    if byte_at(text, 0) == b'.' {
-        after_digits(cut_at(text, 1).1)
-    } else {
-        text
-    }
-}
-
-pub(crate) fn second_of(text: &[u8]) -> Decimal<'_>
-    ensures { value_of (parts_seen result) ≡ second_of text.now }
-{
-    let (second, rest) = cut_at(text, 2);
-    Decimal::of_digits(second, fraction_of(rest))
+    Decimal::of_digits(cut_at(time.clock, 6).1, cut_at(time.fraction, 1).1)
 }
 
 fn offset_of(zone: &[u8]) -> u32

@@ -2,7 +2,7 @@
 
 ghost use Rattle.std.specs.Prelude.{◌≡◌};
 ghost use Rattle.fhir_json.specs.View.{tree_of};
-ghost use Rattle.fhir_prims.specs.Values.{number_or_empty, lexical};
+ghost use Rattle.fhir_prims.specs.Values.{allows_flag, allows_number, allows_text, lexical};
 
 use crate::blanks::{is_base64, is_code};
 use crate::moments::{is_date, is_date_time, is_instant, is_time};
@@ -10,42 +10,58 @@ use crate::names::{is_oid, is_uuid};
 use crate::numbers::{is_decimal, is_integer, is_positive_int, is_unsigned_int};
 use crate::prim::PrimType;
 use crate::texts::{is_filled, is_id, is_string, is_uri};
-use fhir_json::{Json, as_flag, as_number, text_or_empty};
+use fhir_json::Json;
 
-fn number_or_empty<'t>(json: &'t Json<'_>) -> &'t str
-    ensures { result.now ≡ number_or_empty (tree_of json.now) }
+fn allows_flag(prim: PrimType) -> bool
+    ensures { result ≡ allows_flag prim }
 {
-    match as_number(json) {
-        Some(text) => text,
-        None => "",
+    prim == PrimType::Boolean
+}
+
+fn allows_number(prim: PrimType, text: &str) -> bool
+    ensures { result ≡ allows_number prim text.now }
+{
+    match prim {
+        PrimType::Integer => is_integer(text),
+        PrimType::UnsignedInt => is_unsigned_int(text),
+        PrimType::PositiveInt => is_positive_int(text),
+        PrimType::Decimal => is_decimal(text),
+        _ => false,
     }
 }
 
-/// Whether a JSON value is of the type's JSON kind, and its text of the type's form (FHIR R4, Data Types, primitive
-/// types). A number is judged by its text, and no text of a type is empty.
+fn allows_text(prim: PrimType, text: &str) -> bool
+    ensures { result ≡ allows_text prim text.now }
+{
+    match prim {
+        PrimType::String => is_string(text),
+        PrimType::Markdown => is_string(text),
+        PrimType::Xhtml => is_filled(text),
+        PrimType::Code => is_code(text),
+        PrimType::Base64Binary => is_base64(text),
+        PrimType::Id => is_id(text),
+        PrimType::Uri => is_uri(text),
+        PrimType::Url => is_uri(text),
+        PrimType::Canonical => is_uri(text),
+        PrimType::Oid => is_oid(text),
+        PrimType::Uuid => is_uuid(text),
+        PrimType::Date => is_date(text.as_bytes()),
+        PrimType::DateTime => is_date_time(text.as_bytes()),
+        PrimType::Instant => is_instant(text.as_bytes()),
+        PrimType::Time => is_time(text.as_bytes()),
+        _ => false,
+    }
+}
+
+/// Whether a JSON value is of the type's JSON kind, and its text of the type's form (FHIR R4, Data
+/// Types, primitive types). A number is judged by its text, and no text of a type is empty.
 pub fn lexical(prim: PrimType, json: &Json<'_>) -> bool
     ensures { result ≡ lexical prim (tree_of json.now) }
 {
-    match prim {
-        PrimType::Boolean => as_flag(json).is_some(),
-        PrimType::Integer => is_integer(number_or_empty(json)),
-        PrimType::UnsignedInt => is_unsigned_int(number_or_empty(json)),
-        PrimType::PositiveInt => is_positive_int(number_or_empty(json)),
-        PrimType::Decimal => is_decimal(number_or_empty(json)),
-        PrimType::String => is_string(text_or_empty(json)),
-        PrimType::Markdown => is_string(text_or_empty(json)),
-        PrimType::Xhtml => is_filled(text_or_empty(json)),
-        PrimType::Code => is_code(text_or_empty(json)),
-        PrimType::Id => is_id(text_or_empty(json)),
-        PrimType::Uri => is_uri(text_or_empty(json)),
-        PrimType::Url => is_uri(text_or_empty(json)),
-        PrimType::Canonical => is_uri(text_or_empty(json)),
-        PrimType::Oid => is_oid(text_or_empty(json)),
-        PrimType::Uuid => is_uuid(text_or_empty(json)),
-        PrimType::Base64Binary => is_base64(text_or_empty(json)),
-        PrimType::Date => is_date(text_or_empty(json).as_bytes()),
-        PrimType::DateTime => is_date_time(text_or_empty(json).as_bytes()),
-        PrimType::Instant => is_instant(text_or_empty(json).as_bytes()),
-        PrimType::Time => is_time(text_or_empty(json).as_bytes()),
+    match json {
+        Json::Bool(_) => allows_flag(prim),
+        Json::Num(text) => allows_number(prim, text.as_str()),
+        Json::Str(text) => allows_text(prim, text.as_str()),
+        Json::Null | Json::Arr(_) | Json::Obj(_) => false,
     }
 }

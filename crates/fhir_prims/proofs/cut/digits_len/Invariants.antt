@@ -1,7 +1,7 @@
 use Rattle.std.proofs.Common.{◌≡◌, ◌+◌, ◌-◌, ◌≤◌, length, drop}
 use Rattle.std.specs.List.{prefix_len}
 use Rattle.fhir_prims.specs.Bytes.{is_digit}
-use Rattle.fhir_prims.proofs.moments.after_digits.Given as goal
+use Rattle.fhir_prims.proofs.cut.digits_len.Given as goal
 
 abbrev pub invariant-loop-count : goal.invariant-loop-count
 invariant-loop-count l = (prefix_len is_digit l.text ≡ l.count + prefix_len is_digit (drop l.count l.text)) × (l.count ≤ length l.text)
