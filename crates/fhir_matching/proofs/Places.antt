@@ -5,10 +5,10 @@ use Rattle.std.proofs.lemmas.Bool.{ne_eqb}
 use Rattle.std.proofs.lemmas.List.{take-append-drop}
 use Rattle.fhir_json.specs.declared.json.Json.{Json}
 use Rattle.fhir_json.specs.declared.json.Member.{Member}
-use Rattle.fhir_json.specs.Tree.{Text, Tree, names}
+use Rattle.fhir_json.specs.Tree.{Text, Tree, no_items, names}
 use Rattle.fhir_json.specs.View.{pair_of, items_view, members_view}
 use Rattle.fhir_json.specs.Sound.{is_among}
-use Rattle.fhir_matching.specs.Equality.{pass_items, has_passing}
+use Rattle.fhir_matching.specs.Equality.{items_equal, has_passing}
 
 or_swap : (a b : Bool) → (a || b) ≡ (b || a)
 or_swap true true = refl
@@ -49,6 +49,6 @@ module _ (test : List Member → Bool) (append : (xs ys : List Member) → test 
   found_before ms before from k d e h = around ms k ∙ ap (λ (b : Bool). b || test (take k ms)) (ap test (sym e) ∙ h) ∙ ap test (sym d)
 
 -- no test is left where no item is left
-pub no_more : (vs : List Json) → pass_items [] (items_view vs) ≡ eqb (length vs) 0
+pub no_more : (vs : List Json) → items_equal no_items (items_view vs) ≡ eqb (length vs) 0
 no_more [] = refl
 no_more (v ∷ vs) = sym (ne_eqb (suc (length vs)) 0 (λ e. omega arith))

@@ -5,7 +5,7 @@ ghost use Rattle.std.specs.Str.{bytes_eq};
 ghost use Rattle.fhir_json.specs.Tree.{Tree, names};
 ghost use Rattle.fhir_json.specs.View.{tree_of, pair_of, items_view, members_view};
 ghost use Rattle.fhir_json.specs.Sound.{IsSound, is_among};
-ghost use Rattle.fhir_matching.specs.Equality.{equal, item_tests, member_tests, pass_items, has_passing, all_passing, are_among};
+ghost use Rattle.fhir_matching.specs.Equality.{equal, items_equal, members_within, has_passing, are_among};
 
 use fhir_json::{Json, Member};
 
@@ -33,7 +33,7 @@ pub fn json_eq(left: &Json<'_>, right: &Json<'_>) -> bool
 
 #[cycle(equal)]
 fn items_eq(left: &[Json<'_>], right: &[Json<'_>]) -> bool
-    ensures { result ≡ pass_items (item_tests (items_view left.now)) (items_view right.now) }
+    ensures { result ≡ items_equal (items_view left.now) (items_view right.now) }
 {
     let mut others = right;
     for item in left {
@@ -51,7 +51,7 @@ fn items_eq(left: &[Json<'_>], right: &[Json<'_>]) -> bool
 // Whether each member has its equal among the others.
 #[cycle(equal)]
 fn members_among(members: &[Member<'_>], others: &[Member<'_>]) -> bool
-    ensures { result ≡ all_passing (member_tests (members_view members.now))
+    ensures { result ≡ members_within (members_view members.now)
         (members_view others.now) }
 {
     for (place, member) in members.iter().enumerate() {

@@ -1,7 +1,7 @@
 use Rattle.std.proofs.Common.{sym, ◌∙◌, arith}
 use Rattle.std.proofs.lemmas.List.{at_drop_all}
 use Rattle.fhir_json.specs.View.{pair_of, items_view}
-use Rattle.fhir_matching.specs.Equality.{equal, item_tests, pass_items}
+use Rattle.fhir_matching.specs.Equality.{equal, items_equal}
 use Rattle.fhir_matching.proofs.Places.{no_more, passing, passing_append, found_from, found_before}
 use Rattle.fhir_matching.proofs.equality.+equal.Goals as goal
 
@@ -9,7 +9,7 @@ pub items_eq-returns : goal.items_eq-returns
 items_eq-returns t c =
     let others = c.loop-item.others.now in
     c.is_empty.ensures ∙ sym (no_more others)
-    ∙ sym (at_drop_all (λ vs. pass_items (item_tests (items_view vs)) (items_view others)) c.args.left.now c.loop-item.item-index (omega arith))
+    ∙ sym (at_drop_all (λ vs. items_equal (items_view vs) (items_view others)) c.args.left.now c.loop-item.item-index (omega arith))
     ∙ c.loop-item.invariant
 
 pub is_member_near-returns-then-is_member_among : goal.is_member_near-returns-then-is_member_among
