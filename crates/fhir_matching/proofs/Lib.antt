@@ -1,4 +1,4 @@
-pub mod Places
+pub mod Sides
 pub mod Members
 pub mod Laws
 pub mod Fits

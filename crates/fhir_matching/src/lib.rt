@@ -3,6 +3,7 @@
 
 mod equality;
 mod patterns;
+mod places;
 
 pub use equality::{equivalence, json_eq};
 pub use patterns::{fitting, matches};
