@@ -82,8 +82,9 @@ fn is_member_among(member: &Member<'_>, others: &[Member<'_>], place: usize) -> 
     has_equal(member, &others[..place]) || has_equal(member, &others[place + 1..])
 }
 
+// Whether a member has its equal among the others, of which each is looked at.
 #[cycle(equal)]
-fn has_equal(member: &Member<'_>, others: &[Member<'_>]) -> bool
+pub(crate) fn has_equal(member: &Member<'_>, others: &[Member<'_>]) -> bool
     ensures { result ≡ has_passing (pair_of member.now).0 (equal (pair_of member.now).1)
         (members_view others.now) }
 {
