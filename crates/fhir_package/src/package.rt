@@ -16,7 +16,7 @@ use crate::canonical::is_of_version;
 use crate::fault::LoadFault;
 use crate::kind::Kind;
 use fhir_json::{Json, NoMemory};
-use fhir_matching::json_eq;
+use fhir_matching::json_eq_in;
 use fhir_names::Canonical;
 use indexmap::IndexMap;
 use indexmap::map::Keys;
@@ -219,7 +219,7 @@ impl Package {
         match self.at_url(kind, url) {
             None => self.put_copy(alloc, kind, url, tree),
             Some(there) => {
-                if json_eq(there, tree) {
+                if json_eq_in(alloc, there, tree)? {
                     Ok(())
                 } else {
                     Err(clash(alloc, url))
