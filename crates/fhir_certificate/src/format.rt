@@ -46,7 +46,7 @@ fn cut_at_feed(text: &str) -> Option<(&str, &str)>
 fn is_field(text: &str) -> bool
     ensures { result ≡ is_field text.now }
 {
-    text.as_bytes().iter().all(|b| *b >= b' ')
+    text.as_bytes().iter().all(|b| *b != b'\t' && *b != b'\n')
 }
 
 fn field_at(text: &str) -> Option<(&str, &str)>
