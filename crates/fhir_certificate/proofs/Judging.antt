@@ -130,18 +130,22 @@ module _ (s : SchemaValue) (w : Written) (found : Found) (h : LeadsTo s (are_usa
       ap (λ o. option_map_or (λ c. if has_room w then Ok c else Err TooManyPairs) o (Err UnknownNode)) (meaning_built s w (sym found_meaning ∙ is))
       ∙ cond-false _ _ _ (over (length w.lines) many)
 
-  found_built : found.is_known ≡ true → found.count ≤ limit → (let c : CertificateValue = record { derived = w.derived; base = w.base; items = found.items.items; kids = found.kids.items } in c) ≡ built s w
-  found_built is le =
+  -- the certificate of what was found
+  abbrev pub kept : CertificateValue
+  kept = record { derived = w.derived; base = w.base; items = found.items.items; kids = found.kids.items }
+
+  kept_built : found.is_known ≡ true → found.count ≤ limit → kept ≡ built s w
+  kept_built is le =
       let items : found.items.items ≡ flat_map item_in (pairs_of s w.lines) = sym (append-nil found.items.items) ∙ h.items is le in
       let kids : found.kids.items ≡ flat_map kids_in (pairs_of s w.lines) = sym (append-nil found.kids.items) ∙ h.kids is le in
       rw (items, kids) refl
 
   pub found_certificate : (r : Result CertificateValue CertFault) → found.is_known ≡ true → found.count ≤ limit
-      → MatchResult r (λ c. c ≡ (let d : CertificateValue = record { derived = w.derived; base = w.base; items = found.items.items; kids = found.kids.items } in d)) (λ fault. fault ≡ NoMemory)
+      → MatchResult r (λ c. c ≡ kept) (λ fault. fault ≡ NoMemory)
       → GivesOr is_memory (λ c. c) r (judged s w)
   found_certificate (Ok c) is le e =
       let few : length w.lines ≤ limit = let n = found_count in omega arith in
-      judged_built s w (Ok c) (sym found_meaning ∙ is) few (e ∙ found_built is le)
+      judged_built s w (Ok c) (sym found_meaning ∙ is) few (e ∙ kept_built is le)
   found_certificate (Err fault) is le e =
       let few : length w.lines ≤ limit = let n = found_count in omega arith in
       judged_built s w (Err fault) (sym found_meaning ∙ is) few e

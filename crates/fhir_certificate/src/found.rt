@@ -45,13 +45,15 @@ fn pair_of(schema: &Schema, derived: NameText<'_>, base: NameText<'_>) -> Option
 }
 
 fn item_pair(schema: &Schema, derived: NameText<'_>, base: NameText<'_>) -> Option<Pair>
-    ensures { result ≡ option_map Item (pair_of schema.now (name_seen derived.entry) (name_seen base.entry)) }
+    ensures { result
+        ≡ option_map Item (pair_of schema.now (name_seen derived.entry) (name_seen base.entry)) }
 {
     Some(Pair::Item(pair_of(schema, derived, base)?))
 }
 
 fn kids_pair(schema: &Schema, derived: NameText<'_>, base: NameText<'_>) -> Option<Pair>
-    ensures { result ≡ option_map Kids (pair_of schema.now (name_seen derived.entry) (name_seen base.entry)) }
+    ensures { result
+        ≡ option_map Kids (pair_of schema.now (name_seen derived.entry) (name_seen base.entry)) }
 {
     Some(Pair::Kids(pair_of(schema, derived, base)?))
 }

@@ -60,7 +60,8 @@ fn judge(alloc: Global, head: Head<'_>, found: Found) -> Result<Certificate, Cer
 
 fn read_behind(alloc: Global, schema: &Schema, head: Head<'_>) -> Result<Certificate, CertFault>
     ensures { GivesOr is_memory (λ c. c) result (option_map_or (judged schema.now)
-        (option_map (written_with head.entry) (pairs_at head.entry.pairs.now)) (Err faults.WrongFormat)) }
+        (option_map (written_with head.entry) (pairs_at head.entry.pairs.now))
+        (Err faults.WrongFormat)) }
 {
     let found = found_in(alloc, schema, are_usable(schema, head), head.pairs)?;
     judge(alloc, head, found)

@@ -51,7 +51,8 @@ within_either true place o h = omega arith
 within_either false place (Some x) h = omega arith
 within_either false place None h = tt
 
-pub named_more : (ms : List Member) (k : ℕ) (m : Member) (key : Bor Text) (old new : BTreeMap (Bor Text) ℕ) → k < length ms → get_or ms k m ≡ m → key.now ≡ (pair_of m).0
+pub named_more : (ms : List Member) (k : ℕ) (m : Member) (key : Bor Text) (old new : BTreeMap (Bor Text) ℕ)
+    → k < length ms → get_or ms k m ≡ m → key.now ≡ (pair_of m).0
     → Adds key old new k → ((name : Text) → is_some (place_at name old) ≡ naming name (take k ms))
     → (name : Text) → is_some (place_at name new) ≡ naming name (take (k + 1) ms)
 named_more ms k m key old new lt is same adds before name =
@@ -63,10 +64,12 @@ named_more ms k m key old new lt is same adds before name =
 pub within_more : (key : Bor Text) (k : ℕ) (old new : BTreeMap (Bor Text) ℕ) → Adds key old new k → ((name : Text) → IfSome (place_at name old) (λ x. x < k))
     → (name : Text) → IfSome (place_at name new) (λ x. x < k + 1)
 within_more key k old new adds before name =
-    subst (λ (o : Option ℕ). IfSome o (λ x. x < k + 1)) (sym (at_added key old new k adds name)) (within_either (bytes_eq name key.now) k (place_at name old) (before name))
+    subst (λ (o : Option ℕ). IfSome o (λ x. x < k + 1)) (sym (at_added key old new k adds name))
+    (within_either (bytes_eq name key.now) k (place_at name old) (before name))
 
 -- a place that is found
-pub found_within : (ms : List Member) (found o : Option ℕ) → found ≡ o → IfSome o (λ x. x < length (names (members_view ms))) → IfSome found (λ x. x < length ms)
+pub found_within : (ms : List Member) (found o : Option ℕ) → found ≡ o
+    → IfSome o (λ x. x < length (names (members_view ms))) → IfSome found (λ x. x < length ms)
 found_within ms (Some x) (Some y) e h = let n = length_names ms in grind arith
 found_within ms (Some x) None e h = cc
 found_within ms None o e h = tt

@@ -14,8 +14,8 @@ use fhir_json::{Json, Member};
 /// that `0.010` isn't `0.01` (FHIR R4, ElementDefinition, `fixed[x]`).
 ///
 /// It takes no memory. Of two objects, each name of one is looked for in the other outwards from where the last one was
-/// found. So the time is linear in the members where neighbours stay neighbours, as in the same order, in reverse and in
-/// a rotation; in any other order it grows with how far neighbours come to stand apart.
+/// found. So the time is linear in the members where neighbours stay neighbours: in the same order, in reverse, in a
+/// rotation. In any other order it grows with how far neighbours come to stand apart.
 #[cycle(equal)]
 pub fn json_eq(left: &Json<'_>, right: &Json<'_>) -> bool
     ensures { result ≡ equal (tree_of left.now) (tree_of right.now) }

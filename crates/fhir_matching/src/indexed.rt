@@ -1,5 +1,5 @@
-//! Equality of JSON where memory may be taken: beyond a few members a map finds the names of an object, so that the time
-//! is within n log n whatever the order of the members.
+//! Equality of JSON where memory may be taken: beyond a few members a map finds the names of an object, so that the
+//! time is within n log n whatever the order of the members.
 
 ghost use Rattle.std.specs.Prelude.{◌≡◌, ◌<◌, ◌&&◌, length, is_some, IfOk, IfSome};
 ghost use Rattle.std.specs.Option.{ForSome};
@@ -38,7 +38,8 @@ fn places_of_many<'m>(
     alloc: Global,
     members: &'m [Member<'_>],
 ) -> Result<Option<BTreeMap<&'m str, usize>>, NoMemory>
-    ensures { IfOk result (λ many. ForSome many (λ places. AreOf places (names (members_view members.now)))) }
+    ensures { IfOk result (λ many.
+        ForSome many (λ places. AreOf places (names (members_view members.now)))) }
 {
     if members.len() > FEW {
         Ok(Some(places_by_name(alloc, members)?))
@@ -64,10 +65,9 @@ fn place_in(
     }
 }
 
-/// Whether two values are equal, as `json_eq` says it. It may take memory: where an object has more than a few members, a
-/// map of its names finds them, so that the time is within n log n of the members whatever their order.
-///
-/// That holds of values whose objects have no name twice, as every value that was read.
+/// Whether two values are equal, as `json_eq` says it. It may take memory: where an object has more than a few members,
+/// a map finds their names, so that the time is within n log n of the members whatever their order. That holds where no
+/// object has a name twice, as in each value that was read.
 #[cycle(equal_in)]
 pub fn json_eq_in(alloc: Global, left: &Json<'_>, right: &Json<'_>) -> Result<bool, NoMemory>
     ensures { Gives (λ b. b) result (equal (tree_of left.now) (tree_of right.now)) }
@@ -164,6 +164,7 @@ fn member_eq_in(alloc: Global, left: &Member<'_>, right: &Member<'_>) -> Result<
     }
 }
 
+// Whether each name of the members is among the names of the others.
 fn names_among_in(
     alloc: Global,
     members: &[Member<'_>],
@@ -183,7 +184,8 @@ fn names_at(
     places: &Option<BTreeMap<&str, usize>>,
 ) -> bool
     requires { ForSome places.now (λ places. AreOf places (names (members_view others.now))) }
-    ensures { result ≡ are_among (names (members_view members.now)) (names (members_view others.now)) }
+    ensures { result
+        ≡ are_among (names (members_view members.now)) (names (members_view others.now)) }
 {
     let mut near = 0;
     for member in members {

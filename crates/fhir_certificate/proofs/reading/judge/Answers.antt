@@ -7,8 +7,10 @@ pub returns-then-not-found : goal.returns-then-not-found
 returns-then-not-found c = λ s lines h. found_unknown s (written_with c.args.head lines) c.args.found h (not-true _ c.if-not-found.true)
 
 pub returns-then-found-gt-MAX_PAIRS : goal.returns-then-found-gt-MAX_PAIRS
-returns-then-found-gt-MAX_PAIRS c = λ s lines h. found_over s (written_with c.args.head lines) c.args.found h (not-false _ c.if-not-found.false) c.if-found-gt-MAX_PAIRS.true
+returns-then-found-gt-MAX_PAIRS c = λ s lines h.
+    found_over s (written_with c.args.head lines) c.args.found h (not-false _ c.if-not-found.false) c.if-found-gt-MAX_PAIRS.true
 
 pub returns-else-found-gt-MAX_PAIRS : goal.returns-else-found-gt-MAX_PAIRS
 returns-else-found-gt-MAX_PAIRS c = λ s lines h.
-    found_certificate s (written_with c.args.head lines) c.args.found h c.certificate_of.result (not-false _ c.if-not-found.false) c.if-found-gt-MAX_PAIRS.false c.certificate_of.ensures
+    found_certificate s (written_with c.args.head lines) c.args.found h c.certificate_of.result
+    (not-false _ c.if-not-found.false) c.if-found-gt-MAX_PAIRS.false c.certificate_of.ensures

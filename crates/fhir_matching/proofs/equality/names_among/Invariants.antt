@@ -6,4 +6,5 @@ use Rattle.fhir_matching.proofs.equality.names_among.Given as goal
 
 abbrev pub invariant-loop-member : goal.invariant-loop-member
 invariant-loop-member l =
-    are_among (names (members_view (drop l.member-index l.members))) (names (members_view l.others)) ≡ are_among (names (members_view l.members)) (names (members_view l.others))
+    are_among (names (members_view (drop l.member-index l.members))) (names (members_view l.others))
+    ≡ are_among (names (members_view l.members)) (names (members_view l.others))
