@@ -2,11 +2,11 @@
 
 use crate::texts::{object_of, spelled};
 use fhir_json::{Json, read};
-use fhir_matching::{json_eq, matches};
+use fhir_matching::{json_eq, json_eq_in, matches};
 use std::alloc::{AllocError, Global};
 
 /// Whether two trees are equal, and the second to the first, of two texts or of objects of these members; or whether the
-/// first fits the second.
+/// first fits the second. Both calls on equality have to agree.
 pub(crate) fn answer(
     alloc: Global,
     left: &str,
@@ -38,5 +38,15 @@ fn fitting_texts(alloc: Global, value: &str, pattern: &str) -> Result<String, Al
 }
 
 fn equal_trees(alloc: Global, left: &Json<'_>, right: &Json<'_>) -> Result<String, AllocError> {
-    format!(in alloc; "{} {}", json_eq(left, right), json_eq(right, left))
+    let there = json_eq(left, right);
+    let back = json_eq(right, left);
+    match (
+        json_eq_in(alloc, left, right),
+        json_eq_in(alloc, right, left),
+    ) {
+        (Ok(there_in), Ok(back_in)) if there_in == there && back_in == back => {
+            format!(in alloc; "{there} {back}")
+        }
+        _ => String::from_str(alloc, "not agreed"),
+    }
 }

@@ -1,5 +1,5 @@
 -- What stands in a text is read.
-use Rattle.std.proofs.Common.{◌≡◌, ◌≢◌, ℕ, zero, suc, ◌<◌, ◌&&◌, true, nat_le, List, [], ◌∷◌, ◌++◌, Some, None, option_map, if◌then◌else◌, refl, sym, ap, ◌∙◌, arith, append_assoc, lit<}
+use Rattle.std.proofs.Common.{◌≡◌, ◌≢◌, ℕ, zero, suc, ◌&&◌, ◌==◌, not, true, ◌⊎◌, inl, inr, List, [], ◌∷◌, ◌++◌, Some, None, option_map, if◌then◌else◌, refl, sym, ap, ◌∙◌, arith, append_assoc}
 use Rattle.std.specs.Prelude.{codes, IsTrue}
 use Rattle.std.specs.Option.{option_and_then}
 use Rattle.std.specs.List.{flat_map, list_all}
@@ -16,18 +16,22 @@ use Rattle.fhir_certificate.proofs.Taken.{fields_text, four_fields, five_parts}
 
 -- ---- what lacks a byte
 
-byte_is_other : (x c : ℕ) → c < 32 → nat_le 32 x ≡ true → x ≢ c
-byte_is_other x c low le = grind (arith, nat_tests)
+-- a tab or a line feed
+abbrev EndsField : ℕ → Type 0
+EndsField c = (c ≡ 9) ⊎ (c ≡ 10)
+
+byte_is_other : (x c : ℕ) → EndsField c → (not (x == 9) && not (x == 10)) ≡ true → x ≢ c
+byte_is_other x c ends is = elim ends [ inl tab ↦ grind (arith, nat_tests) | inr feed ↦ grind (arith, nat_tests) ]
 
 lacks_more : (c x : ℕ) (xs : Text) → x ≢ c → Lacks c xs → Lacks c (x ∷ xs)
 lacks_more c x xs other rest zero l = other
 lacks_more c x xs other rest (suc i) l = rest i (omega arith)
 
-pub field_lacks : (c : ℕ) (f : Text) → c < 32 → IsTrue (is_field f) → Lacks c f
-field_lacks c [] low is = λ i l. absurd (omega arith)
-field_lacks c (x ∷ xs) low is =
-    let parts = and_parts (nat_le 32 x) (is_field xs) is in
-    lacks_more c x xs (byte_is_other x c low parts.0) (field_lacks c xs low parts.1)
+pub field_lacks : (c : ℕ) (f : Text) → EndsField c → IsTrue (is_field f) → Lacks c f
+field_lacks c [] ends is = λ i l. absurd (omega arith)
+field_lacks c (x ∷ xs) ends is =
+    let parts = and_parts (not (x == 9) && not (x == 10)) (is_field xs) is in
+    lacks_more c x xs (byte_is_other x c ends parts.0) (field_lacks c xs ends parts.1)
 
 pub lacks_append : (c : ℕ) (xs ys : Text) → Lacks c xs → Lacks c ys → Lacks c (xs ++ ys)
 lacks_append c [] ys h k = k
@@ -39,11 +43,11 @@ tab_between xs ys h k = lacks_append 10 xs (9 ∷ ys) h (lacks_more 10 9 ys (ome
 
 -- ---- fields
 
-field_cut : (c : ℕ) (f rest : Text) → c < 32 → IsTrue (is_field f) → cut_at c (f ++ c ∷ rest) ≡ Some (f, rest)
-field_cut c f rest low is = cut_found c f rest (field_lacks c f low is)
+field_cut : (c : ℕ) (f rest : Text) → EndsField c → IsTrue (is_field f) → cut_at c (f ++ c ∷ rest) ≡ Some (f, rest)
+field_cut c f rest ends is = cut_found c f rest (field_lacks c f ends is)
 
 pub field_at_again : (f rest : Text) → IsTrue (is_field f) → field_at (f ++ 9 ∷ rest) ≡ Some (f, rest)
-field_at_again f rest is = rw (field_cut 9 f rest (lit< tt) is) (cond-true _ _ _ is)
+field_at_again f rest is = rw (field_cut 9 f rest (inl refl) is) (cond-true _ _ _ is)
 
 pub name_at_again : (n : Name) (rest : Text) → IsTrue (is_name n) → name_at (n.url ++ 9 ∷ (n.id ++ 9 ∷ rest)) ≡ Some (n, rest)
 name_at_again n rest is =
@@ -60,7 +64,7 @@ name_of_again n is =
 pub names_again : (word : Text) (derived base : Name) → IsTrue (is_field word) → IsTrue (is_name derived && is_name base) → line_of (fields_text word derived base) ≡ line_with word derived base
 names_again word derived base w is =
     let parts = and_parts (is_name derived) (is_name base) is in
-    let cut = field_cut 9 word (derived.url ++ 9 ∷ (derived.id ++ 9 ∷ (base.url ++ 9 ∷ base.id))) (lit< tt) w in
+    let cut = field_cut 9 word (derived.url ++ 9 ∷ (derived.id ++ 9 ∷ (base.url ++ 9 ∷ base.id))) (inl refl) w in
     let d = name_at_again derived (base.url ++ 9 ∷ base.id) parts.0 in
     let b = name_of_again base parts.1 in
     ap (option_and_then (λ word. option_and_then (λ derived. option_and_then (line_with word.0 derived.0) (name_of derived.1)) (name_at word.1))) cut
@@ -85,7 +89,7 @@ names_lack word derived base w is =
     let parts = and_parts (is_name derived) (is_name base) is in
     let d = and_parts (is_field derived.url) (is_field derived.id) parts.0 in
     let b = and_parts (is_field base.url) (is_field base.id) parts.1 in
-    let f : (f : Text) → IsTrue (is_field f) → Lacks 10 f = λ f h. field_lacks 10 f (lit< tt) h in
+    let f : (f : Text) → IsTrue (is_field f) → Lacks 10 f = λ f h. field_lacks 10 f (inr refl) h in
     tab_between _ _ (f word w) (tab_between _ _ (f derived.url d.0) (tab_between _ _ (f derived.id d.1) (tab_between _ _ (f base.url b.0) (f base.id b.1))))
 
 line_lacks : (l : Line) → IsTrue (is_line l) → Lacks 10 (unended l)
@@ -130,17 +134,17 @@ head_again : (word rest : Text) → IsTrue (is_field word) → behind_line word 
 head_again word rest is =
     let text : line_text word [] ++ rest ≡ word ++ 10 ∷ rest = simp (append_assoc, append-nil) in
     ap (behind_line word) text
-    ∙ ap (option_and_then (λ p. if bytes_eq p.0 word then Some p.1 else None)) (field_cut 10 word rest (lit< tt) is)
+    ∙ ap (option_and_then (λ p. if bytes_eq p.0 word then Some p.1 else None)) (field_cut 10 word rest (inr refl) is)
     ∙ cond-true _ _ _ ((bytes_eq-Decides word word).1 refl)
 
 field_of_again : (word f : Text) → IsTrue (is_field word) → IsTrue (is_field f) → field_of word (word ++ 9 ∷ f) ≡ Some f
 field_of_again word f w is =
-    ap (option_and_then (λ p. if bytes_eq p.0 word && is_field p.1 then Some p.1 else None)) (field_cut 9 word f (lit< tt) w)
+    ap (option_and_then (λ p. if bytes_eq p.0 word && is_field p.1 then Some p.1 else None)) (field_cut 9 word f (inl refl) w)
     ∙ cond-true (bytes_eq word word && is_field f) (Some f) None (rw ((bytes_eq-Decides word word).1 refl) is)
 
 field_line_again : (word f rest : Text) → IsTrue (is_field word) → IsTrue (is_field f) → field_line word (line_text word (f ∷ []) ++ rest) ≡ Some (f, rest)
 field_line_again word f rest w is =
-    let lacks = tab_between word f (field_lacks 10 word (lit< tt) w) (field_lacks 10 f (lit< tt) is) in
+    let lacks = tab_between word f (field_lacks 10 word (inr refl) w) (field_lacks 10 f (inr refl) is) in
     let text : line_text word (f ∷ []) ++ rest ≡ (word ++ 9 ∷ f) ++ 10 ∷ rest =
     append_assoc (word ++ 9 ∷ (f ++ [])) (10 ∷ []) rest ∙ ap (λ t. (word ++ 9 ∷ t) ++ 10 ∷ rest) (append-nil f) in
     ap (field_line word) text

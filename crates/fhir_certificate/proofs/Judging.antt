@@ -4,7 +4,7 @@ use Rattle.std.specs.Prelude.{IsTrue, IsUtf8, IfOk, IfErr, MatchResult}
 use Rattle.std.specs.Option.{option_map_or, option_and_then}
 use Rattle.std.specs.List.{flat_map, list_all}
 use Rattle.std.specs.Str.{is_utf8}
-use Rattle.std.proofs.lemmas.Bool.{cond-true, and_parts, cases_Bool}
+use Rattle.std.proofs.lemmas.Bool.{cond-true, cond-false, and_parts, cases_Bool}
 use Rattle.std.proofs.lemmas.Bool.Decides.{nat_tests}
 use Rattle.std.proofs.lemmas.List.{append-nil}
 use Rattle.std.proofs.lemmas.Str.{is_utf8-from_IsUtf8, IsUtf8-from_is_utf8}
@@ -21,11 +21,21 @@ use Rattle.fhir_certificate.specs.Certificate.{CertificateValue, are_nodes, fits
 use Rattle.fhir_certificate.specs.Format.{Name, Line, item, kids, Written, Spells}
 use Rattle.fhir_certificate.specs.Meaning.{limit, node_of, pair_of, with_item, with_kids, with_lines, are_usable, meaning, has_room, is_memory, judged, Means, Stands}
 use Rattle.fhir_certificate.specs.Reading.{written, reading}
-use Rattle.fhir_certificate.specs.Building.{are_known, pairs_of, item_in, kids_in, built}
+use Rattle.fhir_certificate.specs.Building.{are_known, pairs_of, item_in, kids_in, LeadsTo}
+use Rattle.fhir_certificate.specs.declared.found.Found.{Found}
 use Rattle.fhir_certificate.proofs.Taken.{written_is}
 use Rattle.fhir_certificate.proofs.Again.{written_again}
 
 -- ---- what is built is what is meant
+
+-- the certificate of all pairs that are known
+abbrev pub built : SchemaValue → Written → CertificateValue
+built s w = record {
+  derived = w.derived;
+  base = w.base;
+  items = flat_map item_in (pairs_of s w.lines);
+  kids = flat_map kids_in (pairs_of s w.lines);
+}
 
 -- pairs in front of a certificate's own
 abbrev pub filled : CertificateValue → List Pair → CertificateValue
@@ -75,9 +85,6 @@ test_of false x = refl
 pub has_meaning : (s : SchemaValue) (w : Written) → (are_usable s w && are_known s w.lines) ≡ is_some (meaning s w)
 has_meaning s w = sym (ap is_some (meaning_is s w) ∙ test_of (are_usable s w && are_known s w.lines) (built s w))
 
-pub known_meaning : (s : SchemaValue) (w : Written) (known : Bool) → are_usable s w ≡ true → known ≡ are_known s w.lines → known ≡ is_some (meaning s w)
-known_meaning s w known usable is = is ∙ ap (λ b. b && are_known s w.lines) (sym usable) ∙ has_meaning s w
-
 pub meaning_built : (s : SchemaValue) (w : Written) → is_some (meaning s w) ≡ true → meaning s w ≡ Some (built s w)
 meaning_built s w is = meaning_is s w ∙ cond-true _ _ _ (has_meaning s w ∙ is)
 
@@ -92,6 +99,56 @@ judged_built s w (Err NoMemory) is le e = tt
 judged_built s w (Err WrongFormat) is le e = cc
 judged_built s w (Err UnknownNode) is le e = cc
 judged_built s w (Err TooManyPairs) is le e = cc
+
+-- ---- what was found is judged
+
+and_true : (a : Bool) → (a && true) ≡ a
+and_true true = refl
+and_true false = refl
+
+none_of : (o : Option CertificateValue) → is_some o ≡ false → o ≡ None
+none_of None is = refl
+none_of (Some c) is = cc
+
+over : (n : ℕ) → limit < n → nat_le n limit ≡ false
+over n lt = grind (arith, nat_tests)
+
+module _ (s : SchemaValue) (w : Written) (found : Found) (h : LeadsTo s (are_usable s w) found [] w.lines) where
+  found_meaning : found.is_known ≡ is_some (meaning s w)
+  found_meaning = sym (and_true found.is_known) ∙ h.known ∙ has_meaning s w
+
+  found_count : found.count ≡ length w.lines
+  found_count = let e = h.count in omega arith
+
+  pub found_unknown : found.is_known ≡ false → judged s w ≡ Err UnknownNode
+  found_unknown is =
+      ap (λ o. option_map_or (λ c. if has_room w then Ok c else Err TooManyPairs) o (Err UnknownNode)) (none_of (meaning s w) (sym found_meaning ∙ is))
+
+  pub found_over : found.is_known ≡ true → limit < found.count → judged s w ≡ Err TooManyPairs
+  found_over is lt =
+      let many : limit < length w.lines = let e = found_count in omega arith in
+      ap (λ o. option_map_or (λ c. if has_room w then Ok c else Err TooManyPairs) o (Err UnknownNode)) (meaning_built s w (sym found_meaning ∙ is))
+      ∙ cond-false _ _ _ (over (length w.lines) many)
+
+  -- the certificate of what was found
+  abbrev pub kept : CertificateValue
+  kept = record { derived = w.derived; base = w.base; items = found.items.items; kids = found.kids.items }
+
+  kept_built : found.is_known ≡ true → found.count ≤ limit → kept ≡ built s w
+  kept_built is le =
+      let items : found.items.items ≡ flat_map item_in (pairs_of s w.lines) = sym (append-nil found.items.items) ∙ h.items is le in
+      let kids : found.kids.items ≡ flat_map kids_in (pairs_of s w.lines) = sym (append-nil found.kids.items) ∙ h.kids is le in
+      rw (items, kids) refl
+
+  pub found_certificate : (r : Result CertificateValue CertFault) → found.is_known ≡ true → found.count ≤ limit
+      → MatchResult r (λ c. c ≡ kept) (λ fault. fault ≡ NoMemory)
+      → GivesOr is_memory (λ c. c) r (judged s w)
+  found_certificate (Ok c) is le e =
+      let few : length w.lines ≤ limit = let n = found_count in omega arith in
+      judged_built s w (Ok c) (sym found_meaning ∙ is) few (e ∙ kept_built is le)
+  found_certificate (Err fault) is le e =
+      let few : length w.lines ≤ limit = let n = found_count in omega arith in
+      judged_built s w (Err fault) (sym found_meaning ∙ is) few e
 
 -- ---- what is read of bytes
 

@@ -1,14 +1,14 @@
--- A certificate built from its pair lines.
-use Rattle.std.specs.Prelude.{List, [], ◌∷◌, Bool, Option, is_some}
+-- What is found in the pair lines of a certificate, one after the other (used by private contracts alone).
+use Rattle.std.specs.Prelude.{◌≡◌, ◌≤◌, ◌+◌, ◌++◌, ◌&&◌, IsTrue, length, List, [], ◌∷◌, Bool, Option, is_some}
 use Rattle.std.specs.Option.{option_map, option_map_or}
 use Rattle.std.specs.List.{list_all, flat_map}
 use Rattle.fhir_schema.specs.Schemas.{SchemaValue}
 use Rattle.fhir_certificate.specs.declared.pair.NodePair.{NodePair}
 use Rattle.fhir_certificate.specs.declared.pair.Pair.{Pair}
 use Rattle.fhir_certificate.specs.declared.pair.Pair.TheVariants.{Item, Kids}
-use Rattle.fhir_certificate.specs.Certificate.{CertificateValue}
-use Rattle.fhir_certificate.specs.Format.{Line, item, kids, Written}
-use Rattle.fhir_certificate.specs.Meaning.{pair_of}
+use Rattle.fhir_certificate.specs.declared.found.Found.{Found}
+use Rattle.fhir_certificate.specs.Format.{Line, item, kids}
+use Rattle.fhir_certificate.specs.Meaning.{limit, pair_of}
 
 -- the pair of a line, where its nodes are known
 abbrev pub pair_in : SchemaValue → Line → Option Pair
@@ -31,10 +31,18 @@ abbrev pub kids_in : Pair → List NodePair
 kids_in (Item pair) = []
 kids_in (Kids pair) = pair ∷ []
 
-abbrev pub built : SchemaValue → Written → CertificateValue
-built s w = record {
-  derived = w.derived;
-  base = w.base;
-  items = flat_map item_in (pairs_of s w.lines);
-  kids = flat_map kids_in (pairs_of s w.lines);
-}
+-- one line more was read
+pub record Reads (s : SchemaValue) (line : Line) (old new : Found) : Type 0 where
+  pub count : new.count ≡ old.count + 1
+  pub known : new.is_known ≡ (old.is_known && is_some (pair_in s line))
+  pub items : IsTrue new.is_known → new.count ≤ limit → new.items.items ≡ old.items.items ++ flat_map item_in (pairs_of s (line ∷ []))
+  pub kids : IsTrue new.is_known → new.count ≤ limit → new.kids.items ≡ old.kids.items ++ flat_map kids_in (pairs_of s (line ∷ []))
+
+-- what was found in front and what stands in the lines behind make up the lines
+pub record LeadsTo (s : SchemaValue) (usable : Bool) (found : Found) (behind lines : List Line) : Type 0 where
+  pub count : found.count + length behind ≡ length lines
+  pub known : (found.is_known && are_known s behind) ≡ (usable && are_known s lines)
+  pub items : IsTrue found.is_known → found.count ≤ limit
+      → found.items.items ++ flat_map item_in (pairs_of s behind) ≡ flat_map item_in (pairs_of s lines)
+  pub kids : IsTrue found.is_known → found.count ≤ limit
+      → found.kids.items ++ flat_map kids_in (pairs_of s behind) ≡ flat_map kids_in (pairs_of s lines)

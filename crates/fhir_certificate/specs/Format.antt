@@ -1,6 +1,6 @@
 -- The text of a certificate, format 1: what is written in it, and how. Lines end with a line feed, and their fields are
 -- parted by one tab.
-use Rattle.std.specs.Prelude.{◌≡◌, List, [], ◌∷◌, ◌++◌, Bool, ◌&&◌, nat_le, IsUtf8, IsTrue, codes}
+use Rattle.std.specs.Prelude.{◌≡◌, List, [], ◌∷◌, ◌++◌, Bool, not, ◌==◌, ◌&&◌, IsUtf8, IsTrue, codes}
 use Rattle.std.specs.List.{list_all, flat_map}
 use Rattle.fhir_json.specs.Tree.{Text}
 
@@ -36,9 +36,9 @@ text_of w =
     ++ flat_map pair_text w.lines
     ++ line_text (codes "end") []
 
--- a field has no control character, so that it ends where its tab or its line feed stands
+-- a field has no tab and no line feed, so that it ends where one stands
 abbrev pub is_field : Text → Bool
-is_field = list_all (λ b. nat_le 32 b)
+is_field = list_all (λ b. not (b == 9) && not (b == 10))
 
 abbrev pub is_name : Name → Bool
 is_name n = is_field n.url && is_field n.id

@@ -1,10 +1,10 @@
 //! The text of a certificate.
 
-ghost use Rattle.std.specs.Prelude.{◌≡◌, ◌<◌, [], ◌∷◌, length, None, Some, is_some, option_map, IfSome, MatchOption, if◌then◌else◌};
+ghost use Rattle.std.specs.Prelude.{◌≡◌, ◌<◌, [], ◌∷◌, length, None, is_some, option_map, IfSome, MatchOption};
 ghost use Rattle.fhir_json.specs.View.{text_seen};
 ghost use Rattle.fhir_certificate.specs.Format.{is_field};
 ghost use Rattle.fhir_certificate.specs.Reading.{cut_at, lines_of, is_ended, field_at, name_at, name_of, line_with, line_of, pair_lines, pairs_at, behind_line, field_of, field_line, written};
-ghost use Rattle.fhir_certificate.specs.Seen.{parts_seen, name_seen, line_seen, written_seen};
+ghost use Rattle.fhir_certificate.specs.Seen.{parts_seen, name_seen, line_seen, written_with};
 
 /// An element by the url of its definition and its id.
 #[derive(Clone, Copy)]
@@ -20,9 +20,9 @@ pub(crate) enum PairLine<'a> {
     Kids(NameText<'a>, NameText<'a>),
 }
 
-/// The parts of a certificate's text: both urls, and what stands behind them, pair lines and the last line.
+/// Both urls of a certificate's text, and what stands behind their lines.
 #[derive(Clone, Copy)]
-pub(crate) struct Layout<'a> {
+pub(crate) struct Head<'a> {
     pub(crate) derived: &'a str,
     pub(crate) base: &'a str,
     pub(crate) pairs: &'a str,
@@ -46,7 +46,7 @@ fn cut_at_feed(text: &str) -> Option<(&str, &str)>
 fn is_field(text: &str) -> bool
     ensures { result ≡ is_field text.now }
 {
-    text.as_bytes().iter().all(|b| *b >= b' ')
+    text.as_bytes().iter().all(|b| *b != b'\t' && *b != b'\n')
 }
 
 fn field_at(text: &str) -> Option<(&str, &str)>
@@ -110,17 +110,6 @@ pub(crate) fn next_pair(text: &str) -> Option<(PairLine<'_>, &str)>
     Some((line_of(line)?, rest))
 }
 
-// Whether a text is pair lines and then the last line.
-fn are_pairs(text: &str) -> bool
-    ensures { pairs_at text.now ≡ (if result then Some (pair_lines (lines_of text.now)) else None) }
-{
-    let mut rest = text;
-    while let Some((_, behind)) = next_pair(rest) {
-        rest = behind;
-    }
-    rest == "end\n"
-}
-
 fn behind_line<'a>(word: &str, text: &'a str) -> Option<&'a str>
     ensures { text_seen result ≡ behind_line word.now text.now }
 {
@@ -146,20 +135,17 @@ fn field_line<'a>(word: &str, text: &'a str) -> Option<(&'a str, &'a str)>
     Some((field_of(word, line)?, rest))
 }
 
-/// The parts of a certificate's text.
-pub(crate) fn layout_of(text: &str) -> Option<Layout<'_>>
-    ensures { option_map written_seen result ≡ written text.now }
+/// The head of a certificate's text.
+pub(crate) fn head_of(text: &str) -> Option<Head<'_>>
+    ensures { MatchOption result (written text.now ≡ None)
+        (λ head. written text.now ≡ option_map (written_with head) (pairs_at head.pairs.now)) }
 {
     let rest = behind_line("fhirprof-certificate 1", text)?;
     let (derived, rest) = field_line("derived", rest)?;
     let (base, pairs) = field_line("base", rest)?;
-    if are_pairs(pairs) {
-        Some(Layout {
-            derived,
-            base,
-            pairs,
-        })
-    } else {
-        None
-    }
+    Some(Head {
+        derived,
+        base,
+        pairs,
+    })
 }

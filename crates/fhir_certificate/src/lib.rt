@@ -4,12 +4,14 @@
 mod certificate;
 mod fault;
 mod format;
+mod found;
 mod laws;
 mod pair;
 mod reading;
 
 pub use certificate::{Certificate, fits};
 pub use fault::CertFault;
+pub use found::MAX_PAIRS;
 pub use laws::format_agrees;
 pub use pair::{NodePair, Pair};
-pub use reading::{MAX_PAIRS, read};
+pub use reading::read;

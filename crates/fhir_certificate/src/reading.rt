@@ -1,145 +1,70 @@
 //! From a text to a certificate.
 
-ghost use Rattle.std.specs.Prelude.{◌≡◌, ◌++◌, length, nat_le, Ok, Err, is_some, option_map, IfOk, IfErr, OnOk, MatchResult, IsTrue};
-ghost use Rattle.std.specs.List.{flat_map};
+ghost use Rattle.std.specs.Prelude.{◌≡◌, List, [], Err, option_map, IfOk, IfErr, MatchResult, IsTrue};
+ghost use Rattle.std.specs.Option.{option_map_or};
 ghost use Rattle.fhir_json.specs.Memory.{GivesOr};
+ghost use Rattle.fhir_schema.specs.Schemas.{SchemaValue};
 ghost use Rattle.fhir_certificate.specs.declared.fault.CertFault.TheVariants as faults;
-ghost use Rattle.fhir_certificate.specs.declared.pair.Pair.TheVariants.{Item, Kids};
 ghost use Rattle.fhir_certificate.specs.Certificate.{fits};
-ghost use Rattle.fhir_certificate.specs.Format.{Written, Spells};
-ghost use Rattle.fhir_certificate.specs.Meaning.{node_of, pair_of, are_usable, meaning, is_memory, judged, Means, Stands};
-ghost use Rattle.fhir_certificate.specs.Reading.{lines_of, pair_lines, written, reading};
-ghost use Rattle.fhir_certificate.specs.Seen.{name_seen, line_seen, written_seen};
-ghost use Rattle.fhir_certificate.specs.Building.{pair_in, are_known, pairs_of, item_in, kids_in, built};
+ghost use Rattle.fhir_certificate.specs.Format.{Line, Written, Spells};
+ghost use Rattle.fhir_certificate.specs.Meaning.{are_usable, is_memory, judged, Means, Stands};
+ghost use Rattle.fhir_certificate.specs.Reading.{pairs_at, reading};
+ghost use Rattle.fhir_certificate.specs.Seen.{written_with};
+ghost use Rattle.fhir_certificate.specs.Building.{LeadsTo};
 
 use crate::certificate::Certificate;
 use crate::fault::CertFault;
-use crate::format::{Layout, NameText, PairLine, layout_of, next_pair};
-use crate::pair::{NodePair, Pair};
-use fhir_schema::{NodeRef, Schema, named_nodes};
+use crate::format::{Head, head_of};
+use crate::found::{Found, MAX_PAIRS, found_in};
+use fhir_schema::{Schema, named_nodes};
 use std::alloc::Global;
 
-/// How many pair lines a certificate may have.
-pub const MAX_PAIRS: usize = 1_048_576;
-
-fn node_of(schema: &Schema, name: NameText<'_>) -> Option<NodeRef>
-    ensures { result ≡ node_of schema.now (name_seen name.entry) }
+fn are_usable(schema: &Schema, head: Head<'_>) -> bool
+    ensures { result ≡ are_usable schema.now (written_with head.entry []) }
 {
-    schema.node(name.url, name.id)
+    schema.root(head.derived).is_some() && schema.root(head.base).is_some()
 }
 
-fn pair_of(schema: &Schema, derived: NameText<'_>, base: NameText<'_>) -> Option<NodePair>
-    ensures { result ≡ pair_of schema.now (name_seen derived.entry) (name_seen base.entry) }
+// The certificate of what was found, all of which is known and within the limit.
+fn certificate_of(alloc: Global, head: Head<'_>, found: Found) -> Result<Certificate, CertFault>
+    ensures { MatchResult result (λ c. c ≡ record {
+      derived = head.entry.derived.now;
+      base = head.entry.base.now;
+      items = found.items.items;
+      kids = found.kids.items;
+    })
+        (λ fault. fault ≡ faults.NoMemory) }
 {
-    let derived = node_of(schema, derived)?;
-    let base = node_of(schema, base)?;
-    Some(NodePair { derived, base })
-}
-
-fn item_pair(schema: &Schema, derived: NameText<'_>, base: NameText<'_>) -> Option<Pair>
-    ensures { result ≡ option_map Item (pair_of schema.now (name_seen derived.entry) (name_seen base.entry)) }
-{
-    Some(Pair::Item(pair_of(schema, derived, base)?))
-}
-
-fn kids_pair(schema: &Schema, derived: NameText<'_>, base: NameText<'_>) -> Option<Pair>
-    ensures { result ≡ option_map Kids (pair_of schema.now (name_seen derived.entry) (name_seen base.entry)) }
-{
-    Some(Pair::Kids(pair_of(schema, derived, base)?))
-}
-
-fn pair_in(schema: &Schema, line: PairLine<'_>) -> Option<Pair>
-    ensures { result ≡ pair_in schema.now (line_seen line.entry) }
-{
-    match line {
-        PairLine::Item(derived, base) => item_pair(schema, derived, base),
-        PairLine::Kids(derived, base) => kids_pair(schema, derived, base),
-    }
-}
-
-// Whether the nodes of all pair lines in front are known.
-fn are_known(schema: &Schema, text: &str) -> bool
-    ensures { result ≡ are_known schema.now (pair_lines (lines_of text.now)) }
-{
-    let mut rest = text;
-    while let Some((line, behind)) = next_pair(rest) {
-        if pair_in(schema, line).is_none() {
-            return false;
-        }
-        rest = behind;
-    }
-    true
-}
-
-fn are_usable(schema: &Schema, layout: Layout<'_>) -> bool
-    ensures { result ≡ are_usable schema.now (written_seen layout.entry) }
-{
-    schema.root(layout.derived).is_some() && schema.root(layout.base).is_some()
-}
-
-fn has_meaning(schema: &Schema, layout: Layout<'_>) -> bool
-    ensures { result ≡ is_some (meaning schema.now (written_seen layout.entry)) }
-{
-    are_usable(schema, layout) && are_known(schema, layout.pairs)
-}
-
-fn count_pairs(text: &str) -> usize
-    ensures { result ≡ length (pair_lines (lines_of text.now)) }
-{
-    let mut rest = text;
-    let mut count = 0;
-    while let Some((_, behind)) = next_pair(rest) {
-        count += 1;
-        rest = behind;
-    }
-    count
-}
-
-// Puts a pair behind the others of its kind, where there is one.
-fn put(items: &mut Vec<NodePair>, kids: &mut Vec<NodePair>, pair: Pair) -> Result<(), CertFault>
-    ensures items { OnOk result (items.new.items ≡ items.old.items ++ item_in pair) }
-    ensures kids { OnOk result (kids.new.items ≡ kids.old.items ++ kids_in pair) }
-    ensures full { IfErr result (λ fault. fault ≡ faults.NoMemory) }
-{
-    match pair {
-        Pair::Item(pair) => items.push(pair)?,
-        Pair::Kids(pair) => kids.push(pair)?,
-    }
-    Ok(())
-}
-
-fn build(alloc: Global, schema: &Schema, layout: Layout<'_>) -> Result<Certificate, CertFault>
-    ensures { MatchResult result (λ c. c ≡ built schema.now (written_seen layout.entry)) (λ fault. fault ≡ faults.NoMemory) }
-{
-    let mut items = Vec::new(alloc);
-    let mut kids = Vec::new(alloc);
-    let mut rest = layout.pairs;
-    while let Some((line, behind)) = next_pair(rest) {
-        if let Some(pair) = pair_in(schema, line) {
-            put(&mut items, &mut kids, pair)?;
-        }
-        rest = behind;
-    }
-    let derived = String::from_str(alloc, layout.derived)?;
-    let base = String::from_str(alloc, layout.base)?;
+    let derived = String::from_str(alloc, head.derived)?;
+    let base = String::from_str(alloc, head.base)?;
     Ok(Certificate {
         derived,
         base,
-        items,
-        kids,
+        items: found.items,
+        kids: found.kids,
     })
 }
 
-fn judge(alloc: Global, schema: &Schema, layout: Layout<'_>) -> Result<Certificate, CertFault>
-    ensures { GivesOr is_memory (λ c. c) result (judged schema.now (written_seen layout.entry)) }
+fn judge(alloc: Global, head: Head<'_>, found: Found) -> Result<Certificate, CertFault>
+    ensures { (s : SchemaValue) (lines : List Line) → let w = written_with head.entry lines in
+        LeadsTo s (are_usable s w) found [] lines → GivesOr is_memory (λ c. c) result (judged s w) }
 {
-    if !has_meaning(schema, layout) {
+    if !found.is_known {
         Err(CertFault::UnknownNode)
-    } else if count_pairs(layout.pairs) > MAX_PAIRS {
+    } else if found.count > MAX_PAIRS {
         Err(CertFault::TooManyPairs)
     } else {
-        build(alloc, schema, layout)
+        certificate_of(alloc, head, found)
     }
+}
+
+fn read_behind(alloc: Global, schema: &Schema, head: Head<'_>) -> Result<Certificate, CertFault>
+    ensures { GivesOr is_memory (λ c. c) result (option_map_or (judged schema.now)
+        (option_map (written_with head.entry) (pairs_at head.entry.pairs.now))
+        (Err faults.WrongFormat)) }
+{
+    let found = found_in(alloc, schema, are_usable(schema, head), head.pairs)?;
+    judge(alloc, head, found)
 }
 
 fn read_exactly(alloc: Global, schema: &Schema, bytes: &[u8]) -> Result<Certificate, CertFault>
@@ -148,8 +73,8 @@ fn read_exactly(alloc: Global, schema: &Schema, bytes: &[u8]) -> Result<Certific
     let Ok(text) = str::from_utf8(bytes) else {
         return Err(CertFault::WrongFormat);
     };
-    match layout_of(text) {
-        Some(layout) => judge(alloc, schema, layout),
+    match head_of(text) {
+        Some(head) => read_behind(alloc, schema, head),
         None => Err(CertFault::WrongFormat),
     }
 }

@@ -3,9 +3,9 @@ use Rattle.std.proofs.Common.{◌≡◌, Bool, true, false, ◌⊎◌, inl, inr,
 use Rattle.std.proofs.lemmas.Bool.{and_parts, and_from, or_cases, or_left, or_right, false≢true}
 use Rattle.fhir_json.specs.Tree.{Text, Tree, null, boolean, number, string, array, object, Items, no_items, item, Members, no_members, member, names}
 use Rattle.fhir_json.specs.Sound.{sound}
-use Rattle.fhir_matching.specs.Equality.{equal, item_tests, member_tests, pass_items, has_passing, all_passing, are_among}
-use Rattle.fhir_matching.specs.Fitting.{fits, pattern_test, item_patterns, member_patterns, some_passing, each_passed}
-use Rattle.fhir_matching.proofs.Members.{text_is, StandsIn, passing-stands, stands-passing, all_passing-at}
+use Rattle.fhir_matching.specs.Equality.{equal, items_equal, members_within, has_passing, are_among}
+use Rattle.fhir_matching.specs.Fitting.{fits, pattern_test, some_passing, each_fitted, has_fitting}
+use Rattle.fhir_matching.proofs.Members.{text_is, StandsIn, passing-stands, stands-passing, members_within-at}
 use Rattle.fhir_matching.proofs.Laws.{equal-refl, equal-sym, flag_is}
 
 -- ---- items
@@ -32,33 +32,33 @@ is_in-passing (item u us) p t i h =
     ]
 
 -- each pattern has its item
-each_passed-from : (ps ts : Items) → ((p : Tree) → IsIn p ps → some_passing (pattern_test p) ts ≡ true) → each_passed (item_patterns ps) ts ≡ true
-each_passed-from no_items ts h = refl
-each_passed-from (item p ps) ts h = and_from _ _ (h p (inl refl)) (each_passed-from ps ts (λ q i. h q (inr i)))
+each_fitted-from : (ps ts : Items) → ((p : Tree) → IsIn p ps → some_passing (pattern_test p) ts ≡ true) → each_fitted ps ts ≡ true
+each_fitted-from no_items ts h = refl
+each_fitted-from (item p ps) ts h = and_from _ _ (h p (inl refl)) (each_fitted-from ps ts (λ q i. h q (inr i)))
 
-each_passed-at : (ps ts : Items) → each_passed (item_patterns ps) ts ≡ true → (p : Tree) → IsIn p ps → some_passing (pattern_test p) ts ≡ true
-each_passed-at no_items ts h p i = absurd i
-each_passed-at (item q ps) ts h p i =
-    let both = and_parts (some_passing (pattern_test q) ts) (each_passed (item_patterns ps) ts) h in
+each_fitted-at : (ps ts : Items) → each_fitted ps ts ≡ true → (p : Tree) → IsIn p ps → some_passing (pattern_test p) ts ≡ true
+each_fitted-at no_items ts h p i = absurd i
+each_fitted-at (item q ps) ts h p i =
+    let both = and_parts (some_passing (pattern_test q) ts) (each_fitted ps ts) h in
     elim i [
       | inl e ↦ ap (λ (r : Tree). some_passing (pattern_test r) ts) e ∙ both.0
-      | inr j ↦ each_passed-at ps ts both.1 p j
+      | inr j ↦ each_fitted-at ps ts both.1 p j
     ]
 
 -- ---- members
 
-patterns-from : (ps ms : Members) → ((x : Text) (p : Tree) → StandsIn x p ps → has_passing x (pattern_test p) ms ≡ true) → all_passing (member_patterns ps) ms ≡ true
-patterns-from no_members ms h = refl
-patterns-from (member n p ps) ms h =
-    and_from _ _ (h n p (inl (refl, refl))) (patterns-from ps ms (λ x q i. h x q (inr i)))
+has_fitting-from : (ps ms : Members) → ((x : Text) (p : Tree) → StandsIn x p ps → has_passing x (pattern_test p) ms ≡ true) → has_fitting ps ms ≡ true
+has_fitting-from no_members ms h = refl
+has_fitting-from (member n p ps) ms h =
+    and_from _ _ (h n p (inl (refl, refl))) (has_fitting-from ps ms (λ x q i. h x q (inr i)))
 
-patterns-at : (ps ms : Members) → all_passing (member_patterns ps) ms ≡ true → (x : Text) (p : Tree) → StandsIn x p ps → has_passing x (pattern_test p) ms ≡ true
-patterns-at no_members ms h x p i = absurd i
-patterns-at (member n q ps) ms h x p i =
-    let both = and_parts (has_passing n (pattern_test q) ms) (all_passing (member_patterns ps) ms) h in
+has_fitting-at : (ps ms : Members) → has_fitting ps ms ≡ true → (x : Text) (p : Tree) → StandsIn x p ps → has_passing x (pattern_test p) ms ≡ true
+has_fitting-at no_members ms h x p i = absurd i
+has_fitting-at (member n q ps) ms h x p i =
+    let both = and_parts (has_passing n (pattern_test q) ms) (has_fitting ps ms) h in
     elim i [
       | inl e ↦ ap (λ (z : Text). has_passing z (pattern_test p) ms) e.0 ∙ ap (λ (v : Tree). has_passing n (pattern_test v) ms) e.1 ∙ both.0
-      | inr j ↦ patterns-at ps ms both.1 x p j
+      | inr j ↦ has_fitting-at ps ms both.1 x p j
     ]
 
 -- ---- the second of two equal trees fits the first
@@ -69,20 +69,20 @@ mutual
   equal-fits (boolean b) u h = h
   equal-fits (number n) u h = h
   equal-fits (string s) u h = h
-  equal-fits (array ts) (array us) h = each_passed-from ts us (λ p i. items-equal-fits ts us h p i)
+  equal-fits (array ts) (array us) h = each_fitted-from ts us (λ p i. items-equal-fits ts us h p i)
   equal-fits (array ts) _ h = absurd (false≢true h)
   equal-fits (object ms) (object ns) h =
-      let both = and_parts (all_passing (member_tests ms) ns) (are_among (names ns) (names ms)) h in
-      patterns-from ms ns (λ x p i.
-      let w = passing-stands ns x (equal p) (all_passing-at ms ns both.0 x p i) in
+      let both = and_parts (members_within ms ns) (are_among (names ns) (names ms)) h in
+      has_fitting-from ms ns (λ x p i.
+      let w = passing-stands ns x (equal p) (members_within-at ms ns both.0 x p i) in
       stands-passing ns x (pattern_test p) w.0 w.1 (member-equal-fits ms x p i w.0 w.2))
   equal-fits (object ms) _ h = absurd (false≢true h)
 
-  items-equal-fits : (ts us : Items) → pass_items (item_tests ts) us ≡ true → (p : Tree) → IsIn p ts → some_passing (pattern_test p) us ≡ true
+  items-equal-fits : (ts us : Items) → items_equal ts us ≡ true → (p : Tree) → IsIn p ts → some_passing (pattern_test p) us ≡ true
   items-equal-fits no_items us h p i = absurd i
   items-equal-fits (item t ts) no_items h p i = absurd (false≢true h)
   items-equal-fits (item t ts) (item u us) h p i =
-      let both = and_parts (equal t u) (pass_items (item_tests ts) us) h in
+      let both = and_parts (equal t u) (items_equal ts us) h in
       elim i [
         | inl e ↦ or_left _ _ (ap (λ (q : Tree). pattern_test q u) e ∙ equal-fits t u both.0)
         | inr j ↦ or_right (pattern_test p u) _ (items-equal-fits ts us both.1 p j)
@@ -113,16 +113,16 @@ mutual
   through (string m) (string n) v h k = ap (λ (c : Text). fits v (string c)) (text_is m n h) ∙ k
   through (string m) _ v h k = absurd (false≢true h)
   through (array ps) (array us) (array vs) h k =
-      each_passed-from ps vs (λ p i.
-      let b = passing-is_in us (pattern_test p) (each_passed-at ps us h p i) in
-      let c = passing-is_in vs (pattern_test b.0) (each_passed-at us vs k b.0 b.1) in
+      each_fitted-from ps vs (λ p i.
+      let b = passing-is_in us (pattern_test p) (each_fitted-at ps us h p i) in
+      let c = passing-is_in vs (pattern_test b.0) (each_fitted-at us vs k b.0 b.1) in
       is_in-passing vs (pattern_test p) c.0 c.1 (item-through ps p i b.0 c.0 b.2 c.2))
   through (array ps) (array us) _ h k = absurd (false≢true k)
   through (array ps) _ v h k = absurd (false≢true h)
   through (object ps) (object ms) (object ns) h k =
-      patterns-from ps ns (λ x p i.
-      let b = passing-stands ms x (pattern_test p) (patterns-at ps ms h x p i) in
-      let c = passing-stands ns x (pattern_test b.0) (patterns-at ms ns k x b.0 b.1) in
+      has_fitting-from ps ns (λ x p i.
+      let b = passing-stands ms x (pattern_test p) (has_fitting-at ps ms h x p i) in
+      let c = passing-stands ns x (pattern_test b.0) (has_fitting-at ms ns k x b.0 b.1) in
       stands-passing ns x (pattern_test p) c.0 c.1 (member-through ps x p i b.0 c.0 b.2 c.2))
   through (object ps) (object ms) _ h k = absurd (false≢true k)
   through (object ps) _ v h k = absurd (false≢true h)

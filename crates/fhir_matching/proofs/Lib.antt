@@ -1,4 +1,5 @@
-pub mod Places
+pub mod Sides
 pub mod Members
 pub mod Laws
 pub mod Fits
+pub mod PlaceMaps

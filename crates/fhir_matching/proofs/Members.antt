@@ -5,7 +5,7 @@ use Rattle.std.proofs.lemmas.Bool.{and_parts, and_from, or_cases, or_left, or_ri
 use Rattle.std.proofs.lemmas.Slice.Eq.{bytes_eq-Decides}
 use Rattle.fhir_json.specs.Tree.{Text, Tree, Members, no_members, member, names}
 use Rattle.fhir_json.specs.Sound.{is_among, differ, sound, members_sound}
-use Rattle.fhir_matching.specs.Equality.{equal, member_tests, has_passing, all_passing, are_among}
+use Rattle.fhir_matching.specs.Equality.{equal, members_within, has_passing, are_among}
 
 -- ---- texts
 
@@ -73,18 +73,18 @@ stands-passing (member n u ms) x p t i h =
     ]
 
 -- each member has its equal
-pub all_passing-from : (ms ns : Members) → ((x : Text) (t : Tree) → StandsIn x t ms → has_passing x (equal t) ns ≡ true) → all_passing (member_tests ms) ns ≡ true
-all_passing-from no_members ns h = refl
-all_passing-from (member n u ms) ns h =
-    and_from _ _ (h n u (inl (refl, refl))) (all_passing-from ms ns (λ x t i. h x t (inr i)))
+pub members_within-from : (ms ns : Members) → ((x : Text) (t : Tree) → StandsIn x t ms → has_passing x (equal t) ns ≡ true) → members_within ms ns ≡ true
+members_within-from no_members ns h = refl
+members_within-from (member n u ms) ns h =
+    and_from _ _ (h n u (inl (refl, refl))) (members_within-from ms ns (λ x t i. h x t (inr i)))
 
-pub all_passing-at : (ms ns : Members) → all_passing (member_tests ms) ns ≡ true → (x : Text) (t : Tree) → StandsIn x t ms → has_passing x (equal t) ns ≡ true
-all_passing-at no_members ns h x t i = absurd i
-all_passing-at (member n u ms) ns h x t i =
-    let both = and_parts (has_passing n (equal u) ns) (all_passing (member_tests ms) ns) h in
+pub members_within-at : (ms ns : Members) → members_within ms ns ≡ true → (x : Text) (t : Tree) → StandsIn x t ms → has_passing x (equal t) ns ≡ true
+members_within-at no_members ns h x t i = absurd i
+members_within-at (member n u ms) ns h x t i =
+    let both = and_parts (has_passing n (equal u) ns) (members_within ms ns) h in
     elim i [
       | inl e ↦ ap (λ (z : Text). has_passing z (equal t) ns) e.0 ∙ ap (λ (v : Tree). has_passing n (equal v) ns) e.1 ∙ both.0
-      | inr j ↦ all_passing-at ms ns both.1 x t j
+      | inr j ↦ members_within-at ms ns both.1 x t j
     ]
 
 -- ---- sound objects

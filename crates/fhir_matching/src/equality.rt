@@ -1,19 +1,21 @@
 //! Equality of JSON: objects by their names in any order, arrays in order, numbers by their texts.
 
-ghost use Rattle.std.specs.Prelude.{◌≡◌, ◌&&◌, IsTrue};
+ghost use Rattle.std.specs.Prelude.{◌≡◌, ◌<◌, ◌&&◌, length, IsTrue};
 ghost use Rattle.std.specs.Str.{bytes_eq};
 ghost use Rattle.fhir_json.specs.Tree.{Tree, names};
 ghost use Rattle.fhir_json.specs.View.{tree_of, pair_of, items_view, members_view};
-ghost use Rattle.fhir_json.specs.Sound.{IsSound, is_among};
-ghost use Rattle.fhir_matching.specs.Equality.{equal, item_tests, member_tests, pass_items, has_passing, all_passing, are_among};
+ghost use Rattle.fhir_json.specs.Sound.{IsSound};
+ghost use Rattle.fhir_matching.specs.Equality.{equal, items_equal, members_within, has_passing, are_among};
 
+use crate::places::place_of;
 use fhir_json::{Json, Member};
 
 /// Whether two values are equal: objects by their names in any order, arrays in order, and numbers by their texts, so
 /// that `0.010` isn't `0.01` (FHIR R4, ElementDefinition, `fixed[x]`).
 ///
-/// It takes no memory. Two objects whose members stand in the same order are compared in time linear in their
-/// members; in another order each name is looked for.
+/// It takes no memory. Of two objects, each name of one is looked for in the other outwards from where the last one was
+/// found. So the time is linear in the members where neighbours stay neighbours: in the same order, in reverse, in a
+/// rotation. In any other order it grows with how far neighbours come to stand apart.
 #[cycle(equal)]
 pub fn json_eq(left: &Json<'_>, right: &Json<'_>) -> bool
     ensures { result ≡ equal (tree_of left.now) (tree_of right.now) }
@@ -33,7 +35,7 @@ pub fn json_eq(left: &Json<'_>, right: &Json<'_>) -> bool
 
 #[cycle(equal)]
 fn items_eq(left: &[Json<'_>], right: &[Json<'_>]) -> bool
-    ensures { result ≡ pass_items (item_tests (items_view left.now)) (items_view right.now) }
+    ensures { result ≡ items_equal (items_view left.now) (items_view right.now) }
 {
     let mut others = right;
     for item in left {
@@ -51,29 +53,38 @@ fn items_eq(left: &[Json<'_>], right: &[Json<'_>]) -> bool
 // Whether each member has its equal among the others.
 #[cycle(equal)]
 fn members_among(members: &[Member<'_>], others: &[Member<'_>]) -> bool
-    ensures { result ≡ all_passing (member_tests (members_view members.now))
+    ensures { result ≡ members_within (members_view members.now)
         (members_view others.now) }
 {
-    for (place, member) in members.iter().enumerate() {
-        if !is_member_near(member, others, place) {
+    let mut near = 0;
+    for member in members {
+        let Some(place) = place_of(member.name.as_str(), others, near) else {
+            return false;
+        };
+        if !is_member_among(member, others, place) {
             return false;
         }
+        near = place + 1;
     }
     true
 }
 
-// Whether a member has its equal among the others, which is looked for from its place on and then before it.
+// Whether a member has its equal among the others: at a place, or else before it or behind it.
 #[cycle(equal)]
-fn is_member_near(member: &Member<'_>, others: &[Member<'_>], place: usize) -> bool
+fn is_member_among(member: &Member<'_>, others: &[Member<'_>], place: usize) -> bool
+    requires { place < length others.now }
     ensures { result ≡ has_passing (pair_of member.now).0 (equal (pair_of member.now).1)
         (members_view others.now) }
 {
-    let (before, from) = others.split_at(place.min(others.len()));
-    is_member_among(member, from) || is_member_among(member, before)
+    if member_eq(member, &others[place]) {
+        return true;
+    }
+    has_equal(member, &others[..place]) || has_equal(member, &others[place + 1..])
 }
 
+// Whether a member has its equal among the others, of which each is looked at.
 #[cycle(equal)]
-fn is_member_among(member: &Member<'_>, others: &[Member<'_>]) -> bool
+pub(crate) fn has_equal(member: &Member<'_>, others: &[Member<'_>]) -> bool
     ensures { result ≡ has_passing (pair_of member.now).0 (equal (pair_of member.now).1)
         (members_view others.now) }
 {
@@ -97,31 +108,14 @@ fn member_eq(left: &Member<'_>, right: &Member<'_>) -> bool
 fn names_among(members: &[Member<'_>], others: &[Member<'_>]) -> bool
     ensures { result ≡ are_among (names (members_view members.now)) (names (members_view others.now)) }
 {
-    for (place, member) in members.iter().enumerate() {
-        if !is_name_near(member.name.as_str(), others, place) {
+    let mut near = 0;
+    for member in members {
+        let Some(place) = place_of(member.name.as_str(), others, near) else {
             return false;
-        }
+        };
+        near = place + 1;
     }
     true
-}
-
-// Whether a member has the name, which is looked for from its place on and then before it.
-fn is_name_near(name: &str, members: &[Member<'_>], place: usize) -> bool
-    ensures { result ≡ is_among name.now (names (members_view members.now)) }
-{
-    let (before, from) = members.split_at(place.min(members.len()));
-    is_name_among(name, from) || is_name_among(name, before)
-}
-
-fn is_name_among(name: &str, members: &[Member<'_>]) -> bool
-    ensures { result ≡ is_among name.now (names (members_view members.now)) }
-{
-    for member in members {
-        if name == member.name.as_str() {
-            return true;
-        }
-    }
-    false
 }
 
 /// Equality is an equivalence on sound trees. It is symmetric also where only the second tree is sound, and reflexive

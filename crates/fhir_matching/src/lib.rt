@@ -2,7 +2,10 @@
 #![tactic(auto)]
 
 mod equality;
+mod indexed;
 mod patterns;
+mod places;
 
 pub use equality::{equivalence, json_eq};
+pub use indexed::json_eq_in;
 pub use patterns::{fitting, matches};

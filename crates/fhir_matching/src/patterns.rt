@@ -5,8 +5,8 @@ ghost use Rattle.std.specs.Str.{bytes_eq};
 ghost use Rattle.fhir_json.specs.Tree.{Tree};
 ghost use Rattle.fhir_json.specs.View.{tree_of, pair_of, items_view, members_view};
 ghost use Rattle.fhir_json.specs.Sound.{IsSound};
-ghost use Rattle.fhir_matching.specs.Equality.{equal, has_passing, all_passing};
-ghost use Rattle.fhir_matching.specs.Fitting.{fits, pattern_test, item_patterns, member_patterns, some_passing, each_passed};
+ghost use Rattle.fhir_matching.specs.Equality.{equal, has_passing};
+ghost use Rattle.fhir_matching.specs.Fitting.{fits, pattern_test, some_passing, each_fitted, has_fitting};
 
 use fhir_json::{Json, Member};
 
@@ -33,7 +33,7 @@ pub fn matches(value: &Json<'_>, pattern: &Json<'_>) -> bool
 // Whether each item of the pattern is fitted by some item.
 #[cycle(fit)]
 fn items_fit(items: &[Json<'_>], patterns: &[Json<'_>]) -> bool
-    ensures { result ≡ each_passed (item_patterns (items_view patterns.now)) (items_view items.now) }
+    ensures { result ≡ each_fitted (items_view patterns.now) (items_view items.now) }
 {
     for pattern in patterns {
         if !some_item_fits(items, pattern) {
@@ -58,7 +58,7 @@ fn some_item_fits(items: &[Json<'_>], pattern: &Json<'_>) -> bool
 // Whether each member of the pattern is fitted by some member of its name.
 #[cycle(fit)]
 fn members_fit(members: &[Member<'_>], patterns: &[Member<'_>]) -> bool
-    ensures { result ≡ all_passing (member_patterns (members_view patterns.now))
+    ensures { result ≡ has_fitting (members_view patterns.now)
         (members_view members.now) }
 {
     for pattern in patterns {

@@ -15,7 +15,7 @@ use crate::fault::LoadFault;
 use crate::kind::Kind;
 use crate::url_map::{UrlEntry, UrlMap};
 use fhir_json::{Json, NoMemory};
-use fhir_matching::json_eq;
+use fhir_matching::json_eq_in;
 use fhir_names::Canonical;
 use std::alloc::Global;
 use std::marker::Model;
@@ -178,7 +178,7 @@ impl Package {
         match self.at_url(kind, url) {
             None => self.push_copy(alloc, kind, url, tree),
             Some(there) => {
-                if json_eq(there, tree) {
+                if json_eq_in(alloc, there, tree)? {
                     Ok(())
                 } else {
                     Err(clash(alloc, url))

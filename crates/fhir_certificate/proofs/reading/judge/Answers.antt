@@ -1,12 +1,16 @@
-use Rattle.std.proofs.Common.{◌≡◌, ◌≤◌, length, true, is_some, rules}
-use Rattle.fhir_certificate.specs.Meaning.{limit, meaning}
-use Rattle.fhir_certificate.specs.Reading.{lines_of, pair_lines}
-use Rattle.fhir_certificate.specs.Seen.{written_seen}
-use Rattle.fhir_certificate.proofs.Judging.{judged_built}
+use Rattle.std.proofs.lemmas.Bool.{not-true, not-false}
+use Rattle.fhir_certificate.specs.Seen.{written_with}
+use Rattle.fhir_certificate.proofs.Judging.{found_unknown, found_over, found_certificate}
 use Rattle.fhir_certificate.proofs.reading.judge.Goals as goal
 
-pub returns-else-count_pairs-gt-MAX_PAIRS : goal.returns-else-count_pairs-gt-MAX_PAIRS
-returns-else-count_pairs-gt-MAX_PAIRS c =
-    let is : is_some (meaning c.args.schema.now (written_seen c.args.layout)) ≡ true = search rules in
-    let le : length (pair_lines (lines_of c.args.layout.pairs.now)) ≤ limit = search rules in
-    judged_built c.args.schema.now (written_seen c.args.layout) c.build.result is le c.build.ensures
+pub returns-then-not-found : goal.returns-then-not-found
+returns-then-not-found c = λ s lines h. found_unknown s (written_with c.args.head lines) c.args.found h (not-true _ c.if-not-found.true)
+
+pub returns-then-found-gt-MAX_PAIRS : goal.returns-then-found-gt-MAX_PAIRS
+returns-then-found-gt-MAX_PAIRS c = λ s lines h.
+    found_over s (written_with c.args.head lines) c.args.found h (not-false _ c.if-not-found.false) c.if-found-gt-MAX_PAIRS.true
+
+pub returns-else-found-gt-MAX_PAIRS : goal.returns-else-found-gt-MAX_PAIRS
+returns-else-found-gt-MAX_PAIRS c = λ s lines h.
+    found_certificate s (written_with c.args.head lines) c.args.found h c.certificate_of.result
+    (not-false _ c.if-not-found.false) c.if-found-gt-MAX_PAIRS.false c.certificate_of.ensures

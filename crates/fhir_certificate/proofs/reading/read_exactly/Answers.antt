@@ -1,4 +1,4 @@
-use Rattle.std.proofs.Common.{◌≡◌, Some, Err, sym, ap, subst, ◌∙◌, rules, Result}
+use Rattle.std.proofs.Common.{◌≡◌, None, Err, option_map, sym, ap, subst, ◌∙◌, rules, Result}
 use Rattle.std.specs.Prelude.{IsUtf8}
 use Rattle.std.specs.Option.{option_map_or}
 use Rattle.fhir_json.specs.Memory.{GivesOr}
@@ -6,8 +6,8 @@ use Rattle.fhir_certificate.specs.declared.fault.CertFault.{CertFault}
 use Rattle.fhir_certificate.specs.declared.fault.CertFault.TheVariants.{WrongFormat}
 use Rattle.fhir_certificate.specs.Certificate.{CertificateValue}
 use Rattle.fhir_certificate.specs.Meaning.{is_memory, judged}
-use Rattle.fhir_certificate.specs.Reading.{written, reading}
-use Rattle.fhir_certificate.specs.Seen.{written_seen}
+use Rattle.fhir_certificate.specs.Reading.{written, pairs_at}
+use Rattle.fhir_certificate.specs.Seen.{written_with}
 use Rattle.fhir_certificate.proofs.Judging.{reading_other, reading_text}
 use Rattle.fhir_certificate.proofs.reading.read_exactly.Goals as goal
 
@@ -16,9 +16,17 @@ returns-in_default c = reading_other c.args.schema.now c.args.bytes.now c.in_def
 
 pub returns-in-Some : goal.returns-in-Some
 returns-in-Some c =
+    let s = c.args.schema.now in
     let u : IsUtf8 c.args.bytes.now = search rules in
     let text : c.in-Ok.text.now ≡ c.args.bytes.now = search rules in
-    let is : written c.args.bytes.now ≡ Some (written_seen c.in-Some.layout) = rw (← text) (sym c.in-Some.ensures) in
-    let e : reading c.args.schema.now c.args.bytes.now ≡ judged c.args.schema.now (written_seen c.in-Some.layout) =
-    reading_text c.args.schema.now c.args.bytes.now u ∙ ap (λ o. option_map_or (judged c.args.schema.now) o (Err WrongFormat)) is in
-    subst (λ (answer : Result CertificateValue CertFault). GivesOr is_memory (λ c. c) c.judge.result answer) (sym e) c.judge.ensures
+    let is : written c.args.bytes.now ≡ option_map (written_with c.in-Some.head) (pairs_at c.in-Some.head.pairs.now) = rw (← text) c.in-Some.ensures in
+    let e = reading_text s c.args.bytes.now u ∙ ap (λ o. option_map_or (judged s) o (Err WrongFormat)) is in
+    subst (λ (answer : Result CertificateValue CertFault). GivesOr is_memory (λ c. c) c.read_behind.result answer) (sym e) c.read_behind.ensures
+
+pub returns-in-None : goal.returns-in-None
+returns-in-None c =
+    let s = c.args.schema.now in
+    let u : IsUtf8 c.args.bytes.now = search rules in
+    let text : c.in-Ok.text.now ≡ c.args.bytes.now = search rules in
+    let is : written c.args.bytes.now ≡ None = rw (← text) c.in-None.ensures in
+    reading_text s c.args.bytes.now u ∙ ap (λ o. option_map_or (judged s) o (Err WrongFormat)) is

@@ -4,6 +4,7 @@ use Rattle.fhir_json.specs.View.{members_view}
 use Rattle.fhir_matching.specs.Equality.{are_among}
 use Rattle.fhir_matching.proofs.equality.names_among.Given as goal
 
-abbrev pub invariant-loop-place : goal.invariant-loop-place
-invariant-loop-place l =
-    are_among (names (members_view (drop l.place l.members))) (names (members_view l.others)) ≡ are_among (names (members_view l.members)) (names (members_view l.others))
+abbrev pub invariant-loop-member : goal.invariant-loop-member
+invariant-loop-member l =
+    are_among (names (members_view (drop l.member-index l.members))) (names (members_view l.others))
+    ≡ are_among (names (members_view l.members)) (names (members_view l.others))

@@ -1,12 +1,12 @@
 use Rattle.std.proofs.Common.{◌≡◌, drop}
 use Rattle.fhir_json.specs.View.{tree_of, items_view, members_view, pair_of}
-use Rattle.fhir_matching.specs.Equality.{has_passing, all_passing}
-use Rattle.fhir_matching.specs.Fitting.{pattern_test, item_patterns, member_patterns, some_passing, each_passed}
+use Rattle.fhir_matching.specs.Equality.{has_passing}
+use Rattle.fhir_matching.specs.Fitting.{pattern_test, some_passing, each_fitted, has_fitting}
 use Rattle.fhir_matching.proofs.patterns.+fit.Given as goal
 
 abbrev pub invariant-items_fit-loop-pattern : goal.invariant-items_fit-loop-pattern
 invariant-items_fit-loop-pattern l =
-    each_passed (item_patterns (items_view (drop l.pattern-index l.patterns))) (items_view l.items) ≡ each_passed (item_patterns (items_view l.patterns)) (items_view l.items)
+    each_fitted (items_view (drop l.pattern-index l.patterns)) (items_view l.items) ≡ each_fitted (items_view l.patterns) (items_view l.items)
 
 abbrev pub invariant-some_item_fits-loop-item : goal.invariant-some_item_fits-loop-item
 invariant-some_item_fits-loop-item l =
@@ -14,7 +14,7 @@ invariant-some_item_fits-loop-item l =
 
 abbrev pub invariant-members_fit-loop-pattern : goal.invariant-members_fit-loop-pattern
 invariant-members_fit-loop-pattern l =
-    all_passing (member_patterns (members_view (drop l.pattern-index l.patterns))) (members_view l.members) ≡ all_passing (member_patterns (members_view l.patterns)) (members_view l.members)
+    has_fitting (members_view (drop l.pattern-index l.patterns)) (members_view l.members) ≡ has_fitting (members_view l.patterns) (members_view l.members)
 
 abbrev pub invariant-some_member_fits-loop-member : goal.invariant-some_member_fits-loop-member
 invariant-some_member_fits-loop-member l =
