@@ -81,7 +81,8 @@ fn read_exactly(alloc: Global, schema: &Schema, bytes: &[u8]) -> Result<Certific
 
 /// The certificate that the bytes are, format 1: lines of UTF-8, each ended by a line feed, their fields parted by one
 /// tab. The first is `fhirprof-certificate 1`; then come `derived` and `base`, each with a url; then pairs, `item` or
-/// `kids`, each with the url and the id of two elements; the last is `end`.
+/// `kids`, each with the url and the id of two elements; the last is `end`. A field is any text without a tab and a line
+/// feed.
 ///
 /// The refusals are those of `CertFault`: `WrongFormat` over the whole text, before all others; then `UnknownNode`, and
 /// then `TooManyPairs`. `NoMemory` decides nothing.
