@@ -15,3 +15,4 @@ mod Written
 mod Types
 mod Bounded
 mod Whole
+mod Undecided

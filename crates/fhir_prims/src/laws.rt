@@ -1,6 +1,6 @@
 //! Laws: what the definitions say.
 
-ghost use Rattle.std.specs.Prelude.{◌≡◌, ◌↔◌, ℕ, ℤ, ◌^◌, ◌<◌, ◌||◌, [], Some, is_some, false, IsTrue, IsSome, FitsSigned};
+ghost use Rattle.std.specs.Prelude.{◌≡◌, ◌↔◌, ℕ, ℤ, ◌^◌, ◌<◌, ◌||◌, [], Some, None, is_some, false, IsTrue, IsSome, FitsSigned};
 ghost use Rattle.std.specs.Int.{w32};
 ghost use Rattle.std.specs.Fmt.{decimal, signed_decimal};
 ghost use Rattle.std.specs.Ordering.{nat_cmp, ordering_then};
@@ -14,7 +14,7 @@ ghost use Rattle.fhir_prims.specs.declared.calendar.Day.{Day};
 ghost use Rattle.fhir_prims.specs.Calendar.{is_day, minutes_since};
 ghost use Rattle.fhir_prims.specs.Order.{Fields, moment_order, is_same_moment};
 ghost use Rattle.fhir_prims.specs.Reading.{moment_fields, fields_of};
-ghost use Rattle.fhir_prims.specs.Written.{Written, is_written_date, is_written_moment, is_written_time, text_of, is_possible, IsSaid};
+ghost use Rattle.fhir_prims.specs.Written.{Clock, Written, year, month, day, time, is_written_date, is_written_moment, is_written_time, text_of, is_possible, full_fields, Says, IsSaid};
 ghost use Rattle.fhir_prims.specs.Values.{lexical};
 
 use fhir_decimal::{grammar, order_of_values};
@@ -78,6 +78,19 @@ pub fn moments_in_time()
     ensures { (d e : Day) (m n : ℕ) (a b : Value) → IsTrue (is_day d) → IsTrue (is_day e)
         → m < 1440 → n < 1440 → moment_order (moment_fields d m a) (moment_fields e n b)
         ≡ Some (ordering_then (nat_cmp (minutes_since d m) (minutes_since e n)) (value_order a b)) }
+{}
+
+/// A year has no order to a month of it, nor a month to a day of it, a day to a time of it, or a
+/// time of day to any of these (FHIRPath N1, Comparison).
+pub fn moments_without_order()
+    ensures year { (y m : ℕ) (a b : Fields) → Says (year y) a → Says (month y m) b
+        → moment_order a b ≡ None }
+    ensures month { (d : Day) (a b : Fields) → Says (month d.year d.month) a → Says (day d) b
+        → moment_order a b ≡ None }
+    ensures day { (d : Day) (hour minute : ℕ) (second : Value) (a : Fields) → Says (day d) a
+        → moment_order a (full_fields d hour minute second) ≡ None }
+    ensures time { (w : Written) (c : Clock) (a b : Fields) → is_written_time w ≡ false
+        → Says w a → Says (time c) b → moment_order a b ≡ None }
 {}
 
 /// What `Moment::of` reads is what is written: a text has the fields that are said by a date, a

@@ -17,8 +17,8 @@ mod utc;
 mod values;
 
 pub use laws::{
-    decimal_numbers, empty_values, moments_as_written, moments_in_time, order_of_moments,
-    texts_of_moments, whole_numbers,
+    decimal_numbers, empty_values, moments_as_written, moments_in_time, moments_without_order,
+    order_of_moments, texts_of_moments, whole_numbers,
 };
 pub use moment::{Moment, cmp_moment};
 pub use prim::PrimType;
