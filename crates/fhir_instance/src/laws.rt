@@ -13,9 +13,10 @@ pub fn one_item()
     ensures { (sets : LexicalSets) (s : SchemaValue) (t : Tree) (x y : Item) → Types sets s t x → Types sets s t y → x ≡ y }
 {}
 
-/// The definitions at work, on a resource that may have a note, and a profile that asks for one: a resource with a note
-/// conforms to both, one without a note to the resource's own definition alone, and one with a property that the type
-/// doesn't have to neither. `resourceType` is no element: none conforms to a profile that asks for such a one.
+/// The definitions at work, on a resource that may have a note, and profiles of it. One with a note conforms to a profile
+/// that asks for one. One without a note conforms to its type's own definition, and not to that profile. One with a
+/// property that the type doesn't have doesn't conform to the type's definition. `resourceType` is no element: a resource
+/// doesn't conform to a profile that asks for such an element.
 pub fn example()
     ensures noted { (meaning : Interpretation) → Conforms all_texts schema meaning (codes "urn:noted") noted }
     ensures own { (meaning : Interpretation) → Conforms all_texts schema meaning (codes "urn:Thing") bare }
