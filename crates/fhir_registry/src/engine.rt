@@ -108,6 +108,14 @@ pub fn run<F: Folder, R: Read, W: Write, E: Write>(
         → (result ≡ Status.NoMemory → ⊥) → (request : RequestValue)
         × HasEnded result (W.contents out.old) (W.contents out.new)
         (answer_to request (F.files folder.old) (file_seen file.entry)) }
+    // A fault of what a plain request asks is answered as such, and nothing is written to standard output; and so where
+    // the device failed.
+    ensures fault { (request : RequestValue) → plain_request (map string_bytes words.now) ≡ Some request
+        → F.failed_calls folder.new ≡ F.failed_calls folder.old → (result ≡ Status.NoMemory → ⊥)
+        → IsTrue (is_fault (answer_to request (F.files folder.old) (file_seen file.entry)))
+        → (result ≡ Status.Fault) × (out.new ≡ out.old) }
+    ensures device { (F.failed_calls folder.new ≡ F.failed_calls folder.old → ⊥) → (result ≡ Status.NoMemory → ⊥)
+        → (result ≡ Status.Fault) × (out.new ≡ out.old) }
     // What a yes promises.
     ensures promised { result ≡ Status.Yes → Promise (F.files folder.old) (file_seen file.entry) }
     ensures files { F.files folder.new ≡ F.files folder.old }

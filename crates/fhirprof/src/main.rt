@@ -68,9 +68,7 @@ fn exit_code<R: Files + Env + AllocGlobal + Input + Print + Clone + Drop, E: Wri
     let mut out = io::writer(rt);
     let Ok(Request::Certify { folder, file }) = request_of(alloc, &words) else {
         let mut none = MemoryFolder::unlisted(alloc);
-        return Some(answer(
-            alloc, &words, &mut none, None, &mut input, &mut out, err,
-        ));
+        return Some(answer(alloc, &words, &mut none, None, &mut input, &mut out, err));
     };
     let mut folder = DirFolder::open(rt, folder).ok()?;
     let file = bytes_at(rt, file).ok()?;
