@@ -37,9 +37,9 @@ impl DirFolder {
     }
 }
 
-/// The files of the directory at a path whose names end in `.json`, sorted by their names. A file that the device doesn't
-/// give has no bytes; an error is of the listing, or of memory. A file whose name isn't UTF-8 is passed over.
-pub fn files_at<R: Files + AllocGlobal + Clone + Drop>(
+// The files of the directory at a path whose names end in `.json`. A file that the device doesn't give has no bytes; an
+// error is of the listing, or of memory. A file whose name isn't UTF-8 is passed over.
+fn files_at<R: Files + AllocGlobal + Clone + Drop>(
     rt: &R,
     path: &str,
 ) -> io::Result<Vec<StoredFile>> {
@@ -49,7 +49,6 @@ pub fn files_at<R: Files + AllocGlobal + Clone + Drop>(
             files.push(file)?;
         }
     }
-    files.sort_unstable_by(|a, b| a.name.cmp(&b.name));
     Ok(files)
 }
 

@@ -9,7 +9,7 @@ mod request;
 mod telling;
 
 pub use answering::certify;
-pub use directory::{DirFolder, bytes_at, files_at};
+pub use directory::{DirFolder, bytes_at};
 pub use engine::{run, serve};
 pub use reply::{Reply, Status};
 pub use request::{Request, WordsFault, request_of};

@@ -1,11 +1,10 @@
 //! Runs the engine on each row of `rows.txt`, and prints the row, the status, and what was written to each end.
 //!
-//! A row is the words behind the program's name. A folder or a file is one of `data/`; of a folder named `NAME!` the
-//! second file can't be read. A row that begins with `full` writes to an output that takes nothing.
+//! A row is the words behind the program's name. A folder or a file is one of `data/`. A row that begins with `full` writes
+//! to an output that takes nothing.
 #![tactic(auto)]
 
-use fhir_package::{Folder, MemoryFolder, StoredFile};
-use fhir_registry::{DirFolder, Request, Status, bytes_at, files_at, request_of, run};
+use fhir_registry::{DirFolder, Request, Status, bytes_at, request_of, run};
 use std::alloc::{AllocError, Global};
 use std::rt::Files;
 use std::{fs, io};
@@ -21,28 +20,6 @@ fn words_of(alloc: Global, row: &str) -> Result<Vec<String>, AllocError> {
     Ok(words)
 }
 
-fn without_the_second(
-    alloc: Global,
-    files: Vec<StoredFile>,
-) -> Result<Vec<StoredFile>, AllocError> {
-    let mut others = Vec::new(alloc);
-    for (i, file) in files.into_iter().enumerate() {
-        let StoredFile { name, bytes } = file;
-        let bytes = if i == 1 { None } else { bytes };
-        others.push(StoredFile { name, bytes })?;
-    }
-    Ok(others)
-}
-
-// A folder of `data/` whose second file can't be read.
-fn broken_folder<R: Files + AllocGlobal + Clone + Drop>(
-    rt: &R,
-    name: &str,
-) -> io::Result<MemoryFolder> {
-    let files = without_the_second(rt.alloc(), files_at(rt, name)?)?;
-    MemoryFolder::new(rt.alloc(), files).map_err(|_| io::Error::from(io::ErrorKind::OutOfMemory))
-}
-
 // The status of a row, with what it writes.
 fn told<R: Files + AllocGlobal + Clone + Drop>(
     rt: &R,
@@ -56,27 +33,16 @@ fn told<R: Files + AllocGlobal + Clone + Drop>(
         Err(_) => ("", ""),
     };
     let file = bytes_at(rt, file)?;
-    match folder.strip_suffix("!") {
-        Some(name) => answer(
-            alloc,
-            &words,
-            broken_folder(rt, name)?,
-            file.as_deref(),
-            is_full,
-        ),
-        None => {
-            let folder = DirFolder::open(rt, folder);
-            let folder = folder.map_err(|_| io::Error::from(io::ErrorKind::OutOfMemory))?;
-            answer(alloc, &words, folder, file.as_deref(), is_full)
-        }
-    }
+    let folder = DirFolder::open(rt, folder);
+    let folder = folder.map_err(|_| io::Error::from(io::ErrorKind::OutOfMemory))?;
+    answer(alloc, &words, folder, file.as_deref(), is_full)
 }
 
 // What the engine answers; to an output that takes nothing, if it is full.
-fn answer<F: Folder + Drop>(
+fn answer(
     alloc: Global,
     words: &[String],
-    mut folder: F,
+    mut folder: DirFolder,
     file: Option<&[u8]>,
     is_full: bool,
 ) -> io::Result<String> {
