@@ -4,7 +4,7 @@ use fhir_elements::{
     ConstraintDef, DiscriminatorDef, ElementDef, ElementFault, Reason, TypeEntry, element_fault,
     fields_of, is_within,
 };
-use fhir_json::{Json, Member, as_number, as_text, read};
+use fhir_json::{Json, Member, read};
 use fhir_names::{ElementId, front_of, name_of, slice_of, sliced_of};
 use std::alloc::{AllocError, Global};
 
@@ -119,7 +119,7 @@ fn counts_allowed(alloc: Global, element: &ElementDef) -> Result<String, AllocEr
 // A choice's name and the text or number that its value is.
 fn form<'t>(choice: Option<&'t Member<'static>>) -> Option<(&'t str, &'t str)> {
     let choice = choice?;
-    let value = as_text(&choice.value).or(as_number(&choice.value))?;
+    let value = choice.value.as_text().or(choice.value.as_number())?;
     Some((choice.name.as_str(), value))
 }
 

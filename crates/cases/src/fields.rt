@@ -1,10 +1,6 @@
 //! Questions on the fields of objects.
 
-use fhir_json::{
-    Json, allows_choice, allows_count, allows_flag, allows_items, allows_text, allows_texts,
-    as_flag, as_number, as_text, choice_in, count_in, count_of, field, flag_in, is_array,
-    is_object, items_in, read, text_at, text_in, text_or_empty,
-};
+use fhir_json::{Json, count_of, read};
 use std::alloc::{AllocError, Global};
 
 /// The answer of a call on the field of a name in a text's tree.
@@ -27,11 +23,11 @@ fn answer_of_tree(
     name: &str,
 ) -> Result<String, AllocError> {
     match call {
-        "count_in" => format!(in alloc; "{:?}", count_in(json, name)),
+        "count_in" => format!(in alloc; "{:?}", json.count_in(name)),
         "count_of" => format!(in alloc; "{:?}", count_of(name)),
-        "items_in" => format!(in alloc; "{}", items_in(json, name).len()),
-        "flag_in" => format!(in alloc; "{:?}", flag_in(json, name)),
-        "as_flag" => format!(in alloc; "{:?}", field(json, name).and_then(|value| as_flag(value))),
+        "items_in" => format!(in alloc; "{}", json.items_in(name).len()),
+        "flag_in" => format!(in alloc; "{:?}", json.flag_in(name)),
+        "as_flag" => format!(in alloc; "{:?}", json.field(name).and_then(|value| value.as_flag())),
         "is_object" | "is_array" => format!(in alloc; "{}", is_a(json, call)),
         _ => match text_answer(json, call, name) {
             Some(text) => format!(in alloc; "{text:?}"),
@@ -42,31 +38,31 @@ fn answer_of_tree(
 
 fn is_a(json: &Json<'_>, call: &str) -> bool {
     match call {
-        "is_object" => is_object(json),
-        _ => is_array(json),
+        "is_object" => json.is_object(),
+        _ => json.is_array(),
     }
 }
 
 // The answer of a call that gives a text.
 fn text_answer<'j>(json: &'j Json<'_>, call: &str, name: &str) -> Option<Option<&'j str>> {
     match call {
-        "text_in" => Some(text_in(json, name)),
-        "text_at" => Some(Some(text_at(json, name))),
-        "as_number" => Some(field(json, name).and_then(|value| as_number(value))),
-        "choice_in" => Some(choice_in(json, name).and_then(|form| as_text(&form.value))),
-        "last_text" => Some(items_in(json, name).last().map(|item| text_or_empty(item))),
+        "text_in" => Some(json.text_in(name)),
+        "text_at" => Some(Some(json.text_at(name))),
+        "as_number" => Some(json.field(name).and_then(|value| value.as_number())),
+        "choice_in" => Some(json.choice_in(name).and_then(|form| form.value.as_text())),
+        "last_text" => Some(json.items_in(name).last().map(|item| item.text_or_empty())),
         _ => None,
     }
 }
 
 fn allows(json: &Json<'_>, call: &str, name: &str) -> bool {
     match call {
-        "allows_text" => allows_text(json, name),
-        "allows_count" => allows_count(json, name),
-        "allows_flag" => allows_flag(json, name),
-        "allows_items" => allows_items(json, name),
-        "allows_texts" => allows_texts(json, name),
-        "allows_choice" => allows_choice(json, name),
+        "allows_text" => json.allows_text(name),
+        "allows_count" => json.allows_count(name),
+        "allows_flag" => json.allows_flag(name),
+        "allows_items" => json.allows_items(name),
+        "allows_texts" => json.allows_texts(name),
+        "allows_choice" => json.allows_choice(name),
         _ => false,
     }
 }

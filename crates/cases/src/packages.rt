@@ -1,6 +1,5 @@
 //! Questions on folders and packages.
 
-use fhir_json::text_at;
 use fhir_package::{Folder, Kind, LoadFault, MemoryFolder, Package, StoredFile, load};
 use std::alloc::{AllocError, Global};
 
@@ -140,7 +139,7 @@ fn answer_of_package(
     match call {
         "places" => places_of(alloc, package, kind_of(argument)),
         _ => match package.get(Kind::StructureDefinition, argument) {
-            Some(tree) => String::from_str(alloc, text_at(tree, "url")),
+            Some(tree) => String::from_str(alloc, tree.text_at("url")),
             None => String::from_str(alloc, "none"),
         },
     }
@@ -154,7 +153,7 @@ fn told_place(
     place: usize,
 ) -> Result<String, AllocError> {
     match package.at(kind, place) {
-        Some((url, tree)) => format!(in alloc; "{url}{}", text_at(tree, "name")),
+        Some((url, tree)) => format!(in alloc; "{url}{}", tree.text_at("name")),
         None => String::from_str(alloc, "-"),
     }
 }
@@ -162,7 +161,7 @@ fn told_place(
 // The name of the definition at a url.
 fn name_at<'p>(package: &'p Package, kind: Kind, url: &str) -> &'p str {
     match package.at_url(kind, url) {
-        Some(tree) => text_at(tree, "name"),
+        Some(tree) => tree.text_at("name"),
         None => "-",
     }
 }

@@ -7,7 +7,7 @@ use Rattle.std.specs.Str.{bytes_eq}
 use Rattle.std.specs.Cmp.Lexicographic.{bytes_decides}
 use Rattle.std.proofs.lemmas.Bool.{and_parts, and_from, or_cases, or_left, or_right, not-true, le-leb, leb-true, eqb-true, false≢true, true≢false}
 use Rattle.fhir_json.specs.Tree.{Text, Tree}
-use Rattle.fhir_json.specs.Tree.{Pair as Property}
+use Rattle.fhir_json.specs.Tree.{Property}
 use Rattle.fhir_json.specs.Fields.{is_object}
 use Rattle.fhir_matching.specs.Equality.{equal}
 use Rattle.fhir_elements.specs.declared.codes.Max.{Max}

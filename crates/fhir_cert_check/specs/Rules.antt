@@ -5,7 +5,7 @@ use Rattle.std.specs.Prelude.{ℕ, List, [], ◌∷◌, Bool, true, false, not, 
 use Rattle.std.specs.Option.{option_map_or, option_and_then}
 use Rattle.std.specs.List.{flat_map}
 use Rattle.fhir_json.specs.Tree.{Text}
-use Rattle.fhir_json.specs.Tree.{Pair as Property}
+use Rattle.fhir_json.specs.Tree.{Property}
 use Rattle.fhir_matching.specs.Equality.{equal}
 use Rattle.fhir_elements.specs.declared.codes.Max.{Max}
 use Rattle.fhir_elements.specs.declared.codes.Max.TheVariants.{Unbounded, UpTo}

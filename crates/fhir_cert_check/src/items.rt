@@ -2,7 +2,7 @@
 
 ghost use Rattle.std.specs.Prelude.{◌≡◌, option_map};
 ghost use Rattle.std.specs.List.{list_any};
-ghost use Rattle.fhir_json.specs.View.{member_seen};
+ghost use Rattle.fhir_json.specs.Views.{property_seen};
 ghost use Rattle.fhir_instance.specs.Conformance.{is_untyped};
 ghost use Rattle.fhir_cert_check.specs.Answering.{each_answers, first_of};
 ghost use Rattle.fhir_cert_check.specs.Rules.{entry_answers, types_answer, roots_answer, type_answers, fixed_at, fixed_answers, children_answer, item_rules};
@@ -67,7 +67,7 @@ fn type_answers(schema: &Schema, n: NodeRef, m: NodeRef) -> bool
 }
 
 fn fixed_at(schema: &Schema, node: NodeRef) -> Option<&Member<'static>>
-    ensures { member_seen result ≡ fixed_at schema.now node }
+    ensures { property_seen result ≡ fixed_at schema.now node }
 {
     match schema.element(node) {
         Some(element) => element.fixed(),

@@ -1,7 +1,7 @@
 //! The text of a certificate.
 
 ghost use Rattle.std.specs.Prelude.{◌≡◌, ◌<◌, [], ◌∷◌, length, None, is_some, option_map, IfSome, MatchOption};
-ghost use Rattle.fhir_json.specs.View.{text_seen};
+ghost use Rattle.fhir_json.specs.Views.{text_seen};
 ghost use Rattle.fhir_certificate.specs.Format.{is_field};
 ghost use Rattle.fhir_certificate.specs.Reading.{cut_at, lines_of, is_ended, field_at, name_at, name_of, line_with, line_of, pair_lines, pairs_at, behind_line, field_of, field_line, written};
 ghost use Rattle.fhir_certificate.specs.Seen.{parts_seen, name_seen, line_seen, written_with};

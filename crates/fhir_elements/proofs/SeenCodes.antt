@@ -3,7 +3,7 @@ use Rattle.std.proofs.Common.{◌≡◌, ℕ, ◌+◌, ◌<◌, zero, suc, Bool,
 use Rattle.std.proofs.Math.Seq.{drop-cons}
 use Rattle.fhir_json.specs.declared.json.Json.{Json}
 use Rattle.fhir_json.specs.Tree.{Tree}
-use Rattle.fhir_json.specs.View.{tree_of, trees_of}
+use Rattle.fhir_json.specs.Views.{tree_of, trees_of}
 use Rattle.fhir_names.specs.Places.{Places}
 use Rattle.fhir_elements.specs.Parts.{has_code, codes_differ}
 use Rattle.fhir_elements.specs.Seen.{HaveCodes}

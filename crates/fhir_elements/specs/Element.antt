@@ -3,7 +3,7 @@
 use Rattle.std.specs.Prelude.{ℕ, ℤ, List, map, Bool, true, false, not, ◌&&◌, Option, None, Some, Result, Ok, Err, is_ok, if◌then◌else◌, codes}
 use Rattle.std.specs.Option.{option_map, option_map_or, option_and_then}
 use Rattle.std.specs.List.{list_all}
-use Rattle.fhir_json.specs.Tree.{Text, Tree, Pair}
+use Rattle.fhir_json.specs.Tree.{Text, Tree, Property}
 use Rattle.fhir_json.specs.Fields.{field, is_object, text_in, text_at, count_in, items_in, choice_in, allows, allows_text, allows_count, allows_items, allows_choice}
 use Rattle.fhir_names.specs.Ids.{read_id}
 use Rattle.fhir_elements.specs.declared.codes.Max.{Max}
@@ -23,10 +23,10 @@ pub record Element : Type 0 where
   pub max : Option Max
   pub types : List Entry
   pub content_reference : Option Text
-  pub fixed : Option Pair
-  pub pattern : Option Pair
-  pub min_value : Option Pair
-  pub max_value : Option Pair
+  pub fixed : Option Property
+  pub pattern : Option Property
+  pub min_value : Option Property
+  pub max_value : Option Property
   pub max_length : Option ℤ
   pub binding : Option Binding
   pub constraints : List Constraint

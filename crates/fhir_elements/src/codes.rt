@@ -2,11 +2,11 @@
 
 ghost use Rattle.std.specs.Prelude.{◌≡◌, ◌<◌, ◌^◌, ℕ, List, Option, is_some};
 ghost use Rattle.std.specs.Option.{option_and_then};
-ghost use Rattle.fhir_json.specs.View.{tree_of};
+ghost use Rattle.fhir_json.specs.Views.{tree_of};
 ghost use Rattle.fhir_json.specs.Fields.{field, as_text, allows};
 ghost use Rattle.fhir_elements.specs.Codes.{code_in, allows_code, max_of, is_within, severity_of, strength_of, discriminator_type_of, rules_of, negative_of, below_zero, integer_of, as_integer};
 
-use fhir_json::{Json, as_number, as_text, count_of, field, text_in};
+use fhir_json::{Json, count_of};
 
 /// How many there may be at most.
 #[derive(Clone, Copy, Debug, PartialEq, Eq)]
@@ -162,21 +162,21 @@ fn integer_of(text: &str) -> Option<i32>
 pub(crate) fn as_integer(json: &Json<'_>) -> Option<i32>
     ensures { result ≡ as_integer (tree_of json.now) }
 {
-    as_number(json).and_then(|text| integer_of(text))
+    json.as_number().and_then(|text| integer_of(text))
 }
 
 /// The integer in a field.
 pub(crate) fn integer_in(json: &Json<'_>, name: &str) -> Option<i32>
     ensures { result ≡ option_and_then as_integer (field name.now (tree_of json.now)) }
 {
-    field(json, name).and_then(|value| as_integer(value))
+    json.field(name).and_then(|value| as_integer(value))
 }
 
 /// Whether a field is absent or an integer.
 pub(crate) fn allows_integer(json: &Json<'_>, name: &str) -> bool
     ensures { result ≡ allows as_integer name.now (tree_of json.now) }
 {
-    field(json, name).map_or(true, |value| as_integer(value).is_some())
+    json.field(name).map_or(true, |value| as_integer(value).is_some())
 }
 
 /// A set of codes.
@@ -232,13 +232,13 @@ impl Code for SlicingRules {
 pub(crate) fn code_in<C: Code>(json: &Json<'_>, name: &str) -> Option<C>
     ensures { result ≡ code_in C.reads name.now (tree_of json.now) }
 {
-    text_in(json, name).and_then(|text| C::of(text))
+    json.text_in(name).and_then(|text| C::of(text))
 }
 
 fn as_code<C: Code>(json: &Json<'_>) -> Option<C>
     ensures { result ≡ option_and_then C.reads (as_text (tree_of json.now)) }
 {
-    as_text(json).and_then(|text| C::of(text))
+    json.as_text().and_then(|text| C::of(text))
 }
 
 fn is_code<C: Code>(json: &Json<'_>) -> bool
@@ -252,5 +252,5 @@ fn is_code<C: Code>(json: &Json<'_>) -> bool
 pub(crate) fn allows_code<C: Code>(json: &Json<'_>, name: &str) -> bool
     ensures { result ≡ allows_code C.reads name.now (tree_of json.now) }
 {
-    field(json, name).map_or(true, |value| is_code::<C>(value))
+    json.field(name).map_or(true, |value| is_code::<C>(value))
 }

@@ -2,7 +2,7 @@
 
 ghost use Rattle.std.specs.Prelude.{◌≡◌, IfOk};
 ghost use Rattle.std.specs.Option.{option_map};
-ghost use Rattle.fhir_json.specs.View.{tree_of, pair_of, text_seen, member_seen};
+ghost use Rattle.fhir_json.specs.Views.{tree_of, property_of, text_seen, property_seen};
 ghost use Rattle.fhir_json.specs.Fields.{field, choice_in};
 ghost use Rattle.fhir_json.specs.Memory.{Gives, GivesOr};
 ghost use Rattle.fhir_elements.specs.Parts.{entry_fits, constraint_fits, binding_fits, binding_of, slicing_fits, slicing_of};
@@ -16,10 +16,7 @@ use crate::parts::{
 };
 use crate::reason::Reason;
 use crate::slicing::{BindingDef, SlicingDef, binding_fits, binding_of, slicing_fits, slicing_of};
-use fhir_json::{
-    Json, Member, NoMemory, allows_choice, allows_count, allows_items, allows_text, choice_in,
-    count_in, field, is_object, items_in, text_in,
-};
+use fhir_json::{Json, Member, NoMemory};
 use fhir_names::ElementId;
 use std::alloc::{AllocError, Global};
 use std::borrow::CowStr;
@@ -48,7 +45,7 @@ pub struct ElementDef {
 impl Model for ElementDef {
     ghost use Rattle.std.specs.Prelude.{string_bytes};
     ghost use Rattle.std.specs.Option.{option_map};
-    ghost use Rattle.fhir_json.specs.View.{pair_of};
+    ghost use Rattle.fhir_json.specs.Views.{property_of};
     ghost use Rattle.fhir_elements.specs.Element.{Element};
 
     ghost Value = { Element };
@@ -66,10 +63,10 @@ impl Model for ElementDef {
       max = e.max;
       types = e.types.items;
       content_reference = option_map string_bytes e.content_reference;
-      fixed = option_map pair_of e.fixed;
-      pattern = option_map pair_of e.pattern;
-      min_value = option_map pair_of e.min_value;
-      max_value = option_map pair_of e.max_value;
+      fixed = option_map property_of e.fixed;
+      pattern = option_map property_of e.pattern;
+      min_value = option_map property_of e.min_value;
+      max_value = option_map property_of e.max_value;
       max_length = e.max_length;
       binding = e.binding;
       constraints = e.constraints.items;
@@ -82,42 +79,42 @@ impl Model for ElementDef {
 fn allows_types(json: &Json<'_>, name: &str) -> bool
     ensures { result ≡ allows_parts entry_fits name.now (tree_of json.now) }
 {
-    let items = items_in(json, name);
-    allows_items(json, name) && entries_fit(items)
+    let items = json.items_in(name);
+    json.allows_items(name) && entries_fit(items)
 }
 
 fn allows_constraints(json: &Json<'_>, name: &str) -> bool
     ensures { result ≡ allows_parts constraint_fits name.now (tree_of json.now) }
 {
-    let items = items_in(json, name);
-    allows_items(json, name) && constraints_fit(items)
+    let items = json.items_in(name);
+    json.allows_items(name) && constraints_fit(items)
 }
 
 fn allows_binding(json: &Json<'_>, name: &str) -> bool
     ensures { result ≡ allows_part binding_fits name.now (tree_of json.now) }
 {
-    field(json, name).map_or(true, |value| binding_fits(value))
+    json.field(name).map_or(true, |value| binding_fits(value))
 }
 
 fn allows_slicing(json: &Json<'_>, name: &str) -> bool
     ensures { result ≡ allows_part slicing_fits name.now (tree_of json.now) }
 {
-    field(json, name).map_or(true, |value| slicing_fits(value))
+    json.field(name).map_or(true, |value| slicing_fits(value))
 }
 
 fn texts_fit(json: &Json<'_>) -> bool
     ensures { result ≡ texts_fit (tree_of json.now) }
 {
-    allows_text(json, "id")
-        && allows_text(json, "path")
-        && allows_text(json, "sliceName")
-        && allows_text(json, "contentReference")
+    json.allows_text("id")
+        && json.allows_text("path")
+        && json.allows_text("sliceName")
+        && json.allows_text("contentReference")
 }
 
 fn numbers_fit(json: &Json<'_>) -> bool
     ensures { result ≡ numbers_fit (tree_of json.now) }
 {
-    allows_count(json, "min")
+    json.allows_count("min")
         && allows_code::<Max>(json, "max")
         && allows_integer(json, "maxLength")
 }
@@ -125,10 +122,10 @@ fn numbers_fit(json: &Json<'_>) -> bool
 fn choices_fit(json: &Json<'_>) -> bool
     ensures { result ≡ choices_fit (tree_of json.now) }
 {
-    allows_choice(json, "fixed")
-        && allows_choice(json, "pattern")
-        && allows_choice(json, "minValue")
-        && allows_choice(json, "maxValue")
+    json.allows_choice("fixed")
+        && json.allows_choice("pattern")
+        && json.allows_choice("minValue")
+        && json.allows_choice("maxValue")
 }
 
 fn parts_fit(json: &Json<'_>) -> bool
@@ -143,7 +140,7 @@ fn parts_fit(json: &Json<'_>) -> bool
 fn fields_fit(json: &Json<'_>) -> bool
     ensures { result ≡ fields_fit (tree_of json.now) }
 {
-    is_object(json) && texts_fit(json) && numbers_fit(json) && choices_fit(json) && parts_fit(json)
+    json.is_object() && texts_fit(json) && numbers_fit(json) && choices_fit(json) && parts_fit(json)
 }
 
 fn bounds_fit(json: &Json<'_>) -> bool
@@ -153,7 +150,7 @@ fn bounds_fit(json: &Json<'_>) -> bool
     let Some(max) = max else {
         return true;
     };
-    match count_in(json, "min") {
+    match json.count_in("min") {
         Some(min) => is_within(min, max),
         None => true,
     }
@@ -162,7 +159,7 @@ fn bounds_fit(json: &Json<'_>) -> bool
 fn id_fits(json: &Json<'_>) -> bool
     ensures { result ≡ id_fits (tree_of json.now) }
 {
-    text_in(json, "id").map_or(false, |id| ElementId::parse(id).is_ok())
+    json.text_in("id").map_or(false, |id| ElementId::parse(id).is_ok())
 }
 
 /// Why a tree is no element, as the first of these that applies (FHIR R4, ElementDefinition): `WrongField` where it is
@@ -177,7 +174,7 @@ pub fn element_fault(alloc: Global, json: &Json<'_>) -> Result<Option<Reason>, N
     if !bounds_fit(json) {
         return Ok(Some(Reason::MinOverMax));
     }
-    let codes_differ = codes_differ(alloc, items_in(json, "type"))?;
+    let codes_differ = codes_differ(alloc, json.items_in("type"))?;
     if !codes_differ {
         return Ok(Some(Reason::RepeatedType));
     }
@@ -190,7 +187,7 @@ pub fn element_fault(alloc: Global, json: &Json<'_>) -> Result<Option<Reason>, N
 // ---- the element that it is
 
 fn owned_member(alloc: Global, member: &Member<'_>) -> Result<Member<'static>, NoMemory>
-    ensures { Gives pair_of result (pair_of member.now) }
+    ensures { Gives property_of result (property_of member.now) }
 {
     let name = String::from_str(alloc, member.name.as_str())?;
     let value = member.value.detach(alloc)?;
@@ -205,9 +202,9 @@ fn owned_choice(
     json: &Json<'_>,
     stem: &str,
 ) -> Result<Option<Member<'static>>, NoMemory>
-    ensures { Gives (λ m. option_map pair_of m) result (choice_in stem.now (tree_of json.now)) }
+    ensures { Gives (λ m. option_map property_of m) result (choice_in stem.now (tree_of json.now)) }
 {
-    match choice_in(json, stem) {
+    match json.choice_in(stem) {
         Some(member) => Ok(Some(owned_member(alloc, member)?)),
         None => Ok(None),
     }
@@ -216,7 +213,7 @@ fn owned_choice(
 fn binding_in(alloc: Global, json: &Json<'_>, name: &str) -> Result<Option<BindingDef>, AllocError>
     ensures { IfOk result (λ b. b ≡ option_map binding_of (field name.now (tree_of json.now))) }
 {
-    match field(json, name) {
+    match json.field(name) {
         Some(value) => Ok(Some(binding_of(alloc, value)?)),
         None => Ok(None),
     }
@@ -225,7 +222,7 @@ fn binding_in(alloc: Global, json: &Json<'_>, name: &str) -> Result<Option<Bindi
 fn slicing_in(alloc: Global, json: &Json<'_>, name: &str) -> Result<Option<SlicingDef>, AllocError>
     ensures { IfOk result (λ s. s ≡ option_map slicing_of (field name.now (tree_of json.now))) }
 {
-    match field(json, name) {
+    match json.field(name) {
         Some(value) => Ok(Some(slicing_of(alloc, value)?)),
         None => Ok(None),
     }
@@ -240,9 +237,9 @@ pub fn fields_of(alloc: Global, json: &Json<'_>) -> Result<ElementDef, NoMemory>
         id: owned_at(alloc, json, "id")?,
         path: owned_in(alloc, json, "path")?,
         slice_name: owned_in(alloc, json, "sliceName")?,
-        min: count_in(json, "min"),
+        min: json.count_in("min"),
         max: code_in(json, "max"),
-        types: entries_of(alloc, items_in(json, "type"))?,
+        types: entries_of(alloc, json.items_in("type"))?,
         content_reference: owned_in(alloc, json, "contentReference")?,
         fixed: owned_choice(alloc, json, "fixed")?,
         pattern: owned_choice(alloc, json, "pattern")?,
@@ -250,7 +247,7 @@ pub fn fields_of(alloc: Global, json: &Json<'_>) -> Result<ElementDef, NoMemory>
         max_value: owned_choice(alloc, json, "maxValue")?,
         max_length: integer_in(json, "maxLength"),
         binding: binding_in(alloc, json, "binding")?,
-        constraints: constraints_of(alloc, items_in(json, "constraint"))?,
+        constraints: constraints_of(alloc, json.items_in("constraint"))?,
         slicing: slicing_in(alloc, json, "slicing")?,
     })
 }
@@ -320,28 +317,28 @@ impl ElementDef {
 
     /// The value that it is, under its whole name, as `fixedCode`.
     pub fn fixed(&self) -> Option<&Member<'static>>
-        ensures { member_seen result ≡ self.now.fixed }
+        ensures { property_seen result ≡ self.now.fixed }
     {
         self.fixed.as_ref()
     }
 
     /// The value that it contains, under its whole name, as `patternCoding`.
     pub fn pattern(&self) -> Option<&Member<'static>>
-        ensures { member_seen result ≡ self.now.pattern }
+        ensures { property_seen result ≡ self.now.pattern }
     {
         self.pattern.as_ref()
     }
 
     /// The least value that it may be, under its whole name, as `minValueInteger`.
     pub fn min_value(&self) -> Option<&Member<'static>>
-        ensures { member_seen result ≡ self.now.min_value }
+        ensures { property_seen result ≡ self.now.min_value }
     {
         self.min_value.as_ref()
     }
 
     /// The greatest value that it may be, under its whole name, as `maxValueDate`.
     pub fn max_value(&self) -> Option<&Member<'static>>
-        ensures { member_seen result ≡ self.now.max_value }
+        ensures { property_seen result ≡ self.now.max_value }
     {
         self.max_value.as_ref()
     }

@@ -5,15 +5,13 @@ ghost use Rattle.std.specs.Option.{option_map};
 ghost use Rattle.std.specs.List.{list_all, list_any};
 ghost use Rattle.std.specs.Str.{bytes_eq};
 ghost use Rattle.fhir_json.specs.Tree.{Tree};
-ghost use Rattle.fhir_json.specs.View.{tree_of, trees_of, text_seen};
+ghost use Rattle.fhir_json.specs.Views.{tree_of, trees_of, text_seen};
 ghost use Rattle.fhir_json.specs.Fields.{text_in, text_at, texts_in};
 ghost use Rattle.fhir_elements.specs.Parts.{entry_fits, entry_of, has_code, codes_differ, constraint_fits, constraint_of};
 ghost use Rattle.fhir_elements.specs.Seen.{HaveCodes};
 
 use crate::codes::{Severity, allows_code, code_in};
-use fhir_json::{
-    Json, allows_text, allows_texts, is_object, items_in, text_at, text_in, text_or_empty,
-};
+use fhir_json::Json;
 use fhir_names::Index;
 use std::alloc::{AllocError, Global};
 use std::marker::Model;
@@ -121,7 +119,7 @@ pub(crate) fn text_of(text: &Option<String>) -> Option<&str>
 pub(crate) fn owned_at(alloc: Global, json: &Json<'_>, name: &str) -> Result<String, AllocError>
     ensures { IfOk result (λ s. string_bytes s ≡ text_at name.now (tree_of json.now)) }
 {
-    String::from_str(alloc, text_at(json, name))
+    String::from_str(alloc, json.text_at(name))
 }
 
 /// The text in a field.
@@ -132,7 +130,7 @@ pub(crate) fn owned_in(
 ) -> Result<Option<String>, AllocError>
     ensures { IfOk result (λ s. option_map string_bytes s ≡ text_in name.now (tree_of json.now)) }
 {
-    match text_in(json, name) {
+    match json.text_in(name) {
         Some(text) => Ok(Some(String::from_str(alloc, text)?)),
         None => Ok(None),
     }
@@ -142,9 +140,9 @@ fn all_owned_in(alloc: Global, json: &Json<'_>, name: &str) -> Result<Vec<String
     ensures { IfOk result (λ v. map string_bytes v.items ≡ texts_in name.now (tree_of json.now)) }
 {
     let mut texts = Vec::new(alloc);
-    let items = items_in(json, name);
+    let items = json.items_in(name);
     for item in items {
-        let text = String::from_str(alloc, text_or_empty(item))?;
+        let text = String::from_str(alloc, item.text_or_empty())?;
         texts.push(text)?;
     }
     Ok(texts)
@@ -153,10 +151,10 @@ fn all_owned_in(alloc: Global, json: &Json<'_>, name: &str) -> Result<Vec<String
 fn entry_fits(json: &Json<'_>) -> bool
     ensures { result ≡ entry_fits (tree_of json.now) }
 {
-    is_object(json)
-        && text_in(json, "code").is_some()
-        && allows_texts(json, "profile")
-        && allows_texts(json, "targetProfile")
+    json.is_object()
+        && json.text_in("code").is_some()
+        && json.allows_texts("profile")
+        && json.allows_texts("targetProfile")
 }
 
 /// Whether each item is a type.
@@ -197,7 +195,7 @@ fn has_code(items: &[Json<'_>], code: &str) -> bool
     ensures { result ≡ list_any (λ u. bytes_eq code.now (text_at (codes "code") u)) (trees_of items.now) }
 {
     for item in items {
-        if code == text_at(item, "code") {
+        if code == item.text_at("code") {
             return true;
         }
     }
@@ -209,7 +207,7 @@ fn few_codes_differ(items: &[Json<'_>]) -> bool
 {
     let mut left = items;
     while let [item, rest @ ..] = left {
-        if has_code(rest, text_at(item, "code")) {
+        if has_code(rest, item.text_at("code")) {
             return false;
         }
         left = rest;
@@ -227,7 +225,7 @@ fn is_new(
     ensures new { IfOk result (λ new. (ts : List Tree) → HaveCodes seen.old ts → new ≡ not (has_code (tree_of item.now) ts)) }
     ensures seen { OnOk result ((ts : List Tree) → HaveCodes seen.old ts → HaveCodes seen.new (tree_of item.now ∷ ts)) }
 {
-    let code = text_at(item, "code");
+    let code = item.text_at("code");
     let is_new = !seen.get(code).is_some();
     seen.put(alloc, code, place)?;
     Ok(is_new)
@@ -263,10 +261,10 @@ pub(crate) fn codes_differ(alloc: Global, items: &[Json<'_>]) -> Result<bool, Al
 fn constraint_fits(json: &Json<'_>) -> bool
     ensures { result ≡ constraint_fits (tree_of json.now) }
 {
-    is_object(json)
-        && text_in(json, "key").is_some()
+    json.is_object()
+        && json.text_in("key").is_some()
         && allows_code::<Severity>(json, "severity")
-        && allows_text(json, "expression")
+        && json.allows_text("expression")
 }
 
 /// Whether each item is a constraint.

@@ -3,12 +3,12 @@
 ghost use Rattle.std.specs.Prelude.{◌≡◌, map, IfOk, string_bytes, codes};
 ghost use Rattle.std.specs.Option.{option_map};
 ghost use Rattle.std.specs.List.{list_all};
-ghost use Rattle.fhir_json.specs.View.{tree_of, trees_of, text_seen};
+ghost use Rattle.fhir_json.specs.Views.{tree_of, trees_of, text_seen};
 ghost use Rattle.fhir_elements.specs.Parts.{binding_fits, binding_of, discriminator_fits, discriminator_of, slicing_fits, slicing_of};
 
 use crate::codes::{DiscriminatorType, SlicingRules, Strength, allows_code, code_in};
 use crate::parts::{owned_in, text_of};
-use fhir_json::{Json, allows_flag, allows_items, allows_text, flag_in, is_object, items_in};
+use fhir_json::Json;
 use std::alloc::{AllocError, Global};
 use std::marker::Model;
 
@@ -121,7 +121,7 @@ impl SlicingDef {
 pub(crate) fn binding_fits(json: &Json<'_>) -> bool
     ensures { result ≡ binding_fits (tree_of json.now) }
 {
-    is_object(json) && allows_code::<Strength>(json, "strength") && allows_text(json, "valueSet")
+    json.is_object() && allows_code::<Strength>(json, "strength") && json.allows_text("valueSet")
 }
 
 /// The binding that a tree is.
@@ -137,7 +137,7 @@ pub(crate) fn binding_of(alloc: Global, json: &Json<'_>) -> Result<BindingDef, A
 fn discriminator_fits(json: &Json<'_>) -> bool
     ensures { result ≡ discriminator_fits (tree_of json.now) }
 {
-    is_object(json) && allows_code::<DiscriminatorType>(json, "type") && allows_text(json, "path")
+    json.is_object() && allows_code::<DiscriminatorType>(json, "type") && json.allows_text("path")
 }
 
 fn discriminators_fit(items: &[Json<'_>]) -> bool
@@ -175,11 +175,11 @@ fn discriminators_of(alloc: Global, items: &[Json<'_>]) -> Result<Vec<Discrimina
 pub(crate) fn slicing_fits(json: &Json<'_>) -> bool
     ensures { result ≡ slicing_fits (tree_of json.now) }
 {
-    let discriminators = items_in(json, "discriminator");
-    is_object(json)
-        && allows_items(json, "discriminator")
+    let discriminators = json.items_in("discriminator");
+    json.is_object()
+        && json.allows_items("discriminator")
         && discriminators_fit(discriminators)
-        && allows_flag(json, "ordered")
+        && json.allows_flag("ordered")
         && allows_code::<SlicingRules>(json, "rules")
 }
 
@@ -188,8 +188,8 @@ pub(crate) fn slicing_of(alloc: Global, json: &Json<'_>) -> Result<SlicingDef, A
     ensures { IfOk result (λ s. s ≡ slicing_of (tree_of json.now)) }
 {
     Ok(SlicingDef {
-        discriminators: discriminators_of(alloc, items_in(json, "discriminator"))?,
-        ordered: flag_in(json, "ordered"),
+        discriminators: discriminators_of(alloc, json.items_in("discriminator"))?,
+        ordered: json.flag_in("ordered"),
         rules: code_in(json, "rules"),
     })
 }

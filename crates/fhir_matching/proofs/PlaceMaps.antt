@@ -11,7 +11,7 @@ use Rattle.std.proofs.lemmas.List.{take_all}
 use Rattle.std.proofs.lemmas.Slice.Eq.{bytes_eq-Decides}
 use Rattle.fhir_json.specs.declared.json.Member.{Member}
 use Rattle.fhir_json.specs.Tree.{Text, names}
-use Rattle.fhir_json.specs.View.{pair_of, members_view}
+use Rattle.fhir_json.specs.Views.{property_of, members_view}
 use Rattle.fhir_matching.specs.Places.{place_at, AreOf}
 use Rattle.fhir_matching.proofs.Sides.{naming, naming_before}
 
@@ -52,7 +52,7 @@ within_either false place (Some x) h = omega arith
 within_either false place None h = tt
 
 pub named_more : (ms : List Member) (k : ℕ) (m : Member) (key : Bor Text) (old new : BTreeMap (Bor Text) ℕ)
-    → k < length ms → get_or ms k m ≡ m → key.now ≡ (pair_of m).0
+    → k < length ms → get_or ms k m ≡ m → key.now ≡ (property_of m).0
     → Adds key old new k → ((name : Text) → is_some (place_at name old) ≡ naming name (take k ms))
     → (name : Text) → is_some (place_at name new) ≡ naming name (take (k + 1) ms)
 named_more ms k m key old new lt is same adds before name =

@@ -9,7 +9,7 @@ use Rattle.std.proofs.lemmas.List.{take-append-drop}
 use Rattle.fhir_json.specs.declared.json.Json.{Json}
 use Rattle.fhir_json.specs.declared.json.Member.{Member, fold_out-Member}
 use Rattle.fhir_json.specs.Tree.{Text, Tree, no_items, names}
-use Rattle.fhir_json.specs.View.{pair_of, items_view, members_view}
+use Rattle.fhir_json.specs.Views.{property_of, items_view, members_view}
 use Rattle.fhir_json.specs.Sound.{is_among}
 use Rattle.fhir_matching.specs.Equality.{equal, items_equal, members_within, has_passing}
 
@@ -32,7 +32,7 @@ or_regroup : (a b c : Bool) → (a || (b || c)) ≡ ((a || b) || c)
 or_regroup true b c = refl
 or_regroup false b c = refl
 
-pub name_is : (m : Member) → cow_str_bytes m.name ≡ (pair_of m).0
+pub name_is : (m : Member) → cow_str_bytes m.name ≡ (property_of m).0
 name_is m = search (rules, fold_out-Member)
 
 abbrev pub passing : Text → (Tree → Bool) → List Member → Bool
@@ -44,21 +44,21 @@ naming name ms = is_among name (names (members_view ms))
 pub passing_append : (name : Text) (p : Tree → Bool) (xs ys : List Member) → passing name p (xs ++ ys) ≡ (passing name p xs || passing name p ys)
 passing_append name p [] ys = refl
 passing_append name p (m ∷ xs) ys =
-    let here : Bool = bytes_eq name (pair_of m).0 && p (pair_of m).1 in
+    let here : Bool = bytes_eq name (property_of m).0 && p (property_of m).1 in
     ap (λ (b : Bool). here || b) (passing_append name p xs ys) ∙ or_regroup here (passing name p xs) (passing name p ys)
 
 pub naming_append : (name : Text) (xs ys : List Member) → naming name (xs ++ ys) ≡ (naming name xs || naming name ys)
 naming_append name [] ys = refl
 naming_append name (m ∷ xs) ys =
-    ap (λ (b : Bool). bytes_eq name (pair_of m).0 || b) (naming_append name xs ys) ∙ or_regroup (bytes_eq name (pair_of m).0) (naming name xs) (naming name ys)
+    ap (λ (b : Bool). bytes_eq name (property_of m).0 || b) (naming_append name xs ys) ∙ or_regroup (bytes_eq name (property_of m).0) (naming name xs) (naming name ys)
 
 -- ---- a member at a place, and those on either side of it
 
 pub naming_before : (name : Text) (ms : List Member) (k : ℕ) (m : Member) → k < length ms → get_or ms k m ≡ m
-    → naming name (take (k + 1) ms) ≡ (naming name (take k ms) || bytes_eq name (pair_of m).0)
+    → naming name (take (k + 1) ms) ≡ (naming name (take k ms) || bytes_eq name (property_of m).0)
 naming_before name ms k m lt is =
     rw (add-one, take-suc ms k m lt, is)
-    (naming_append name (take k ms) (m ∷ []) ∙ ap (λ (b : Bool). naming name (take k ms) || b) (or_false (bytes_eq name (pair_of m).0)))
+    (naming_append name (take k ms) (m ∷ []) ∙ ap (λ (b : Bool). naming name (take k ms) || b) (or_false (bytes_eq name (property_of m).0)))
 
 -- of three tests, in turn
 pub first_true : (whole here others : Bool) → whole ≡ (here || others) → true ≡ here → true ≡ whole
@@ -71,9 +71,9 @@ pub third_left : (whole here front behind r s : Bool) → whole ≡ (here || (fr
 third_left whole here front behind r s e h f t b = rw (e, ← h, ← f, t, b) refl
 
 pub passing_around : (name : Text) (p : Tree → Bool) (ms : List Member) (k : ℕ) (m : Member) → k < length ms → get_or ms k m ≡ m
-    → passing name p ms ≡ ((bytes_eq name (pair_of m).0 && p (pair_of m).1) || (passing name p (take k ms) || passing name p (drop (k + 1) ms)))
+    → passing name p ms ≡ ((bytes_eq name (property_of m).0 && p (property_of m).1) || (passing name p (take k ms) || passing name p (drop (k + 1) ms)))
 passing_around name p ms k m lt is =
-    let here : Bool = bytes_eq name (pair_of m).0 && p (pair_of m).1 in
+    let here : Bool = bytes_eq name (property_of m).0 && p (property_of m).1 in
     let behind : passing name p (drop k ms) ≡ (here || passing name p (drop (k + 1) ms)) = rw (add-one, drop-cons ms k m lt, is) refl in
     ap (passing name p) (sym (take-append-drop k ms))
     ∙ passing_append name p (take k ms) (drop k ms)
@@ -104,17 +104,17 @@ outside_none name ms near = simp unary_clauses (naming_sides name ms near)
 pub none_passing : (name : Text) (p : Tree → Bool) (ms : List Member) → naming name ms ≡ false → passing name p ms ≡ false
 none_passing name p [] h = refl
 none_passing name p (m ∷ ms) h =
-    elim (bytes_eq name (pair_of m).0) as (λ (b : Bool). (b || naming name ms) ≡ false → ((b && p (pair_of m).1) || passing name p ms) ≡ false) [
+    elim (bytes_eq name (property_of m).0) as (λ (b : Bool). (b || naming name ms) ≡ false → ((b && p (property_of m).1) || passing name p ms) ≡ false) [
       | true ↦ λ e. absurd (false≢true (sym e))
       | false ↦ λ e. none_passing name p ms e
     ] h
 
 -- so a member of that name has no equal among them
-pub no_equal : (ms ns : List Member) (i : ℕ) (m : Member) → i < length ms → get_or ms i m ≡ m → naming (pair_of m).0 ns ≡ false
+pub no_equal : (ms ns : List Member) (i : ℕ) (m : Member) → i < length ms → get_or ms i m ≡ m → naming (property_of m).0 ns ≡ false
     → members_within (members_view (drop i ms)) (members_view ns) ≡ false
 no_equal ms ns i m lt is h =
     rw (drop-cons ms i m lt, is)
-    (ap (λ (b : Bool). b && members_within (members_view (drop (suc i) ms)) (members_view ns)) (none_passing (pair_of m).0 (equal (pair_of m).1) ns h))
+    (ap (λ (b : Bool). b && members_within (members_view (drop (suc i) ms)) (members_view ns)) (none_passing (property_of m).0 (equal (property_of m).1) ns h))
 
 -- no test is left where no item is left
 pub no_more : (vs : List Json) → items_equal no_items (items_view vs) ≡ eqb (length vs) 0

@@ -3,7 +3,7 @@
 ghost use Rattle.std.specs.Prelude.{◌≡◌, ◌<◌, ◌&&◌, length, IsTrue};
 ghost use Rattle.std.specs.Str.{bytes_eq};
 ghost use Rattle.fhir_json.specs.Tree.{Tree, names};
-ghost use Rattle.fhir_json.specs.View.{tree_of, pair_of, items_view, members_view};
+ghost use Rattle.fhir_json.specs.Views.{tree_of, property_of, items_view, members_view};
 ghost use Rattle.fhir_json.specs.Sound.{IsSound};
 ghost use Rattle.fhir_matching.specs.Equality.{equal, items_equal, members_within, has_passing, are_among};
 
@@ -73,7 +73,7 @@ fn members_among(members: &[Member<'_>], others: &[Member<'_>]) -> bool
 #[cycle(equal)]
 fn is_member_among(member: &Member<'_>, others: &[Member<'_>], place: usize) -> bool
     requires { place < length others.now }
-    ensures { result ≡ has_passing (pair_of member.now).0 (equal (pair_of member.now).1)
+    ensures { result ≡ has_passing (property_of member.now).0 (equal (property_of member.now).1)
         (members_view others.now) }
 {
     if member_eq(member, &others[place]) {
@@ -85,7 +85,7 @@ fn is_member_among(member: &Member<'_>, others: &[Member<'_>], place: usize) -> 
 // Whether a member has its equal among the others, of which each is looked at.
 #[cycle(equal)]
 pub(crate) fn has_equal(member: &Member<'_>, others: &[Member<'_>]) -> bool
-    ensures { result ≡ has_passing (pair_of member.now).0 (equal (pair_of member.now).1)
+    ensures { result ≡ has_passing (property_of member.now).0 (equal (property_of member.now).1)
         (members_view others.now) }
 {
     for other in others {
@@ -98,8 +98,8 @@ pub(crate) fn has_equal(member: &Member<'_>, others: &[Member<'_>]) -> bool
 
 #[cycle(equal)]
 fn member_eq(left: &Member<'_>, right: &Member<'_>) -> bool
-    ensures { result ≡ (bytes_eq (pair_of left.now).0 (pair_of right.now).0
-        && equal (pair_of left.now).1 (pair_of right.now).1) }
+    ensures { result ≡ (bytes_eq (property_of left.now).0 (property_of right.now).0
+        && equal (property_of left.now).1 (property_of right.now).1) }
 {
     left.name.as_str() == right.name.as_str() && json_eq(&left.value, &right.value)
 }

@@ -6,7 +6,7 @@ ghost use Rattle.std.specs.Option.{ForSome};
 ghost use Rattle.std.specs.Str.{bytes_eq};
 ghost use Rattle.fhir_json.specs.Memory.{Gives};
 ghost use Rattle.fhir_json.specs.Tree.{names};
-ghost use Rattle.fhir_json.specs.View.{tree_of, pair_of, items_view, members_view};
+ghost use Rattle.fhir_json.specs.Views.{tree_of, property_of, items_view, members_view};
 ghost use Rattle.fhir_json.specs.Sound.{is_among};
 ghost use Rattle.fhir_matching.specs.Equality.{equal, items_equal, members_within, has_passing, are_among};
 ghost use Rattle.fhir_matching.specs.Places.{AreOf};
@@ -143,8 +143,8 @@ fn is_member_among_in(
     place: usize,
 ) -> Result<bool, NoMemory>
     requires { place < length others.now }
-    ensures { Gives (λ b. b) result (has_passing (pair_of member.now).0
-        (equal (pair_of member.now).1) (members_view others.now)) }
+    ensures { Gives (λ b. b) result (has_passing (property_of member.now).0
+        (equal (property_of member.now).1) (members_view others.now)) }
 {
     if member_eq_in(alloc, member, &others[place])? {
         return Ok(true);
@@ -154,8 +154,8 @@ fn is_member_among_in(
 
 #[cycle(equal_in)]
 fn member_eq_in(alloc: Global, left: &Member<'_>, right: &Member<'_>) -> Result<bool, NoMemory>
-    ensures { Gives (λ b. b) result (bytes_eq (pair_of left.now).0 (pair_of right.now).0
-        && equal (pair_of left.now).1 (pair_of right.now).1) }
+    ensures { Gives (λ b. b) result (bytes_eq (property_of left.now).0 (property_of right.now).0
+        && equal (property_of left.now).1 (property_of right.now).1) }
 {
     if left.name.as_str() == right.name.as_str() {
         json_eq_in(alloc, &left.value, &right.value)

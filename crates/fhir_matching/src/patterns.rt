@@ -3,7 +3,7 @@
 ghost use Rattle.std.specs.Prelude.{◌≡◌, ◌&&◌, IsTrue};
 ghost use Rattle.std.specs.Str.{bytes_eq};
 ghost use Rattle.fhir_json.specs.Tree.{Tree};
-ghost use Rattle.fhir_json.specs.View.{tree_of, pair_of, items_view, members_view};
+ghost use Rattle.fhir_json.specs.Views.{tree_of, property_of, items_view, members_view};
 ghost use Rattle.fhir_json.specs.Sound.{IsSound};
 ghost use Rattle.fhir_matching.specs.Equality.{equal, has_passing};
 ghost use Rattle.fhir_matching.specs.Fitting.{fits, pattern_test, some_passing, each_fitted, has_fitting};
@@ -71,7 +71,7 @@ fn members_fit(members: &[Member<'_>], patterns: &[Member<'_>]) -> bool
 
 #[cycle(fit)]
 fn some_member_fits(members: &[Member<'_>], pattern: &Member<'_>) -> bool
-    ensures { result ≡ has_passing (pair_of pattern.now).0 (pattern_test (pair_of pattern.now).1)
+    ensures { result ≡ has_passing (property_of pattern.now).0 (pattern_test (property_of pattern.now).1)
         (members_view members.now) }
 {
     for member in members {
@@ -84,8 +84,8 @@ fn some_member_fits(members: &[Member<'_>], pattern: &Member<'_>) -> bool
 
 #[cycle(fit)]
 fn member_fits(member: &Member<'_>, pattern: &Member<'_>) -> bool
-    ensures { result ≡ (bytes_eq (pair_of pattern.now).0 (pair_of member.now).0
-        && pattern_test (pair_of pattern.now).1 (pair_of member.now).1) }
+    ensures { result ≡ (bytes_eq (property_of pattern.now).0 (property_of member.now).0
+        && pattern_test (property_of pattern.now).1 (property_of member.now).1) }
 {
     pattern.name.as_str() == member.name.as_str() && matches(&member.value, &pattern.value)
 }

@@ -2,7 +2,7 @@
 
 ghost use Rattle.std.specs.Prelude.{◌≡◌, ◌+◌, ◌-◌, ◌<◌, ◌≤◌, ◌||◌, length, take, drop, is_some, IsTrue, IfSome, IfNone};
 ghost use Rattle.fhir_json.specs.Tree.{names};
-ghost use Rattle.fhir_json.specs.View.{members_view};
+ghost use Rattle.fhir_json.specs.Views.{members_view};
 ghost use Rattle.fhir_json.specs.Sound.{is_among};
 
 use fhir_json::Member;

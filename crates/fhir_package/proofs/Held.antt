@@ -5,7 +5,7 @@ use Rattle.std.specs.List.{flat_map}
 use Rattle.std.specs.Option.{option_map_or}
 use Rattle.fhir_json.specs.Tree.{Text, Tree}
 use Rattle.fhir_json.specs.Fields.{items_in}
-use Rattle.fhir_json.specs.View.{tree_of, trees_of}
+use Rattle.fhir_json.specs.Views.{tree_of, trees_of}
 use Rattle.fhir_json.specs.declared.json.Json.{Json}
 use Rattle.fhir_package.specs.declared.fault.LoadFault.{LoadFault}
 use Rattle.fhir_package.specs.declared.fault.LoadFault.TheVariants.{Unlisted, Unread, NotJson, Clash, NoMemory}

@@ -1,7 +1,7 @@
 -- What contracts see of the maps of a package.
 use Rattle.std.specs.Prelude.{List, map, string_bytes}
 use Rattle.fhir_json.specs.Tree.{Text, Tree}
-use Rattle.fhir_json.specs.View.{tree_of}
+use Rattle.fhir_json.specs.Views.{tree_of}
 use Rattle.fhir_package.specs.declared.url_map.UrlEntry.{UrlEntry}
 use Rattle.fhir_package.specs.Definitions.{Entries}
 

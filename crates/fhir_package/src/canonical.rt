@@ -3,16 +3,16 @@
 ghost use Rattle.std.specs.Prelude.{◌≡◌, false};
 ghost use Rattle.std.specs.Option.{option_map_or};
 ghost use Rattle.std.specs.Str.{bytes_eq};
-ghost use Rattle.fhir_json.specs.View.{tree_of};
+ghost use Rattle.fhir_json.specs.Views.{tree_of};
 ghost use Rattle.fhir_json.specs.Fields.{as_text};
 ghost use Rattle.fhir_package.specs.Canonical.{is_of_version};
 
-use fhir_json::{Json, as_text, field};
+use fhir_json::Json;
 
 fn is_text(json: &Json<'_>, text: &str) -> bool
     ensures { result ≡ option_map_or (bytes_eq text.now) (as_text (tree_of json.now)) false }
 {
-    match as_text(json) {
+    match json.as_text() {
         Some(own) => text == own,
         None => false,
     }
@@ -22,5 +22,5 @@ fn is_text(json: &Json<'_>, text: &str) -> bool
 pub(crate) fn is_of_version(definition: &Json<'_>, version: &str) -> bool
     ensures { result ≡ is_of_version version.now (tree_of definition.now) }
 {
-    field(definition, "version").map_or(true, |own| is_text(own, version))
+    definition.field("version").map_or(true, |own| is_text(own, version))
 }

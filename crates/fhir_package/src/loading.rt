@@ -4,7 +4,7 @@ ghost use Rattle.std.specs.Prelude.{◌≡◌, ◌+◌, map, string_bytes, IfOk,
 ghost use Rattle.std.specs.List.{flat_map};
 ghost use Rattle.std.specs.Option.{option_map_or};
 ghost use Rattle.std.specs.Map.{keys_of};
-ghost use Rattle.fhir_json.specs.View.{tree_of, trees_of};
+ghost use Rattle.fhir_json.specs.Views.{tree_of, trees_of};
 ghost use Rattle.fhir_package.specs.Packing.{kind_named, definition_of, is_bundle, is_json_name, held_within, definitions_in, in_entry, put_all, json_names, take_file, bytes_at, pack};
 ghost use Rattle.fhir_package.specs.Faults.{IsPacked, IsTaken, failed_loading};
 
@@ -12,7 +12,7 @@ use crate::fault::LoadFault;
 use crate::folder::{Folder, FolderFault};
 use crate::kind::Kind;
 use crate::package::Package;
-use fhir_json::{Json, JsonFault, MAX_DEPTH, NoMemory, field, items_in, read, text_at, text_in};
+use fhir_json::{Json, JsonFault, MAX_DEPTH, NoMemory, read};
 use std::alloc::Global;
 use std::collections::BTreeSet;
 
@@ -33,10 +33,10 @@ fn take_definition(alloc: Global, json: &Json<'_>, into: &mut Package) -> Result
         (put_all (option_map_or (λ d. d ∷ []) (definition_of (tree_of json.now)) []) into.old) }
     ensures blameless { failed_loading result ≡ 0 }
 {
-    let Some(kind) = kind_named(text_at(json, "resourceType")) else {
+    let Some(kind) = kind_named(json.text_at("resourceType")) else {
         return Ok(());
     };
-    let Some(url) = text_in(json, "url") else {
+    let Some(url) = json.text_in("url") else {
         return Ok(());
     };
     into.join(alloc, kind, url, json)
@@ -45,7 +45,7 @@ fn take_definition(alloc: Global, json: &Json<'_>, into: &mut Package) -> Result
 fn is_bundle(json: &Json<'_>) -> bool
     ensures { result ≡ is_bundle (tree_of json.now) }
 {
-    text_at(json, "resourceType") == "Bundle"
+    json.text_at("resourceType") == "Bundle"
 }
 
 // Puts in the definitions that a tree holds within so many levels.
@@ -63,7 +63,7 @@ fn take_held(
         return Ok(());
     }
     if is_bundle(json) {
-        return take_entries(alloc, items_in(json, "entry"), levels - 1, into);
+        return take_entries(alloc, json.items_in("entry"), levels - 1, into);
     }
     take_definition(alloc, json, into)
 }
@@ -95,7 +95,7 @@ fn take_entry(
     ensures taken { IsTaken result into.new (put_all (in_entry levels (tree_of entry.now)) into.old) }
     ensures blameless { failed_loading result ≡ 0 }
 {
-    match field(entry, "resource") {
+    match entry.field("resource") {
         Some(resource) => take_held(alloc, resource, levels, into),
         None => Ok(()),
     }

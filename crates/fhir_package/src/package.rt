@@ -4,7 +4,7 @@ ghost use Rattle.std.specs.Prelude.{◌≡◌, [], ◌∷◌, ◌++◌, length, 
 ghost use Rattle.std.specs.Map.{keys_of, lookup};
 ghost use Rattle.std.specs.Option.{option_map};
 ghost use Rattle.std.specs.Str.{bytes_eq};
-ghost use Rattle.fhir_json.specs.View.{tree_of, tree_seen};
+ghost use Rattle.fhir_json.specs.Views.{tree_of, tree_seen};
 ghost use Rattle.fhir_package.specs.Definitions.{no_definitions, of_kind, with_kind, at_url};
 ghost use Rattle.fhir_package.specs.Canonical.{at_version, named_by};
 ghost use Rattle.fhir_package.specs.Packing.{join, or_clash};

@@ -4,7 +4,7 @@ ghost use Rattle.std.specs.Prelude.{◌≡◌, [], ◌∷◌, ◌++◌, length, 
 ghost use Rattle.std.specs.Option.{option_map, option_copied};
 ghost use Rattle.std.specs.Map.{keys_of, lookup};
 ghost use Rattle.std.specs.Str.{bytes_eq};
-ghost use Rattle.fhir_json.specs.View.{tree_of, tree_seen};
+ghost use Rattle.fhir_json.specs.Views.{tree_of, tree_seen};
 ghost use Rattle.fhir_package.specs.View.{entries_seen, entry_seen};
 
 use fhir_json::{Json, NoMemory};

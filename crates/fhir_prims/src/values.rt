@@ -1,7 +1,7 @@
 //! The JSON values of the primitive types (FHIR R4, Data Types).
 
 ghost use Rattle.std.specs.Prelude.{◌≡◌};
-ghost use Rattle.fhir_json.specs.View.{tree_of};
+ghost use Rattle.fhir_json.specs.Views.{tree_of};
 ghost use Rattle.fhir_prims.specs.Values.{allows_flag, allows_number, allows_text, lexical};
 
 use crate::blanks::{is_base64, is_code};

@@ -2,7 +2,7 @@
 
 ghost use Rattle.std.specs.Prelude.{◌≡◌, ◌||◌, ◌&&◌, map, IfOk, is_some, length, nat_lt};
 ghost use Rattle.std.specs.List.{list_all};
-ghost use Rattle.fhir_json.specs.View.{tree_of, trees_of};
+ghost use Rattle.fhir_json.specs.Views.{tree_of, trees_of};
 ghost use Rattle.fhir_elements.specs.Element.{fields_of};
 ghost use Rattle.fhir_schema.specs.Slots.{is_root};
 ghost use Rattle.fhir_schema.specs.Structure.{element_trees, is_whole, least_fault};
@@ -10,15 +10,15 @@ ghost use Rattle.fhir_schema.specs.Structure.{element_trees, is_whole, least_fau
 use crate::reasons::least_of;
 use crate::snapshot::is_root;
 use fhir_elements::{ElementDef, Reason, element_fault, fields_of};
-use fhir_json::{Json, NoMemory, field, items_in};
+use fhir_json::{Json, NoMemory};
 use std::alloc::Global;
 
 /// The elements of a definition's snapshot.
 pub(crate) fn element_trees<'t, 'j>(json: &'t Json<'j>) -> &'t [Json<'j>]
     ensures { trees_of result.now ≡ element_trees (tree_of json.now) }
 {
-    match field(json, "snapshot") {
-        Some(snapshot) => items_in(snapshot, "element"),
+    match json.field("snapshot") {
+        Some(snapshot) => snapshot.items_in("element"),
         None => Default::default(),
     }
 }

@@ -2,7 +2,7 @@
 
 ghost use Rattle.std.specs.Prelude.{◌≡◌, ◌∷◌, List, ℕ, is_some, not, map, IfOk, OnOk, length, suc};
 ghost use Rattle.std.specs.List.{list_all, count_by, slice_get};
-ghost use Rattle.fhir_json.specs.View.{text_seen};
+ghost use Rattle.fhir_json.specs.Views.{text_seen};
 ghost use Rattle.fhir_elements.specs.Element.{Element};
 ghost use Rattle.fhir_schema.specs.Slots.{id_place, is_at, are_first, ids_differ, up_of, is_root, has_parent, is_tree, child_place, slice_place};
 ghost use Rattle.fhir_schema.specs.Tables.{FindsIds};

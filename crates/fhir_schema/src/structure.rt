@@ -5,7 +5,7 @@ ghost use Rattle.std.specs.Option.{option_map, option_map_or, option_copied};
 ghost use Rattle.std.specs.List.{list_all, position, find};
 ghost use Rattle.std.specs.Str.{bytes_eq};
 ghost use Rattle.fhir_json.specs.Fields.{field, text_in, flag_in};
-ghost use Rattle.fhir_json.specs.View.{tree_of, text_seen, tree_seen};
+ghost use Rattle.fhir_json.specs.Views.{tree_of, text_seen, tree_seen};
 ghost use Rattle.fhir_schema.specs.Slots.{is_root};
 ghost use Rattle.fhir_schema.specs.Supported.{is_plain_element};
 ghost use Rattle.fhir_schema.specs.Structure.{is_blank, is_uri, kind_in, is_primitive_kind, is_scalar_code, is_text_code, is_name_code, is_moment_code, is_primitive_code, is_derivation, derivation_fits, is_type_definition, primitive_fits, snapshot_fits, head_fits, own_fault, kind_is_plain, structure_of};
@@ -18,10 +18,7 @@ use crate::slots::{Slot, slots_of};
 use crate::snapshot::{Snapshot, is_root};
 use crate::supported::are_plain;
 use fhir_elements::{ElementDef, Reason};
-use fhir_json::{
-    Json, NoMemory, allows_flag, allows_items, allows_text, field, flag_in, is_object, text_at,
-    text_in,
-};
+use fhir_json::{Json, NoMemory};
 use std::alloc::{AllocError, Global};
 use std::marker::Model;
 
@@ -48,7 +45,7 @@ pub(crate) struct StructureDef {
 impl Model for StructureDef {
     ghost use Rattle.std.specs.Prelude.{string_bytes};
     ghost use Rattle.std.specs.Option.{option_map};
-    ghost use Rattle.fhir_json.specs.View.{tree_of};
+    ghost use Rattle.fhir_json.specs.Views.{tree_of};
     ghost use Rattle.fhir_schema.specs.Structure.{Structure};
 
     ghost Value = { Structure };
@@ -141,7 +138,7 @@ fn is_uri(text: &str) -> bool
 fn kind_in(json: &Json<'_>) -> Option<TypeKind>
     ensures { result ≡ kind_in (tree_of json.now) }
 {
-    kind_of(text_at(json, "kind"))
+    kind_of(json.text_at("kind"))
 }
 
 fn is_derivation(text: &str) -> bool
@@ -153,19 +150,19 @@ fn is_derivation(text: &str) -> bool
 fn has_derivation(json: &Json<'_>) -> bool
     ensures { result ≡ option_map_or is_derivation (text_in (codes "derivation") (tree_of json.now)) true }
 {
-    text_in(json, "derivation").map_or(true, |derivation| is_derivation(derivation))
+    json.text_in("derivation").map_or(true, |derivation| is_derivation(derivation))
 }
 
 fn derivation_fits(json: &Json<'_>) -> bool
     ensures { result ≡ derivation_fits (tree_of json.now) }
 {
-    has_derivation(json) && allows_text(json, "derivation")
+    has_derivation(json) && json.allows_text("derivation")
 }
 
 fn is_type_definition(json: &Json<'_>) -> bool
     ensures { result ≡ is_type_definition (tree_of json.now) }
 {
-    let derivation = text_at(json, "derivation");
+    let derivation = json.text_at("derivation");
     kind_in(json).is_some() && !(derivation == "constraint")
 }
 
@@ -179,14 +176,14 @@ fn primitive_fits(json: &Json<'_>) -> bool
     ensures { result ≡ primitive_fits (tree_of json.now) }
 {
     let defines_primitive = is_type_definition(json) && is_of_primitive_kind(json);
-    !defines_primitive || is_primitive_code(text_at(json, "type"))
+    !defines_primitive || is_primitive_code(json.text_at("type"))
 }
 
 fn snapshot_fits(json: &Json<'_>) -> bool
     ensures { result ≡ snapshot_fits (tree_of json.now) }
 {
-    match field(json, "snapshot") {
-        Some(snapshot) => is_object(snapshot) && allows_items(snapshot, "element"),
+    match json.field("snapshot") {
+        Some(snapshot) => snapshot.is_object() && snapshot.allows_items("element"),
         None => true,
     }
 }
@@ -195,11 +192,11 @@ fn head_fits(url: &str, json: &Json<'_>) -> bool
     ensures { result ≡ head_fits url.now (tree_of json.now) }
 {
     is_uri(url)
-        && allows_text(json, "version")
+        && json.allows_text("version")
         && kind_in(json).is_some()
-        && allows_flag(json, "abstract")
-        && text_in(json, "type").is_some()
-        && allows_text(json, "baseDefinition")
+        && json.allows_flag("abstract")
+        && json.text_in("type").is_some()
+        && json.allows_text("baseDefinition")
         && derivation_fits(json)
         && primitive_fits(json)
         && snapshot_fits(json)
@@ -225,7 +222,7 @@ fn own_fault(
 fn is_abstract(json: &Json<'_>) -> bool
     ensures { result ≡ option_map_or (λ b. b) (flag_in (codes "abstract") (tree_of json.now)) false }
 {
-    flag_in(json, "abstract").unwrap_or(false)
+    json.flag_in("abstract").unwrap_or(false)
 }
 
 fn kind_is_plain(json: &Json<'_>, elements: &[ElementDef]) -> bool
@@ -243,7 +240,7 @@ fn is_plain(json: &Json<'_>, snapshot: &Snapshot) -> bool
 fn version_of(alloc: Global, json: &Json<'_>) -> Result<Option<Json<'static>>, NoMemory>
     ensures { IfOk result (λ v. option_map tree_of v ≡ field (codes "version") (tree_of json.now)) }
 {
-    match field(json, "version") {
+    match json.field("version") {
         Some(version) => Ok(Some(version.detach(alloc)?)),
         None => Ok(None),
     }
@@ -252,7 +249,7 @@ fn version_of(alloc: Global, json: &Json<'_>) -> Result<Option<Json<'static>>, N
 fn base_of(alloc: Global, json: &Json<'_>) -> Result<Option<String>, AllocError>
     ensures { IfOk result (λ s. option_map string_bytes s ≡ text_in (codes "baseDefinition") (tree_of json.now)) }
 {
-    match text_in(json, "baseDefinition") {
+    match json.text_in("baseDefinition") {
         Some(base) => Ok(Some(String::from_str(alloc, base)?)),
         None => Ok(None),
     }
@@ -278,7 +275,7 @@ pub(crate) fn structure_of(
     let slots = slots_of(alloc, &snapshot)?;
     let url_text = String::from_str(alloc, url)?;
     let version = version_of(alloc, json)?;
-    let type_code = String::from_str(alloc, text_at(json, "type"))?;
+    let type_code = String::from_str(alloc, json.text_at("type"))?;
     let base = base_of(alloc, json)?;
     let fault = own_fault(alloc, url, json, &snapshot)?;
     Ok(StructureDef {

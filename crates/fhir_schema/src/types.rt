@@ -3,7 +3,7 @@
 ghost use Rattle.std.specs.Prelude.{◌≡◌, not, is_some};
 ghost use Rattle.std.specs.Option.{option_map_or, option_and_then};
 ghost use Rattle.std.specs.List.{list_all, slice_get};
-ghost use Rattle.fhir_json.specs.View.{tree_seen};
+ghost use Rattle.fhir_json.specs.Views.{tree_seen};
 ghost use Rattle.fhir_package.specs.Canonical.{has_version};
 ghost use Rattle.fhir_schema.specs.Slots.{is_at};
 ghost use Rattle.fhir_schema.specs.Settling.{is_versioned, where_versioned, version_place, canonical_place, reason_at, is_usable_type, is_system, entry_is_usable, element_is_usable, types_are_usable, base_place, base_of_place, ends_within, is_first_of_type, is_primitive, names_primitive, element_is_flat, is_flat};
@@ -13,7 +13,7 @@ use crate::snapshot::is_root;
 use crate::structure::StructureDef;
 use crate::table::Table;
 use fhir_elements::{ElementDef, Reason, TypeEntry};
-use fhir_json::{Json, as_text};
+use fhir_json::Json;
 use fhir_names::Canonical;
 
 fn has_version(version: &str, json: Option<&Json<'static>>) -> bool
@@ -22,7 +22,7 @@ fn has_version(version: &str, json: Option<&Json<'static>>) -> bool
     let Some(json) = json else {
         return true;
     };
-    match as_text(json) {
+    match json.as_text() {
         Some(text) => version == text,
         None => false,
     }

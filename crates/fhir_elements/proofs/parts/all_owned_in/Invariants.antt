@@ -1,6 +1,6 @@
 use Rattle.std.proofs.Common.{◌≡◌, map, take, string_bytes}
 use Rattle.fhir_json.specs.Fields.{text_or_empty}
-use Rattle.fhir_json.specs.View.{trees_of}
+use Rattle.fhir_json.specs.Views.{trees_of}
 use Rattle.fhir_elements.proofs.parts.all_owned_in.Given as goal
 
 abbrev pub invariant-loop-item : goal.invariant-loop-item

@@ -1,6 +1,6 @@
 use Rattle.std.proofs.Common.{◌≡◌, drop}
 use Rattle.std.specs.List.{list_all}
-use Rattle.fhir_json.specs.View.{trees_of}
+use Rattle.fhir_json.specs.Views.{trees_of}
 use Rattle.fhir_elements.specs.Parts.{entry_fits}
 use Rattle.fhir_elements.proofs.parts.entries_fit.Given as goal
 

@@ -1,5 +1,5 @@
 use Rattle.std.proofs.Common.{◌≡◌, length}
-use Rattle.fhir_json.specs.View.{trees_of}
+use Rattle.fhir_json.specs.Views.{trees_of}
 use Rattle.fhir_elements.specs.Parts.{codes_differ}
 use Rattle.fhir_elements.proofs.parts.few_codes_differ.Given as goal
 

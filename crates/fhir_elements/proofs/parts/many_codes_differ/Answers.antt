@@ -1,5 +1,5 @@
 use Rattle.std.proofs.Common.{◌-◌, ◌∷◌, drop, sym, ◌∙◌, ap, arith}
-use Rattle.fhir_json.specs.View.{tree_of, trees_of}
+use Rattle.fhir_json.specs.Views.{tree_of, trees_of}
 use Rattle.fhir_elements.specs.Parts.{codes_differ}
 use Rattle.fhir_elements.proofs.SeenCodes.{before, differ-front, differ-drop, seen-before}
 use Rattle.fhir_elements.proofs.parts.many_codes_differ.Goals as goal

@@ -1,5 +1,5 @@
 use Rattle.std.proofs.Common.{◌≡◌, drop}
-use Rattle.fhir_json.specs.View.{items_view, members_view, pair_of}
+use Rattle.fhir_json.specs.Views.{items_view, members_view, property_of}
 use Rattle.fhir_matching.specs.Equality.{equal, items_equal, members_within, has_passing}
 use Rattle.fhir_matching.proofs.equality.+equal.Given as goal
 
@@ -13,4 +13,4 @@ invariant-members_among-loop-member l =
 
 abbrev pub invariant-has_equal-loop-other : goal.invariant-has_equal-loop-other
 invariant-has_equal-loop-other l =
-    has_passing (pair_of l.member).0 (equal (pair_of l.member).1) (members_view (drop l.other-index l.others)) ≡ has_passing (pair_of l.member).0 (equal (pair_of l.member).1) (members_view l.others)
+    has_passing (property_of l.member).0 (equal (property_of l.member).1) (members_view (drop l.other-index l.others)) ≡ has_passing (property_of l.member).0 (equal (property_of l.member).1) (members_view l.others)

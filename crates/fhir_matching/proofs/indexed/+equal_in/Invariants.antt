@@ -1,5 +1,5 @@
 use Rattle.std.proofs.Common.{◌≡◌, drop}
-use Rattle.fhir_json.specs.View.{items_view, members_view}
+use Rattle.fhir_json.specs.Views.{items_view, members_view}
 use Rattle.fhir_matching.specs.Equality.{items_equal, members_within}
 use Rattle.fhir_matching.proofs.indexed.+equal_in.Given as goal
 

@@ -1,6 +1,6 @@
 use Rattle.std.proofs.Common.{◌≡◌, drop}
 use Rattle.fhir_json.specs.Tree.{names}
-use Rattle.fhir_json.specs.View.{members_view}
+use Rattle.fhir_json.specs.Views.{members_view}
 use Rattle.fhir_matching.specs.Equality.{are_among}
 use Rattle.fhir_matching.proofs.indexed.names_at.Given as goal
 

@@ -1,5 +1,5 @@
 use Rattle.std.proofs.Common.{◌≡◌, drop}
-use Rattle.fhir_json.specs.View.{tree_of, items_view, members_view, pair_of}
+use Rattle.fhir_json.specs.Views.{tree_of, items_view, members_view, property_of}
 use Rattle.fhir_matching.specs.Equality.{has_passing}
 use Rattle.fhir_matching.specs.Fitting.{pattern_test, some_passing, each_fitted, has_fitting}
 use Rattle.fhir_matching.proofs.patterns.+fit.Given as goal
@@ -18,4 +18,4 @@ invariant-members_fit-loop-pattern l =
 
 abbrev pub invariant-some_member_fits-loop-member : goal.invariant-some_member_fits-loop-member
 invariant-some_member_fits-loop-member l =
-    has_passing (pair_of l.pattern).0 (pattern_test (pair_of l.pattern).1) (members_view (drop l.member-index l.members)) ≡ has_passing (pair_of l.pattern).0 (pattern_test (pair_of l.pattern).1) (members_view l.members)
+    has_passing (property_of l.pattern).0 (pattern_test (property_of l.pattern).1) (members_view (drop l.member-index l.members)) ≡ has_passing (property_of l.pattern).0 (pattern_test (property_of l.pattern).1) (members_view l.members)

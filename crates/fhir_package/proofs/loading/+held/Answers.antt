@@ -1,6 +1,6 @@
 use Rattle.std.proofs.Common.{◌≡◌, suc, ◌-◌, refl, arith, rules}
 use Rattle.std.proofs.lemmas.Result.{err_from_is_err_and}
-use Rattle.fhir_json.specs.View.{tree_of, trees_of}
+use Rattle.fhir_json.specs.Views.{tree_of, trees_of}
 use Rattle.fhir_package.specs.Packing.{in_entry}
 use Rattle.fhir_package.proofs.Held.{held_none, held_entries, held_other, entry_taken, entry_refused}
 use Rattle.fhir_package.proofs.loading.+held.Goals as goal

@@ -1,6 +1,6 @@
 use Rattle.std.proofs.Common.{◌≡◌, ◌+◌, ◌*◌, drop}
 use Rattle.std.specs.List.{flat_map}
-use Rattle.fhir_json.specs.View.{trees_of}
+use Rattle.fhir_json.specs.Views.{trees_of}
 use Rattle.fhir_package.specs.Packing.{in_entry, put_all}
 use Rattle.fhir_package.proofs.loading.+held.Given as goal
 

@@ -1,5 +1,5 @@
 use Rattle.std.proofs.Common.{◌≡◌, map, take}
-use Rattle.fhir_json.specs.View.{trees_of}
+use Rattle.fhir_json.specs.Views.{trees_of}
 use Rattle.fhir_elements.specs.Element.{fields_of}
 use Rattle.fhir_schema.proofs.elements.elements_of.Given as goal
 

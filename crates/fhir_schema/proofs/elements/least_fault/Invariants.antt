@@ -1,5 +1,5 @@
 use Rattle.std.proofs.Common.{◌≡◌, ◌≤◌, length, drop}
-use Rattle.fhir_json.specs.View.{trees_of}
+use Rattle.fhir_json.specs.Views.{trees_of}
 use Rattle.fhir_schema.specs.Structure.{least_fault}
 use Rattle.fhir_schema.proofs.elements.least_fault.Given as goal
 

@@ -1,6 +1,6 @@
 use Rattle.std.proofs.Common.{map, ap, ◌∙◌, length, nat_lt}
 use Rattle.std.specs.List.{position}
-use Rattle.fhir_json.specs.View.{tree_of}
+use Rattle.fhir_json.specs.Views.{tree_of}
 use Rattle.fhir_elements.specs.Element.{fields_of}
 use Rattle.fhir_schema.specs.Slots.{is_root}
 use Rattle.fhir_schema.specs.Structure.{structure_with}

@@ -1,5 +1,5 @@
 use Rattle.std.proofs.Common.{sym}
-use Rattle.fhir_json.specs.View.{tree_of}
+use Rattle.fhir_json.specs.Views.{tree_of}
 use Rattle.fhir_schema.specs.Structure.{structures_from}
 use Rattle.fhir_schema.proofs.Rounds.{structures_more}
 use Rattle.fhir_schema.proofs.table.structures_of.Goals as goal

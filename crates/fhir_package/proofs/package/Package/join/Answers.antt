@@ -1,5 +1,5 @@
 use Rattle.std.proofs.Common.{sym}
-use Rattle.fhir_json.specs.View.{tree_of}
+use Rattle.fhir_json.specs.Views.{tree_of}
 use Rattle.fhir_package.specs.Packing.{Definition}
 use Rattle.fhir_package.proofs.Seen.{join-new}
 use Rattle.fhir_package.proofs.package.Package.join.Goals as goal
