@@ -6,7 +6,7 @@ use Rattle.fhir_json.specs.Tree.{Tree}
 use Rattle.fhir_json.specs.Views.{tree_of, trees_of}
 use Rattle.fhir_names.specs.Places.{Places}
 use Rattle.fhir_elements.specs.Parts.{has_code, codes_differ}
-use Rattle.fhir_elements.specs.Seen.{HaveCodes}
+use Rattle.fhir_elements.specs.CodesSeen.{HaveCodes}
 
 -- one more at the front
 pub before : (xs : List Json) (n i : ℕ) (x : Json) → i + 1 ≡ n → i < length xs → x ≡ get_or xs i x → tree_of x ∷ trees_of (drop n xs) ≡ trees_of (drop i xs)

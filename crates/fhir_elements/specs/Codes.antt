@@ -50,8 +50,8 @@ discriminator_type_of s =
     else (if bytes_eq s (codes "type") then Some discriminators.TypeCode
     else (if bytes_eq s (codes "profile") then Some discriminators.Profile else None))))
 
-abbrev pub rules_of : Text → Option SlicingRules
-rules_of s =
+abbrev pub slicing_rules_of : Text → Option SlicingRules
+slicing_rules_of s =
     if bytes_eq s (codes "closed") then Some slicings.Closed
     else (if bytes_eq s (codes "open") then Some slicings.Open
     else (if bytes_eq s (codes "openAtEnd") then Some slicings.OpenAtEnd else None))

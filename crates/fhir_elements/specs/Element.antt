@@ -12,7 +12,7 @@ use Rattle.fhir_elements.specs.declared.reason.Reason.TheVariants.{WrongField, M
 use Rattle.fhir_elements.specs.declared.fault.ElementFault.{ElementFault}
 use Rattle.fhir_elements.specs.declared.fault.ElementFault.TheVariants.{Unfit, NoMemory}
 use Rattle.fhir_elements.specs.Codes.{code_in, allows_code, max_of, is_within, as_integer}
-use Rattle.fhir_elements.specs.Parts.{Entry, Constraint, Binding, Slicing, entry_fits, entry_of, codes_differ, constraint_fits, constraint_of, binding_fits, binding_of, slicing_fits, slicing_of}
+use Rattle.fhir_elements.specs.Parts.{TypeEntry, Constraint, Binding, Slicing, is_type_entry, type_entry_of, codes_differ, is_constraint, constraint_of, is_binding, binding_of, is_slicing, slicing_of}
 
 -- The fields of an element. A choice, as `fixed[x]`, is its whole name, as `fixedCode`, with its value.
 pub record Element : Type 0 where
@@ -21,7 +21,7 @@ pub record Element : Type 0 where
   pub slice_name : Option Text
   pub min : Option ℕ
   pub max : Option Max
-  pub types : List Entry
+  pub types : List TypeEntry
   pub content_reference : Option Text
   pub fixed : Option Property
   pub pattern : Option Property
@@ -42,52 +42,52 @@ allows_part fits name t = option_map_or fits (field name t) true
 abbrev pub allows_parts : (Tree → Bool) → Text → Tree → Bool
 allows_parts fits name t = allows_items name t && list_all fits (items_in name t)
 
-abbrev pub texts_fit : Tree → Bool
-texts_fit t =
+abbrev pub has_right_texts : Tree → Bool
+has_right_texts t =
     allows_text (codes "id") t
     && allows_text (codes "path") t
     && allows_text (codes "sliceName") t
     && allows_text (codes "contentReference") t
 
-abbrev pub numbers_fit : Tree → Bool
-numbers_fit t =
+abbrev pub has_right_numbers : Tree → Bool
+has_right_numbers t =
     allows_count (codes "min") t
     && allows_code max_of (codes "max") t
     && allows as_integer (codes "maxLength") t
 
 -- no choice has two forms
-abbrev pub choices_fit : Tree → Bool
-choices_fit t =
+abbrev pub has_right_choices : Tree → Bool
+has_right_choices t =
     allows_choice (codes "fixed") t
     && allows_choice (codes "pattern") t
     && allows_choice (codes "minValue") t
     && allows_choice (codes "maxValue") t
 
-abbrev pub parts_fit : Tree → Bool
-parts_fit t =
-    allows_parts entry_fits (codes "type") t
-    && allows_parts constraint_fits (codes "constraint") t
-    && allows_part binding_fits (codes "binding") t
-    && allows_part slicing_fits (codes "slicing") t
+abbrev pub has_right_parts : Tree → Bool
+has_right_parts t =
+    allows_parts is_type_entry (codes "type") t
+    && allows_parts is_constraint (codes "constraint") t
+    && allows_part is_binding (codes "binding") t
+    && allows_part is_slicing (codes "slicing") t
 
-abbrev pub fields_fit : Tree → Bool
-fields_fit t = is_object t && texts_fit t && numbers_fit t && choices_fit t && parts_fit t
+abbrev pub has_right_fields : Tree → Bool
+has_right_fields t = is_object t && has_right_texts t && has_right_numbers t && has_right_choices t && has_right_parts t
 
 -- the lower bound lies within the upper one, where both are there
-abbrev pub bounds_fit : Tree → Bool
-bounds_fit t =
+abbrev pub has_right_bounds : Tree → Bool
+has_right_bounds t =
     option_map_or (λ m. option_map_or (λ n. is_within n m) (count_in (codes "min") t) true) (code_in max_of (codes "max") t) true
 
-abbrev pub id_fits : Tree → Bool
-id_fits t = option_map_or (λ id. is_ok (read_id id)) (text_in (codes "id") t) false
+abbrev pub has_readable_id : Tree → Bool
+has_readable_id t = option_map_or (λ id. is_ok (read_id id)) (text_in (codes "id") t) false
 
 -- why a tree is no element: the first reason that applies
 abbrev pub element_fault : Tree → Option Reason
 element_fault t =
-    if not (fields_fit t) then Some WrongField
-    else (if not (bounds_fit t) then Some MinOverMax
+    if not (has_right_fields t) then Some WrongField
+    else (if not (has_right_bounds t) then Some MinOverMax
     else (if not (codes_differ (items_in (codes "type") t)) then Some RepeatedType
-    else (if not (id_fits t) then Some WrongId else None)))
+    else (if not (has_readable_id t) then Some WrongId else None)))
 
 -- ---- the element that it is
 
@@ -98,7 +98,7 @@ fields_of t = record {
   slice_name = text_in (codes "sliceName") t;
   min = count_in (codes "min") t;
   max = code_in max_of (codes "max") t;
-  types = map entry_of (items_in (codes "type") t);
+  types = map type_entry_of (items_in (codes "type") t);
   content_reference = text_in (codes "contentReference") t;
   fixed = choice_in (codes "fixed") t;
   pattern = choice_in (codes "pattern") t;
@@ -118,6 +118,6 @@ abbrev pub element_of : Tree → Result Element ElementFault
 element_of t = unless (element_fault t) (fields_of t)
 
 -- the fault that says that memory ran out
-abbrev pub is_memory : ElementFault → Bool
-is_memory (Unfit reason) = false
-is_memory NoMemory = true
+abbrev pub is_no_memory : ElementFault → Bool
+is_no_memory (Unfit reason) = false
+is_no_memory NoMemory = true

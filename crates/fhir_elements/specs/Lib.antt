@@ -1,4 +1,4 @@
 pub mod Codes
 pub mod Parts
 pub mod Element
-pub mod Seen
+pub mod CodesSeen

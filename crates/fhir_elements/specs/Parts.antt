@@ -9,23 +9,23 @@ use Rattle.fhir_elements.specs.declared.codes.Severity.{Severity}
 use Rattle.fhir_elements.specs.declared.codes.Strength.{Strength}
 use Rattle.fhir_elements.specs.declared.codes.DiscriminatorType.{DiscriminatorType}
 use Rattle.fhir_elements.specs.declared.codes.SlicingRules.{SlicingRules}
-use Rattle.fhir_elements.specs.Codes.{code_in, allows_code, severity_of, strength_of, discriminator_type_of, rules_of}
+use Rattle.fhir_elements.specs.Codes.{code_in, allows_code, severity_of, strength_of, discriminator_type_of, slicing_rules_of}
 
 -- one of an element's types, with its profiles and target profiles
-pub record Entry : Type 0 where
+pub record TypeEntry : Type 0 where
   pub code : Text
   pub profiles : List Text
   pub targets : List Text
 
-abbrev pub entry_fits : Tree → Bool
-entry_fits t =
+abbrev pub is_type_entry : Tree → Bool
+is_type_entry t =
     is_object t
     && is_some (text_in (codes "code") t)
     && allows_texts (codes "profile") t
     && allows_texts (codes "targetProfile") t
 
-abbrev pub entry_of : Tree → Entry
-entry_of t = record {
+abbrev pub type_entry_of : Tree → TypeEntry
+type_entry_of t = record {
   code = text_at (codes "code") t;
   profiles = texts_in (codes "profile") t;
   targets = texts_in (codes "targetProfile") t;
@@ -45,8 +45,8 @@ pub record Constraint : Type 0 where
   pub severity : Option Severity
   pub expression : Option Text
 
-abbrev pub constraint_fits : Tree → Bool
-constraint_fits t =
+abbrev pub is_constraint : Tree → Bool
+is_constraint t =
     is_object t
     && is_some (text_in (codes "key") t)
     && allows_code severity_of (codes "severity") t
@@ -63,8 +63,8 @@ pub record Binding : Type 0 where
   pub strength : Option Strength
   pub value_set : Option Text
 
-abbrev pub binding_fits : Tree → Bool
-binding_fits t = is_object t && allows_code strength_of (codes "strength") t && allows_text (codes "valueSet") t
+abbrev pub is_binding : Tree → Bool
+is_binding t = is_object t && allows_code strength_of (codes "strength") t && allows_text (codes "valueSet") t
 
 abbrev pub binding_of : Tree → Binding
 binding_of t = record {
@@ -76,8 +76,8 @@ pub record Discriminator : Type 0 where
   pub by : Option DiscriminatorType
   pub path : Option Text
 
-abbrev pub discriminator_fits : Tree → Bool
-discriminator_fits t =
+abbrev pub is_discriminator : Tree → Bool
+is_discriminator t =
     is_object t && allows_code discriminator_type_of (codes "type") t && allows_text (codes "path") t
 
 abbrev pub discriminator_of : Tree → Discriminator
@@ -91,17 +91,17 @@ pub record Slicing : Type 0 where
   pub ordered : Option Bool
   pub rules : Option SlicingRules
 
-abbrev pub slicing_fits : Tree → Bool
-slicing_fits t =
+abbrev pub is_slicing : Tree → Bool
+is_slicing t =
     is_object t
     && allows_items (codes "discriminator") t
-    && list_all discriminator_fits (items_in (codes "discriminator") t)
+    && list_all is_discriminator (items_in (codes "discriminator") t)
     && allows_flag (codes "ordered") t
-    && allows_code rules_of (codes "rules") t
+    && allows_code slicing_rules_of (codes "rules") t
 
 abbrev pub slicing_of : Tree → Slicing
 slicing_of t = record {
   discriminators = map discriminator_of (items_in (codes "discriminator") t);
   ordered = flag_in (codes "ordered") t;
-  rules = code_in rules_of (codes "rules") t;
+  rules = code_in slicing_rules_of (codes "rules") t;
 }

@@ -4,7 +4,7 @@ ghost use Rattle.std.specs.Prelude.{◌≡◌, ◌<◌, ◌^◌, ℕ, List, Opti
 ghost use Rattle.std.specs.Option.{option_and_then};
 ghost use Rattle.fhir_json.specs.Views.{tree_of};
 ghost use Rattle.fhir_json.specs.Fields.{field, as_text, allows};
-ghost use Rattle.fhir_elements.specs.Codes.{code_in, allows_code, max_of, is_within, severity_of, strength_of, discriminator_type_of, rules_of, negative_of, below_zero, integer_of, as_integer};
+ghost use Rattle.fhir_elements.specs.Codes.{code_in, allows_code, max_of, is_within, severity_of, strength_of, discriminator_type_of, slicing_rules_of, negative_of, below_zero, integer_of, as_integer};
 
 use fhir_json::{Json, count_of};
 
@@ -20,27 +20,37 @@ pub enum Max {
 /// How grave it is that a constraint isn't true.
 #[derive(Clone, Copy, Debug, PartialEq, Eq)]
 pub enum Severity {
+    /// `error`: a resource for which it isn't true doesn't conform.
     Error,
+    /// `warning`: nothing is refused.
     Warning,
 }
 
 /// How strictly a binding binds.
 #[derive(Clone, Copy, Debug, PartialEq, Eq)]
 pub enum Strength {
+    /// `required`: a code outside the value set is refused.
     Required,
+    /// `extensible`: another code may be used where none of the set serves.
     Extensible,
+    /// `preferred`: codes of the set are encouraged.
     Preferred,
+    /// `example`: the set only shows what is meant.
     Example,
 }
 
 /// By what a discriminator tells slices apart.
 #[derive(Clone, Copy, Debug, PartialEq, Eq)]
 pub enum DiscriminatorType {
+    /// `value`: by the value that an element is fixed to, or its pattern.
     Value,
+    /// `exists`: by whether an element is there.
     Exists,
+    /// `pattern`: the same as `value`.
     Pattern,
-    /// The code `type`.
+    /// `type`: by the type of an element.
     TypeCode,
+    /// `profile`: by the profile to which an element conforms.
     Profile,
 }
 
@@ -55,72 +65,15 @@ pub enum SlicingRules {
     OpenAtEnd,
 }
 
-/// The upper bound that a text is.
-pub(crate) fn max_of(text: &str) -> Option<Max>
-    ensures { result ≡ max_of text.now }
-{
-    if text == "*" {
-        return Some(Max::Unbounded);
-    }
-    match count_of(text) {
-        Some(count) => Some(Max::UpTo(count)),
-        None => None,
-    }
-}
-
-/// Whether a count is at most so many.
-pub fn is_within(count: u32, max: Max) -> bool
-    ensures { result ≡ is_within count max }
-{
-    match max {
-        Max::Unbounded => true,
-        Max::UpTo(most) => count <= most,
-    }
-}
-
-pub(crate) fn severity_of(text: &str) -> Option<Severity>
-    ensures { result ≡ severity_of text.now }
-{
-    match text {
-        "error" => Some(Severity::Error),
-        "warning" => Some(Severity::Warning),
-        _ => None,
-    }
-}
-
-pub(crate) fn strength_of(text: &str) -> Option<Strength>
-    ensures { result ≡ strength_of text.now }
-{
-    match text {
-        "required" => Some(Strength::Required),
-        "extensible" => Some(Strength::Extensible),
-        "preferred" => Some(Strength::Preferred),
-        "example" => Some(Strength::Example),
-        _ => None,
-    }
-}
-
-pub(crate) fn discriminator_type_of(text: &str) -> Option<DiscriminatorType>
-    ensures { result ≡ discriminator_type_of text.now }
-{
-    match text {
-        "value" => Some(DiscriminatorType::Value),
-        "exists" => Some(DiscriminatorType::Exists),
-        "pattern" => Some(DiscriminatorType::Pattern),
-        "type" => Some(DiscriminatorType::TypeCode),
-        "profile" => Some(DiscriminatorType::Profile),
-        _ => None,
-    }
-}
-
-pub(crate) fn rules_of(text: &str) -> Option<SlicingRules>
-    ensures { result ≡ rules_of text.now }
-{
-    match text {
-        "closed" => Some(SlicingRules::Closed),
-        "open" => Some(SlicingRules::Open),
-        "openAtEnd" => Some(SlicingRules::OpenAtEnd),
-        _ => None,
+impl Max {
+    /// Whether so many are at most as many as there may be.
+    pub fn allows(self, count: u32) -> bool
+        ensures { result ≡ is_within count self }
+    {
+        match self {
+            Max::Unbounded => true,
+            Max::UpTo(most) => count <= most,
+        }
     }
 }
 
@@ -176,7 +129,7 @@ pub(crate) fn integer_in(json: &Json<'_>, name: &str) -> Option<i32>
 pub(crate) fn allows_integer(json: &Json<'_>, name: &str) -> bool
     ensures { result ≡ allows as_integer name.now (tree_of json.now) }
 {
-    json.field(name).map_or(true, |value| as_integer(value).is_some())
+    json.field(name).is_none_or(|value| as_integer(value).is_some())
 }
 
 /// A set of codes.
@@ -192,7 +145,13 @@ impl Code for Max {
     ghost reads = { max_of };
 
     fn of(text: &str) -> Option<Max> {
-        max_of(text)
+        if text == "*" {
+            return Some(Max::Unbounded);
+        }
+        match count_of(text) {
+            Some(count) => Some(Max::UpTo(count)),
+            None => None,
+        }
     }
 }
 
@@ -200,7 +159,11 @@ impl Code for Severity {
     ghost reads = { severity_of };
 
     fn of(text: &str) -> Option<Severity> {
-        severity_of(text)
+        match text {
+            "error" => Some(Severity::Error),
+            "warning" => Some(Severity::Warning),
+            _ => None,
+        }
     }
 }
 
@@ -208,7 +171,13 @@ impl Code for Strength {
     ghost reads = { strength_of };
 
     fn of(text: &str) -> Option<Strength> {
-        strength_of(text)
+        match text {
+            "required" => Some(Strength::Required),
+            "extensible" => Some(Strength::Extensible),
+            "preferred" => Some(Strength::Preferred),
+            "example" => Some(Strength::Example),
+            _ => None,
+        }
     }
 }
 
@@ -216,15 +185,27 @@ impl Code for DiscriminatorType {
     ghost reads = { discriminator_type_of };
 
     fn of(text: &str) -> Option<DiscriminatorType> {
-        discriminator_type_of(text)
+        match text {
+            "value" => Some(DiscriminatorType::Value),
+            "exists" => Some(DiscriminatorType::Exists),
+            "pattern" => Some(DiscriminatorType::Pattern),
+            "type" => Some(DiscriminatorType::TypeCode),
+            "profile" => Some(DiscriminatorType::Profile),
+            _ => None,
+        }
     }
 }
 
 impl Code for SlicingRules {
-    ghost reads = { rules_of };
+    ghost reads = { slicing_rules_of };
 
     fn of(text: &str) -> Option<SlicingRules> {
-        rules_of(text)
+        match text {
+            "closed" => Some(SlicingRules::Closed),
+            "open" => Some(SlicingRules::Open),
+            "openAtEnd" => Some(SlicingRules::OpenAtEnd),
+            _ => None,
+        }
     }
 }
 
@@ -252,5 +233,5 @@ fn is_code<C: Code>(json: &Json<'_>) -> bool
 pub(crate) fn allows_code<C: Code>(json: &Json<'_>, name: &str) -> bool
     ensures { result ≡ allows_code C.reads name.now (tree_of json.now) }
 {
-    json.field(name).map_or(true, |value| is_code::<C>(value))
+    json.field(name).is_none_or(|value| is_code::<C>(value))
 }

@@ -5,17 +5,17 @@ ghost use Rattle.std.specs.Option.{option_map};
 ghost use Rattle.fhir_json.specs.Views.{tree_of, property_of, text_seen, property_seen};
 ghost use Rattle.fhir_json.specs.Fields.{field, choice_in};
 ghost use Rattle.fhir_json.specs.Memory.{Gives, GivesOr};
-ghost use Rattle.fhir_elements.specs.Parts.{entry_fits, constraint_fits, binding_fits, binding_of, slicing_fits, slicing_of};
-ghost use Rattle.fhir_elements.specs.Element.{allows_part, allows_parts, texts_fit, numbers_fit, choices_fit, parts_fit, fields_fit, bounds_fit, id_fits, element_fault, fields_of, element_of, is_memory};
+ghost use Rattle.fhir_elements.specs.Parts.{is_type_entry, is_constraint, is_binding, binding_of, is_slicing, slicing_of};
+ghost use Rattle.fhir_elements.specs.Element.{allows_part, allows_parts, has_right_texts, has_right_numbers, has_right_choices, has_right_parts, has_right_fields, has_right_bounds, has_readable_id, element_fault, fields_of, element_of, is_no_memory};
 
-use crate::codes::{Max, allows_code, allows_integer, code_in, integer_in, is_within};
+use crate::codes::{Max, allows_code, allows_integer, code_in, integer_in};
 use crate::fault::ElementFault;
 use crate::parts::{
-    ConstraintDef, TypeEntry, codes_differ, constraints_fit, constraints_of, entries_fit,
-    entries_of, owned_at, owned_in, text_of,
+    ConstraintDef, TypeEntry, codes_differ, are_constraints, constraints_of, are_type_entries,
+    type_entries_of, owned_at, owned_in, text_of,
 };
 use crate::reason::Reason;
-use crate::slicing::{BindingDef, SlicingDef, binding_fits, binding_of, slicing_fits, slicing_of};
+use crate::slicing::{BindingDef, SlicingDef, is_binding, binding_of, is_slicing, slicing_of};
 use fhir_json::{Json, Member, NoMemory};
 use fhir_names::ElementId;
 use std::alloc::{AllocError, Global};
@@ -77,33 +77,33 @@ impl Model for ElementDef {
 // ---- whether a tree is an element
 
 fn allows_types(json: &Json<'_>, name: &str) -> bool
-    ensures { result ≡ allows_parts entry_fits name.now (tree_of json.now) }
+    ensures { result ≡ allows_parts is_type_entry name.now (tree_of json.now) }
 {
     let items = json.items_in(name);
-    json.allows_items(name) && entries_fit(items)
+    json.allows_items(name) && are_type_entries(items)
 }
 
 fn allows_constraints(json: &Json<'_>, name: &str) -> bool
-    ensures { result ≡ allows_parts constraint_fits name.now (tree_of json.now) }
+    ensures { result ≡ allows_parts is_constraint name.now (tree_of json.now) }
 {
     let items = json.items_in(name);
-    json.allows_items(name) && constraints_fit(items)
+    json.allows_items(name) && are_constraints(items)
 }
 
 fn allows_binding(json: &Json<'_>, name: &str) -> bool
-    ensures { result ≡ allows_part binding_fits name.now (tree_of json.now) }
+    ensures { result ≡ allows_part is_binding name.now (tree_of json.now) }
 {
-    json.field(name).map_or(true, |value| binding_fits(value))
+    json.field(name).is_none_or(|value| is_binding(value))
 }
 
 fn allows_slicing(json: &Json<'_>, name: &str) -> bool
-    ensures { result ≡ allows_part slicing_fits name.now (tree_of json.now) }
+    ensures { result ≡ allows_part is_slicing name.now (tree_of json.now) }
 {
-    json.field(name).map_or(true, |value| slicing_fits(value))
+    json.field(name).is_none_or(|value| is_slicing(value))
 }
 
-fn texts_fit(json: &Json<'_>) -> bool
-    ensures { result ≡ texts_fit (tree_of json.now) }
+fn has_right_texts(json: &Json<'_>) -> bool
+    ensures { result ≡ has_right_texts (tree_of json.now) }
 {
     json.allows_text("id")
         && json.allows_text("path")
@@ -111,16 +111,16 @@ fn texts_fit(json: &Json<'_>) -> bool
         && json.allows_text("contentReference")
 }
 
-fn numbers_fit(json: &Json<'_>) -> bool
-    ensures { result ≡ numbers_fit (tree_of json.now) }
+fn has_right_numbers(json: &Json<'_>) -> bool
+    ensures { result ≡ has_right_numbers (tree_of json.now) }
 {
     json.allows_count("min")
         && allows_code::<Max>(json, "max")
         && allows_integer(json, "maxLength")
 }
 
-fn choices_fit(json: &Json<'_>) -> bool
-    ensures { result ≡ choices_fit (tree_of json.now) }
+fn has_right_choices(json: &Json<'_>) -> bool
+    ensures { result ≡ has_right_choices (tree_of json.now) }
 {
     json.allows_choice("fixed")
         && json.allows_choice("pattern")
@@ -128,8 +128,8 @@ fn choices_fit(json: &Json<'_>) -> bool
         && json.allows_choice("maxValue")
 }
 
-fn parts_fit(json: &Json<'_>) -> bool
-    ensures { result ≡ parts_fit (tree_of json.now) }
+fn has_right_parts(json: &Json<'_>) -> bool
+    ensures { result ≡ has_right_parts (tree_of json.now) }
 {
     allows_types(json, "type")
         && allows_constraints(json, "constraint")
@@ -137,29 +137,29 @@ fn parts_fit(json: &Json<'_>) -> bool
         && allows_slicing(json, "slicing")
 }
 
-fn fields_fit(json: &Json<'_>) -> bool
-    ensures { result ≡ fields_fit (tree_of json.now) }
+fn has_right_fields(json: &Json<'_>) -> bool
+    ensures { result ≡ has_right_fields (tree_of json.now) }
 {
-    json.is_object() && texts_fit(json) && numbers_fit(json) && choices_fit(json) && parts_fit(json)
+    json.is_object() && has_right_texts(json) && has_right_numbers(json) && has_right_choices(json) && has_right_parts(json)
 }
 
-fn bounds_fit(json: &Json<'_>) -> bool
-    ensures { result ≡ bounds_fit (tree_of json.now) }
+fn has_right_bounds(json: &Json<'_>) -> bool
+    ensures { result ≡ has_right_bounds (tree_of json.now) }
 {
     let max: Option<Max> = code_in(json, "max");
     let Some(max) = max else {
         return true;
     };
     match json.count_in("min") {
-        Some(min) => is_within(min, max),
+        Some(min) => max.allows(min),
         None => true,
     }
 }
 
-fn id_fits(json: &Json<'_>) -> bool
-    ensures { result ≡ id_fits (tree_of json.now) }
+fn has_readable_id(json: &Json<'_>) -> bool
+    ensures { result ≡ has_readable_id (tree_of json.now) }
 {
-    json.text_in("id").map_or(false, |id| ElementId::parse(id).is_ok())
+    json.text_in("id").is_some_and(|id| ElementId::parse(id).is_ok())
 }
 
 /// Why a tree is no element, as the first of these that applies (FHIR R4, ElementDefinition): `WrongField` where it is
@@ -168,17 +168,17 @@ fn id_fits(json: &Json<'_>) -> bool
 pub fn element_fault(alloc: Global, json: &Json<'_>) -> Result<Option<Reason>, NoMemory>
     ensures { Gives (λ fault. fault) result (element_fault (tree_of json.now)) }
 {
-    if !fields_fit(json) {
+    if !has_right_fields(json) {
         return Ok(Some(Reason::WrongField));
     }
-    if !bounds_fit(json) {
+    if !has_right_bounds(json) {
         return Ok(Some(Reason::MinOverMax));
     }
     let codes_differ = codes_differ(alloc, json.items_in("type"))?;
     if !codes_differ {
         return Ok(Some(Reason::RepeatedType));
     }
-    if !id_fits(json) {
+    if !has_readable_id(json) {
         return Ok(Some(Reason::WrongId));
     }
     Ok(None)
@@ -239,7 +239,7 @@ pub fn fields_of(alloc: Global, json: &Json<'_>) -> Result<ElementDef, NoMemory>
         slice_name: owned_in(alloc, json, "sliceName")?,
         min: json.count_in("min"),
         max: code_in(json, "max"),
-        types: entries_of(alloc, json.items_in("type"))?,
+        types: type_entries_of(alloc, json.items_in("type"))?,
         content_reference: owned_in(alloc, json, "contentReference")?,
         fixed: owned_choice(alloc, json, "fixed")?,
         pattern: owned_choice(alloc, json, "pattern")?,
@@ -257,7 +257,7 @@ impl ElementDef {
     /// with the reason that `element_fault` gives. A field that isn't read here is passed over, and an empty array
     /// counts as an absent one.
     pub fn of(alloc: Global, json: &Json<'_>) -> Result<ElementDef, ElementFault>
-        ensures { GivesOr is_memory (λ e. e) result (element_of (tree_of json.now)) }
+        ensures { GivesOr is_no_memory (λ e. e) result (element_of (tree_of json.now)) }
     {
         if let Some(reason) = element_fault(alloc, json)? {
             return Err(ElementFault::Unfit(reason));

@@ -8,7 +8,7 @@ mod parts;
 mod reason;
 mod slicing;
 
-pub use codes::{DiscriminatorType, Max, Severity, SlicingRules, Strength, is_within};
+pub use codes::{DiscriminatorType, Max, Severity, SlicingRules, Strength};
 pub use element::{ElementDef, element_fault, fields_of};
 pub use fault::ElementFault;
 pub use parts::{ConstraintDef, TypeEntry};

@@ -7,8 +7,8 @@ ghost use Rattle.std.specs.Str.{bytes_eq};
 ghost use Rattle.fhir_json.specs.Tree.{Tree};
 ghost use Rattle.fhir_json.specs.Views.{tree_of, trees_of, text_seen};
 ghost use Rattle.fhir_json.specs.Fields.{text_in, text_at, texts_in};
-ghost use Rattle.fhir_elements.specs.Parts.{entry_fits, entry_of, has_code, codes_differ, constraint_fits, constraint_of};
-ghost use Rattle.fhir_elements.specs.Seen.{HaveCodes};
+ghost use Rattle.fhir_elements.specs.Parts.{is_type_entry, type_entry_of, has_code, codes_differ, is_constraint, constraint_of};
+ghost use Rattle.fhir_elements.specs.CodesSeen.{HaveCodes};
 
 use crate::codes::{Severity, allows_code, code_in};
 use fhir_json::Json;
@@ -26,9 +26,9 @@ pub struct TypeEntry {
 
 impl Model for TypeEntry {
     ghost use Rattle.std.specs.Prelude.{map, string_bytes};
-    ghost use Rattle.fhir_elements.specs.Parts.{Entry};
+    ghost use Rattle.fhir_elements.specs.Parts.{TypeEntry as Shown};
 
-    ghost Value = { Entry };
+    ghost Value = { Shown };
 
     ghost view = { λ e. record {
       code = string_bytes e.code;
@@ -148,8 +148,8 @@ fn all_owned_in(alloc: Global, json: &Json<'_>, name: &str) -> Result<Vec<String
     Ok(texts)
 }
 
-fn entry_fits(json: &Json<'_>) -> bool
-    ensures { result ≡ entry_fits (tree_of json.now) }
+fn is_type_entry(json: &Json<'_>) -> bool
+    ensures { result ≡ is_type_entry (tree_of json.now) }
 {
     json.is_object()
         && json.text_in("code").is_some()
@@ -158,19 +158,19 @@ fn entry_fits(json: &Json<'_>) -> bool
 }
 
 /// Whether each item is a type.
-pub(crate) fn entries_fit(items: &[Json<'_>]) -> bool
-    ensures { result ≡ list_all entry_fits (trees_of items.now) }
+pub(crate) fn are_type_entries(items: &[Json<'_>]) -> bool
+    ensures { result ≡ list_all is_type_entry (trees_of items.now) }
 {
     for item in items {
-        if !entry_fits(item) {
+        if !is_type_entry(item) {
             return false;
         }
     }
     true
 }
 
-fn entry_of(alloc: Global, json: &Json<'_>) -> Result<TypeEntry, AllocError>
-    ensures { IfOk result (λ e. e ≡ entry_of (tree_of json.now)) }
+fn type_entry_of(alloc: Global, json: &Json<'_>) -> Result<TypeEntry, AllocError>
+    ensures { IfOk result (λ e. e ≡ type_entry_of (tree_of json.now)) }
 {
     Ok(TypeEntry {
         code: owned_at(alloc, json, "code")?,
@@ -180,12 +180,12 @@ fn entry_of(alloc: Global, json: &Json<'_>) -> Result<TypeEntry, AllocError>
 }
 
 /// The types that items are.
-pub(crate) fn entries_of(alloc: Global, items: &[Json<'_>]) -> Result<Vec<TypeEntry>, AllocError>
-    ensures { IfOk result (λ v. v.items ≡ map entry_of (trees_of items.now)) }
+pub(crate) fn type_entries_of(alloc: Global, items: &[Json<'_>]) -> Result<Vec<TypeEntry>, AllocError>
+    ensures { IfOk result (λ v. v.items ≡ map type_entry_of (trees_of items.now)) }
 {
     let mut entries = Vec::new(alloc);
     for item in items {
-        let entry = entry_of(alloc, item)?;
+        let entry = type_entry_of(alloc, item)?;
         entries.push(entry)?;
     }
     Ok(entries)
@@ -258,8 +258,8 @@ pub(crate) fn codes_differ(alloc: Global, items: &[Json<'_>]) -> Result<bool, Al
     }
 }
 
-fn constraint_fits(json: &Json<'_>) -> bool
-    ensures { result ≡ constraint_fits (tree_of json.now) }
+fn is_constraint(json: &Json<'_>) -> bool
+    ensures { result ≡ is_constraint (tree_of json.now) }
 {
     json.is_object()
         && json.text_in("key").is_some()
@@ -268,11 +268,11 @@ fn constraint_fits(json: &Json<'_>) -> bool
 }
 
 /// Whether each item is a constraint.
-pub(crate) fn constraints_fit(items: &[Json<'_>]) -> bool
-    ensures { result ≡ list_all constraint_fits (trees_of items.now) }
+pub(crate) fn are_constraints(items: &[Json<'_>]) -> bool
+    ensures { result ≡ list_all is_constraint (trees_of items.now) }
 {
     for item in items {
-        if !constraint_fits(item) {
+        if !is_constraint(item) {
             return false;
         }
     }

@@ -4,7 +4,7 @@ ghost use Rattle.std.specs.Prelude.{◌≡◌, map, IfOk, string_bytes, codes};
 ghost use Rattle.std.specs.Option.{option_map};
 ghost use Rattle.std.specs.List.{list_all};
 ghost use Rattle.fhir_json.specs.Views.{tree_of, trees_of, text_seen};
-ghost use Rattle.fhir_elements.specs.Parts.{binding_fits, binding_of, discriminator_fits, discriminator_of, slicing_fits, slicing_of};
+ghost use Rattle.fhir_elements.specs.Parts.{is_binding, binding_of, is_discriminator, discriminator_of, is_slicing, slicing_of};
 
 use crate::codes::{DiscriminatorType, SlicingRules, Strength, allows_code, code_in};
 use crate::parts::{owned_in, text_of};
@@ -118,8 +118,8 @@ impl SlicingDef {
 }
 
 /// Whether a tree is a binding.
-pub(crate) fn binding_fits(json: &Json<'_>) -> bool
-    ensures { result ≡ binding_fits (tree_of json.now) }
+pub(crate) fn is_binding(json: &Json<'_>) -> bool
+    ensures { result ≡ is_binding (tree_of json.now) }
 {
     json.is_object() && allows_code::<Strength>(json, "strength") && json.allows_text("valueSet")
 }
@@ -134,17 +134,17 @@ pub(crate) fn binding_of(alloc: Global, json: &Json<'_>) -> Result<BindingDef, A
     })
 }
 
-fn discriminator_fits(json: &Json<'_>) -> bool
-    ensures { result ≡ discriminator_fits (tree_of json.now) }
+fn is_discriminator(json: &Json<'_>) -> bool
+    ensures { result ≡ is_discriminator (tree_of json.now) }
 {
     json.is_object() && allows_code::<DiscriminatorType>(json, "type") && json.allows_text("path")
 }
 
-fn discriminators_fit(items: &[Json<'_>]) -> bool
-    ensures { result ≡ list_all discriminator_fits (trees_of items.now) }
+fn are_discriminators(items: &[Json<'_>]) -> bool
+    ensures { result ≡ list_all is_discriminator (trees_of items.now) }
 {
     for item in items {
-        if !discriminator_fits(item) {
+        if !is_discriminator(item) {
             return false;
         }
     }
@@ -172,13 +172,13 @@ fn discriminators_of(alloc: Global, items: &[Json<'_>]) -> Result<Vec<Discrimina
 }
 
 /// Whether a tree is a slicing.
-pub(crate) fn slicing_fits(json: &Json<'_>) -> bool
-    ensures { result ≡ slicing_fits (tree_of json.now) }
+pub(crate) fn is_slicing(json: &Json<'_>) -> bool
+    ensures { result ≡ is_slicing (tree_of json.now) }
 {
     let discriminators = json.items_in("discriminator");
     json.is_object()
         && json.allows_items("discriminator")
-        && discriminators_fit(discriminators)
+        && are_discriminators(discriminators)
         && json.allows_flag("ordered")
         && allows_code::<SlicingRules>(json, "rules")
 }

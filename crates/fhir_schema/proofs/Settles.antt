@@ -7,7 +7,7 @@ use Rattle.std.proofs.lemmas.List.{length-map}
 use Rattle.fhir_json.specs.Tree.{Text, Tree}
 use Rattle.fhir_elements.specs.declared.reason.Reason.{Reason}
 use Rattle.fhir_elements.specs.declared.reason.Reason.TheVariants.{NotYet, WrongField, MinOverMax, RepeatedType, WrongId, UnusableType, NoTree, MissingContent, BaseCycle, UnsupportedSlicing, NoSnapshot, SecondType}
-use Rattle.fhir_elements.specs.Parts.{Entry}
+use Rattle.fhir_elements.specs.Parts.{TypeEntry}
 use Rattle.fhir_elements.specs.Element.{Element}
 use Rattle.fhir_schema.specs.Slots.{is_root}
 use Rattle.fhir_schema.specs.Structure.{Structure, structure_of, structures_from, first_of, where_not, number_of}
@@ -217,7 +217,7 @@ module _ (ds : List Structure) (found next : Found) (fewer : Fewer found next) w
   type_more : (code : Text) → is_usable_type ds next code ≡ true → is_usable_type ds found code ≡ true
   type_more code e = place_more (type_place ds code) e
 
-  entry_more : (x : Entry) → entry_is_usable ds next x ≡ true → entry_is_usable ds found x ≡ true
+  entry_more : (x : TypeEntry) → entry_is_usable ds next x ≡ true → entry_is_usable ds found x ≡ true
   entry_more x e = or_more (is_system x.code) (is_usable_type ds next x.code) (is_usable_type ds found x.code) (type_more x.code) e
 
   element_more : (x : Element) → element_is_usable ds next x ≡ true → element_is_usable ds found x ≡ true

@@ -6,7 +6,7 @@ use Rattle.std.specs.Str.{bytes_eq}
 use Rattle.fhir_json.specs.Tree.{Text}
 use Rattle.fhir_package.specs.Definitions.{Definitions}
 use Rattle.fhir_elements.specs.declared.reason.Reason.{Reason}
-use Rattle.fhir_elements.specs.Parts.{Entry}
+use Rattle.fhir_elements.specs.Parts.{TypeEntry}
 use Rattle.fhir_elements.specs.Element.{Element}
 use Rattle.fhir_schema.specs.declared.node.NodeRef.{NodeRef}
 use Rattle.fhir_schema.specs.Slots.{Slot, id_place, id_at, is_at}
@@ -90,5 +90,5 @@ abbrev pub holder : SchemaValue → NodeRef → Option NodeRef
 holder s n = if nat_eq (length (slots s n)) 0 then None else Some n
 
 -- the node's type entries; a root has none, and those that are written there are passed over
-abbrev pub types : SchemaValue → NodeRef → List Entry
+abbrev pub types : SchemaValue → NodeRef → List TypeEntry
 types s n = if is_root_node s n then [] else option_map_or (λ e. e.types) (element_at s n) []

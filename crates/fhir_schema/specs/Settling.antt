@@ -9,7 +9,7 @@ use Rattle.fhir_names.specs.Canonicals.{Reference, read_canonical}
 use Rattle.fhir_package.specs.Canonical.{has_version}
 use Rattle.fhir_elements.specs.declared.reason.Reason.{Reason}
 use Rattle.fhir_elements.specs.declared.reason.Reason.TheVariants.{NotYet, UnusableType, NoTree, BaseCycle, NoSnapshot, SecondType}
-use Rattle.fhir_elements.specs.Parts.{Entry}
+use Rattle.fhir_elements.specs.Parts.{TypeEntry}
 use Rattle.fhir_elements.specs.Element.{Element}
 use Rattle.fhir_schema.specs.Slots.{is_root, is_at}
 use Rattle.fhir_schema.specs.Structure.{Structure, first_of, where_not, is_primitive_kind}
@@ -57,7 +57,7 @@ is_usable_type ds found code = option_map_or (λ place. not (is_some (reason_at 
 abbrev pub is_system : Text → Bool
 is_system code = starts_with nat_eq code (codes "http://hl7.org/fhirpath/System.")
 
-abbrev pub entry_is_usable : List Structure → Found → Entry → Bool
+abbrev pub entry_is_usable : List Structure → Found → TypeEntry → Bool
 entry_is_usable ds found entry = is_system entry.code || is_usable_type ds found entry.code
 
 -- the type entries of a root are passed over
@@ -91,7 +91,7 @@ is_first_of_type ds d = not d.is_type || is_at d.place (type_place ds d.type)
 abbrev pub is_primitive : Structure → Bool
 is_primitive d = option_map_or is_primitive_kind d.kind false
 
-abbrev pub names_primitive : List Structure → Entry → Bool
+abbrev pub names_primitive : List Structure → TypeEntry → Bool
 names_primitive ds entry = option_map_or is_primitive (option_and_then (slice_get ds) (type_place ds entry.code)) false
 
 abbrev pub element_is_flat : List Structure → Element → Bool

@@ -9,7 +9,7 @@ use Rattle.fhir_elements.specs.declared.codes.Severity.TheVariants as severities
 use Rattle.fhir_elements.specs.declared.codes.Strength.{Strength}
 use Rattle.fhir_elements.specs.declared.codes.Strength.TheVariants as strengths
 use Rattle.fhir_names.specs.Parents.{front_of, name_of, slice_of}
-use Rattle.fhir_elements.specs.Parts.{Entry, Constraint, Binding}
+use Rattle.fhir_elements.specs.Parts.{TypeEntry, Constraint, Binding}
 use Rattle.fhir_elements.specs.Element.{Element}
 use Rattle.fhir_schema.specs.Slots.{is_root}
 
@@ -53,7 +53,7 @@ abbrev pub is_one_down : Text → Bool
 is_one_down id =
     not (is_some (slice_of id)) && not (is_some (option_and_then front_of (front_of id))) && is_plain_name (name_of id)
 
-abbrev pub is_bare : Entry → Bool
+abbrev pub is_bare : TypeEntry → Bool
 is_bare entry = (length entry.profiles == 0) && (length entry.targets == 0)
 
 abbrev pub is_plain_child : Element → Bool

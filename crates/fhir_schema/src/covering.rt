@@ -25,7 +25,7 @@ fn is_resource(structure: &StructureDef) -> bool
 {
     structure
         .kind()
-        .map_or(false, |kind| is_resource_kind(kind))
+        .is_some_and(|kind| is_resource_kind(kind))
 }
 
 fn type_of_code<'t>(table: &'t Table, code: &str) -> Option<&'t StructureDef>

@@ -82,7 +82,7 @@ pub(crate) fn is_root(element: &ElementDef) -> bool
 fn is_at(place: usize, at: Option<usize>) -> bool
     ensures { result ≡ is_at place at }
 {
-    at.map_or(false, |at| place == at)
+    at.is_some_and(|at| place == at)
 }
 
 impl Snapshot {

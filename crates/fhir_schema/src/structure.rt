@@ -150,7 +150,7 @@ fn is_derivation(text: &str) -> bool
 fn has_derivation(json: &Json<'_>) -> bool
     ensures { result ≡ option_map_or is_derivation (text_in (codes "derivation") (tree_of json.now)) true }
 {
-    json.text_in("derivation").map_or(true, |derivation| is_derivation(derivation))
+    json.text_in("derivation").is_none_or(|derivation| is_derivation(derivation))
 }
 
 fn derivation_fits(json: &Json<'_>) -> bool
@@ -169,7 +169,7 @@ fn is_type_definition(json: &Json<'_>) -> bool
 fn is_of_primitive_kind(json: &Json<'_>) -> bool
     ensures { result ≡ option_map_or is_primitive_kind (kind_in (tree_of json.now)) false }
 {
-    kind_in(json).map_or(false, |kind| is_primitive_kind(kind))
+    kind_in(json).is_some_and(|kind| is_primitive_kind(kind))
 }
 
 fn primitive_fits(json: &Json<'_>) -> bool

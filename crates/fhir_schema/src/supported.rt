@@ -35,7 +35,7 @@ fn must_hold(constraint: &ConstraintDef) -> bool
 {
     constraint
         .severity()
-        .map_or(false, |severity| is_error(severity))
+        .is_some_and(|severity| is_error(severity))
 }
 
 fn has_judged(constraints: &[ConstraintDef]) -> bool
@@ -49,7 +49,7 @@ fn has_required(binding: &BindingDef) -> bool
 {
     binding
         .strength()
-        .map_or(false, |strength| is_required(strength))
+        .is_some_and(|strength| is_required(strength))
 }
 
 fn binds(binding: &BindingDef) -> bool

@@ -185,7 +185,7 @@ fn is_primitive(structure: &StructureDef) -> bool
 {
     structure
         .kind()
-        .map_or(false, |kind| is_primitive_kind(kind))
+        .is_some_and(|kind| is_primitive_kind(kind))
 }
 
 fn names_primitive(table: &Table, entry: &TypeEntry) -> bool

@@ -1,7 +1,7 @@
 use Rattle.std.proofs.Common.{◌≡◌, ◌≤◌, length, drop, true}
 use Rattle.fhir_json.specs.Views.{trees_of}
 use Rattle.fhir_elements.specs.Parts.{codes_differ}
-use Rattle.fhir_elements.specs.Seen.{HaveCodes}
+use Rattle.fhir_elements.specs.CodesSeen.{HaveCodes}
 use Rattle.fhir_elements.proofs.parts.many_codes_differ.Given as goal
 
 abbrev pub invariant-loop-i : goal.invariant-loop-i
