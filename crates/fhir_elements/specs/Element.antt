@@ -1,6 +1,6 @@
 -- The element that a tree is (FHIR R4, ElementDefinition): first whether it is one, and then its fields. A field that
 -- isn't named here is passed over, and an empty array counts as an absent one.
-use Rattle.std.specs.Prelude.{ℕ, ℤ, List, map, Bool, true, false, not, ◌&&◌, Option, None, Some, Result, Ok, Err, is_ok, if◌then◌else◌, codes}
+use Rattle.std.specs.Prelude.{ℕ, ℤ, List, [], ◌∷◌, map, Bool, true, false, ◌&&◌, Option, None, Some, Result, Ok, Err, is_ok, codes}
 use Rattle.std.specs.Option.{option_map, option_map_or, option_and_then}
 use Rattle.std.specs.List.{list_all}
 use Rattle.fhir_json.specs.Tree.{Text, Tree, Property}
@@ -11,6 +11,7 @@ use Rattle.fhir_elements.specs.declared.reason.Reason.{Reason}
 use Rattle.fhir_elements.specs.declared.reason.Reason.TheVariants.{WrongField, MinOverMax, RepeatedType, WrongId}
 use Rattle.fhir_elements.specs.declared.fault.ElementFault.{ElementFault}
 use Rattle.fhir_elements.specs.declared.fault.ElementFault.TheVariants.{Unfit, NoMemory}
+use Rattle.fhir_elements.specs.Tests.{first_of}
 use Rattle.fhir_elements.specs.Codes.{code_in, allows_code, max_of, is_within, as_integer}
 use Rattle.fhir_elements.specs.Parts.{TypeEntry, Constraint, Binding, Slicing, is_type_entry, type_entry_of, codes_differ, is_constraint, constraint_of, is_binding, binding_of, is_slicing, slicing_of}
 
@@ -81,13 +82,18 @@ has_right_bounds t =
 abbrev pub has_readable_id : Tree → Bool
 has_readable_id t = option_map_or (λ id. is_ok (read_id id)) (text_in (codes "id") t) false
 
+-- what an element has to meet, each with the reason that applies where it doesn't
+abbrev pub element_tests : Tree → List (Bool × Reason)
+element_tests t =
+    (has_right_fields t, WrongField)
+    ∷ (has_right_bounds t, MinOverMax)
+    ∷ (codes_differ (items_in (codes "type") t), RepeatedType)
+    ∷ (has_readable_id t, WrongId)
+    ∷ []
+
 -- why a tree is no element: the first reason that applies
 abbrev pub element_fault : Tree → Option Reason
-element_fault t =
-    if not (has_right_fields t) then Some WrongField
-    else (if not (has_right_bounds t) then Some MinOverMax
-    else (if not (codes_differ (items_in (codes "type") t)) then Some RepeatedType
-    else (if not (has_readable_id t) then Some WrongId else None)))
+element_fault t = first_of (element_tests t)
 
 -- ---- the element that it is
 

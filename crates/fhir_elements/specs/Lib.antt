@@ -1,3 +1,4 @@
+pub mod Tests
 pub mod Codes
 pub mod Parts
 pub mod Element

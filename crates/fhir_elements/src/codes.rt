@@ -129,7 +129,8 @@ pub(crate) fn integer_in(json: &Json<'_>, name: &str) -> Option<i32>
 pub(crate) fn allows_integer(json: &Json<'_>, name: &str) -> bool
     ensures { result ≡ allows as_integer name.now (tree_of json.now) }
 {
-    json.field(name).is_none_or(|value| as_integer(value).is_some())
+    json.field(name)
+        .is_none_or(|value| as_integer(value).is_some())
 }
 
 /// A set of codes.

@@ -11,11 +11,11 @@ ghost use Rattle.fhir_elements.specs.Element.{allows_part, allows_parts, has_rig
 use crate::codes::{Max, allows_code, allows_integer, code_in, integer_in};
 use crate::fault::ElementFault;
 use crate::parts::{
-    ConstraintDef, TypeEntry, codes_differ, are_constraints, constraints_of, are_type_entries,
-    type_entries_of, owned_at, owned_in, text_of,
+    ConstraintDef, TypeEntry, are_constraints, are_type_entries, codes_differ, constraints_of,
+    owned_at, owned_in, text_of, type_entries_of,
 };
 use crate::reason::Reason;
-use crate::slicing::{BindingDef, SlicingDef, is_binding, binding_of, is_slicing, slicing_of};
+use crate::slicing::{BindingDef, SlicingDef, binding_of, is_binding, is_slicing, slicing_of};
 use fhir_json::{Json, Member, NoMemory};
 use fhir_names::ElementId;
 use std::alloc::{AllocError, Global};
@@ -114,9 +114,7 @@ fn has_right_texts(json: &Json<'_>) -> bool
 fn has_right_numbers(json: &Json<'_>) -> bool
     ensures { result ≡ has_right_numbers (tree_of json.now) }
 {
-    json.allows_count("min")
-        && allows_code::<Max>(json, "max")
-        && allows_integer(json, "maxLength")
+    json.allows_count("min") && allows_code::<Max>(json, "max") && allows_integer(json, "maxLength")
 }
 
 fn has_right_choices(json: &Json<'_>) -> bool
@@ -140,7 +138,11 @@ fn has_right_parts(json: &Json<'_>) -> bool
 fn has_right_fields(json: &Json<'_>) -> bool
     ensures { result ≡ has_right_fields (tree_of json.now) }
 {
-    json.is_object() && has_right_texts(json) && has_right_numbers(json) && has_right_choices(json) && has_right_parts(json)
+    json.is_object()
+        && has_right_texts(json)
+        && has_right_numbers(json)
+        && has_right_choices(json)
+        && has_right_parts(json)
 }
 
 fn has_right_bounds(json: &Json<'_>) -> bool
@@ -159,7 +161,8 @@ fn has_right_bounds(json: &Json<'_>) -> bool
 fn has_readable_id(json: &Json<'_>) -> bool
     ensures { result ≡ has_readable_id (tree_of json.now) }
 {
-    json.text_in("id").is_some_and(|id| ElementId::parse(id).is_ok())
+    json.text_in("id")
+        .is_some_and(|id| ElementId::parse(id).is_ok())
 }
 
 /// Why a tree is no element, as the first of these that applies (FHIR R4, ElementDefinition): `WrongField` where it is

@@ -180,7 +180,10 @@ fn type_entry_of(alloc: Global, json: &Json<'_>) -> Result<TypeEntry, AllocError
 }
 
 /// The types that items are.
-pub(crate) fn type_entries_of(alloc: Global, items: &[Json<'_>]) -> Result<Vec<TypeEntry>, AllocError>
+pub(crate) fn type_entries_of(
+    alloc: Global,
+    items: &[Json<'_>],
+) -> Result<Vec<TypeEntry>, AllocError>
     ensures { IfOk result (λ v. v.items ≡ map type_entry_of (trees_of items.now)) }
 {
     let mut entries = Vec::new(alloc);

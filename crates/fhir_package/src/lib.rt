@@ -11,6 +11,7 @@ mod memory;
 mod package;
 mod url_map;
 
+pub use canonical::has_version;
 pub use fault::LoadFault;
 pub use folder::{Folder, FolderFault};
 pub use kind::Kind;

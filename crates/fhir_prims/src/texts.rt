@@ -38,7 +38,7 @@ fn has_no_blank(text: &[u8]) -> bool
     text.iter().all(|byte| !is_blank(*byte))
 }
 
-pub(crate) fn is_uri(text: &str) -> bool
+pub fn is_uri(text: &str) -> bool
     ensures { result ≡ is_uri text.now }
 {
     is_filled(text) && has_no_blank(text.as_bytes())

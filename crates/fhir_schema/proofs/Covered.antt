@@ -5,14 +5,14 @@ use Rattle.std.specs.Str.{bytes_eq}
 use Rattle.std.specs.Cmp.Lexicographic.{bytes_decides}
 use Rattle.std.proofs.lemmas.Bool.{and_parts, and_from, or_cases, or_left, or_right, eqb-true, false≢true}
 use Rattle.fhir_json.specs.Tree.{Text}
-use Rattle.fhir_schema.specs.Structure.{Structure}
+use Rattle.fhir_definition.specs.Definition.{Definition}
 use Rattle.fhir_schema.specs.Settling.{type_place, base_of_place, ends_within}
 use Rattle.fhir_schema.specs.Covers.{names_resource, meets_within, reaches, reaches_type, covers_in}
 
 same_text : (a b : Text) → IsTrue (bytes_eq a b) → a ≡ b
 same_text a b h = (bytes_decides a b).0 h
 
-module _ (ds : List Structure) where
+module _ (ds : List Definition) where
   -- a chain that ends within k places meets nothing behind them
   meets_sooner : (goal k n : ℕ) (o : Option ℕ) → IsTrue (ends_within ds k o) → IsTrue (meets_within ds goal n o) → IsTrue (meets_within ds goal k o)
   meets_sooner goal k n None ends meets = absurd (false≢true meets)

@@ -3,29 +3,24 @@ use Rattle.std.proofs.Common.{◌≡◌, ℕ, ◌<◌, ◌+◌, true, false, con
 use Rattle.std.specs.Str.{bytes_eq}
 use Rattle.std.proofs.Math.Seq.{drop-cons}
 use Rattle.fhir_names.specs.Places.{Places, place_of, Puts}
-use Rattle.fhir_elements.specs.Element.{Element}
-use Rattle.fhir_schema.specs.Structure.{Structure}
-use Rattle.fhir_schema.specs.Tables.{FindsTypes, FindsUrls, FindsIds}
+use Rattle.fhir_definition.specs.Definition.{Definition}
+use Rattle.fhir_schema.specs.Tables.{FindsTypes, FindsUrls}
 
 -- what is put, where the clause names its parts
 put_as : (old new : Places) (t k : List ℕ) (p v : ℕ) → t ≡ k → p ≡ v → Puts old new t p → (c : List ℕ) → place_of new c ≡ cond (bytes_eq c k) (Some v) (place_of old c)
 put_as old new t k p v t_is p_is put c =
     put c ∙ ap (λ (n : List ℕ). cond (bytes_eq c n) (Some p) (place_of old c)) t_is ∙ ap (λ (m : ℕ). cond (bytes_eq c k) (Some m) (place_of old c)) p_is
 
-pub skip_type : (d : Structure) (ds : List Structure) (es : Places) → d.is_type ≡ false → FindsTypes es ds → FindsTypes es (d ∷ ds)
+pub skip_type : (d : Definition) (ds : List Definition) (es : Places) → d.is_type ≡ false → FindsTypes es ds → FindsTypes es (d ∷ ds)
 skip_type d ds es is h = λ c. rw is (h c)
 
-pub put_type_at : (d : Structure) (ds : List Structure) (old new : Places) (t : List ℕ) (p : ℕ) → d.is_type ≡ true → t ≡ d.type → p ≡ d.place → Puts old new t p → FindsTypes old ds → FindsTypes new (d ∷ ds)
+pub put_type_at : (d : Definition) (ds : List Definition) (old new : Places) (t : List ℕ) (p : ℕ) → d.is_type ≡ true → t ≡ d.type → p ≡ d.place → Puts old new t p → FindsTypes old ds → FindsTypes new (d ∷ ds)
 put_type_at d ds old new t p is t_is p_is put h = λ c.
     put_as old new t d.type p d.place t_is p_is put c ∙ rw is (ap (λ (r : Option ℕ). cond (bytes_eq c d.type) (Some d.place) r) (h c))
 
-pub put_url_at : (d : Structure) (ds : List Structure) (old new : Places) (t : List ℕ) (p : ℕ) → t ≡ d.url → p ≡ d.place → Puts old new t p → FindsUrls old ds → FindsUrls new (d ∷ ds)
+pub put_url_at : (d : Definition) (ds : List Definition) (old new : Places) (t : List ℕ) (p : ℕ) → t ≡ d.url → p ≡ d.place → Puts old new t p → FindsUrls old ds → FindsUrls new (d ∷ ds)
 put_url_at d ds old new t p t_is p_is put h = λ c.
     put_as old new t d.url p d.place t_is p_is put c ∙ ap (λ (r : Option ℕ). cond (bytes_eq c d.url) (Some d.place) r) (h c)
-
-pub put_id_at : (e : Element) (es : List Element) (old new : Places) (t : List ℕ) (n : ℕ) → t ≡ e.id → Puts old new t n → FindsIds old (suc n) es → FindsIds new n (e ∷ es)
-put_id_at e es old new t n t_is put h = λ c.
-    put_as old new t e.id n n t_is refl put c ∙ ap (λ (r : Option ℕ). cond (bytes_eq c e.id) (Some n) r) (h c)
 
 -- ---- one step towards the front
 
@@ -36,14 +31,8 @@ module _ {X : Type 0} where
   pub drop_before : (xs : List X) (n i : ℕ) (x : X) → i + 1 ≡ n → i < length xs → x ≡ get_or xs i x → x ∷ drop n xs ≡ drop i xs
   drop_before xs n i x e h is = sym (drop_at xs i x h is ∙ ap (λ k. x ∷ drop k xs) e)
 
-pub types_before : (ds : List Structure) (n i : ℕ) (d : Structure) (es : Places) → i + 1 ≡ n → i < length ds → d ≡ get_or ds i d → FindsTypes es (d ∷ drop n ds) → FindsTypes es (drop i ds)
+pub types_before : (ds : List Definition) (n i : ℕ) (d : Definition) (es : Places) → i + 1 ≡ n → i < length ds → d ≡ get_or ds i d → FindsTypes es (d ∷ drop n ds) → FindsTypes es (drop i ds)
 types_before ds n i d es e h is f = subst (FindsTypes es) (drop_before ds n i d e h is) f
 
-pub urls_before : (ds : List Structure) (n i : ℕ) (d : Structure) (es : Places) → i + 1 ≡ n → i < length ds → d ≡ get_or ds i d → FindsUrls es (d ∷ drop n ds) → FindsUrls es (drop i ds)
+pub urls_before : (ds : List Definition) (n i : ℕ) (d : Definition) (es : Places) → i + 1 ≡ n → i < length ds → d ≡ get_or ds i d → FindsUrls es (d ∷ drop n ds) → FindsUrls es (drop i ds)
 urls_before ds n i d es e h is f = subst (FindsUrls es) (drop_before ds n i d e h is) f
-
-pub ids_before : (xs : List Element) (n i : ℕ) (x : Element) (es : Places) → i + 1 ≡ n → i < length xs → x ≡ get_or xs i x → FindsIds es i (x ∷ drop n xs) → FindsIds es i (drop i xs)
-ids_before xs n i x es e h is f = subst (FindsIds es i) (drop_before xs n i x e h is) f
-
-pub ids_next : (xs : List Element) (n i : ℕ) (es : Places) → i + 1 ≡ n → FindsIds es n (drop n xs) → FindsIds es (suc i) (drop n xs)
-ids_next xs n i es e f = subst (λ k. FindsIds es k (drop n xs)) (sym e ∙ add-one i) f

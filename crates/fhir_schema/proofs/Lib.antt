@@ -1,10 +1,10 @@
 pub mod Finding
 pub mod Rounds
-pub mod Gathers
 pub mod Settles
-pub mod Made
+pub mod Failing
+pub mod Resolved
 pub mod Covered
-pub mod Nodes
+pub mod KnownNodes
 pub mod Stepping
 pub mod Roots
 pub mod Firsts

@@ -1,38 +1,40 @@
 -- The rounds come to rest: what they find is closed, and nothing closed is smaller.
-use Rattle.std.proofs.Common.{◌≡◌, ℕ, zero, suc, ◌<◌, ◌≤◌, ◌+◌, List, [], ◌∷◌, map, length, get_or, true, false, Bool, ◌&&◌, ◌||◌, not, nat_le, nat_eq, refl, ap, sym, ◌∙◌, subst, Some, None, Option, is_some, arith}
-use Rattle.std.specs.List.{slice_get, list_all}
-use Rattle.std.specs.Option.{option_map_or}
+use Rattle.std.proofs.Common.{◌≡◌, ℕ, zero, suc, ◌<◌, ◌≤◌, ◌+◌, List, [], ◌∷◌, map, length, get_or, true, false, Bool, ◌&&◌, ◌||◌, not, nat_le, refl, ap, sym, ◌∙◌, Some, None, Option, is_some, is_none, IsTrue, arith}
+use Rattle.std.specs.List.{slice_get, list_all, Contains}
+use Rattle.std.specs.Option.{option_map_or, option_or}
 use Rattle.std.proofs.lemmas.Bool.Decides.{nat_tests}
 use Rattle.std.proofs.lemmas.List.{length-map}
 use Rattle.fhir_json.specs.Tree.{Text, Tree}
 use Rattle.fhir_elements.specs.declared.reason.Reason.{Reason}
-use Rattle.fhir_elements.specs.declared.reason.Reason.TheVariants.{NotYet, WrongField, MinOverMax, RepeatedType, WrongId, UnusableType, NoTree, MissingContent, BaseCycle, UnsupportedSlicing, NoSnapshot, SecondType}
+use Rattle.fhir_elements.specs.declared.reason.Reason.TheVariants.{UnusableType, NoTree, BaseCycle, NoSnapshot, SecondType, NotYet}
 use Rattle.fhir_elements.specs.Parts.{TypeEntry}
 use Rattle.fhir_elements.specs.Element.{Element}
-use Rattle.fhir_schema.specs.Slots.{is_root}
-use Rattle.fhir_schema.specs.Structure.{Structure, structure_of, structures_from, first_of, where_not, number_of}
-use Rattle.fhir_schema.specs.Settling.{Found, reason_at, is_usable_type, is_system, entry_is_usable, element_is_usable, types_are_usable, chain_ends, is_first_of_type, is_flat, reason_of, round, rounds, none_found, settled, type_place}
-use Rattle.fhir_schema.specs.Usability.{is_faulty, stands, applies, AllApply, IsClosed, IsWithin}
+use Rattle.fhir_elements.specs.Tests.{first_of, all_hold}
+use Rattle.fhir_definition.specs.Snapshot.{is_root, is_tree}
+use Rattle.fhir_definition.specs.Definition.{Definition, definition_of, definitions_from, has_snapshot}
+use Rattle.fhir_schema.specs.Settling.{Reasons, reason_at, is_usable_type, is_system, entry_is_usable, element_is_usable, types_are_usable, chain_ends, is_first_of_type, is_flat, fault_of, tests, reason_of, round, rounds, no_reasons, all_reasons, type_place}
+use Rattle.fhir_schema.specs.Usability.{AllApply, IsClosed, IsWithin}
 use Rattle.fhir_schema.proofs.Rounds.{rounds_fixed}
+use Rattle.fhir_schema.proofs.Failing.{first_fails, none_fails, hold_none, hold_more, fails_more}
 
--- ---- lists of what is found
+-- ---- lists of what is reasons
 
--- what the first has found, the second has found at the same places
-Extends : Found → Found → Type 0
+-- what the first has reasons, the second has reasons at the same places
+Extends : Reasons → Reasons → Type 0
 Extends xs ys = (i : ℕ) (r : Reason) → get_or xs i None ≡ Some r → get_or ys i None ≡ Some r
 
-how_many : Found → ℕ
+how_many : Reasons → ℕ
 how_many [] = 0
 how_many (None ∷ xs) = how_many xs
 how_many (Some r ∷ xs) = suc (how_many xs)
 
-how_many_most : (xs : Found) → how_many xs ≤ length xs
+how_many_most : (xs : Reasons) → how_many xs ≤ length xs
 unfolding how_many
 how_many_most [] = omega arith
 how_many_most (None ∷ xs) = let h = how_many_most xs in omega arith
 how_many_most (Some r ∷ xs) = let h = how_many_most xs in omega arith
 
-extends_count : (xs ys : Found) → length xs ≡ length ys → Extends xs ys → how_many xs ≤ how_many ys
+extends_count : (xs ys : Reasons) → length xs ≡ length ys → Extends xs ys → how_many xs ≤ how_many ys
 unfolding Extends how_many
 extends_count [] ys e h = omega arith
 extends_count (x ∷ xs) [] e h = absurd (omega arith)
@@ -45,8 +47,8 @@ extends_count (Some r ∷ xs) (None ∷ ys) e h =
 extends_count (Some r ∷ xs) (Some s ∷ ys) e h =
     let rest : how_many xs ≤ how_many ys = extends_count xs ys (omega arith) (λ i r. h (suc i) r) in omega arith
 
--- where the second has found no more, it is the first
-extends_same : (xs ys : Found) → length xs ≡ length ys → Extends xs ys → how_many ys ≤ how_many xs → ys ≡ xs
+-- where the second has reasons no more, it is the first
+extends_same : (xs ys : Reasons) → length xs ≡ length ys → Extends xs ys → how_many ys ≤ how_many xs → ys ≡ xs
 unfolding Extends how_many
 extends_same [] [] e h n = refl
 extends_same [] (y ∷ ys) e h n = absurd (omega arith)
@@ -64,128 +66,40 @@ extends_same (Some r ∷ xs) (Some s ∷ ys) e h n =
 
 -- ---- places
 
--- each structure knows its place
-Placed : ℕ → List Structure → Type 0
-Placed n ds = (i : ℕ) (d : Structure) → slice_get ds i ≡ Some d → d.place ≡ n + i
+-- each definition knows its place
+Placed : ℕ → List Definition → Type 0
+Placed n ds = (i : ℕ) (d : Definition) → slice_get ds i ≡ Some d → d.place ≡ n + i
 
-placed_from : (n : ℕ) (es : List (Text × Tree)) → Placed n (structures_from n es)
+placed_from : (n : ℕ) (es : List (Text × Tree)) → Placed n (definitions_from n es)
 unfolding Placed
 placed_from n [] i d h = cc
 placed_from n (e ∷ es) zero d h =
-    let is : Some (structure_of n e.0 e.1) ≡ Some d = h in
-    let same : structure_of n e.0 e.1 ≡ d = cc in
+    let is : Some (definition_of n e.0 e.1) ≡ Some d = h in
+    let same : definition_of n e.0 e.1 ≡ d = cc in
     sym (ap (λ x. x.place) same) ∙ omega arith
 placed_from n (e ∷ es) (suc i) d h =
     let rest : d.place ≡ suc n + i = placed_from (suc n) es i d h in omega arith
 
-pub placed : (es : List (Text × Tree)) (place : ℕ) (d : Structure) → slice_get (structures_from 0 es) place ≡ Some d → d.place ≡ place
+pub placed : (es : List (Text × Tree)) (place : ℕ) (d : Definition) → slice_get (definitions_from 0 es) place ≡ Some d → d.place ≡ place
 unfolding Placed
 placed es place d h = placed_from 0 es place d h ∙ omega arith
 
--- ---- reasons
+-- ---- tests
 
--- the reasons in order, behind what is found already
-chain : Option Reason → Bool → Bool → Bool → Bool → Bool → Bool → Option Reason
-chain fault a b c e f g =
-    first_of fault (first_of (where_not a UnusableType) (first_of (where_not b NoTree) (first_of (where_not c BaseCycle) (first_of (where_not e NoSnapshot) (first_of (where_not f SecondType) (where_not g NotYet))))))
-
-number_same : (r : Reason) → nat_eq (number_of r) (number_of r) ≡ true
-number_same r = grind (arith, nat_tests)
-
-or_right : (a b : Bool) → b ≡ true → (a || b) ≡ true
-or_right true b e = refl
-or_right false b e = e
-
-module _ (ds : List Structure) (found : Found) (d : Structure) where
-  faulty : (r : Reason) → d.fault ≡ Some r → applies ds found d r ≡ true
-  faulty r e = rw (e, number_same r) refl
-
-  standing : (r s : Reason) → Some s ≡ Some r → stands ds found d s ≡ true → applies ds found d r ≡ true
-  standing r s e h =
-      let same : s ≡ r = cc in
-      subst (λ x. applies ds found d x ≡ true) same (or_right (is_faulty s d) (stands ds found d s) h)
-
-  chain_applies : (fault : Option Reason) (a b c e f g : Bool) (r : Reason) → d.fault ≡ fault → types_are_usable ds found d ≡ a → (not d.has_snapshot || d.is_tree) ≡ b → chain_ends ds d ≡ c → d.has_snapshot ≡ e → is_first_of_type ds d ≡ f → is_flat ds d ≡ g → chain fault a b c e f g ≡ Some r → applies ds found d r ≡ true
-  unfolding chain
-  chain_applies (Some x) a b c e f g r p1 p2 p3 p4 p5 p6 p7 h = faulty r (p1 ∙ h)
-  chain_applies None false b c e f g r p1 p2 p3 p4 p5 p6 p7 h = standing r UnusableType h (ap not p2)
-  chain_applies None true false c e f g r p1 p2 p3 p4 p5 p6 p7 h = standing r NoTree h (ap not p3)
-  chain_applies None true true false e f g r p1 p2 p3 p4 p5 p6 p7 h = standing r BaseCycle h (ap not p4)
-  chain_applies None true true true false f g r p1 p2 p3 p4 p5 p6 p7 h = standing r NoSnapshot h (ap not p5)
-  chain_applies None true true true true false g r p1 p2 p3 p4 p5 p6 p7 h = standing r SecondType h (ap not p6)
-  chain_applies None true true true true true false r p1 p2 p3 p4 p5 p6 p7 h = standing r NotYet h (ap not p7)
-  chain_applies None true true true true true true r p1 p2 p3 p4 p5 p6 p7 h = cc
-
-  or_false : (a b : Bool) → (a || b) ≡ false → (a ≡ false) × (b ≡ false)
-  or_false true b e = cc
-  or_false false b e = (refl, e)
-
-  passes : (b : Bool) → not b ≡ false → b ≡ true
-  passes true e = refl
-  passes false e = cc
-
-  abbrev NoneApplies : Type 0
-  NoneApplies = (r : Reason) → applies ds found d r ≡ false
-
-  stands_not : NoneApplies → (r : Reason) → stands ds found d r ≡ false
-  stands_not none r = (or_false (is_faulty r d) (stands ds found d r) (none r)).1
-
-  no_fault : NoneApplies → (o : Option Reason) → d.fault ≡ o → o ≡ None
-  no_fault none None e = refl
-  no_fault none (Some r) e =
-      let is : is_faulty r d ≡ true = rw (e, number_same r) refl in
-      let isnt : is_faulty r d ≡ false = (or_false (is_faulty r d) (stands ds found d r) (none r)).0 in cc
-
-  -- where none applies, the chain has none
-  chain_empty : NoneApplies → chain d.fault (types_are_usable ds found d) (not d.has_snapshot || d.is_tree) (chain_ends ds d) d.has_snapshot (is_first_of_type ds d) (is_flat ds d) ≡ None
-  unfolding chain
-  chain_empty none =
-      rw (
-        no_fault none d.fault refl,
-        passes (types_are_usable ds found d) (stands_not none UnusableType),
-        passes (not d.has_snapshot || d.is_tree) (stands_not none NoTree),
-        passes (chain_ends ds d) (stands_not none BaseCycle),
-        passes d.has_snapshot (stands_not none NoSnapshot),
-        passes (is_first_of_type ds d) (stands_not none SecondType),
-        passes (is_flat ds d) (stands_not none NotYet),
-      ) refl
-
-  -- where the chain has none, none applies
-  none_applies : (fault : Option Reason) (a b c e f g : Bool) (r : Reason) → d.fault ≡ fault → types_are_usable ds found d ≡ a → (not d.has_snapshot || d.is_tree) ≡ b → chain_ends ds d ≡ c → d.has_snapshot ≡ e → is_first_of_type ds d ≡ f → is_flat ds d ≡ g → chain fault a b c e f g ≡ None → applies ds found d r ≡ false
-  unfolding chain
-  none_applies (Some x) a b c e f g r p1 p2 p3 p4 p5 p6 p7 h = cc
-  none_applies None false b c e f g r p1 p2 p3 p4 p5 p6 p7 h = cc
-  none_applies None true false c e f g r p1 p2 p3 p4 p5 p6 p7 h = cc
-  none_applies None true true false e f g r p1 p2 p3 p4 p5 p6 p7 h = cc
-  none_applies None true true true false f g r p1 p2 p3 p4 p5 p6 p7 h = cc
-  none_applies None true true true true false g r p1 p2 p3 p4 p5 p6 p7 h = cc
-  none_applies None true true true true true false r p1 p2 p3 p4 p5 p6 p7 h = cc
-  none_applies None true true true true true true r p1 p2 p3 p4 p5 p6 p7 h = rw p1 (by_reason r)
-    where
-      by_reason : (r : Reason) → stands ds found d r ≡ false
-      by_reason WrongField = refl
-      by_reason MinOverMax = refl
-      by_reason RepeatedType = refl
-      by_reason WrongId = refl
-      by_reason UnusableType = ap not p2
-      by_reason NoTree = ap not p3
-      by_reason MissingContent = refl
-      by_reason BaseCycle = ap not p4
-      by_reason UnsupportedSlicing = refl
-      by_reason NoSnapshot = ap not p5
-      by_reason SecondType = ap not p6
-      by_reason NotYet = ap not p7
-
-chain_less : (fault : Option Reason) (a a' b c e f g : Bool) → (a ≡ true → a' ≡ true) → chain fault a b c e f g ≡ None → chain fault a' b c e f g ≡ None
-unfolding chain
-chain_less (Some x) a a' b c e f g m h = cc
-chain_less None false a' b c e f g m h = cc
-chain_less None true a' b c e f g m h = rw (m refl) h
+-- the tests behind that of the types, which ask nothing of what is found
+behind : List Definition → Definition → List (Bool × Reason)
+behind ds d =
+    (not (has_snapshot d) || is_tree d.elements, NoTree)
+    ∷ (chain_ends ds d, BaseCycle)
+    ∷ (has_snapshot d, NoSnapshot)
+    ∷ (is_first_of_type ds d, SecondType)
+    ∷ (is_flat ds d, NotYet)
+    ∷ []
 
 -- ---- what fewer findings leave usable
 
-Fewer : Found → Found → Type 0
-Fewer found next = (place : ℕ) → is_some (reason_at next place) ≡ false → is_some (reason_at found place) ≡ false
+Fewer : Reasons → Reasons → Type 0
+Fewer reasons next = (place : ℕ) → is_some (reason_at next place) ≡ false → is_some (reason_at reasons place) ≡ false
 
 and_parts : (a b : Bool) → (a && b) ≡ true → (a ≡ true) × (b ≡ true)
 and_parts true b e = (refl, e)
@@ -208,161 +122,146 @@ all_more p q m (x ∷ xs) e =
     let parts = and_parts (p x) (list_all p xs) e in
     and_both (q x) (list_all q xs) (m x parts.0) (all_more p q m xs parts.1)
 
-module _ (ds : List Structure) (found next : Found) (fewer : Fewer found next) where
-  place_more : (o : Option ℕ) → option_map_or (λ place. not (is_some (reason_at next place))) o false ≡ true → option_map_or (λ place. not (is_some (reason_at found place))) o false ≡ true
+module _ (ds : List Definition) (reasons next : Reasons) (fewer : Fewer reasons next) where
+  place_more : (o : Option ℕ) → option_map_or (λ place. is_none (reason_at next place)) o false ≡ true → option_map_or (λ place. is_none (reason_at reasons place)) o false ≡ true
   unfolding Fewer
   place_more None e = e
   place_more (Some place) e = ap not (fewer place (not_false (is_some (reason_at next place)) e))
 
-  type_more : (code : Text) → is_usable_type ds next code ≡ true → is_usable_type ds found code ≡ true
+  type_more : (code : Text) → is_usable_type ds next code ≡ true → is_usable_type ds reasons code ≡ true
   type_more code e = place_more (type_place ds code) e
 
-  entry_more : (x : TypeEntry) → entry_is_usable ds next x ≡ true → entry_is_usable ds found x ≡ true
-  entry_more x e = or_more (is_system x.code) (is_usable_type ds next x.code) (is_usable_type ds found x.code) (type_more x.code) e
+  entry_more : (x : TypeEntry) → entry_is_usable ds next x ≡ true → entry_is_usable ds reasons x ≡ true
+  entry_more x e = or_more (is_system x.code) (is_usable_type ds next x.code) (is_usable_type ds reasons x.code) (type_more x.code) e
 
-  element_more : (x : Element) → element_is_usable ds next x ≡ true → element_is_usable ds found x ≡ true
+  element_more : (x : Element) → element_is_usable ds next x ≡ true → element_is_usable ds reasons x ≡ true
   element_more x e =
-      or_more (is_root x) (list_all (entry_is_usable ds next) x.types) (list_all (entry_is_usable ds found) x.types)
-      (all_more (entry_is_usable ds next) (entry_is_usable ds found) entry_more x.types) e
+      or_more (is_root x) (list_all (entry_is_usable ds next) x.types) (list_all (entry_is_usable ds reasons) x.types)
+      (all_more (entry_is_usable ds next) (entry_is_usable ds reasons) entry_more x.types) e
 
-  types_more : (d : Structure) → types_are_usable ds next d ≡ true → types_are_usable ds found d ≡ true
+  types_more : (d : Definition) → types_are_usable ds next d ≡ true → types_are_usable ds reasons d ≡ true
   types_more d e =
       let parts = and_parts (is_usable_type ds next d.type) (list_all (element_is_usable ds next) d.elements) e in
-      and_both (is_usable_type ds found d.type) (list_all (element_is_usable ds found) d.elements) (type_more d.type parts.0)
-      (all_more (element_is_usable ds next) (element_is_usable ds found) element_more d.elements parts.1)
+      and_both (is_usable_type ds reasons d.type) (list_all (element_is_usable ds reasons) d.elements) (type_more d.type parts.0)
+      (all_more (element_is_usable ds next) (element_is_usable ds reasons) element_more d.elements parts.1)
 
-  not_more : (a b : Bool) → (b ≡ true → a ≡ true) → not a ≡ true → not b ≡ true
-  not_more a false m e = refl
-  not_more a true m e = let t : a ≡ true = m refl in let f : not a ≡ false = ap not t in cc
+  applies_more : (d : Definition) (r : Reason) → Contains (tests ds reasons d) (false, r) → Contains (tests ds next d) (false, r)
+  unfolding behind
+  applies_more d r h =
+      fails_more (types_are_usable ds reasons d) (types_are_usable ds next d) UnusableType (behind ds d) (fault_of d) r (types_more d) h
 
-  stands_more : (d : Structure) (r : Reason) → stands ds found d r ≡ true → stands ds next d r ≡ true
-  stands_more d WrongField e = e
-  stands_more d MinOverMax e = e
-  stands_more d RepeatedType e = e
-  stands_more d WrongId e = e
-  stands_more d UnusableType e = not_more (types_are_usable ds found d) (types_are_usable ds next d) (types_more d) e
-  stands_more d NoTree e = e
-  stands_more d MissingContent e = e
-  stands_more d BaseCycle e = e
-  stands_more d UnsupportedSlicing e = e
-  stands_more d NoSnapshot e = e
-  stands_more d SecondType e = e
-  stands_more d NotYet e = e
+  tests_less : (d : Definition) → IsTrue (all_hold (tests ds next d)) → IsTrue (all_hold (tests ds reasons d))
+  unfolding behind
+  tests_less d h =
+      hold_more (types_are_usable ds next d) (types_are_usable ds reasons d) UnusableType (behind ds d) (fault_of d) (types_more d) h
 
-  applies_more : (d : Structure) (r : Reason) → applies ds found d r ≡ true → applies ds next d r ≡ true
-  applies_more d r e = or_more (is_faulty r d) (stands ds found d r) (stands ds next d r) (stands_more d r) e
-
-module _ (ds : List Structure) (is_placed : (i : ℕ) (d : Structure) → slice_get ds i ≡ Some d → d.place ≡ i) where
+module _ (ds : List Definition) (is_placed : (i : ℕ) (d : Definition) → slice_get ds i ≡ Some d → d.place ≡ i) where
   -- a round at a place
-  round_at_from : (f : Structure → Option Reason) (ds : List Structure) (i : ℕ) (d : Structure) → slice_get ds i ≡ Some d → get_or (map f ds) i None ≡ f d
+  round_at_from : (f : Definition → Option Reason) (ds : List Definition) (i : ℕ) (d : Definition) → slice_get ds i ≡ Some d → get_or (map f ds) i None ≡ f d
   round_at_from f [] i d h = cc
   round_at_from f (x ∷ xs) zero d h = let same : x ≡ d = cc in ap f same
   round_at_from f (x ∷ xs) (suc i) d h = round_at_from f xs i d h
 
-  round_at : (found : Found) (d : Structure) → slice_get ds d.place ≡ Some d → reason_at (round ds found) d.place ≡ reason_of ds found d
-  round_at found d h = round_at_from (reason_of ds found) ds d.place d h
+  round_at : (reasons : Reasons) (d : Definition) → slice_get ds d.place ≡ Some d → reason_at (round ds reasons) d.place ≡ reason_of ds reasons d
+  round_at reasons d h = round_at_from (reason_of ds reasons) ds d.place d h
 
-  -- what is found has a definition
-  has_structure : (xs : List Structure) (found : Found) (i : ℕ) (r : Reason) → length found ≡ length xs → get_or found i None ≡ Some r → (d : Structure) × (slice_get xs i ≡ Some d)
-  has_structure [] [] i r e h = cc
-  has_structure [] (y ∷ ys) i r e h = absurd (omega arith)
-  has_structure (x ∷ xs) [] i r e h = absurd (omega arith)
-  has_structure (x ∷ xs) (y ∷ ys) zero r e h = (x, refl)
-  has_structure (x ∷ xs) (y ∷ ys) (suc i) r e h = has_structure xs ys i r (omega arith) h
+  -- what is reasons has a definition
+  has_definition : (xs : List Definition) (reasons : Reasons) (i : ℕ) (r : Reason) → length reasons ≡ length xs → get_or reasons i None ≡ Some r → (d : Definition) × (slice_get xs i ≡ Some d)
+  has_definition [] [] i r e h = cc
+  has_definition [] (y ∷ ys) i r e h = absurd (omega arith)
+  has_definition (x ∷ xs) [] i r e h = absurd (omega arith)
+  has_definition (x ∷ xs) (y ∷ ys) zero r e h = (x, refl)
+  has_definition (x ∷ xs) (y ∷ ys) (suc i) r e h = has_definition xs ys i r (omega arith) h
 
-  round_keeps : (found : Found) → length found ≡ length ds → Extends found (round ds found)
+  round_keeps : (reasons : Reasons) → length reasons ≡ length ds → Extends reasons (round ds reasons)
   unfolding Extends
-  round_keeps found e i r h =
-      let s = has_structure ds found i r e h in
+  round_keeps reasons e i r h =
+      let s = has_definition ds reasons i r e h in
       let d = s.0 in
       let p : d.place ≡ i = is_placed i d s.1 in
-      let kept : reason_at found d.place ≡ Some r = ap (reason_at found) p ∙ h in
-      let of : reason_of ds found d ≡ Some r = rw kept refl in
-      round_at_from (reason_of ds found) ds i d s.1 ∙ of
+      let kept : reason_at reasons d.place ≡ Some r = ap (reason_at reasons) p ∙ h in
+      let of : reason_of ds reasons d ≡ Some r = rw kept refl in
+      round_at_from (reason_of ds reasons) ds i d s.1 ∙ of
 
-  length_round : (found : Found) → length (round ds found) ≡ length ds
-  length_round found = length-map ds (reason_of ds found)
+  length_round : (reasons : Reasons) → length (round ds reasons) ≡ length ds
+  length_round reasons = length-map ds (reason_of ds reasons)
 
   -- ---- coming to rest
 
-  rests : (n : ℕ) (found : Found) → length found ≡ length ds → length ds ≤ n + how_many found → round ds (rounds ds n found) ≡ rounds ds n found
-  rests zero found e h =
-      let long = length_round found in
-      let most = how_many_most (round ds found) in
-      extends_same found (round ds found) (e ∙ sym long) (round_keeps found e) (omega arith)
-  rests (suc n) found e h = go (nat_le (how_many (round ds found)) (how_many found)) refl (λ more. rests n (round ds found) (length_round found) more)
+  rests : (n : ℕ) (reasons : Reasons) → length reasons ≡ length ds → length ds ≤ n + how_many reasons → round ds (rounds ds n reasons) ≡ rounds ds n reasons
+  rests zero reasons e h =
+      let long = length_round reasons in
+      let most = how_many_most (round ds reasons) in
+      extends_same reasons (round ds reasons) (e ∙ sym long) (round_keeps reasons e) (omega arith)
+  rests (suc n) reasons e h = go (nat_le (how_many (round ds reasons)) (how_many reasons)) refl (λ more. rests n (round ds reasons) (length_round reasons) more)
     where
-      go : (b : Bool) → nat_le (how_many (round ds found)) (how_many found) ≡ b → (length ds ≤ n + how_many (round ds found) → round ds (rounds ds n (round ds found)) ≡ rounds ds n (round ds found)) → round ds (rounds ds n (round ds found)) ≡ rounds ds n (round ds found)
+      go : (b : Bool) → nat_le (how_many (round ds reasons)) (how_many reasons) ≡ b → (length ds ≤ n + how_many (round ds reasons) → round ds (rounds ds n (round ds reasons)) ≡ rounds ds n (round ds reasons)) → round ds (rounds ds n (round ds reasons)) ≡ rounds ds n (round ds reasons)
       go true is later =
-          let fewer : how_many (round ds found) ≤ how_many found = grind (arith, nat_tests) in
-          let same : round ds found ≡ found = extends_same found (round ds found) (e ∙ sym (length_round found)) (round_keeps found e) fewer in
-          let fixed : rounds ds n (round ds found) ≡ found = ap (rounds ds n) same ∙ rounds_fixed ds n found same in
+          let fewer : how_many (round ds reasons) ≤ how_many reasons = grind (arith, nat_tests) in
+          let same : round ds reasons ≡ reasons = extends_same reasons (round ds reasons) (e ∙ sym (length_round reasons)) (round_keeps reasons e) fewer in
+          let fixed : rounds ds n (round ds reasons) ≡ reasons = ap (rounds ds n) same ∙ rounds_fixed ds n reasons same in
           ap (round ds) fixed ∙ same ∙ sym fixed
       go false is later =
-          let more : how_many found < how_many (round ds found) = grind (arith, nat_tests) in
+          let more : how_many reasons < how_many (round ds reasons) = grind (arith, nat_tests) in
           later (omega arith)
 
-  length_none : (xs : List Structure) → length (none_found xs) ≡ length xs
+  length_none : (xs : List Definition) → length (no_reasons xs) ≡ length xs
   length_none xs = length-map xs (λ d. None)
 
-  at_rest : round ds (settled ds) ≡ settled ds
-  at_rest = rests (length ds) (none_found ds) (length_none ds) (omega arith)
+  at_rest : round ds (all_reasons ds) ≡ all_reasons ds
+  at_rest = rests (length ds) (no_reasons ds) (length_none ds) (omega arith)
 
-  pub closed : IsClosed ds (settled ds)
-  unfolding chain
-  closed d r at none =
-      let of : reason_of ds (settled ds) d ≡ None = sym (round_at (settled ds) d at) ∙ ap (λ l. reason_at l d.place) at_rest ∙ none in
-      let rest : chain d.fault (types_are_usable ds (settled ds) d) (not d.has_snapshot || d.is_tree) (chain_ends ds d) d.has_snapshot (is_first_of_type ds d) (is_flat ds d) ≡ None = (rw none at of) in
-      none_applies ds (settled ds) d d.fault (types_are_usable ds (settled ds) d) (not d.has_snapshot || d.is_tree) (chain_ends ds d) d.has_snapshot (is_first_of_type ds d) (is_flat ds d) r refl refl refl refl refl refl refl rest
+  pub closed : IsClosed ds (all_reasons ds)
+  closed d at none =
+      let of : reason_of ds (all_reasons ds) d ≡ None =
+      sym (round_at (all_reasons ds) d at) ∙ ap (λ l. reason_at l d.place) at_rest ∙ none in
+      none_fails (tests ds (all_reasons ds) d) (rw none at of)
 
-  -- ---- the reasons that are found apply
+  -- ---- the reasons that are reasons apply
 
-  fewer_before : (found : Found) → length found ≡ length ds → Fewer found (round ds found)
+  fewer_before : (reasons : Reasons) → length reasons ≡ length ds → Fewer reasons (round ds reasons)
   unfolding Fewer Extends
-  fewer_before found e place none = go (reason_at found place) refl
+  fewer_before reasons e place none = go (reason_at reasons place) refl
     where
-      go : (o : Option Reason) → reason_at found place ≡ o → is_some o ≡ false
+      go : (o : Option Reason) → reason_at reasons place ≡ o → is_some o ≡ false
       go None is = refl
       go (Some r) is =
-          let kept : reason_at (round ds found) place ≡ Some r = round_keeps found e place r is in
-          let some : is_some (reason_at (round ds found) place) ≡ true = ap is_some kept in cc
+          let kept : reason_at (round ds reasons) place ≡ Some r = round_keeps reasons e place r is in
+          let some : is_some (reason_at (round ds reasons) place) ≡ true = ap is_some kept in cc
 
-  apply_round : (found : Found) → length found ≡ length ds → AllApply ds found → AllApply ds (round ds found)
-  unfolding chain
-  apply_round found e all d r at h =
-      applies_more ds found (round ds found) (fewer_before found e) d r (go (reason_at found d.place) refl)
+  apply_round : (reasons : Reasons) → length reasons ≡ length ds → AllApply ds reasons → AllApply ds (round ds reasons)
+  apply_round reasons e all d r at h =
+      applies_more ds reasons (round ds reasons) (fewer_before reasons e) d r (go (reason_at reasons d.place) refl)
     where
-      now : reason_of ds found d ≡ Some r
-      now = sym (round_at found d at) ∙ h
+      now : reason_of ds reasons d ≡ Some r
+      now = sym (round_at reasons d at) ∙ h
 
-      go : (o : Option Reason) → reason_at found d.place ≡ o → applies ds found d r ≡ true
+      go : (o : Option Reason) → reason_at reasons d.place ≡ o → Contains (tests ds reasons d) (false, r)
       go (Some x) is =
-          let of : reason_of ds found d ≡ Some x = rw is refl in
-          let same : reason_at found d.place ≡ Some r = is ∙ sym of ∙ now in
+          let of : reason_of ds reasons d ≡ Some x = rw is refl in
+          let same : reason_at reasons d.place ≡ Some r = is ∙ sym of ∙ now in
           all d r at same
-      go None is =
-          let of : chain d.fault (types_are_usable ds found d) (not d.has_snapshot || d.is_tree) (chain_ends ds d) d.has_snapshot (is_first_of_type ds d) (is_flat ds d) ≡ Some r = (rw is at now) in
-          chain_applies ds found d d.fault (types_are_usable ds found d) (not d.has_snapshot || d.is_tree) (chain_ends ds d) d.has_snapshot (is_first_of_type ds d) (is_flat ds d) r refl refl refl refl refl refl refl of
+      go None is = first_fails (tests ds reasons d) r (rw is at now)
 
-  apply_rounds : (n : ℕ) (found : Found) → length found ≡ length ds → AllApply ds found → AllApply ds (rounds ds n found)
-  apply_rounds zero found e all = all
-  apply_rounds (suc n) found e all = apply_rounds n (round ds found) (length_round found) (apply_round found e all)
+  apply_rounds : (n : ℕ) (reasons : Reasons) → length reasons ≡ length ds → AllApply ds reasons → AllApply ds (rounds ds n reasons)
+  apply_rounds zero reasons e all = all
+  apply_rounds (suc n) reasons e all = apply_rounds n (round ds reasons) (length_round reasons) (apply_round reasons e all)
 
-  none_at : (xs : List Structure) (i : ℕ) → get_or (none_found xs) i None ≡ None
+  none_at : (xs : List Definition) (i : ℕ) → get_or (no_reasons xs) i None ≡ None
   none_at [] i = refl
   none_at (x ∷ xs) zero = refl
   none_at (x ∷ xs) (suc i) = none_at xs i
 
-  pub apply : AllApply ds (settled ds)
-  apply = apply_rounds (length ds) (none_found ds) (length_none ds) (λ d r at h. (let no : None ≡ Some r = sym (none_at ds d.place) ∙ h in cc))
+  pub apply : AllApply ds (all_reasons ds)
+  apply = apply_rounds (length ds) (no_reasons ds) (length_none ds) (λ d r at h. (let no : None ≡ Some r = sym (none_at ds d.place) ∙ h in cc))
 
   -- ---- nothing closed is smaller
 
-  within_fewer : (found other : Found) → IsWithin found other → Fewer found other
+  within_fewer : (reasons other : Reasons) → IsWithin reasons other → Fewer reasons other
   unfolding Fewer
-  within_fewer found other h place none = go (is_some (reason_at found place)) refl
+  within_fewer reasons other h place none = go (is_some (reason_at reasons place)) refl
     where
-      go : (b : Bool) → is_some (reason_at found place) ≡ b → b ≡ false
+      go : (b : Bool) → is_some (reason_at reasons place) ≡ b → b ≡ false
       go false is = refl
       go true is = let some : is_some (reason_at other place) ≡ true = h place is in cc
 
@@ -370,30 +269,30 @@ module _ (ds : List Structure) (is_placed : (i : ℕ) (d : Structure) → slice_
   none_from None e = refl
   none_from (Some x) e = cc
 
-  round_within : (found other : Found) → length found ≡ length ds → IsClosed ds other → IsWithin found other → IsWithin (round ds found) other
-  unfolding chain Fewer
-  round_within found other e shut h place some = go (reason_at (round ds found) place) refl (reason_at other place) refl
+  round_within : (reasons other : Reasons) → length reasons ≡ length ds → IsClosed ds other → IsWithin reasons other → IsWithin (round ds reasons) other
+  unfolding Fewer
+  round_within reasons other e shut h place some = go (reason_at (round ds reasons) place) refl (reason_at other place) refl
     where
-      go : (o : Option Reason) → reason_at (round ds found) place ≡ o → (x : Option Reason) → reason_at other place ≡ x → is_some (reason_at other place) ≡ true
-      go None is x at = let no : is_some (reason_at (round ds found) place) ≡ false = ap is_some is in cc
+      go : (o : Option Reason) → reason_at (round ds reasons) place ≡ o → (x : Option Reason) → reason_at other place ≡ x → is_some (reason_at other place) ≡ true
+      go None is x at = let no : is_some (reason_at (round ds reasons) place) ≡ false = ap is_some is in cc
       go (Some r) is (Some y) at = ap is_some at
       go (Some r) is None at =
-          let s = has_structure ds (round ds found) place r (length_round found) is in
+          let s = has_definition ds (round ds reasons) place r (length_round reasons) is in
           let d = s.0 in
           let p : d.place ≡ place = is_placed place d s.1 in
           let here : slice_get ds d.place ≡ Some d = ap (slice_get ds) p ∙ s.1 in
           let other_at : reason_at other d.place ≡ None = ap (reason_at other) p ∙ at in
-          let found_none : reason_at found d.place ≡ None = none_from (reason_at found d.place) (within_fewer found other h d.place (ap is_some other_at)) in
-          let rest_other : chain d.fault (types_are_usable ds other d) (not d.has_snapshot || d.is_tree) (chain_ends ds d) d.has_snapshot (is_first_of_type ds d) (is_flat ds d) ≡ None = chain_empty ds other d (λ reason. shut d reason here other_at) in
-          let rest : chain d.fault (types_are_usable ds found d) (not d.has_snapshot || d.is_tree) (chain_ends ds d) d.has_snapshot (is_first_of_type ds d) (is_flat ds d) ≡ None = chain_less d.fault (types_are_usable ds other d) (types_are_usable ds found d) (not d.has_snapshot || d.is_tree) (chain_ends ds d) d.has_snapshot (is_first_of_type ds d) (is_flat ds d) (types_more ds found other (within_fewer found other h) d) rest_other in
-          let of_found : reason_of ds found d ≡ None = rw found_none rest in
-          let r_is : reason_of ds found d ≡ Some r = sym (round_at found d here) ∙ ap (reason_at (round ds found)) p ∙ is in cc
+          let found_none : reason_at reasons d.place ≡ None = none_from (reason_at reasons d.place) (within_fewer reasons other h d.place (ap is_some other_at)) in
+          let rest : first_of (tests ds reasons d) ≡ None =
+          hold_none (tests ds reasons d) (tests_less ds reasons other (within_fewer reasons other h) d (shut d here other_at)) in
+          let of_found : reason_of ds reasons d ≡ None = rw found_none rest in
+          let r_is : reason_of ds reasons d ≡ Some r = sym (round_at reasons d here) ∙ ap (reason_at (round ds reasons)) p ∙ is in cc
 
-  rounds_within : (n : ℕ) (found other : Found) → length found ≡ length ds → IsClosed ds other → IsWithin found other → IsWithin (rounds ds n found) other
-  rounds_within zero found other e shut h = h
-  rounds_within (suc n) found other e shut h =
-      rounds_within n (round ds found) other (length_round found) shut (round_within found other e shut h)
+  rounds_within : (n : ℕ) (reasons other : Reasons) → length reasons ≡ length ds → IsClosed ds other → IsWithin reasons other → IsWithin (rounds ds n reasons) other
+  rounds_within zero reasons other e shut h = h
+  rounds_within (suc n) reasons other e shut h =
+      rounds_within n (round ds reasons) other (length_round reasons) shut (round_within reasons other e shut h)
 
-  pub least : (other : Found) → IsClosed ds other → IsWithin (settled ds) other
+  pub least : (other : Reasons) → IsClosed ds other → IsWithin (all_reasons ds) other
   least other shut =
-      rounds_within (length ds) (none_found ds) other (length_none ds) shut (λ place some. (let no : is_some (reason_at (none_found ds) place) ≡ false = ap is_some (none_at ds place) in cc))
+      rounds_within (length ds) (no_reasons ds) other (length_none ds) shut (λ place some. (let no : is_some (reason_at (no_reasons ds) place) ≡ false = ap is_some (none_at ds place) in cc))

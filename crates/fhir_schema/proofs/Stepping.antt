@@ -2,11 +2,11 @@
 use Rattle.std.proofs.Common.{◌≡◌, ℕ, zero, suc, ◌+◌, ◌*◌, ◌/◌, ◌%◌, List, [], ◌∷◌, map, length, get_or, Option, None, Some, Bool, true, false, cond, not, is_some, refl, ap, ap₂, sym, ◌∙◌, arith}
 use Rattle.std.specs.Option.{option_and_then}
 use Rattle.std.specs.List.{slice_get}
-use Rattle.fhir_schema.specs.Structure.{Structure}
+use Rattle.fhir_definition.specs.Definition.{Definition}
 use Rattle.fhir_schema.specs.Settling.{base_place, base_of_place, ends_within, chain_ends}
 use Rattle.fhir_schema.specs.Chains.{base_after, bases_after}
 
-module _ (ds : List Structure) where
+module _ (ds : List Definition) where
   after-none : (n : ℕ) → base_after ds n None ≡ None
   after-none zero = refl
   after-none (suc n) = after-none n
@@ -24,12 +24,12 @@ module _ (ds : List Structure) where
       let e : suc (a + n) ≡ suc a + n = omega arith in
       after-sum a n (option_and_then (base_of_place ds) place) ∙ ap (λ (k : ℕ). base_after ds k place) e
 
-  listed : (f : Structure → Option ℕ) (es : List Structure) (p : ℕ) → get_or (map f es) p None ≡ option_and_then f (slice_get es p)
+  listed : (f : Definition → Option ℕ) (es : List Definition) (p : ℕ) → get_or (map f es) p None ≡ option_and_then f (slice_get es p)
   listed f [] p = refl
   listed f (e ∷ es) zero = refl
   listed f (e ∷ es) (suc p) = listed f es p
 
-  behind_base : (m : ℕ) (d : Option Structure) → option_and_then (λ e. base_after ds m (base_place ds e)) d ≡ base_after ds m (option_and_then (base_place ds) d)
+  behind_base : (m : ℕ) (d : Option Definition) → option_and_then (λ e. base_after ds m (base_place ds e)) d ≡ base_after ds m (option_and_then (base_place ds) d)
   behind_base m None = sym (after-none m)
   behind_base m (Some d) = refl
 
@@ -38,7 +38,7 @@ module _ (ds : List Structure) where
   further m None = sym (after-none m)
   further m (Some p) = listed (λ d. base_after ds m (base_place ds d)) ds p ∙ behind_base m (slice_get ds p)
 
-  further-each : (a m : ℕ) (es : List Structure) → map (option_and_then (λ p. get_or (bases_after ds m) p None)) (map (λ d. base_after ds a (base_place ds d)) es) ≡ map (λ d. base_after ds (a + suc m) (base_place ds d)) es
+  further-each : (a m : ℕ) (es : List Definition) → map (option_and_then (λ p. get_or (bases_after ds m) p None)) (map (λ d. base_after ds a (base_place ds d)) es) ≡ map (λ d. base_after ds (a + suc m) (base_place ds d)) es
   further-each a m [] = refl
   further-each a m (e ∷ es) =
       ap₂ (λ (x : Option ℕ) (xs : List (Option ℕ)). x ∷ xs)
@@ -50,7 +50,7 @@ module _ (ds : List Structure) where
       ap₂ (λ (f : List (Option ℕ)) (xs : List (Option ℕ)). map (option_and_then (λ p. get_or f p None)) xs) powers_are places_are
       ∙ further-each a m ds
 
-  ends-each : (n : ℕ) (es : List Structure) → map (λ o. not (is_some o)) (map (λ d. base_after ds n (base_place ds d)) es) ≡ map (λ d. ends_within ds n (base_place ds d)) es
+  ends-each : (n : ℕ) (es : List Definition) → map (λ o. not (is_some o)) (map (λ d. base_after ds n (base_place ds d)) es) ≡ map (λ d. ends_within ds n (base_place ds d)) es
   ends-each n [] = refl
   ends-each n (e ∷ es) = ap₂ (λ (x : Bool) (xs : List Bool). x ∷ xs) (ends-after n (base_place ds e)) (ends-each n es)
 
@@ -60,14 +60,14 @@ module _ (ds : List Structure) where
 -- ---- how many steps are left
 
 -- after so many steps, with so many more in each of those that are left
-pub record AreAfter (ds : List Structure) (places powers : List (Option ℕ)) (left : ℕ) : Type 0 where
+pub record AreAfter (ds : List Definition) (places powers : List (Option ℕ)) (left : ℕ) : Type 0 where
   pub taken : ℕ
   pub power : ℕ
   pub places_are : places ≡ bases_after ds taken
   pub powers_are : powers ≡ bases_after ds power
   pub count : taken + suc power * left ≡ length ds
 
-pub halved : (ds : List Structure) (places powers more doubled : List (Option ℕ)) (left : ℕ) (odd : Bool) → AreAfter ds places powers left
+pub halved : (ds : List Definition) (places powers more doubled : List (Option ℕ)) (left : ℕ) (odd : Bool) → AreAfter ds places powers left
     → more ≡ cond odd (map (option_and_then (λ p. get_or powers p None)) places) places → doubled ≡ map (option_and_then (λ p. get_or powers p None)) powers
     → (odd ≡ true → left % 2 ≡ 1) → (odd ≡ false → left % 2 ≡ 0) → AreAfter ds more doubled (left / 2)
 halved ds places powers more doubled left true h more_is doubled_is is_odd is_even =
@@ -91,7 +91,7 @@ halved ds places powers more doubled left false h more_is doubled_is is_odd is_e
       count = omega (arith, h.count, ap (λ (n : ℕ). suc h.power * n) whole);
     }
 
-pub none_left : (ds : List Structure) (places powers : List (Option ℕ)) (left : ℕ) → AreAfter ds places powers left → left ≡ 0 → places ≡ bases_after ds (length ds)
+pub none_left : (ds : List Definition) (places powers : List (Option ℕ)) (left : ℕ) → AreAfter ds places powers left → left ≡ 0 → places ≡ bases_after ds (length ds)
 none_left ds places powers left h none =
     let all : h.taken ≡ length ds = omega (arith, h.count, ap (λ (n : ℕ). suc h.power * n) none) in
     h.places_are ∙ ap (bases_after ds) all

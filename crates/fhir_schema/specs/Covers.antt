@@ -5,54 +5,48 @@ use Rattle.std.specs.Option.{option_map_or, option_and_then}
 use Rattle.std.specs.List.{slice_get}
 use Rattle.std.specs.Str.{bytes_eq}
 use Rattle.fhir_json.specs.Tree.{Text}
-use Rattle.fhir_schema.specs.declared.kind.TypeKind.{TypeKind}
-use Rattle.fhir_schema.specs.declared.kind.TypeKind.TheVariants.{Primitive, Complex, Resource}
+use Rattle.fhir_definition.specs.Kind.{is_resource_kind}
 use Rattle.fhir_schema.specs.declared.node.NodeRef.{NodeRef}
-use Rattle.fhir_schema.specs.Structure.{Structure}
+use Rattle.fhir_definition.specs.Definition.{Definition}
 use Rattle.fhir_schema.specs.Settling.{type_place, base_of_place, ends_within}
 use Rattle.fhir_schema.specs.Schemas.{SchemaValue, root_in}
 
-abbrev pub is_resource_kind : TypeKind → Bool
-is_resource_kind Primitive = false
-is_resource_kind Complex = false
-is_resource_kind Resource = true
-
-abbrev pub is_resource : Structure → Bool
+abbrev pub is_resource : Definition → Bool
 is_resource d = option_map_or is_resource_kind d.kind false
 
 -- the definition of a type
-abbrev pub type_of_code : List Structure → Text → Option Structure
+abbrev pub type_of_code : List Definition → Text → Option Definition
 type_of_code ds code = option_and_then (slice_get ds) (type_place ds code)
 
-abbrev pub names_resource : List Structure → Text → Bool
+abbrev pub names_resource : List Definition → Text → Bool
 names_resource ds code = option_map_or is_resource (type_of_code ds code) false
 
 -- the chain of bases from a place comes by another within so many places
-abbrev pub meets_within : List Structure → ℕ → ℕ → Option ℕ → Bool
+abbrev pub meets_within : List Definition → ℕ → ℕ → Option ℕ → Bool
 meets_within ds goal n None = false
 meets_within ds goal zero (Some place) = false
 meets_within ds goal (suc n) (Some place) = nat_eq goal place || meets_within ds goal n (base_of_place ds place)
 
 -- the chain ends and comes by the goal; one that ends has no more places than there are definitions
-abbrev pub reaches : List Structure → ℕ → ℕ → Bool
+abbrev pub reaches : List Definition → ℕ → ℕ → Bool
 reaches ds start goal = ends_within ds (length ds) (Some start) && meets_within ds goal (length ds) (Some start)
 
 -- the same of the definitions of two types
-abbrev pub reaches_type : List Structure → Text → Text → Bool
+abbrev pub reaches_type : List Definition → Text → Text → Bool
 reaches_type ds from code =
     option_map_or (λ start. option_map_or (reaches ds start) (type_place ds code) false) (type_place ds from) false
 
-abbrev pub covers_in : List Structure → Text → Text → Bool
+abbrev pub covers_in : List Definition → Text → Text → Bool
 covers_in ds code other = bytes_eq code other || (names_resource ds code && reaches_type ds other code)
 
 -- the first code covers the other
 abbrev pub covers : SchemaValue → Text → Text → Bool
-covers s code other = covers_in s.structures code other
+covers s code other = covers_in s.definitions code other
 
 -- the type that a node's definition defines or constrains
 abbrev pub type_at : SchemaValue → NodeRef → Text
-type_at s n = option_map_or (λ d. d.type) (slice_get s.structures n.definition) []
+type_at s n = option_map_or (λ d. d.type) (slice_get s.definitions n.definition) []
 
 -- the root of the definition of a type
 abbrev pub type_root : SchemaValue → Text → Option NodeRef
-type_root s code = option_and_then (root_in s) (type_place s.structures code)
+type_root s code = option_and_then (root_in s) (type_place s.definitions code)

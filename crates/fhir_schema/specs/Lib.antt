@@ -1,10 +1,7 @@
 pub mod Slots
-pub mod Supported
-pub mod Structure
 pub mod Settling
 pub mod Usability
 pub mod Schemas
 pub mod Chains
 pub mod Tables
-pub mod Gathering
 pub mod Covers

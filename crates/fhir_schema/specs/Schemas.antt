@@ -1,5 +1,5 @@
--- The schema of a package: its structures, which of them can be used, and the nodes of those.
-use Rattle.std.specs.Prelude.{ℕ, List, [], length, get_or, Bool, not, ◌&&◌, nat_lt, nat_eq, Option, None, Some, is_some, if◌then◌else◌}
+-- The schema of a package: its definitions, which of them can be used, and the nodes of those.
+use Rattle.std.specs.Prelude.{ℕ, List, [], length, get_or, map, Bool, not, ◌&&◌, nat_lt, nat_eq, Option, None, Some, is_some, if◌then◌else◌}
 use Rattle.std.specs.Option.{option_map, option_map_or, option_and_then}
 use Rattle.std.specs.List.{slice_get, find}
 use Rattle.std.specs.Str.{bytes_eq}
@@ -9,32 +9,33 @@ use Rattle.fhir_elements.specs.declared.reason.Reason.{Reason}
 use Rattle.fhir_elements.specs.Parts.{TypeEntry}
 use Rattle.fhir_elements.specs.Element.{Element}
 use Rattle.fhir_schema.specs.declared.node.NodeRef.{NodeRef}
-use Rattle.fhir_schema.specs.Slots.{Slot, id_place, id_at, is_at}
-use Rattle.fhir_schema.specs.Structure.{Structure, structures_from}
-use Rattle.fhir_schema.specs.Settling.{Found, settled, url_place, reason_at}
+use Rattle.fhir_definition.specs.Snapshot.{id_place, is_at, root_place}
+use Rattle.fhir_definition.specs.Definition.{Definition, definitions_from}
+use Rattle.fhir_schema.specs.Slots.{Slot, id_at, slots_of}
+use Rattle.fhir_schema.specs.Settling.{Reasons, all_reasons, url_place, reason_at}
 
 pub record SchemaValue : Type 0 where
-  pub structures : List Structure
+  pub definitions : List Definition
   -- why each can't be used
-  pub found : Found
+  pub reasons : Reasons
 
-abbrev pub schema_with : List Structure → SchemaValue
-schema_with ds = record { structures = ds; found = settled ds }
+abbrev pub schema_with : List Definition → SchemaValue
+schema_with ds = record { definitions = ds; reasons = all_reasons ds }
 
 abbrev pub schema_of : Definitions → SchemaValue
-schema_of p = schema_with (structures_from 0 p.structure_definitions)
+schema_of p = schema_with (definitions_from 0 p.structure_definitions)
 
 -- why the definition at a url can't be used, if it is there and can't
 abbrev pub unusable : SchemaValue → Text → Option Reason
-unusable s url = option_and_then (reason_at s.found) (url_place s.structures url)
+unusable s url = option_and_then (reason_at s.reasons) (url_place s.definitions url)
 
 abbrev pub is_usable : SchemaValue → ℕ → Bool
-is_usable s place = not (is_some (reason_at s.found place))
+is_usable s place = not (is_some (reason_at s.reasons place))
 
 -- ---- nodes
 
 abbrev pub elements_at : SchemaValue → ℕ → List Element
-elements_at s place = option_map_or (λ d. d.elements) (slice_get s.structures place) []
+elements_at s place = option_map_or (λ d. d.elements) (slice_get s.definitions place) []
 
 -- the node is an element of a definition that can be used
 abbrev pub has : SchemaValue → NodeRef → Bool
@@ -44,7 +45,7 @@ abbrev pub element_at : SchemaValue → NodeRef → Option Element
 element_at s n = slice_get (elements_at s n.definition) n.element
 
 abbrev pub url_at : SchemaValue → ℕ → Text
-url_at s place = option_map_or (λ d. d.url) (slice_get s.structures place) []
+url_at s place = option_map_or (λ d. d.url) (slice_get s.definitions place) []
 
 abbrev pub id_of_node : SchemaValue → NodeRef → Text
 id_of_node s n = id_at (elements_at s n.definition) n.element
@@ -54,36 +55,40 @@ abbrev pub node_in : SchemaValue → ℕ → Option ℕ → Option NodeRef
 node_in s place element =
     if is_usable s place then option_map (λ e. record { definition = place; element = e }) element else None
 
--- the place of a definition's root
-abbrev pub root_place : SchemaValue → ℕ → Option ℕ
-root_place s place = option_and_then (λ d. d.root) (slice_get s.structures place)
+-- the place of a definition's root among its elements
+abbrev pub root_element : SchemaValue → ℕ → Option ℕ
+root_element s place = root_place (elements_at s place)
 
 -- the node is its definition's root
 abbrev pub is_root_node : SchemaValue → NodeRef → Bool
-is_root_node s n = is_at n.element (root_place s n.definition)
+is_root_node s n = is_at n.element (root_element s n.definition)
 
 -- the root of a definition, and that of the definition at a url
 abbrev pub root_in : SchemaValue → ℕ → Option NodeRef
-root_in s place = node_in s place (root_place s place)
+root_in s place = node_in s place (root_element s place)
 
 abbrev pub root : SchemaValue → Text → Option NodeRef
-root s url = option_and_then (root_in s) (url_place s.structures url)
+root s url = option_and_then (root_in s) (url_place s.definitions url)
 
 -- the node of a url and an id
 abbrev pub node_with : SchemaValue → Text → ℕ → Option NodeRef
 node_with s id place = node_in s place (id_place (elements_at s place) id)
 
 abbrev pub node : SchemaValue → Text → Text → Option NodeRef
-node s url id = option_and_then (node_with s id) (url_place s.structures url)
+node s url id = option_and_then (node_with s id) (url_place s.definitions url)
 
 -- ---- what stands below a node, and its types
 
+-- the slots of each element of each definition
+abbrev pub all_slots : List Definition → List (List (List Slot))
+all_slots ds = map (λ d. slots_of d.elements) ds
+
 abbrev pub slots : SchemaValue → NodeRef → List Slot
-slots s n = option_map_or (λ d. get_or d.slots n.element []) (slice_get s.structures n.definition) []
+slots s n = get_or (get_or (all_slots s.definitions) n.definition []) n.element []
 
 -- the slot of a name
-abbrev pub kids : SchemaValue → NodeRef → Text → Option Slot
-kids s n name = find (λ slot. bytes_eq name slot.name) (slots s n)
+abbrev pub slot_named : SchemaValue → NodeRef → Text → Option Slot
+slot_named s n name = find (λ slot. bytes_eq name slot.name) (slots s n)
 
 -- the node that has the node's children, which is the node itself, if it has any
 abbrev pub holder : SchemaValue → NodeRef → Option NodeRef

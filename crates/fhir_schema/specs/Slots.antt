@@ -1,74 +1,11 @@
--- The tree that the ids of a snapshot's elements make (FHIR R4, ElementDefinition, id), by the places of the elements.
-use Rattle.std.specs.Prelude.{ℕ, zero, suc, List, [], ◌∷◌, map, length, get_or, Bool, true, false, not, ◌&&◌, ◌==◌, nat_eq, Option, None, Some, is_some, if◌then◌else◌}
-use Rattle.std.specs.Option.{option_map_or, option_and_then}
-use Rattle.std.specs.List.{list_all, count_by, slice_get}
-use Rattle.std.specs.Str.{bytes_eq}
+-- Slots: the names that the children of an item may have at a node (FHIR R4, ElementDefinition, slicing for the slices).
+use Rattle.std.specs.Prelude.{ℕ, List, [], map}
+use Rattle.std.specs.Option.{option_map_or}
+use Rattle.std.specs.List.{slice_get}
 use Rattle.fhir_json.specs.Tree.{Text}
-use Rattle.fhir_names.specs.Parents.{front_of, name_of, slice_of, sliced_of}
+use Rattle.fhir_names.specs.Parents.{name_of, slice_of}
 use Rattle.fhir_elements.specs.Element.{Element}
-
--- the place of the first element with an id, where the elements' places begin at a number
-abbrev pub id_place_from : ℕ → List Element → Text → Option ℕ
-id_place_from n [] id = None
-id_place_from n (e ∷ es) id = if bytes_eq id e.id then Some n else id_place_from (suc n) es id
-
-abbrev pub id_place : List Element → Text → Option ℕ
-id_place es id = id_place_from 0 es id
-
-abbrev pub is_at : ℕ → Option ℕ → Bool
-is_at p o = option_map_or (nat_eq p) o false
-
--- each is the first with its id, so that no id is repeated
-abbrev pub are_first : List Element → ℕ → List Element → Bool
-are_first all n [] = true
-are_first all n (e ∷ es) = is_at n (id_place all e.id) && are_first all (suc n) es
-
-abbrev pub ids_differ : List Element → Bool
-ids_differ es = are_first es 0 es
-
--- the id under which an element stands: that of the element that it is a slice of, or that in front of its last name
-abbrev pub up_of : Text → Option Text
-up_of id = if is_some (slice_of id) then sliced_of id else front_of id
-
-abbrev pub is_root : Element → Bool
-is_root e = not (is_some (up_of e.id))
-
-abbrev pub has_parent : List Element → Element → Bool
-has_parent es e = option_map_or (λ up. is_some (id_place es up)) (up_of e.id) true
-
--- each parent is there, and there is one root
-abbrev pub is_tree : List Element → Bool
-is_tree es = list_all (has_parent es) es && (count_by is_root es == 1)
-
--- ---- what stands under a place
-
--- the place of the element whose child an element is, and that of the element whose slice it is
-abbrev pub child_place : List Element → Element → Option ℕ
-child_place es e = if is_some (slice_of e.id) then None else option_and_then (id_place es) (front_of e.id)
-
-abbrev pub slice_place : List Element → Element → Option ℕ
-slice_place es e = option_and_then (id_place es) (sliced_of e.id)
-
--- the places of those that stand under p, where ups are the places under which the elements stand
-abbrev pub under_from : ℕ → ℕ → List (Option ℕ) → List ℕ
-under_from p i [] = []
-under_from p i (up ∷ ups) = if is_at p up then i ∷ under_from p (suc i) ups else under_from p (suc i) ups
-
--- the same for each of n places from p on
-abbrev pub gathered_from : ℕ → ℕ → List (Option ℕ) → List (List ℕ)
-gathered_from p zero ups = []
-gathered_from p (suc n) ups = under_from p 0 ups ∷ gathered_from (suc p) n ups
-
-abbrev pub gathered : List (Option ℕ) → List (List ℕ)
-gathered ups = gathered_from 0 (length ups) ups
-
-abbrev pub children_of : List Element → List (List ℕ)
-children_of es = gathered (map (child_place es) es)
-
-abbrev pub slices_of : List Element → List (List ℕ)
-slices_of es = gathered (map (slice_place es) es)
-
--- ---- slots
+use Rattle.fhir_definition.specs.Children.{children_of, slices_at}
 
 pub record Slice : Type 0 where
   pub name : Text
@@ -89,16 +26,13 @@ slice_at es place = record {
   entry = place;
 }
 
-abbrev pub slot_at : List Element → List (List ℕ) → ℕ → Slot
-slot_at es slices place = record {
+abbrev pub slot_at : List Element → ℕ → Slot
+slot_at es place = record {
   name = name_of (id_at es place);
   entry = place;
-  slices = map (slice_at es) (get_or slices place []);
+  slices = map (slice_at es) (slices_at es place);
 }
-
-abbrev pub slots_with : List Element → List (List ℕ) → List ℕ → List Slot
-slots_with es slices places = map (slot_at es slices) places
 
 -- the slots of each element
 abbrev pub slots_of : List Element → List (List Slot)
-slots_of es = map (slots_with es (slices_of es)) (children_of es)
+slots_of es = map (map (slot_at es)) (children_of es)

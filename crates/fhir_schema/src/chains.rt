@@ -14,8 +14,8 @@ fn bases_of(alloc: Global, table: &Table) -> Result<Vec<Option<usize>>, AllocErr
     ensures { IfOk result (λ v. v.items ≡ bases_after table.now 0) }
 {
     let mut places = Vec::new(alloc);
-    for structure in table.structures() {
-        places.push(base_place(table, structure))?;
+    for definition in table.definitions() {
+        places.push(base_place(table, definition))?;
     }
     Ok(places)
 }
@@ -68,7 +68,7 @@ fn places_at_end(alloc: Global, table: &Table) -> Result<Vec<Option<usize>>, All
 {
     let mut places = bases_of(alloc, table)?;
     let mut power = bases_of(alloc, table)?;
-    let mut steps = table.structures().len();
+    let mut steps = table.definitions().len();
     while steps > 0 {
         let is_odd = steps % 2 == 1;
         places = followed_if(alloc, is_odd, places, &power)?;
@@ -85,7 +85,7 @@ pub(crate) fn chains_end(alloc: Global, table: &Table) -> Result<Vec<bool>, Allo
     let places = places_at_end(alloc, table)?;
     let mut ends = Vec::with_capacity(alloc, places.len())?;
     for place in &places {
-        ends.push(!place.is_some())?;
+        ends.push(place.is_none())?;
     }
     Ok(ends)
 }

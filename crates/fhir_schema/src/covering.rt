@@ -3,42 +3,29 @@
 ghost use Rattle.std.specs.Prelude.{◌≡◌, ℕ};
 ghost use Rattle.std.specs.Option.{option_copied, option_map_or};
 ghost use Rattle.fhir_schema.specs.Settling.{type_place};
-ghost use Rattle.fhir_schema.specs.Covers.{is_resource_kind, is_resource, type_of_code, names_resource, meets_within, reaches, reaches_type, covers_in};
+ghost use Rattle.fhir_schema.specs.Covers.{is_resource, type_of_code, names_resource, meets_within, reaches, reaches_type, covers_in};
 
-use crate::kind::TypeKind;
-use crate::structure::StructureDef;
 use crate::table::Table;
 use crate::types::{base_of_place, ends_within};
+use fhir_definition::Definition;
 
-fn is_resource_kind(kind: TypeKind) -> bool
-    ensures { result ≡ is_resource_kind kind }
+fn is_resource(definition: &Definition) -> bool
+    ensures { result ≡ is_resource definition.now }
 {
-    match kind {
-        TypeKind::Primitive => false,
-        TypeKind::Complex => false,
-        TypeKind::Resource => true,
-    }
+    definition.kind().is_some_and(|kind| kind.is_resource())
 }
 
-fn is_resource(structure: &StructureDef) -> bool
-    ensures { result ≡ is_resource structure.now }
-{
-    structure
-        .kind()
-        .is_some_and(|kind| is_resource_kind(kind))
-}
-
-fn type_of_code<'t>(table: &'t Table, code: &str) -> Option<&'t StructureDef>
+fn type_of_code<'t>(table: &'t Table, code: &str) -> Option<&'t Definition>
     ensures { option_copied result ≡ type_of_code table.now code.now }
 {
-    table.structure(table.type_place(code)?)
+    table.definition(table.type_place(code)?)
 }
 
 fn names_resource(table: &Table, code: &str) -> bool
     ensures { result ≡ names_resource table.now code.now }
 {
     match type_of_code(table, code) {
-        Some(structure) => is_resource(structure),
+        Some(definition) => is_resource(definition),
         None => false,
     }
 }
@@ -64,7 +51,7 @@ fn meets_within(table: &Table, goal: usize, places: usize, start: usize) -> bool
 fn reaches(table: &Table, start: usize, goal: usize) -> bool
     ensures { result ≡ reaches table.now start goal }
 {
-    let places = table.structures().len();
+    let places = table.definitions().len();
     ends_within(table, places, Some(start)) && meets_within(table, goal, places, start)
 }
 

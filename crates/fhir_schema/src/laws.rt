@@ -3,8 +3,8 @@
 ghost use Rattle.std.specs.Prelude.{◌≡◌, ℕ, false, Some, IsTrue};
 ghost use Rattle.std.specs.List.{slice_get};
 ghost use Rattle.fhir_package.specs.Definitions.{Definitions};
-ghost use Rattle.fhir_schema.specs.Structure.{Structure};
-ghost use Rattle.fhir_schema.specs.Settling.{Found};
+ghost use Rattle.fhir_definition.specs.Definition.{Definition};
+ghost use Rattle.fhir_schema.specs.Settling.{Reasons};
 ghost use Rattle.fhir_schema.specs.Usability.{AllApply, IsClosed, IsWithin};
 ghost use Rattle.fhir_json.specs.Tree.{Text};
 ghost use Rattle.fhir_schema.specs.declared.node.NodeRef.{NodeRef};
@@ -14,28 +14,28 @@ ghost use Rattle.fhir_schema.specs.Covers.{names_resource, covers, type_root};
 /// The definitions that can't be used are the least closed set: no reason applies to any other, each of them has one
 /// that applies, and no smaller set is closed.
 pub fn least_closed()
-    ensures placed { (p : Definitions) (place : ℕ) (d : Structure) → slice_get (schema_of p).structures place ≡ Some d
+    ensures placed { (p : Definitions) (place : ℕ) (d : Definition) → slice_get (schema_of p).definitions place ≡ Some d
         → d.place ≡ place }
-    ensures closed { (p : Definitions) → IsClosed (schema_of p).structures (schema_of p).found }
-    ensures apply { (p : Definitions) → AllApply (schema_of p).structures (schema_of p).found }
-    ensures least { (p : Definitions) (other : Found) → IsClosed (schema_of p).structures other
-        → IsWithin (schema_of p).found other }
+    ensures closed { (p : Definitions) → IsClosed (schema_of p).definitions (schema_of p).reasons }
+    ensures apply { (p : Definitions) → AllApply (schema_of p).definitions (schema_of p).reasons }
+    ensures least { (p : Definitions) (other : Reasons) → IsClosed (schema_of p).definitions other
+        → IsWithin (schema_of p).reasons other }
 {}
 
 /// Covering is a matter of codes alone: each covers itself, only that of a resource covers another, and what is covered
 /// by a covered code is covered.
 pub fn covering_codes()
     ensures itself { (s : SchemaValue) (a : Text) → IsTrue (covers s a a) }
-    ensures alone { (s : SchemaValue) (a b : Text) → names_resource s.structures a ≡ false → IsTrue (covers s a b) → a ≡ b }
+    ensures alone { (s : SchemaValue) (a b : Text) → names_resource s.definitions a ≡ false → IsTrue (covers s a b) → a ≡ b }
     ensures transitive { (s : SchemaValue) (a b c : Text) → IsTrue (covers s a b) → IsTrue (covers s b c) → IsTrue (covers s a c) }
 {}
 
-/// A node that is found by its url and id is one of the schema's.
+/// A node that is reasons by its url and id is one of the schema's.
 pub fn named_nodes()
     ensures { (s : SchemaValue) (url id : Text) (n : NodeRef) → node s url id ≡ Some n → IsTrue (has s n) }
 {}
 
-/// The root of a definition that is found by its url, or by the type that it defines, is a root.
+/// The root of a definition that is reasons by its url, or by the type that it defines, is a root.
 pub fn roots_are_roots()
     ensures of_url { (s : SchemaValue) (url : Text) (n : NodeRef) → root s url ≡ Some n → IsTrue (is_root_node s n) }
     ensures of_type { (s : SchemaValue) (code : Text) (n : NodeRef) → type_root s code ≡ Some n → IsTrue (is_root_node s n) }

@@ -1,24 +1,30 @@
 //! The schema of a package: which definitions can be used, their nodes, and what stands below each.
+//!
+//! ```
+//! // The slots of a profile's root, where the profile can be used.
+//! fn root_slots<'s>(schema: &'s Schema, profile: &str) -> &'s [Slot] {
+//!     match schema.root(profile) {
+//!         Some(root) => schema.slots(root),
+//!         None => &[],
+//!     }
+//! }
+//! ```
+//!
+//! The contract to read first is that of [`Schema::build`].
 #![tactic(auto)]
 
 mod chains;
 mod covering;
-mod elements;
-mod kind;
 mod laws;
 mod node;
-mod reasons;
+mod nodes;
 mod schema;
 mod settling;
 mod slot_list;
 mod slots;
-mod snapshot;
-mod structure;
-mod supported;
 mod table;
 mod types;
 
-pub use kind::TypeKind;
 pub use laws::{covering_codes, least_closed, named_nodes, roots_are_roots};
 pub use node::NodeRef;
 pub use schema::Schema;

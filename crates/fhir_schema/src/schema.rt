@@ -3,12 +3,13 @@
 ghost use Rattle.std.specs.Prelude.{◌≡◌};
 ghost use Rattle.std.specs.Option.{option_copied};
 ghost use Rattle.fhir_json.specs.Memory.{Gives};
-ghost use Rattle.fhir_schema.specs.Schemas.{schema_of, unusable, is_usable, elements_at, has, element_at, url_at, id_of_node, is_root_node, node_in, root_place, root_in, root, node_with, node, slots, kids, holder, types};
+ghost use Rattle.fhir_schema.specs.Schemas.{schema_of, unusable, is_usable, elements_at, has, element_at, url_at, id_of_node, is_root_node, node_in, root_element, root, node_with, node, slots, slot_named, holder, types};
 ghost use Rattle.fhir_schema.specs.Covers.{type_at, type_root, covers};
 
 use crate::covering::covers;
 use crate::node::NodeRef;
-use crate::settling::settled;
+use crate::nodes::Nodes;
+use crate::settling::all_reasons;
 use crate::slots::Slot;
 use crate::table::Table;
 use crate::types::reason_at;
@@ -22,7 +23,8 @@ use std::marker::Model;
 #[derive(Drop)]
 pub struct Schema {
     table: Table,
-    found: Vec<Option<Reason>>,
+    reasons: Vec<Option<Reason>>,
+    nodes: Nodes,
 }
 
 impl Model for Schema {
@@ -35,18 +37,28 @@ impl Model for Schema {
 
     ghost coded = { Prim.hlevel (codes, tree_code) };
 
-    ghost view = { λ s. record { structures = s.table; found = s.found.items } };
+    ghost use Rattle.std.specs.Prelude.{◌≡◌};
+    ghost use Rattle.fhir_schema.specs.Schemas.{all_slots};
+
+    ghost view = { λ s. record { definitions = s.table; reasons = s.reasons.items } };
+
+    ghost invariant = { λ s. s.nodes ≡ all_slots s.table };
 }
 
 impl Schema {
-    /// The schema of a package. It takes time near linear in the package's size, but for the rounds in which it is found
+    /// The schema of a package. It takes time near linear in the package's size, but for the rounds in which it is reasons
     /// which definitions can't be used: one more than there are definitions between a fault and what rests on it.
     pub fn build(alloc: Global, from: &Package) -> Result<Schema, NoMemory>
         ensures { Gives (λ s. s) result (schema_of from.now) }
     {
         let table = Table::of(alloc, from)?;
-        let found = settled(alloc, &table)?;
-        Ok(Schema { table, found })
+        let reasons = all_reasons(alloc, &table)?;
+        let nodes = Nodes::of(alloc, &table)?;
+        Ok(Schema {
+            table,
+            reasons,
+            nodes,
+        })
     }
 
     /// Why the definition at a url can't be used, if it is there and can't.
@@ -54,7 +66,7 @@ impl Schema {
         ensures { result ≡ unusable self.now url.now }
     {
         match self.table.url_place(url) {
-            Some(place) => reason_at(&self.found, place),
+            Some(place) => reason_at(&self.reasons, place),
             None => None,
         }
     }
@@ -62,14 +74,14 @@ impl Schema {
     fn is_usable(&self, place: usize) -> bool
         ensures { result ≡ is_usable self.now place }
     {
-        !reason_at(&self.found, place).is_some()
+        reason_at(&self.reasons, place).is_none()
     }
 
     fn elements_at(&self, place: usize) -> &[ElementDef]
         ensures { result.now ≡ elements_at self.now place }
     {
-        match self.table.structure(place) {
-            Some(structure) => structure.snapshot().elements(),
+        match self.table.definition(place) {
+            Some(definition) => definition.elements(),
             None => Default::default(),
         }
     }
@@ -85,8 +97,8 @@ impl Schema {
     fn url_at(&self, place: usize) -> &str
         ensures { result.now ≡ url_at self.now place }
     {
-        match self.table.structure(place) {
-            Some(structure) => structure.url(),
+        match self.table.definition(place) {
+            Some(definition) => definition.url(),
             None => "",
         }
     }
@@ -123,11 +135,11 @@ impl Schema {
         }
     }
 
-    fn root_place(&self, place: usize) -> Option<usize>
-        ensures { result ≡ root_place self.now place }
+    fn root_element(&self, place: usize) -> Option<usize>
+        ensures { result ≡ root_element self.now place }
     {
-        match self.table.structure(place) {
-            Some(structure) => structure.root(),
+        match self.table.definition(place) {
+            Some(definition) => definition.root(),
             None => None,
         }
     }
@@ -137,7 +149,7 @@ impl Schema {
         ensures { result ≡ root self.now url.now }
     {
         match self.table.url_place(url) {
-            Some(place) => self.node_in(place, self.root_place(place)),
+            Some(place) => self.node_in(place, self.root_element(place)),
             None => None,
         }
     }
@@ -145,8 +157,8 @@ impl Schema {
     fn node_with(&self, id: &str, place: usize) -> Option<NodeRef>
         ensures { result ≡ node_with self.now id.now place }
     {
-        match self.table.structure(place) {
-            Some(structure) => self.node_in(place, structure.snapshot().id_place(id)),
+        match self.table.definition(place) {
+            Some(definition) => self.node_in(place, definition.id_place(id)),
             None => None,
         }
     }
@@ -165,7 +177,7 @@ impl Schema {
     pub fn is_root(&self, node: NodeRef) -> bool
         ensures { result ≡ is_root_node self.now node }
     {
-        match self.root_place(node.definition) {
+        match self.root_element(node.definition) {
             Some(root) => node.element == root,
             None => false,
         }
@@ -176,20 +188,14 @@ impl Schema {
     pub fn slots(&self, node: NodeRef) -> &[Slot]
         ensures { result.now ≡ slots self.now node }
     {
-        match self.table.structure(node.definition) {
-            Some(structure) => structure.slots(node.element),
-            None => Default::default(),
-        }
+        self.nodes.slots(node)
     }
 
     /// The slot of a name among a node's.
-    pub fn kids(&self, node: NodeRef, name: &str) -> Option<&Slot>
-        ensures { option_copied result ≡ kids self.now node name.now }
+    pub fn slot(&self, node: NodeRef, name: &str) -> Option<&Slot>
+        ensures { option_copied result ≡ slot_named self.now node name.now }
     {
-        match self.table.structure(node.definition) {
-            Some(structure) => structure.find_slot(node.element, name),
-            None => None,
-        }
+        self.nodes.find(node, name)
     }
 
     /// The node that has a node's children: the node itself, if it has any. A node without children has none.
@@ -227,8 +233,8 @@ impl Schema {
     pub fn type_code(&self, node: NodeRef) -> &str
         ensures { result.now ≡ type_at self.now node }
     {
-        match self.table.structure(node.definition) {
-            Some(structure) => structure.type_code(),
+        match self.table.definition(node.definition) {
+            Some(definition) => definition.type_code(),
             None => "",
         }
     }
@@ -238,7 +244,7 @@ impl Schema {
         ensures { result ≡ type_root self.now code.now }
     {
         match self.table.type_place(code) {
-            Some(place) => self.node_in(place, self.root_place(place)),
+            Some(place) => self.node_in(place, self.root_element(place)),
             None => None,
         }
     }

@@ -1,79 +1,95 @@
-//! Which definitions can't be used, found in rounds.
+//! Which definitions can't be used, reasons in rounds.
 
 ghost use Rattle.std.specs.Prelude.{◌≡◌, map, IfOk, IsTrue};
-ghost use Rattle.fhir_schema.specs.Settling.{chain_ends, reason_of, round, none_found, settled};
+ghost use Rattle.fhir_elements.specs.Tests.{first_of};
+ghost use Rattle.fhir_schema.specs.Settling.{chain_ends, tests, reason_of, round, no_reasons, all_reasons};
 
 use crate::chains::chains_end;
-use crate::reasons::where_not;
-use crate::structure::StructureDef;
 use crate::table::Table;
 use crate::types::{is_first_of_type, is_flat, reason_at, types_are_usable};
+use fhir_definition::Definition;
 use fhir_elements::Reason;
 use std::alloc::{AllocError, Global};
 
 // Why a definition can't be used, as far as is found; its chain of bases ends, or doesn't.
 fn reason_of(
     table: &Table,
-    found: &[Option<Reason>],
-    structure: &StructureDef,
+    reasons: &[Option<Reason>],
+    definition: &Definition,
     is_ending: bool,
 ) -> Option<Reason>
-    requires { is_ending ≡ chain_ends table.now structure.now }
-    ensures { result ≡ reason_of table.now found.now structure.now }
+    requires { is_ending ≡ chain_ends table.now definition.now }
+    ensures { result ≡ reason_of table.now reasons.now definition.now }
 {
-    if let Some(reason) = reason_at(found, structure.place()) {
-        return Some(reason);
+    match reason_at(reasons, definition.place()) {
+        Some(reason) => Some(reason),
+        None => first_failing(table, reasons, definition, is_ending),
     }
-    if let Some(reason) = structure.fault() {
-        return Some(reason);
+}
+
+// The reason of the first test that a definition fails.
+fn first_failing(
+    table: &Table,
+    reasons: &[Option<Reason>],
+    definition: &Definition,
+    is_ending: bool,
+) -> Option<Reason>
+    requires { is_ending ≡ chain_ends table.now definition.now }
+    ensures { result ≡ first_of (tests table.now reasons.now definition.now) }
+{
+    if let Some(fault) = definition.fault() {
+        return Some(fault);
     }
-    if !types_are_usable(table, found, structure) {
+    if !types_are_usable(table, reasons, definition) {
         return Some(Reason::UnusableType);
     }
-    let is_tree = !structure.has_snapshot() || structure.is_tree();
+    let is_tree = !definition.has_snapshot() || definition.is_tree();
     if !is_tree {
         return Some(Reason::NoTree);
     }
     if !is_ending {
         return Some(Reason::BaseCycle);
     }
-    if !structure.has_snapshot() {
+    if !definition.has_snapshot() {
         return Some(Reason::NoSnapshot);
     }
-    if !is_first_of_type(table, structure) {
+    if !is_first_of_type(table, definition) {
         return Some(Reason::SecondType);
     }
-    where_not(is_flat(table, structure), Reason::NotYet)
+    if !is_flat(table, definition) {
+        return Some(Reason::NotYet);
+    }
+    None
 }
 
 fn round(
     alloc: Global,
     table: &Table,
     ends: &[bool],
-    found: &[Option<Reason>],
+    reasons: &[Option<Reason>],
 ) -> Result<Vec<Option<Reason>>, AllocError>
     requires { ends.now ≡ map (chain_ends table.now) table.now }
-    ensures { IfOk result (λ v. v.items ≡ round table.now found.now) }
+    ensures { IfOk result (λ v. v.items ≡ round table.now reasons.now) }
 {
     let mut all = Vec::new(alloc);
-    let mut left = table.structures();
+    let mut left = table.definitions();
     let mut ends_left = ends;
-    while let [structure, structures @ ..] = left {
+    while let [definition, definitions @ ..] = left {
         let [is_ending, endings @ ..] = ends_left else {
             return Ok(all);
         };
-        all.push(reason_of(table, found, structure, *is_ending))?;
-        left = structures;
+        all.push(reason_of(table, reasons, definition, *is_ending))?;
+        left = definitions;
         ends_left = endings;
     }
     Ok(all)
 }
 
-fn none_found(alloc: Global, table: &Table) -> Result<Vec<Option<Reason>>, AllocError>
-    ensures { IfOk result (λ v. v.items ≡ none_found table.now) }
+fn no_reasons(alloc: Global, table: &Table) -> Result<Vec<Option<Reason>>, AllocError>
+    ensures { IfOk result (λ v. v.items ≡ no_reasons table.now) }
 {
     let mut all = Vec::new(alloc);
-    for _structure in table.structures() {
+    for _definition in table.definitions() {
         all.push(None)?;
     }
     Ok(all)
@@ -114,17 +130,17 @@ fn are_same(a: &[Option<Reason>], b: &[Option<Reason>]) -> bool
 }
 
 /// Why each definition can't be used. The rounds end at the first that finds nothing.
-pub(crate) fn settled(alloc: Global, table: &Table) -> Result<Vec<Option<Reason>>, AllocError>
-    ensures { IfOk result (λ v. v.items ≡ settled table.now) }
+pub(crate) fn all_reasons(alloc: Global, table: &Table) -> Result<Vec<Option<Reason>>, AllocError>
+    ensures { IfOk result (λ v. v.items ≡ all_reasons table.now) }
 {
     let ends = chains_end(alloc, table)?;
-    let mut found = none_found(alloc, table)?;
-    for k in 0..table.structures().len() {
-        let next = round(alloc, table, &ends, &found)?;
-        if are_same(&next, &found) {
-            return Ok(found);
+    let mut reasons = no_reasons(alloc, table)?;
+    for k in 0..table.definitions().len() {
+        let next = round(alloc, table, &ends, &reasons)?;
+        if are_same(&next, &reasons) {
+            return Ok(reasons);
         }
-        found = next;
+        reasons = next;
     }
-    Ok(found)
+    Ok(reasons)
 }

@@ -1,13 +1,10 @@
 //! The slots of the elements.
 
-ghost use Rattle.std.specs.Prelude.{◌≡◌, [], map, get_or, replicate, IfOk, OnOk};
-ghost use Rattle.std.specs.Option.{option_map_or};
-ghost use Rattle.fhir_names.specs.Parents.{slice_of};
-ghost use Rattle.fhir_schema.specs.Slots.{gathered, children_of, slices_of, id_at, slice_at, slot_at, slots_with, slots_of};
-ghost use Rattle.fhir_schema.specs.Gathering.{lists_in, put_at};
+ghost use Rattle.std.specs.Prelude.{◌≡◌, map, IfOk};
+ghost use Rattle.fhir_schema.specs.Slots.{id_at, slice_at, slot_at, slots_of};
 
 use crate::slot_list::SlotList;
-use crate::snapshot::Snapshot;
+use fhir_definition::Definition;
 use fhir_elements::ElementDef;
 use fhir_names::{name_of, slice_of};
 use std::alloc::{AllocError, Global};
@@ -85,39 +82,6 @@ impl Slot {
     }
 }
 
-fn empty_lists(alloc: Global, count: usize) -> Result<Vec<Vec<usize>>, AllocError>
-    ensures { IfOk result (λ v. lists_in v.items ≡ replicate count []) }
-{
-    let mut all = Vec::new(alloc);
-    for _done in 0..count {
-        all.push(Vec::new(alloc))?;
-    }
-    Ok(all)
-}
-
-fn put_at(all: &mut Vec<Vec<usize>>, at: Option<usize>, place: usize) -> Result<(), AllocError>
-    ensures { OnOk result (lists_in all.new.items ≡ put_at at place (lists_in all.old.items)) }
-{
-    let Some(at) = at else {
-        return Ok(());
-    };
-    if at < all.len() {
-        all[at].push(place)?;
-    }
-    Ok(())
-}
-
-// Each place under the one that it stands under: one pass, whatever stands where.
-fn gathered(alloc: Global, ups: &[Option<usize>]) -> Result<Vec<Vec<usize>>, AllocError>
-    ensures { IfOk result (λ v. lists_in v.items ≡ gathered ups.now) }
-{
-    let mut all = empty_lists(alloc, ups.len())?;
-    for (place, up) in ups.iter().enumerate() {
-        put_at(&mut all, *up, place)?;
-    }
-    Ok(all)
-}
-
 fn id_at(elements: &[ElementDef], place: usize) -> &str
     ensures { result.now ≡ id_at elements.now place }
 {
@@ -135,7 +99,7 @@ fn slice_at(alloc: Global, elements: &[ElementDef], place: usize) -> Result<Slic
     Ok(Slice { name, entry: place })
 }
 
-fn slices_at(
+fn slices_of(
     alloc: Global,
     elements: &[ElementDef],
     places: &[usize],
@@ -149,26 +113,12 @@ fn slices_at(
     Ok(slices)
 }
 
-fn list_at(lists: &[Vec<usize>], place: usize) -> &[usize]
-    ensures { result.now ≡ get_or (lists_in lists.now) place [] }
+fn slot_at(alloc: Global, definition: &Definition, place: usize) -> Result<Slot, AllocError>
+    ensures { IfOk result (λ s. s ≡ slot_at definition.now.elements place) }
 {
-    match lists.get(place) {
-        Some(list) => list,
-        None => Default::default(),
-    }
-}
-
-fn slot_at(
-    alloc: Global,
-    elements: &[ElementDef],
-    slices: &[Vec<usize>],
-    place: usize,
-) -> Result<Slot, AllocError>
-    ensures { IfOk result (λ s. s ≡ slot_at elements.now (lists_in slices.now) place) }
-{
-    let name = name_of(id_at(elements, place));
+    let name = name_of(id_at(definition.elements(), place));
     let name = String::from_str(alloc, name)?;
-    let slices = slices_at(alloc, elements, list_at(slices, place))?;
+    let slices = slices_of(alloc, definition.elements(), definition.slices(place))?;
     Ok(Slot {
         name,
         entry: place,
@@ -176,59 +126,27 @@ fn slot_at(
     })
 }
 
-fn slots_with(
+fn slots_at(
     alloc: Global,
-    elements: &[ElementDef],
-    slices: &[Vec<usize>],
+    definition: &Definition,
     places: &[usize],
 ) -> Result<SlotList, AllocError>
-    ensures { IfOk result (λ l. l ≡ slots_with elements.now (lists_in slices.now) places.now) }
+    ensures { IfOk result (λ l. l ≡ map (slot_at definition.now.elements) places.now) }
 {
     let mut slots = Vec::with_capacity(alloc, places.len())?;
     for place in places {
-        slots.push(slot_at(alloc, elements, slices, *place)?)?;
+        slots.push(slot_at(alloc, definition, *place)?)?;
     }
     SlotList::of(alloc, slots)
 }
 
-fn all_slots(
-    alloc: Global,
-    elements: &[ElementDef],
-    slices: &[Vec<usize>],
-    children: &[Vec<usize>],
-) -> Result<Vec<SlotList>, AllocError>
-    ensures { IfOk result (λ v. v.items
-        ≡ map (slots_with elements.now (lists_in slices.now)) (lists_in children.now)) }
+/// The slots of each element of a definition.
+pub(crate) fn slots_of(alloc: Global, definition: &Definition) -> Result<Vec<SlotList>, AllocError>
+    ensures { IfOk result (λ v. v.items ≡ slots_of definition.now.elements) }
 {
     let mut all = Vec::new(alloc);
-    for places in children {
-        all.push(slots_with(alloc, elements, slices, places)?)?;
+    for places in definition.children() {
+        all.push(slots_at(alloc, definition, places)?)?;
     }
     Ok(all)
-}
-
-fn children_of(alloc: Global, snapshot: &Snapshot) -> Result<Vec<Vec<usize>>, AllocError>
-    ensures { IfOk result (λ v. lists_in v.items ≡ children_of snapshot.now) }
-{
-    let places = snapshot.child_places(alloc)?;
-    let children = gathered(alloc, &places)?;
-    Ok(children)
-}
-
-fn slices_of(alloc: Global, snapshot: &Snapshot) -> Result<Vec<Vec<usize>>, AllocError>
-    ensures { IfOk result (λ v. lists_in v.items ≡ slices_of snapshot.now) }
-{
-    let places = snapshot.slice_places(alloc)?;
-    let slices = gathered(alloc, &places)?;
-    Ok(slices)
-}
-
-/// The slots of each element.
-pub(crate) fn slots_of(alloc: Global, snapshot: &Snapshot) -> Result<Vec<SlotList>, AllocError>
-    ensures { IfOk result (λ v. v.items ≡ slots_of snapshot.now) }
-{
-    let children = children_of(alloc, snapshot)?;
-    let slices = slices_of(alloc, snapshot)?;
-    let slots = all_slots(alloc, snapshot.elements(), &slices, &children)?;
-    Ok(slots)
 }

@@ -1,14 +1,14 @@
-//! The definitions of a package, found by their urls and their types.
+//! The definitions of a package, reasons by their urls and their types.
 
 ghost use Rattle.std.specs.Prelude.{◌≡◌, ◌∷◌, List, IfOk, OnOk};
 ghost use Rattle.std.specs.Option.{option_copied};
 ghost use Rattle.std.specs.List.{slice_get};
 ghost use Rattle.fhir_package.specs.Definitions.{Entries};
-ghost use Rattle.fhir_schema.specs.Structure.{Structure, structures_from};
+ghost use Rattle.fhir_definition.specs.Definition.{Definition as Shown, definitions_from};
 ghost use Rattle.fhir_schema.specs.Settling.{type_place, url_place};
 ghost use Rattle.fhir_schema.specs.Tables.{FindsTypes, FindsUrls};
 
-use crate::structure::{StructureDef, structure_of};
+use fhir_definition::Definition;
 use fhir_json::NoMemory;
 use fhir_names::Index;
 use fhir_package::{Kind, Package};
@@ -18,16 +18,16 @@ use std::marker::Model;
 /// The definitions of a package.
 #[derive(Drop)]
 pub(crate) struct Table {
-    structures: Vec<StructureDef>,
+    definitions: Vec<Definition>,
     types: Index,
     urls: Index,
 }
 
 impl Model for Table {
     ghost use Rattle.std.specs.Prelude.{List};
-    ghost use Rattle.fhir_schema.specs.Structure.{Structure};
+    ghost use Rattle.fhir_definition.specs.Definition.{Definition as Shown};
 
-    ghost Value = { List Structure };
+    ghost Value = { List Shown };
 
     ghost use Rattle.fhir_json.specs.Coding.{tree_code};
     ghost use Rattle.std.specs.Coded.{codes};
@@ -36,95 +36,95 @@ impl Model for Table {
 
     ghost use Rattle.fhir_schema.specs.Tables.{FindsTypes, FindsUrls};
 
-    ghost view = { λ t. t.structures.items };
+    ghost view = { λ t. t.definitions.items };
 
-    ghost invariant = { λ t. FindsTypes t.types t.structures.items × FindsUrls t.urls t.structures.items };
+    ghost invariant = { λ t. FindsTypes t.types t.definitions.items × FindsUrls t.urls t.definitions.items };
 }
 
-fn put_type(alloc: Global, index: &mut Index, structure: &StructureDef) -> Result<(), AllocError>
-    ensures { OnOk result ((ds : List Structure) → FindsTypes index.old ds → FindsTypes index.new (structure.now ∷ ds)) }
+fn put_type(alloc: Global, index: &mut Index, definition: &Definition) -> Result<(), AllocError>
+    ensures { OnOk result ((ds : List Shown) → FindsTypes index.old ds → FindsTypes index.new (definition.now ∷ ds)) }
 {
-    if structure.is_type() {
-        index.put(alloc, structure.type_code(), structure.place())?;
+    if definition.is_type() {
+        index.put(alloc, definition.type_code(), definition.place())?;
     }
     Ok(())
 }
 
-fn put_url(alloc: Global, index: &mut Index, structure: &StructureDef) -> Result<(), AllocError>
-    ensures { OnOk result ((ds : List Structure) → FindsUrls index.old ds → FindsUrls index.new (structure.now ∷ ds)) }
+fn put_url(alloc: Global, index: &mut Index, definition: &Definition) -> Result<(), AllocError>
+    ensures { OnOk result ((ds : List Shown) → FindsUrls index.old ds → FindsUrls index.new (definition.now ∷ ds)) }
 {
-    index.put(alloc, structure.url(), structure.place())?;
+    index.put(alloc, definition.url(), definition.place())?;
     Ok(())
 }
 
 // Filled from the last to the first, so that the first type definition of a type stays.
-fn types_of(alloc: Global, structures: &[StructureDef]) -> Result<Index, AllocError>
-    ensures { IfOk result (λ x. FindsTypes x structures.now) }
+fn types_of(alloc: Global, definitions: &[Definition]) -> Result<Index, AllocError>
+    ensures { IfOk result (λ x. FindsTypes x definitions.now) }
 {
     let mut index = Index::new(alloc);
-    let mut i = structures.len();
+    let mut i = definitions.len();
     while i > 0 {
         i -= 1;
-        let structure = &structures[i];
-        put_type(alloc, &mut index, structure)?;
+        let definition = &definitions[i];
+        put_type(alloc, &mut index, definition)?;
     }
     Ok(index)
 }
 
-fn urls_of(alloc: Global, structures: &[StructureDef]) -> Result<Index, AllocError>
-    ensures { IfOk result (λ x. FindsUrls x structures.now) }
+fn urls_of(alloc: Global, definitions: &[Definition]) -> Result<Index, AllocError>
+    ensures { IfOk result (λ x. FindsUrls x definitions.now) }
 {
     let mut index = Index::new(alloc);
-    let mut i = structures.len();
+    let mut i = definitions.len();
     while i > 0 {
         i -= 1;
-        let structure = &structures[i];
-        put_url(alloc, &mut index, structure)?;
+        let definition = &definitions[i];
+        put_url(alloc, &mut index, definition)?;
     }
     Ok(index)
 }
 
-fn structures_of(alloc: Global, from: &Package) -> Result<Vec<StructureDef>, NoMemory>
-    ensures { IfOk result (λ v. v.items ≡ structures_from 0 from.now.structure_definitions) }
+fn definitions_of(alloc: Global, from: &Package) -> Result<Vec<Definition>, NoMemory>
+    ensures { IfOk result (λ v. v.items ≡ definitions_from 0 from.now.structure_definitions) }
 {
-    let mut structures = Vec::new(alloc);
+    let mut definitions = Vec::new(alloc);
     for place in 0..from.len(Kind::StructureDefinition) {
         let Some((url, json)) = from.at(Kind::StructureDefinition, place) else {
-            return Ok(structures);
+            return Ok(definitions);
         };
-        let structure = structure_of(alloc, place, url, json)?;
-        structures.push(structure)?;
+        let definition = Definition::of(alloc, place, url, json)?;
+        definitions.push(definition)?;
     }
-    Ok(structures)
+    Ok(definitions)
 }
 
 impl Table {
     /// The definitions of a package.
     pub(crate) fn of(alloc: Global, from: &Package) -> Result<Table, NoMemory>
-        ensures { IfOk result (λ t. t ≡ structures_from 0 from.now.structure_definitions) }
+        ensures { IfOk result (λ t. t ≡ definitions_from 0 from.now.structure_definitions) }
     {
-        let structures = structures_of(alloc, from)?;
-        let types = types_of(alloc, &structures)?;
-        let urls = urls_of(alloc, &structures)?;
+        let definitions = definitions_of(alloc, from)?;
+        let types = types_of(alloc, &definitions)?;
+        let urls = urls_of(alloc, &definitions)?;
         Ok(Table {
-            structures,
+            definitions,
             types,
             urls,
         })
     }
 
     /// The definition at a place.
-    pub(crate) fn structure(&self, place: usize) -> Option<&StructureDef>
+    pub(crate) fn definition(&self, place: usize) -> Option<&Definition>
         ensures { option_copied result ≡ slice_get self.now place }
     {
-        self.structures.get(place)
+        self.definitions.get(place)
     }
 
     /// The definitions, in order.
-    pub(crate) fn structures(&self) -> &[StructureDef]
+    pub(crate) fn definitions(&self) -> &[Definition]
         ensures { result.now ≡ self.now }
     {
-        &self.structures
+        &self.definitions
     }
 
     /// The place of the first type definition of a type.

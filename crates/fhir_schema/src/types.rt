@@ -1,38 +1,21 @@
 //! What a definition says of others: its types, and the chain of its bases.
 
-ghost use Rattle.std.specs.Prelude.{◌≡◌, not, is_some};
+ghost use Rattle.std.specs.Prelude.{◌≡◌};
 ghost use Rattle.std.specs.Option.{option_map_or, option_and_then};
 ghost use Rattle.std.specs.List.{list_all, slice_get};
-ghost use Rattle.fhir_json.specs.Views.{tree_seen};
-ghost use Rattle.fhir_package.specs.Canonical.{has_version};
-ghost use Rattle.fhir_schema.specs.Slots.{is_at};
-ghost use Rattle.fhir_schema.specs.Settling.{is_versioned, where_versioned, version_place, canonical_place, reason_at, is_usable_type, is_system, entry_is_usable, element_is_usable, types_are_usable, base_place, base_of_place, ends_within, is_first_of_type, is_primitive, names_primitive, element_is_flat, is_flat};
+ghost use Rattle.fhir_schema.specs.Settling.{is_versioned, where_versioned, version_place, canonical_place, reason_at, is_usable_type, is_system, entry_is_usable, element_is_usable, types_are_usable, base_place, base_of_place, ends_within, is_first_of_type, names_primitive, element_is_flat, is_flat};
 
-use crate::kind::is_primitive_kind;
-use crate::snapshot::is_root;
-use crate::structure::StructureDef;
 use crate::table::Table;
+use fhir_definition::{Definition, is_root};
 use fhir_elements::{ElementDef, Reason, TypeEntry};
-use fhir_json::Json;
 use fhir_names::Canonical;
-
-fn has_version(version: &str, json: Option<&Json<'static>>) -> bool
-    ensures { result ≡ has_version version.now (tree_seen json.entry) }
-{
-    let Some(json) = json else {
-        return true;
-    };
-    match json.as_text() {
-        Some(text) => version == text,
-        None => false,
-    }
-}
+use fhir_package::has_version;
 
 fn is_versioned(table: &Table, version: &str, place: usize) -> bool
     ensures { result ≡ is_versioned table.now version.now place }
 {
-    match table.structure(place) {
-        Some(structure) => has_version(version, structure.version()),
+    match table.definition(place) {
+        Some(definition) => has_version(version, definition.version()),
         None => false,
     }
 }
@@ -58,21 +41,21 @@ pub(crate) fn canonical_place(table: &Table, canonical: &str) -> Option<usize>
     }
 }
 
-/// What has been found of the definition at a place.
-pub(crate) fn reason_at(found: &[Option<Reason>], place: usize) -> Option<Reason>
-    ensures { result ≡ reason_at found.now place }
+/// What has been reasons of the definition at a place.
+pub(crate) fn reason_at(reasons: &[Option<Reason>], place: usize) -> Option<Reason>
+    ensures { result ≡ reason_at reasons.now place }
 {
-    match found.get(place) {
+    match reasons.get(place) {
         Some(reason) => *reason,
         None => None,
     }
 }
 
-fn is_usable_type(table: &Table, found: &[Option<Reason>], code: &str) -> bool
-    ensures { result ≡ is_usable_type table.now found.now code.now }
+fn is_usable_type(table: &Table, reasons: &[Option<Reason>], code: &str) -> bool
+    ensures { result ≡ is_usable_type table.now reasons.now code.now }
 {
     match table.type_place(code) {
-        Some(place) => !reason_at(found, place).is_some(),
+        Some(place) => reason_at(reasons, place).is_none(),
         None => false,
     }
 }
@@ -84,35 +67,35 @@ fn is_system(code: &str) -> bool
         .starts_with(b"http://hl7.org/fhirpath/System.")
 }
 
-fn entry_is_usable(table: &Table, found: &[Option<Reason>], entry: &TypeEntry) -> bool
-    ensures { result ≡ entry_is_usable table.now found.now entry.now }
+fn entry_is_usable(table: &Table, reasons: &[Option<Reason>], entry: &TypeEntry) -> bool
+    ensures { result ≡ entry_is_usable table.now reasons.now entry.now }
 {
     let code = entry.code();
-    is_system(code) || is_usable_type(table, found, code)
+    is_system(code) || is_usable_type(table, reasons, code)
 }
 
-fn entries_are_usable(table: &Table, found: &[Option<Reason>], entries: &[TypeEntry]) -> bool
-    ensures { result ≡ list_all (entry_is_usable table.now found.now) entries.now }
+fn entries_are_usable(table: &Table, reasons: &[Option<Reason>], entries: &[TypeEntry]) -> bool
+    ensures { result ≡ list_all (entry_is_usable table.now reasons.now) entries.now }
 {
     for entry in entries {
-        if !entry_is_usable(table, found, entry) {
+        if !entry_is_usable(table, reasons, entry) {
             return false;
         }
     }
     true
 }
 
-fn element_is_usable(table: &Table, found: &[Option<Reason>], element: &ElementDef) -> bool
-    ensures { result ≡ element_is_usable table.now found.now element.now }
+fn element_is_usable(table: &Table, reasons: &[Option<Reason>], element: &ElementDef) -> bool
+    ensures { result ≡ element_is_usable table.now reasons.now element.now }
 {
-    is_root(element) || entries_are_usable(table, found, element.types())
+    is_root(element) || entries_are_usable(table, reasons, element.types())
 }
 
-fn elements_are_usable(table: &Table, found: &[Option<Reason>], elements: &[ElementDef]) -> bool
-    ensures { result ≡ list_all (element_is_usable table.now found.now) elements.now }
+fn elements_are_usable(table: &Table, reasons: &[Option<Reason>], elements: &[ElementDef]) -> bool
+    ensures { result ≡ list_all (element_is_usable table.now reasons.now) elements.now }
 {
     for element in elements {
-        if !element_is_usable(table, found, element) {
+        if !element_is_usable(table, reasons, element) {
             return false;
         }
     }
@@ -122,20 +105,20 @@ fn elements_are_usable(table: &Table, found: &[Option<Reason>], elements: &[Elem
 /// Whether its own type and the types of its elements can be used.
 pub(crate) fn types_are_usable(
     table: &Table,
-    found: &[Option<Reason>],
-    structure: &StructureDef,
+    reasons: &[Option<Reason>],
+    definition: &Definition,
 ) -> bool
-    ensures { result ≡ types_are_usable table.now found.now structure.now }
+    ensures { result ≡ types_are_usable table.now reasons.now definition.now }
 {
-    is_usable_type(table, found, structure.type_code())
-        && elements_are_usable(table, found, structure.snapshot().elements())
+    is_usable_type(table, reasons, definition.type_code())
+        && elements_are_usable(table, reasons, definition.elements())
 }
 
 /// The place of its base.
-pub(crate) fn base_place(table: &Table, structure: &StructureDef) -> Option<usize>
-    ensures { result ≡ base_place table.now structure.now }
+pub(crate) fn base_place(table: &Table, definition: &Definition) -> Option<usize>
+    ensures { result ≡ base_place table.now definition.now }
 {
-    match structure.base() {
+    match definition.base() {
         Some(base) => canonical_place(table, base),
         None => None,
     }
@@ -145,8 +128,8 @@ pub(crate) fn base_place(table: &Table, structure: &StructureDef) -> Option<usiz
 pub(crate) fn base_of_place(table: &Table, place: usize) -> Option<usize>
     ensures { result ≡ base_of_place table.now place }
 {
-    match table.structure(place) {
-        Some(structure) => base_place(table, structure),
+    match table.definition(place) {
+        Some(definition) => base_place(table, definition),
         None => None,
     }
 }
@@ -168,24 +151,16 @@ pub(crate) fn ends_within(table: &Table, steps: usize, start: Option<usize>) -> 
 }
 
 /// Whether it is the first of its type, if it is a type definition.
-pub(crate) fn is_first_of_type(table: &Table, structure: &StructureDef) -> bool
-    ensures { result ≡ is_first_of_type table.now structure.now }
+pub(crate) fn is_first_of_type(table: &Table, definition: &Definition) -> bool
+    ensures { result ≡ is_first_of_type table.now definition.now }
 {
-    if !structure.is_type() {
+    if !definition.is_type() {
         return true;
     }
-    match table.type_place(structure.type_code()) {
-        Some(place) => structure.place() == place,
+    match table.type_place(definition.type_code()) {
+        Some(place) => definition.place() == place,
         None => false,
     }
-}
-
-fn is_primitive(structure: &StructureDef) -> bool
-    ensures { result ≡ is_primitive structure.now }
-{
-    structure
-        .kind()
-        .is_some_and(|kind| is_primitive_kind(kind))
 }
 
 fn names_primitive(table: &Table, entry: &TypeEntry) -> bool
@@ -194,8 +169,8 @@ fn names_primitive(table: &Table, entry: &TypeEntry) -> bool
     let Some(place) = table.type_place(entry.code()) else {
         return false;
     };
-    match table.structure(place) {
-        Some(structure) => is_primitive(structure),
+    match table.definition(place) {
+        Some(definition) => definition.is_primitive(),
         None => false,
     }
 }
@@ -229,8 +204,8 @@ fn elements_are_flat(table: &Table, elements: &[ElementDef]) -> bool
 }
 
 /// Whether it is supported so far.
-pub(crate) fn is_flat(table: &Table, structure: &StructureDef) -> bool
-    ensures { result ≡ is_flat table.now structure.now }
+pub(crate) fn is_flat(table: &Table, definition: &Definition) -> bool
+    ensures { result ≡ is_flat table.now definition.now }
 {
-    structure.is_plain() && elements_are_flat(table, structure.snapshot().elements())
+    definition.is_plain() && elements_are_flat(table, definition.elements())
 }

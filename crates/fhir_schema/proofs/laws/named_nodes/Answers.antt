@@ -1,4 +1,4 @@
-use Rattle.fhir_schema.proofs.Nodes.{known}
+use Rattle.fhir_schema.proofs.KnownNodes.{known}
 use Rattle.fhir_schema.proofs.laws.named_nodes.Goals as goal
 
 pub returns : goal.returns

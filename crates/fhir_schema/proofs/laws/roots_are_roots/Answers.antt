@@ -3,7 +3,7 @@ use Rattle.fhir_schema.proofs.Roots.{found}
 use Rattle.fhir_schema.proofs.laws.roots_are_roots.Goals as goal
 
 pub returns-clause-of_url : goal.returns-clause-of_url
-returns-clause-of_url c s url n h = found s n (url_place s.structures url) h
+returns-clause-of_url c s url n h = found s n (url_place s.definitions url) h
 
 pub returns-clause-of_type : goal.returns-clause-of_type
-returns-clause-of_type c s code n h = found s n (type_place s.structures code) h
+returns-clause-of_type c s code n h = found s n (type_place s.definitions code) h

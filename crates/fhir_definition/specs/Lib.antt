@@ -1,0 +1,9 @@
+pub mod Kind
+pub mod Snapshot
+pub mod Children
+pub mod Supported
+pub mod Head
+pub mod Definition
+pub mod Views
+pub mod Gathering
+pub mod Worked

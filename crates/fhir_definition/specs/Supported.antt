@@ -1,0 +1,63 @@
+-- What is supported so far: flat definitions. Below the root their elements stand one level down, each of one type,
+-- and no element says more than how many there may be and what its value is fixed to.
+use Rattle.std.specs.Prelude.{length, Bool, true, false, not, ◌&&◌, ◌||◌, ◌==◌, nat_eq, is_some, codes}
+use Rattle.std.specs.Option.{option_map_or, option_and_then}
+use Rattle.std.specs.List.{list_all, list_any, ends_with, starts_with}
+use Rattle.fhir_json.specs.Tree.{Text}
+use Rattle.fhir_elements.specs.declared.codes.Severity.{Severity}
+use Rattle.fhir_elements.specs.declared.codes.Severity.TheVariants as severities
+use Rattle.fhir_elements.specs.declared.codes.Strength.{Strength}
+use Rattle.fhir_elements.specs.declared.codes.Strength.TheVariants as strengths
+use Rattle.fhir_names.specs.Parents.{front_of, name_of, slice_of}
+use Rattle.fhir_elements.specs.Parts.{TypeEntry, Constraint, Binding}
+use Rattle.fhir_elements.specs.Element.{Element}
+use Rattle.fhir_definition.specs.Snapshot.{is_root}
+
+abbrev pub is_error : Severity → Bool
+is_error severities.Error = true
+is_error severities.Warning = false
+
+abbrev pub is_required : Strength → Bool
+is_required strengths.Required = true
+is_required strengths.Extensible = false
+is_required strengths.Preferred = false
+is_required strengths.Example = false
+
+-- a constraint that is judged
+abbrev pub must_hold : Constraint → Bool
+must_hold c = option_map_or is_error c.severity false
+
+-- a binding that is judged
+abbrev pub binds : Binding → Bool
+binds b = option_map_or is_required b.strength false && is_some b.value_set
+
+-- no value is asked for but by `fixed[x]`
+abbrev pub has_plain_value : Element → Bool
+has_plain_value e =
+    not (is_some e.pattern) && not (is_some e.min_value) && not (is_some e.max_value) && not (is_some e.max_length)
+
+abbrev pub has_plain_rules : Element → Bool
+has_plain_rules e =
+    not (option_map_or binds e.binding false)
+    && not (list_any must_hold e.constraints)
+    && not (is_some e.slicing)
+    && not (is_some e.content_reference)
+
+-- neither a choice of types nor the name of a companion
+abbrev pub is_plain_name : Text → Bool
+is_plain_name name =
+    not (ends_with nat_eq name (codes "[x]")) && not (starts_with nat_eq name (codes "_"))
+
+-- one level below the root, and no slice
+abbrev pub is_one_down : Text → Bool
+is_one_down id =
+    not (is_some (slice_of id)) && not (is_some (option_and_then front_of (front_of id))) && is_plain_name (name_of id)
+
+abbrev pub is_bare : TypeEntry → Bool
+is_bare entry = (length entry.profiles == 0) && (length entry.targets == 0)
+
+abbrev pub is_plain_child : Element → Bool
+is_plain_child e = is_one_down e.id && (length e.types == 1) && list_all is_bare e.types
+
+abbrev pub is_plain_element : Element → Bool
+is_plain_element e = has_plain_value e && has_plain_rules e && (is_root e || is_plain_child e)

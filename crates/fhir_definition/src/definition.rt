@@ -1,0 +1,239 @@
+//! A definition by itself.
+
+ghost use Rattle.std.specs.Prelude.{◌≡◌, IfOk, codes, string_bytes};
+ghost use Rattle.std.specs.Option.{option_map};
+ghost use Rattle.fhir_json.specs.Fields.{field, text_in};
+ghost use Rattle.fhir_json.specs.Views.{tree_of, text_seen, tree_seen};
+ghost use Rattle.fhir_json.specs.Memory.{Gives};
+ghost use Rattle.fhir_definition.specs.Snapshot.{id_place, is_tree, root_place};
+ghost use Rattle.fhir_definition.specs.Children.{children_of, slices_at};
+ghost use Rattle.fhir_definition.specs.Views.{lists_in};
+ghost use Rattle.fhir_definition.specs.Definition.{has_snapshot, is_primitive, is_plain, definition_of};
+
+use crate::elements::{element_trees, elements_of};
+use crate::faults::own_fault;
+use crate::head::{is_abstract, is_type_definition, kind_in};
+use crate::kind::TypeKind;
+use crate::snapshot::Snapshot;
+use crate::supported::are_plain;
+use fhir_elements::{ElementDef, Reason};
+use fhir_json::{Json, NoMemory};
+use std::alloc::{AllocError, Global};
+use std::marker::Model;
+
+/// A StructureDefinition by itself (FHIR R4, StructureDefinition). A contract sees its fields and its elements.
+#[derive(Drop)]
+pub struct Definition {
+    place: usize,
+    url: String,
+    version: Option<Json<'static>>,
+    kind: Option<TypeKind>,
+    is_abstract: bool,
+    type_code: String,
+    is_type: bool,
+    base: Option<String>,
+    fault: Option<Reason>,
+    snapshot: Snapshot,
+}
+
+impl Model for Definition {
+    ghost use Rattle.std.specs.Prelude.{string_bytes};
+    ghost use Rattle.std.specs.Option.{option_map};
+    ghost use Rattle.fhir_json.specs.Views.{tree_of};
+    ghost use Rattle.fhir_definition.specs.Definition.{Definition as Shown};
+
+    ghost Value = { Shown };
+
+    ghost use Rattle.fhir_json.specs.Coding.{tree_code};
+    ghost use Rattle.std.specs.Coded.{codes};
+
+    ghost coded = { Prim.hlevel (codes, tree_code) };
+
+    ghost view = { λ d. record {
+      place = d.place;
+      url = string_bytes d.url;
+      version = option_map tree_of d.version;
+      kind = d.kind;
+      abstract = d.is_abstract;
+      type = string_bytes d.type_code;
+      is_type = d.is_type;
+      base = option_map string_bytes d.base;
+      fault = d.fault;
+      elements = d.snapshot;
+    } };
+}
+
+fn version_of(alloc: Global, json: &Json<'_>) -> Result<Option<Json<'static>>, NoMemory>
+    ensures { IfOk result (λ v. option_map tree_of v ≡ field (codes "version") (tree_of json.now)) }
+{
+    match json.field("version") {
+        Some(version) => Ok(Some(version.detach(alloc)?)),
+        None => Ok(None),
+    }
+}
+
+fn base_of(alloc: Global, json: &Json<'_>) -> Result<Option<String>, AllocError>
+    ensures { IfOk result (λ s. option_map string_bytes s ≡ text_in (codes "baseDefinition") (tree_of json.now)) }
+{
+    match json.text_in("baseDefinition") {
+        Some(base) => Ok(Some(String::from_str(alloc, base)?)),
+        None => Ok(None),
+    }
+}
+
+impl Definition {
+    /// The definition that a tree is, at a place of a package and under a url. A field that isn't of its kind counts as
+    /// absent; `fault` says whether there is one. The one refusal is want of memory.
+    pub fn of(
+        alloc: Global,
+        place: usize,
+        url: &str,
+        json: &Json<'_>,
+    ) -> Result<Definition, NoMemory>
+        ensures { Gives (λ d. d) result (definition_of place url.now (tree_of json.now)) }
+    {
+        let elements = elements_of(alloc, element_trees(json))?;
+        let snapshot = Snapshot::of(alloc, elements)?;
+        let url_text = String::from_str(alloc, url)?;
+        let version = version_of(alloc, json)?;
+        let type_code = String::from_str(alloc, json.text_at("type"))?;
+        let base = base_of(alloc, json)?;
+        let fault = own_fault(alloc, url, json, &snapshot)?;
+        Ok(Definition {
+            place,
+            url: url_text,
+            version,
+            kind: kind_in(json),
+            is_abstract: is_abstract(json),
+            type_code,
+            is_type: is_type_definition(json),
+            base,
+            fault,
+            snapshot,
+        })
+    }
+
+    /// Where it stands in the package's order.
+    pub fn place(&self) -> usize
+        ensures { result ≡ self.now.place }
+    {
+        self.place
+    }
+
+    /// Its url.
+    pub fn url(&self) -> &str
+        ensures { result.now ≡ self.now.url }
+    {
+        self.url.as_str()
+    }
+
+    /// Its version, as it is written.
+    pub fn version(&self) -> Option<&Json<'static>>
+        ensures { tree_seen result ≡ self.now.version }
+    {
+        self.version.as_ref()
+    }
+
+    /// The kind of the type that it defines or constrains.
+    pub fn kind(&self) -> Option<TypeKind>
+        ensures { result ≡ self.now.kind }
+    {
+        self.kind
+    }
+
+    /// The code of the type that it defines or constrains.
+    pub fn type_code(&self) -> &str
+        ensures { result.now ≡ self.now.type }
+    {
+        self.type_code.as_str()
+    }
+
+    /// Whether it defines the type, and doesn't constrain it.
+    pub fn is_type(&self) -> bool
+        ensures { result ≡ self.now.is_type }
+    {
+        self.is_type
+    }
+
+    /// The canonical of its base.
+    pub fn base(&self) -> Option<&str>
+        ensures { text_seen result ≡ self.now.base }
+    {
+        match &self.base {
+            Some(base) => Some(base.as_str()),
+            None => None,
+        }
+    }
+
+    /// The first reason for which it can't be used whatever the other definitions are (`WrongField`, `MinOverMax`, `RepeatedType`
+    /// or `WrongId`).
+    pub fn fault(&self) -> Option<Reason>
+        ensures { result ≡ self.now.fault }
+    {
+        self.fault
+    }
+
+    /// The elements of its snapshot, in order; none where it has no snapshot.
+    pub fn elements(&self) -> &[ElementDef]
+        ensures { result.now ≡ self.now.elements }
+    {
+        self.snapshot.elements()
+    }
+
+    /// Whether it has a snapshot.
+    pub fn has_snapshot(&self) -> bool
+        ensures { result ≡ has_snapshot self.now }
+    {
+        self.elements().len() > 0
+    }
+
+    /// Whether its elements are a tree by their ids: each parent is there, and there is one root.
+    pub fn is_tree(&self) -> bool
+        ensures { result ≡ is_tree self.now.elements }
+    {
+        self.snapshot.is_tree()
+    }
+
+    /// The place of its root among the elements.
+    pub fn root(&self) -> Option<usize>
+        ensures { result ≡ root_place self.now.elements }
+    {
+        self.snapshot.root()
+    }
+
+    /// The place of the first element with an id.
+    pub fn id_place(&self, id: &str) -> Option<usize>
+        ensures { result ≡ id_place self.now.elements id.now }
+    {
+        self.snapshot.id_place(id)
+    }
+
+    /// The places of the children of each element.
+    pub fn children(&self) -> &[Vec<usize>]
+        ensures { lists_in result.now ≡ children_of self.now.elements }
+    {
+        self.snapshot.children()
+    }
+
+    /// The places of the slices of the element at a place.
+    pub fn slices(&self, place: usize) -> &[usize]
+        ensures { result.now ≡ slices_at self.now.elements place }
+    {
+        self.snapshot.slices(place)
+    }
+
+    /// Whether it is of a primitive type.
+    pub fn is_primitive(&self) -> bool
+        ensures { result ≡ is_primitive self.now }
+    {
+        self.kind.is_some_and(|kind| kind.is_primitive())
+    }
+
+    /// Whether what its elements say is supported so far.
+    pub fn is_plain(&self) -> bool
+        ensures { result ≡ is_plain self.now }
+    {
+        let is_alone = !self.is_primitive() || self.elements().len() == 1;
+        are_plain(self.elements()) && is_alone
+    }
+}

@@ -1,0 +1,26 @@
+//! StructureDefinitions by themselves: what each says, and what is wrong with it whatever the others are.
+//!
+//! ```
+//! // The url under which a tree stands in a package, and the place of its root.
+//! fn root_of(alloc: Global, url: &str, tree: &Json<'_>) -> Result<Option<usize>, NoMemory> {
+//!     let definition = Definition::of(alloc, 0, url, tree)?;
+//!     Ok(definition.root())
+//! }
+//! ```
+//!
+//! The contract to read first is that of [`Definition::of`].
+#![tactic(auto)]
+
+mod by_id;
+mod children;
+mod definition;
+mod elements;
+mod faults;
+mod head;
+mod kind;
+mod snapshot;
+mod supported;
+
+pub use by_id::is_root;
+pub use definition::Definition;
+pub use kind::TypeKind;

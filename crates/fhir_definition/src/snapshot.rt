@@ -1,0 +1,118 @@
+//! The snapshot of a definition: its elements, and which of them stand under which.
+
+ghost use Rattle.std.specs.Prelude.{◌≡◌, [], get_or, IfOk};
+ghost use Rattle.fhir_definition.specs.Snapshot.{id_place, ids_differ, is_tree, root_place};
+ghost use Rattle.fhir_definition.specs.Children.{children_of, slices_at};
+ghost use Rattle.fhir_definition.specs.Views.{lists_in};
+
+use crate::by_id::ElementsById;
+use crate::children::{children_of, slices_of};
+use fhir_elements::ElementDef;
+use std::alloc::{AllocError, Global};
+use std::marker::Model;
+
+/// The elements of a snapshot. A contract sees their list; the rest is worked out once, when they are put in.
+#[derive(Drop)]
+pub(crate) struct Snapshot {
+    elements: ElementsById,
+    children: Vec<Vec<usize>>,
+    slices: Vec<Vec<usize>>,
+    root: Option<usize>,
+    is_tree: bool,
+}
+
+impl Model for Snapshot {
+    ghost use Rattle.std.specs.Prelude.{List};
+    ghost use Rattle.fhir_elements.specs.Element.{Element};
+
+    ghost Value = { List Element };
+
+    ghost use Rattle.fhir_json.specs.Coding.{tree_code};
+    ghost use Rattle.std.specs.Coded.{codes};
+
+    ghost coded = { Prim.hlevel (codes, tree_code) };
+
+    ghost use Rattle.fhir_definition.specs.Worked.{IsWorkedOut};
+
+    ghost view = { λ s. s.elements };
+
+    ghost invariant = { IsWorkedOut };
+}
+
+impl Snapshot {
+    /// These elements.
+    pub(crate) fn of(alloc: Global, elements: Vec<ElementDef>) -> Result<Snapshot, AllocError>
+        ensures { IfOk result (λ s. s ≡ elements.items) }
+    {
+        let elements = ElementsById::of(alloc, elements)?;
+        let children = children_of(alloc, &elements)?;
+        let slices = slices_of(alloc, &elements)?;
+        let root = elements.root_place();
+        let is_tree = elements.is_tree();
+        Ok(Snapshot {
+            elements,
+            children,
+            slices,
+            root,
+            is_tree,
+        })
+    }
+
+    /// The elements.
+    pub(crate) fn elements(&self) -> &[ElementDef]
+        ensures { result.now ≡ self.now }
+    {
+        self.elements.elements()
+    }
+
+    /// The place of the first element with an id.
+    pub(crate) fn id_place(&self, id: &str) -> Option<usize>
+        ensures { result ≡ id_place self.now id.now }
+    {
+        self.elements.id_place(id)
+    }
+
+    /// Whether no id is repeated.
+    pub(crate) fn ids_differ(&self) -> bool
+        ensures { result ≡ ids_differ self.now }
+    {
+        self.elements.ids_differ()
+    }
+
+    /// Whether each parent is there and there is one root.
+    pub(crate) fn is_tree(&self) -> bool
+        ensures { result ≡ is_tree self.now }
+    {
+        self.is_tree
+    }
+
+    /// The place of the root.
+    pub(crate) fn root(&self) -> Option<usize>
+        ensures { result ≡ root_place self.now }
+    {
+        self.root
+    }
+
+    /// The places of the children of each element.
+    pub(crate) fn children(&self) -> &[Vec<usize>]
+        ensures { lists_in result.now ≡ children_of self.now }
+    {
+        &self.children
+    }
+
+    /// The places of the slices of the element at a place.
+    pub(crate) fn slices(&self, place: usize) -> &[usize]
+        ensures { result.now ≡ slices_at self.now place }
+    {
+        list_at(&self.slices, place)
+    }
+}
+
+fn list_at(lists: &[Vec<usize>], place: usize) -> &[usize]
+    ensures { result.now ≡ get_or (lists_in lists.now) place [] }
+{
+    match lists.get(place) {
+        Some(list) => list,
+        None => Default::default(),
+    }
+}

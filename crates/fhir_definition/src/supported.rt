@@ -1,0 +1,140 @@
+//! What is supported so far: flat definitions.
+
+ghost use Rattle.std.specs.Prelude.{◌≡◌, false, is_some};
+ghost use Rattle.std.specs.Option.{option_map_or, option_and_then};
+ghost use Rattle.std.specs.List.{list_all, list_any};
+ghost use Rattle.fhir_names.specs.Parents.{front_of};
+ghost use Rattle.fhir_definition.specs.Supported.{is_error, is_required, must_hold, binds, has_plain_value, has_plain_rules, is_plain_name, is_one_down, is_bare, is_plain_child, is_plain_element};
+
+use crate::by_id::is_root;
+use fhir_elements::{BindingDef, ConstraintDef, ElementDef, Severity, Strength, TypeEntry};
+use fhir_names::{front_of, name_of, slice_of};
+
+fn is_error(severity: Severity) -> bool
+    ensures { result ≡ is_error severity }
+{
+    match severity {
+        Severity::Error => true,
+        Severity::Warning => false,
+    }
+}
+
+fn is_required(strength: Strength) -> bool
+    ensures { result ≡ is_required strength }
+{
+    match strength {
+        Strength::Required => true,
+        Strength::Extensible => false,
+        Strength::Preferred => false,
+        Strength::Example => false,
+    }
+}
+
+fn must_hold(constraint: &ConstraintDef) -> bool
+    ensures { result ≡ must_hold constraint.now }
+{
+    constraint
+        .severity()
+        .is_some_and(|severity| is_error(severity))
+}
+
+fn has_judged(constraints: &[ConstraintDef]) -> bool
+    ensures { result ≡ list_any must_hold constraints.now }
+{
+    constraints.iter().any(|constraint| must_hold(constraint))
+}
+
+fn has_required(binding: &BindingDef) -> bool
+    ensures { result ≡ option_map_or is_required binding.now.strength false }
+{
+    binding
+        .strength()
+        .is_some_and(|strength| is_required(strength))
+}
+
+fn binds(binding: &BindingDef) -> bool
+    ensures { result ≡ binds binding.now }
+{
+    has_required(binding) && binding.value_set().is_some()
+}
+
+fn has_binding(element: &ElementDef) -> bool
+    ensures { result ≡ option_map_or binds element.now.binding false }
+{
+    match element.binding() {
+        Some(binding) => binds(binding),
+        None => false,
+    }
+}
+
+fn has_plain_value(element: &ElementDef) -> bool
+    ensures { result ≡ has_plain_value element.now }
+{
+    !element.pattern().is_some()
+        && !element.min_value().is_some()
+        && !element.max_value().is_some()
+        && !element.max_length().is_some()
+}
+
+fn has_plain_rules(element: &ElementDef) -> bool
+    ensures { result ≡ has_plain_rules element.now }
+{
+    !has_binding(element)
+        && !has_judged(element.constraints())
+        && !element.slicing().is_some()
+        && !element.content_reference().is_some()
+}
+
+fn is_plain_name(name: &str) -> bool
+    ensures { result ≡ is_plain_name name.now }
+{
+    !name.as_bytes().ends_with(b"[x]") && !name.as_bytes().starts_with(b"_")
+}
+
+fn is_two_down(id: &str) -> bool
+    ensures { result ≡ is_some (option_and_then front_of (front_of id.now)) }
+{
+    match front_of(id) {
+        Some(front) => front_of(front).is_some(),
+        None => false,
+    }
+}
+
+fn is_one_down(id: &str) -> bool
+    ensures { result ≡ is_one_down id.now }
+{
+    !slice_of(id).is_some() && !is_two_down(id) && is_plain_name(name_of(id))
+}
+
+fn is_bare(entry: &TypeEntry) -> bool
+    ensures { result ≡ is_bare entry.now }
+{
+    entry.profiles().len() == 0 && entry.targets().len() == 0
+}
+
+fn are_bare(entries: &[TypeEntry]) -> bool
+    ensures { result ≡ list_all is_bare entries.now }
+{
+    entries.iter().all(|entry| is_bare(entry))
+}
+
+fn is_plain_child(element: &ElementDef) -> bool
+    ensures { result ≡ is_plain_child element.now }
+{
+    is_one_down(element.id()) && element.types().len() == 1 && are_bare(element.types())
+}
+
+fn is_plain_element(element: &ElementDef) -> bool
+    ensures { result ≡ is_plain_element element.now }
+{
+    has_plain_value(element)
+        && has_plain_rules(element)
+        && (is_root(element) || is_plain_child(element))
+}
+
+/// Whether each element is supported so far.
+pub(crate) fn are_plain(elements: &[ElementDef]) -> bool
+    ensures { result ≡ list_all is_plain_element elements.now }
+{
+    elements.iter().all(|element| is_plain_element(element))
+}

@@ -1,0 +1,81 @@
+-- Lists of tests: which of them fail, and which still do where one is harder to meet.
+use Rattle.std.proofs.Common.{◌≡◌, List, [], ◌∷◌, ◌++◌, Bool, true, false, Some, None, Option, refl, ap, sym, ◌∙◌, subst, inl, inr, IsTrue, ◌⊎◌, arith, if◌then◌else◌}
+use Rattle.std.specs.List.{Contains}
+use Rattle.std.proofs.lemmas.Bool.{and_parts, and_from}
+use Rattle.std.proofs.lemmas.Option.{none-some, same_Some}
+use Rattle.std.proofs.lemmas.List.Elements.{Contains-push, Contains-push_cases, Contains-append_left, Contains-append_right, Contains-append_cases}
+use Rattle.fhir_elements.specs.Tests.{first_of, all_hold}
+
+module _ {R : Type 0} where
+  -- the answer of the first that fails is that of a test that fails
+  pub first_fails : (ts : List (Bool × R)) (r : R) → first_of ts ≡ Some r → Contains ts (false, r)
+  first_fails [] r e = absurd (none-some r e)
+  first_fails (t ∷ ts) r e = go t.0 refl e (first_fails ts r)
+    where
+      go : (b : Bool) → t.0 ≡ b → (if b then first_of ts else Some t.1) ≡ Some r → (first_of ts ≡ Some r → Contains ts (false, r))
+          → Contains (t ∷ ts) (false, r)
+      go true is e behind = Contains-append_right (t ∷ []) ts (false, r) (behind e)
+      go false is e behind =
+          let same : t.1 ≡ r = same_Some t.1 r e in
+          let whole : t ≡ (false, r) = λ x. (is x, same x) in
+          Contains-append_left (t ∷ []) ts (false, r) (subst (λ y. Contains (t ∷ []) y) whole (Contains-push [] t))
+
+  -- where none is answered, all hold
+  pub none_fails : (ts : List (Bool × R)) → first_of ts ≡ None → IsTrue (all_hold ts)
+  none_fails [] e = refl
+  none_fails (t ∷ ts) e = go t.0 refl e (none_fails ts)
+    where
+      go : (b : Bool) → t.0 ≡ b → (if b then first_of ts else Some t.1) ≡ None → (first_of ts ≡ None → IsTrue (all_hold ts))
+          → IsTrue (all_hold (t ∷ ts))
+      go true is e behind = and_from t.0 (all_hold ts) is (behind e)
+      go false is e behind = absurd (none-some t.1 (sym e))
+
+  -- where all hold, none is answered
+  pub hold_none : (ts : List (Bool × R)) → IsTrue (all_hold ts) → first_of ts ≡ None
+  hold_none [] h = refl
+  hold_none (t ∷ ts) h =
+      let parts = and_parts t.0 (all_hold ts) h in
+      ap (λ b. if b then first_of ts else Some t.1) parts.0 ∙ hold_none ts parts.1
+
+  module _ (a b : Bool) (u : R) (rest : List (Bool × R)) where
+    -- all still hold where one is easier to meet
+    pub hold_more : (front : List (Bool × R)) → (a ≡ true → b ≡ true)
+        → IsTrue (all_hold (front ++ (a, u) ∷ rest)) → IsTrue (all_hold (front ++ (b, u) ∷ rest))
+    hold_more [] more h =
+        let parts = and_parts a (all_hold rest) h in and_from b (all_hold rest) (more parts.0) parts.1
+    hold_more (t ∷ front) more h =
+        let parts = and_parts t.0 (all_hold (front ++ (a, u) ∷ rest)) h in
+        and_from t.0 (all_hold (front ++ (b, u) ∷ rest)) parts.0 (hold_more front more parts.1)
+
+    alone : (r : R) (s t w : Bool × R) → s ≡ (a, u) → t ≡ (false, r) → w ≡ (b, u) → (b ≡ true → a ≡ true) → s ≡ t → w ≡ t
+    alone r s t w s_is t_is w_is more e = go b refl
+      where
+        isnt : a ≡ false
+        isnt = ap (λ (y : Bool × R). y.0) (sym s_is ∙ e ∙ t_is)
+
+        same : u ≡ r
+        same = ap (λ (y : Bool × R). y.1) (sym s_is ∙ e ∙ t_is)
+
+        go : (c : Bool) → b ≡ c → w ≡ t
+        go true is = let no : a ≡ true = more is in cc
+        go false is =
+            let whole : w ≡ t = w_is ∙ (λ x. (is x, same x)) ∙ sym t_is in whole
+
+    head_more : (r : R) → (b ≡ true → a ≡ true) → Contains ((a, u) ∷ rest) (false, r) → Contains ((b, u) ∷ rest) (false, r)
+    head_more r more h =
+        elim (Contains-append_cases ((a, u) ∷ []) rest (false, r) h) [
+          | inl first ↦ elim (Contains-push_cases [] (a, u) (false, r) first) [
+            | inl nowhere ↦ absurd (omega (arith, nowhere.1))
+            | inr e ↦ Contains-append_left ((b, u) ∷ []) rest (false, r) (subst (λ y. Contains ((b, u) ∷ []) y) (alone r (a, u) (false, r) (b, u) refl refl refl more e) (Contains-push [] (b, u)))
+          ]
+          | inr behind ↦ Contains-append_right ((b, u) ∷ []) rest (false, r) behind
+        ]
+
+    -- what fails still fails where one is harder to meet
+    pub fails_more : (front : List (Bool × R)) (r : R) → (b ≡ true → a ≡ true)
+        → Contains (front ++ (a, u) ∷ rest) (false, r) → Contains (front ++ (b, u) ∷ rest) (false, r)
+    fails_more front r more h =
+        elim (Contains-append_cases front ((a, u) ∷ rest) (false, r) h) [
+          | inl there ↦ Contains-append_left front ((b, u) ∷ rest) (false, r) there
+          | inr behind ↦ Contains-append_right front ((b, u) ∷ rest) (false, r) (head_more r more behind)
+        ]

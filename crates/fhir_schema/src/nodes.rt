@@ -1,0 +1,66 @@
+//! What stands below each node, worked out when a schema is built.
+
+ghost use Rattle.std.specs.Prelude.{◌≡◌, [], get_or, IfOk};
+ghost use Rattle.std.specs.Option.{option_copied, option_map_or};
+ghost use Rattle.std.specs.List.{find};
+ghost use Rattle.std.specs.Str.{bytes_eq};
+ghost use Rattle.fhir_schema.specs.Schemas.{all_slots};
+
+use crate::node::NodeRef;
+use crate::slot_list::SlotList;
+use crate::slots::{Slot, slots_of};
+use crate::table::Table;
+use std::alloc::{AllocError, Global};
+use std::marker::Model;
+
+/// The slots of each element of each definition.
+#[derive(Drop)]
+pub(crate) struct Nodes {
+    slots: Vec<Vec<SlotList>>,
+}
+
+impl Model for Nodes {
+    ghost use Rattle.std.specs.Prelude.{List, map};
+    ghost use Rattle.fhir_schema.specs.Slots.{Slot as Shown};
+
+    ghost Value = { List (List (List Shown)) };
+
+    ghost view = { λ n. map (λ v. v.items) n.slots.items };
+}
+
+impl Nodes {
+    /// Those of the definitions of a table.
+    pub(crate) fn of(alloc: Global, table: &Table) -> Result<Nodes, AllocError>
+        ensures { IfOk result (λ n. n ≡ all_slots table.now) }
+    {
+        let mut slots = Vec::new(alloc);
+        for definition in table.definitions() {
+            slots.push(slots_of(alloc, definition)?)?;
+        }
+        Ok(Nodes { slots })
+    }
+
+    fn list(&self, node: NodeRef) -> Option<&SlotList>
+        ensures { option_map_or (λ l. l.now) result [] ≡ get_or (get_or self.now node.definition []) node.element [] }
+    {
+        self.slots.get(node.definition)?.get(node.element)
+    }
+
+    /// The slots of a node.
+    pub(crate) fn slots(&self, node: NodeRef) -> &[Slot]
+        ensures { result.now ≡ get_or (get_or self.now node.definition []) node.element [] }
+    {
+        match self.list(node) {
+            Some(list) => list.slots(),
+            None => Default::default(),
+        }
+    }
+
+    /// The first slot of a name among those of a node.
+    pub(crate) fn find(&self, node: NodeRef, name: &str) -> Option<&Slot>
+        ensures { option_copied result ≡ find (λ slot. bytes_eq name.now slot.name)
+            (get_or (get_or self.now node.definition []) node.element []) }
+    {
+        self.list(node)?.find(name)
+    }
+}
