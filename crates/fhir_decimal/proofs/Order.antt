@@ -11,7 +11,7 @@ use Rattle.std.proofs.lemmas.Bool.{cases_lt}
 use Rattle.std.proofs.Math.Nat.{mul_assoc, pow-succ', mul-lt-mul_of_pos_right, eq-zero-or-pos}
 use Rattle.std.proofs.lemmas.Nat.{mul-le, pow-add}
 use Rattle.fhir_decimal.specs.Text.{Parts}
-use Rattle.fhir_decimal.specs.Value.{Value, number_of, value_of, signed, whole_value, value_order, is_same_value}
+use Rattle.fhir_decimal.specs.Value.{Value, number_of, value_of, integer_of, whole_value, value_order, is_same_value}
 use Rattle.fhir_decimal.specs.Rows.{apart, sum_over, signed_apart}
 use Rattle.fhir_decimal.proofs.Digits.{number_below}
 
@@ -32,22 +32,22 @@ nat_same x y v w p q r = nat_cmp_is v w (nat_cmp x y) (matched (nat_cmp x y) (na
 abbrev pub signed_cmp : Bool → ℕ → Bool → ℕ → Ordering
 signed_cmp s x t y = nat_cmp (sum_over s x t y) (sum_over t y s x)
 
-pub int_cmp_signed : (s : Bool) (x : ℕ) (t : Bool) (y : ℕ) → int_cmp (signed s x) (signed t y) ≡ signed_cmp s x t y
-int_cmp_signed s x t y = sym (int_cmp_is (signed s x) (signed t y) (signed_cmp s x t y) (matched (signed_cmp s x t y) (nat_ranks (sum_over s x t y) (sum_over t y s x)) (below s x t y) (same s x t y) (above s x t y)))
+pub int_cmp_signed : (s : Bool) (x : ℕ) (t : Bool) (y : ℕ) → int_cmp (integer_of s x) (integer_of t y) ≡ signed_cmp s x t y
+int_cmp_signed s x t y = sym (int_cmp_is (integer_of s x) (integer_of t y) (signed_cmp s x t y) (matched (signed_cmp s x t y) (nat_ranks (sum_over s x t y) (sum_over t y s x)) (below s x t y) (same s x t y) (above s x t y)))
   where
-    below : (s : Bool) (x : ℕ) (t : Bool) (y : ℕ) → sum_over s x t y < sum_over t y s x → signed s x <ℤ signed t y
+    below : (s : Bool) (x : ℕ) (t : Bool) (y : ℕ) → sum_over s x t y < sum_over t y s x → integer_of s x <ℤ integer_of t y
     below true x true y h = omega (arith, ints)
     below true x false y h = omega (arith, ints)
     below false x true y h = omega (arith, ints)
     below false x false y h = omega (arith, ints)
 
-    same : (s : Bool) (x : ℕ) (t : Bool) (y : ℕ) → sum_over s x t y ≡ sum_over t y s x → signed s x ≡ signed t y
+    same : (s : Bool) (x : ℕ) (t : Bool) (y : ℕ) → sum_over s x t y ≡ sum_over t y s x → integer_of s x ≡ integer_of t y
     same true x true y h = omega (arith, ints)
     same true x false y h = omega (arith, ints)
     same false x true y h = omega (arith, ints)
     same false x false y h = omega (arith, ints)
 
-    above : (s : Bool) (x : ℕ) (t : Bool) (y : ℕ) → sum_over t y s x < sum_over s x t y → signed t y <ℤ signed s x
+    above : (s : Bool) (x : ℕ) (t : Bool) (y : ℕ) → sum_over t y s x < sum_over s x t y → integer_of t y <ℤ integer_of s x
     above s x t y h = below t y s x h
 
 pub apart_cmp : (far x y : ℕ) → 0 < far → nat_cmp (apart far x y) far ≡ nat_cmp x y
@@ -172,7 +172,7 @@ placed_order s t n m up other_up left right a b p q (inr h) =
 
 -- ---- whole values
 
-pub times_signed : (s : Bool) (n k : ℕ) → signed s n *ℤ pos k ≡ signed s (n * k)
+pub times_signed : (s : Bool) (n k : ℕ) → integer_of s n *ℤ pos k ≡ integer_of s (n * k)
 times_signed true zero k = ap pos (zero_times k) ∙ ap (λ (z : ℕ). neg_ℤ (pos z)) (sym (zero_times k))
   where
     zero_times : (k : ℕ) → 0 * k ≡ 0
@@ -180,7 +180,7 @@ times_signed true zero k = ap pos (zero_times k) ∙ ap (λ (z : ℕ). neg_ℤ (
 times_signed true (suc n) k = refl
 times_signed false n k = refl
 
-pub whole_order : (s t : Bool) (n m up other_up : ℕ) → int_cmp (signed s n *ℤ pos (10 ^ up)) (signed t m *ℤ pos (10 ^ other_up)) ≡ signed_cmp s (n * 10 ^ up) t (m * 10 ^ other_up)
+pub whole_order : (s t : Bool) (n m up other_up : ℕ) → int_cmp (integer_of s n *ℤ pos (10 ^ up)) (integer_of t m *ℤ pos (10 ^ other_up)) ≡ signed_cmp s (n * 10 ^ up) t (m * 10 ^ other_up)
 whole_order s t n m up other_up = ap₂ int_cmp (times_signed s n (10 ^ up)) (times_signed t m (10 ^ other_up)) ∙ int_cmp_signed s (n * 10 ^ up) t (m * 10 ^ other_up)
 
 -- ---- the order is total
@@ -196,13 +196,13 @@ times_cmp x y k p =
     ∙ sym (int_cmp_signed a.0 a.1 b.0 b.1)
     ∙ ap₂ int_cmp (sym a.2) (sym b.2)
   where
-    as_signed : (x : ℤ) → (s : Bool) × (n : ℕ) × (x ≡ signed s n)
+    as_signed : (x : ℤ) → (s : Bool) × (n : ℕ) × (x ≡ integer_of s n)
     as_signed (pos n) = (false, n, refl)
     as_signed (negsuc n) = (true, suc n, refl)
 
 times_times : (x : ℤ) (j k : ℕ) → (x *ℤ pos j) *ℤ pos k ≡ x *ℤ pos (j * k)
 times_times (pos n) j k = ap pos (mul_assoc n j k)
-times_times (negsuc n) j k = times_signed true (suc n * j) k ∙ ap (signed true) (mul_assoc (suc n) j k)
+times_times (negsuc n) j k = times_signed true (suc n * j) k ∙ ap (integer_of true) (mul_assoc (suc n) j k)
 
 -- a value times the power of ten that makes it and two others whole
 abbrev pub wide : Value → ℕ → ℕ → ℤ
@@ -281,6 +281,6 @@ answer_right p q far e zeros other_zeros last r f is left right room other_room 
     ∙ apart_cmp far (sum_over s v t w) (sum_over t w s v) f
     ∙ sym (placed_order s t n m up other_up zeros other_zeros (length a) (length b) (number_below a) (number_below b) here)
     ∙ sym (whole_order s t n m up other_up)
-    ∙ ap₂ (λ (i j : ℕ). int_cmp (signed s n *ℤ pos (10 ^ i)) (signed t m *ℤ pos (10 ^ j)))
+    ∙ ap₂ (λ (i j : ℕ). int_cmp (integer_of s n *ℤ pos (10 ^ i)) (integer_of t m *ℤ pos (10 ^ j)))
     (regroup (if p.lowers then 0 else number_of p.exponent) (if q.lowers then number_of q.exponent else 0) (length q.fraction))
     (regroup (if q.lowers then 0 else number_of q.exponent) (if p.lowers then number_of p.exponent else 0) (length p.fraction))

@@ -1,6 +1,6 @@
 use Rattle.std.proofs.Common.{◌≡◌, ◌+◌, ◌-◌, ◌++◌, length, min, arith}
 use Rattle.std.proofs.lemmas.List.{length-append}
-use Rattle.fhir_decimal.specs.Seen.{parts_seen}
+use Rattle.fhir_decimal.specs.Views.{parts_seen}
 use Rattle.fhir_decimal.specs.declared.rows.TheConstants.{FAR}
 use Rattle.fhir_decimal.proofs.Digits.{apart_same}
 use Rattle.fhir_decimal.proofs.Order.{answer_right}
