@@ -1,12 +1,14 @@
 -- Reading from left to right, and the grammar.
-use Rattle.std.proofs.Common.{◌≡◌, ℕ, Bool, true, false, not, ◌||◌, eqb, List, [], ◌∷◌, ◌++◌, Option, Some, None, MatchOption, option_map, option_and_then, refl, sym, ap, ap₂, subst, ◌∙◌, inl, inr}
+use Rattle.std.proofs.Common.{◌≡◌, ℕ, Bool, true, false, not, ◌||◌, eqb, List, [], ◌∷◌, ◌++◌, Option, Some, None, MatchOption, option_map, option_and_then}
+use Rattle.std.proofs.Common.{refl, sym, ap, ap₂, subst, ◌∙◌, inl, inr}
 use Rattle.std.specs.List.{list_all}
 use Rattle.std.proofs.lemmas.Bool.{cases_Bool, and_parts, and_from, eqb-true, ne_eqb, true≢false, false≢true}
 use Rattle.std.proofs.lemmas.List.{append-nil}
 use Rattle.std.specs.Char.{is_ascii_digit}
 use Rattle.fhir_json.specs.Bytes.{is_empty}
 use Rattle.fhir_decimal.specs.Text.{Parts, are_digits, is_whole, IsMinus, IsFraction, IsSign, IsExponent, IsDecimal}
-use Rattle.fhir_decimal.specs.Reading.{digits_of, after_digits, is_negative, after_minus, digits_and_rest, cut_some_digits, cut_fraction, lowers, after_sign, cut_exponent, parts_with, parts_behind, parts}
+use Rattle.fhir_decimal.specs.Reading.{digits_of, after_digits, is_negative, after_minus, digits_and_rest, cut_some_digits, cut_fraction, lowers, after_sign}
+use Rattle.fhir_decimal.specs.Reading.{cut_exponent, parts_with, parts_behind, parts}
 use Rattle.fhir_decimal.proofs.Steps.{some_is, no_some, some_then, chosen, Lacks, front_passes, front_again, rest_again, front_and_rest}
 
 -- ---- what is read has these parts
@@ -126,7 +128,8 @@ minus_again m rest n (inr e) stop = rw (e.0, e.1) (none rest stop)
     none [] h = (refl, refl)
     none (b ∷ bs) h = (h, rw h refl)
 
-sign_again : (s rest : List ℕ) (n : Bool) → IsSign s n → Lacks (λ b. eqb b 45) rest → Lacks (λ b. eqb b 43) rest → (lowers (s ++ rest) ≡ n) × (after_sign (s ++ rest) ≡ rest)
+sign_again : (s rest : List ℕ) (n : Bool) → IsSign s n → Lacks (λ b. eqb b 45) rest → Lacks (λ b. eqb b 43) rest
+    → (lowers (s ++ rest) ≡ n) × (after_sign (s ++ rest) ≡ rest)
 sign_again s rest n (inl e) minus plus = rw (e.0, e.1) (refl, refl)
 sign_again s rest n (inr (inl e, f)) minus plus = rw (e, f) (refl, refl)
 sign_again s rest n (inr (inr e, f)) minus plus = rw (e, f) (none rest minus plus)
@@ -160,7 +163,9 @@ exponent_begins p x l ds (inl h) small large = subst (λ (v : List ℕ). Lacks p
 exponent_again : (x : List ℕ) (l : Bool) (ds : List ℕ) → IsExponent x l ds → cut_exponent x ≡ Some (l, ds)
 exponent_again x l ds (inr e) = rw (e.0, e.1, e.2) refl
 exponent_again x l ds (inl h) =
-    let lack = λ (c : ℕ) (k : is_ascii_digit c ≡ false). subst (λ (w : List ℕ). Lacks (λ b. eqb b c) w) (append-nil ds) (digits_lack (λ b. eqb b c) ds [] h.are_digits (λ b d. digit_is_not b c d k)) in
+    let lack =
+    λ (c : ℕ) (k : is_ascii_digit c ≡ false). subst (λ (w : List ℕ). Lacks (λ b. eqb b c) w) (append-nil ds)
+    (digits_lack (λ b. eqb b c) ds [] h.are_digits (λ b d. digit_is_not b c d k)) in
     let s = sign_again h.sign ds l h.is_sign (lack 45 refl) (lack 43 refl) in
     ap cut_exponent h.text ∙ rw (h.is_letter, s.1, s.0, h.are_digits) refl
 
@@ -187,16 +192,21 @@ parts_again bs p h =
     let m = minus_again h.minus (p.whole ++ behind) p.negative h.is_minus whole_lacks in
     let negative : is_negative bs ≡ p.negative = ap is_negative h.text ∙ m.0 in
     let unsigned : after_minus bs ≡ p.whole ++ behind = ap after_minus h.text ∙ m.1 in
-    let whole : digits_of (after_minus bs) ≡ p.whole = ap digits_of unsigned ∙ front_again is_ascii_digit p.whole behind (all_of p.whole h.whole_digits) behind_digit in
-    let rest : after_digits (after_minus bs) ≡ behind = ap after_digits unsigned ∙ rest_again is_ascii_digit p.whole behind (all_of p.whole h.whole_digits) behind_digit in
+    let whole : digits_of (after_minus bs) ≡ p.whole =
+    ap digits_of unsigned ∙ front_again is_ascii_digit p.whole behind (all_of p.whole h.whole_digits) behind_digit in
+    let rest : after_digits (after_minus bs) ≡ behind =
+    ap after_digits unsigned ∙ rest_again is_ascii_digit p.whole behind (all_of p.whole h.whole_digits) behind_digit in
     let fraction = ap cut_fraction rest ∙ fraction_again h.fraction p.fraction h.exponent h.is_fraction end_digit end_point in
-    made (is_negative bs) (digits_of (after_minus bs)) (cut_fraction (after_digits (after_minus bs))) h.exponent negative whole fraction (exponent_again h.exponent p.lowers p.exponent h.is_exponent) h.is_whole
+    made (is_negative bs) (digits_of (after_minus bs)) (cut_fraction (after_digits (after_minus bs))) h.exponent negative whole fraction
+    (exponent_again h.exponent p.lowers p.exponent h.is_exponent) h.is_whole
   where
-    made : (n : Bool) (w : List ℕ) (f : Option (List ℕ × List ℕ)) (x : List ℕ) → n ≡ p.negative → w ≡ p.whole → f ≡ Some (p.fraction, x) → cut_exponent x ≡ Some (p.lowers, p.exponent) → is_whole p.whole ≡ true → option_and_then (parts_behind n w) f ≡ Some p
+    made : (n : Bool) (w : List ℕ) (f : Option (List ℕ × List ℕ)) (x : List ℕ) → n ≡ p.negative → w ≡ p.whole → f ≡ Some (p.fraction, x)
+        → cut_exponent x ≡ Some (p.lowers, p.exponent) → is_whole p.whole ≡ true → option_and_then (parts_behind n w) f ≡ Some p
     made n w f x a b c d e = rw (a, b, c, d, e) refl
 
 -- ---- what the program reads
 
-pub read_right : {D : Type 0} (seen : D → Parts) (bs : List ℕ) (o : Option D) → option_map seen o ≡ parts bs → MatchOption o ((p : Parts) → ¬ IsDecimal bs p) (λ d. IsDecimal bs (seen d))
+pub read_right : {D : Type 0} (seen : D → Parts) (bs : List ℕ) (o : Option D) → option_map seen o ≡ parts bs
+    → MatchOption o ((p : Parts) → ¬ IsDecimal bs p) (λ d. IsDecimal bs (seen d))
 read_right seen bs (Some d) e = parts_taken bs (seen d) (sym e)
 read_right seen bs None e = λ p h. no_some p (e ∙ parts_again bs p h)

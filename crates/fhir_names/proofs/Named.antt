@@ -11,7 +11,8 @@ use Rattle.std.proofs.lemmas.Map.Text.{is_eq-slice_cmp, btree_map_updates_text}
 use Rattle.std.proofs.lemmas.Slice.Eq.{bytes_eq-Decides}
 use Rattle.fhir_names.specs.Places.{by_name, Puts}
 
-pub lookup-named : {Y V : Type 0} (name : List ℕ) (es : List (String Y × V)) → lookup (is_at (λ k. slice_cmp nat_cmp name (string_bytes k))) es ≡ lookup (bytes_eq name) (by_name es)
+pub lookup-named : {Y V : Type 0} (name : List ℕ) (es : List (String Y × V))
+    → lookup (is_at (λ k. slice_cmp nat_cmp name (string_bytes k))) es ≡ lookup (bytes_eq name) (by_name es)
 lookup-named name [] = refl
 lookup-named {Y} {V} name (e ∷ es) =
     ap (λ (b : Bool). cond b (Some e.1) (lookup (is_at (λ k. slice_cmp nat_cmp name (string_bytes k))) es)) (is_eq-slice_cmp name (string_bytes e.0))

@@ -1,5 +1,6 @@
 -- Ids: what is read was written so, and what is written so is read.
-use Rattle.std.proofs.Common.{◌≡◌, ℕ, ◌<◌, ◌==◌, nat_le, Bool, true, false, not, ◌&&◌, cond, List, [], ◌∷◌, ◌++◌, length, map, Option, Some, None, Ok, Err, refl, sym, ap, subst, ◌∙◌, arith}
+use Rattle.std.proofs.Common.{◌≡◌, ℕ, ◌<◌, ◌==◌, nat_le, Bool, true, false, not, ◌&&◌, cond, List, [], ◌∷◌, ◌++◌, length, map, Option, Some, None, Ok, Err}
+use Rattle.std.proofs.Common.{refl, sym, ap, subst, ◌∙◌, arith}
 use Rattle.std.specs.List.{list_all, slice_split, onto_first, join_with_byte}
 use Rattle.std.specs.Option.{is_none, option_map_or, option_or}
 use Rattle.std.proofs.lemmas.Bool.{cond-true, cond-false, and_parts, and_from, not-true}
@@ -10,7 +11,8 @@ use Rattle.fhir_names.specs.declared.fault.NameFault.TheVariants.{Empty, SliceOf
 use Rattle.fhir_json.specs.Tree.{Text}
 use Rattle.fhir_json.specs.Bytes.{dot, slash, colon, is_empty}
 use Rattle.fhir_names.specs.Texts.{is_plain, lacks, cut_at_first}
-use Rattle.fhir_names.specs.Segments.{SegmentParts, segment_text, is_name, is_slice, is_segment, segment_parts, segments_of, slice_fault, segment_fault, first_fault, id_fault}
+use Rattle.fhir_names.specs.Segments.{SegmentParts, segment_text, is_name, is_slice, is_segment, segment_parts, segments_of, slice_fault, segment_fault}
+use Rattle.fhir_names.specs.Segments.{first_fault, id_fault}
 use Rattle.fhir_names.specs.Ids.{id_text, IsIdOf, read_id}
 use Rattle.fhir_names.proofs.Answered.{no_value, read_ok, if_plain, around}
 use Rattle.fhir_names.proofs.Cuts.{IsFirstCut, first_is, first_none, first_found, split_none, split_some}
@@ -31,7 +33,8 @@ or_none : (o : Option NameFault) → option_or o None ≡ o
 or_none None = refl
 or_none (Some x) = refl
 
-pub fault_some : (text : Text) (q : Text × Text) → cut_at_first dot text ≡ Some q → first_fault (segments_of text) ≡ option_or (segment_fault (segment_parts q.0)) (first_fault (segments_of q.1))
+pub fault_some : (text : Text) (q : Text × Text) → cut_at_first dot text ≡ Some q
+    → first_fault (segments_of text) ≡ option_or (segment_fault (segment_parts q.0)) (first_fault (segments_of q.1))
 fault_some text q e = ap first_fault (segments_some text q e)
 
 pub fault_none : (text : Text) → cut_at_first dot text ≡ None → first_fault (segments_of text) ≡ segment_fault (segment_parts text)
@@ -103,7 +106,8 @@ no_slash : (b : Bool) (f : NameFault) → cond b None (Some f) ≡ None → b �
 no_slash true f h = refl
 no_slash false f h = absurd (cc)
 
-segment_good : (s : Text) → IsWhole s → (r : Option (Text × Text)) → IsFirstCut colon s r → segment_fault (segment_parts_by s r) ≡ None → is_segment (segment_parts_by s r) ≡ true
+segment_good : (s : Text) → IsWhole s → (r : Option (Text × Text)) → IsFirstCut colon s r → segment_fault (segment_parts_by s r) ≡ None
+    → is_segment (segment_parts_by s r) ≡ true
 segment_good s w None h k =
     let name = no_fault s None k in
     and_from _ _ (name_from s name.0 w.0 w.1 h) refl
@@ -133,7 +137,8 @@ pub id_found : (text : Text) (ps : List SegmentParts) → read_id text ≡ Ok ps
 id_found text ps h =
     let read = read_ok (id_fault text) (segments_of text) ps h in
     let plain = if_plain (is_plain text) (first_fault (segments_of text)) read.0 in
-    let good : IsIdOf (segments_of text) text = (has_segment text (cut_at_first dot text) refl, segments_good (slice_split (λ b. b == dot) text) (all_whole text plain.0) plain.1, sym (joined text)) in
+    let good : IsIdOf (segments_of text) text =
+    (has_segment text (cut_at_first dot text) refl, segments_good (slice_split (λ b. b == dot) text) (all_whole text plain.0) plain.1, sym (joined text)) in
     subst (λ (qs : List SegmentParts). IsIdOf qs text) read.1 good
 
 -- ---- what is written so is read
@@ -160,13 +165,15 @@ faultless n (Some s) h =
     let slice = slice_parts s both.1 in
     cond-false _ _ _ (name_parts n both.0).0 ∙ cond-false _ _ _ slice.0 ∙ cond-true _ _ _ slice.3
 
-split_joined : (p : SegmentParts) (ps : List SegmentParts) → list_all is_segment (p ∷ ps) ≡ true → slice_split (λ b. b == dot) (id_text (p ∷ ps)) ≡ map segment_text (p ∷ ps)
+split_joined : (p : SegmentParts) (ps : List SegmentParts) → list_all is_segment (p ∷ ps) ≡ true
+    → slice_split (λ b. b == dot) (id_text (p ∷ ps)) ≡ map segment_text (p ∷ ps)
 split_joined p [] h =
     split_none dot (segment_text p) (first_none dot (segment_text p) (whole p.0 p.1 (and_parts (is_segment p) true h).0).1)
 split_joined p (q ∷ ps) h =
     let both = and_parts (is_segment p) (list_all is_segment (q ∷ ps)) h in
     let rest = id_text (q ∷ ps) in
-    split_some dot (segment_text p ++ dot ∷ rest) (segment_text p, rest) (first_found dot (segment_text p) rest (whole p.0 p.1 both.0).1) ∙ ap (λ l. segment_text p ∷ l) (split_joined q ps both.1)
+    split_some dot (segment_text p ++ dot ∷ rest) (segment_text p, rest) (first_found dot (segment_text p) rest (whole p.0 p.1 both.0).1)
+    ∙ ap (λ l. segment_text p ∷ l) (split_joined q ps both.1)
 
 plain_joined : (p : SegmentParts) (ps : List SegmentParts) → list_all is_segment (p ∷ ps) ≡ true → is_plain (id_text (p ∷ ps)) ≡ true
 plain_joined p [] h = (whole p.0 p.1 (and_parts (is_segment p) true h).0).0

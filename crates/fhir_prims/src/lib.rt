@@ -22,4 +22,5 @@ pub use laws::{
 };
 pub use moment::{Moment, cmp_moment};
 pub use prim::PrimType;
+pub use texts::is_uri;
 pub use values::lexical;
