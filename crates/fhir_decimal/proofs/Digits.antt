@@ -1,5 +1,6 @@
 -- The number that digits write, place by place.
-use Rattle.std.proofs.Common.{◌≡◌, ℕ, zero, suc, ◌+◌, ◌-◌, ◌*◌, ◌^◌, ◌<◌, ◌≤◌, min, Bool, true, false, not, List, [], ◌∷◌, length, refl, sym, ap, ap₂, ◌∙◌, arith, one-add}
+use Rattle.std.proofs.Common.{◌≡◌, ℕ, zero, suc, ◌+◌, ◌-◌, ◌*◌, ◌^◌, ◌<◌, ◌≤◌, min, Bool, true, false, not, List, [], ◌∷◌, length, refl, sym, ap, ap₂, ◌∙◌}
+use Rattle.std.proofs.Common.{arith, one-add}
 use Rattle.std.specs.Prelude.{if◌then◌else◌}
 use Rattle.std.proofs.Math.Nat.{pow-succ'}
 use Rattle.std.proofs.lemmas.Nat.{mul-le}
@@ -7,7 +8,7 @@ use Rattle.std.proofs.lemmas.Bool.{lt-ltb, le-ltb}
 use Rattle.fhir_decimal.specs.Value.{digit_value, number_of}
 use Rattle.std.proofs.lemmas.List.{length-append}
 use Rattle.fhir_decimal.specs.declared.rows.Row.{Row}
-use Rattle.fhir_decimal.specs.Rows.{digits_in, places_in, number_in, digit_in, digit_from, apart, stepped, signed_apart}
+use Rattle.fhir_decimal.specs.Rows.{digits_in, places_in, number_in, digit_in, digit_from, apart, next_apart, signed_apart}
 
 -- the number that the first digits write
 abbrev pub prefix : (ℕ → ℕ) → ℕ → ℕ
@@ -85,10 +86,13 @@ number_below (d ∷ ds) =
 
 -- ---- one digit more
 
-near_step : (far x y a b t : ℕ) → 2 ≤ far → a ≤ 18 → b ≤ 18 → t + b ≡ 18 + a → min (2 * far) ((10 * min (2 * far) ((far + x) - y) + t) - (9 * far + 18)) ≡ min (2 * far) ((far + (10 * x + a)) - (10 * y + b))
+near_step : (far x y a b t : ℕ) → 2 ≤ far → a ≤ 18 → b ≤ 18 → t + b ≡ 18 + a
+    → min (2 * far) ((10 * min (2 * far) ((far + x) - y) + t) - (9 * far + 18)) ≡ min (2 * far) ((far + (10 * x + a)) - (10 * y + b))
 near_step far x y a b t f p q e = omega arith
 
-pub apart_step : (far : ℕ) (s t : Bool) (x y a b : ℕ) → 2 ≤ far → a ≤ 9 → b ≤ 9 → stepped far (signed_apart far s x t y) ((if s then 9 - a else 9 + a) + (if not t then 9 - b else 9 + b)) ≡ signed_apart far s (10 * x + a) t (10 * y + b)
+pub apart_step : (far : ℕ) (s t : Bool) (x y a b : ℕ) → 2 ≤ far → a ≤ 9 → b ≤ 9
+    → next_apart far (signed_apart far s x t y) ((if s then 9 - a else 9 + a) + (if not t then 9 - b else 9 + b))
+    ≡ signed_apart far s (10 * x + a) t (10 * y + b)
 unfolding apart
 apart_step far true true x y a b f p q = omega arith
 apart_step far true false x y a b f p q = omega arith
@@ -108,13 +112,14 @@ apart_level far true false = omega arith
 apart_level far false true = omega arith
 apart_level far false false = omega arith
 
-pub place_step : (far : ℕ) (s t : Bool) (d e : ℕ → ℕ) (place before raise lower a b r : ℕ) → 2 ≤ far → before ≡ signed_apart far s (prefix d place) t (prefix e place) → a ≡ d place → b ≡ e place → a ≤ 9 → b ≤ 9
-    → raise ≡ (if s then 9 - a else 9 + a) → lower ≡ (if not t then 9 - b else 9 + b) → r ≡ stepped far before (raise + lower)
+pub place_step : (far : ℕ) (s t : Bool) (d e : ℕ → ℕ) (place before raise lower a b r : ℕ) → 2 ≤ far
+    → before ≡ signed_apart far s (prefix d place) t (prefix e place) → a ≡ d place → b ≡ e place → a ≤ 9 → b ≤ 9
+    → raise ≡ (if s then 9 - a else 9 + a) → lower ≡ (if not t then 9 - b else 9 + b) → r ≡ next_apart far before (raise + lower)
     → r ≡ signed_apart far s (prefix d (place + 1)) t (prefix e (place + 1))
 place_step far s t d e place before raise lower a b r f is here there p q up down now =
     let next : place + 1 ≡ suc place = omega arith in
     now
-    ∙ ap₂ (stepped far) is (ap₂ (λ (v w : ℕ). v + w) up down)
+    ∙ ap₂ (next_apart far) is (ap₂ (λ (v w : ℕ). v + w) up down)
     ∙ apart_step far s t (prefix d place) (prefix e place) a b f p q
     ∙ ap₂ (λ (v w : ℕ). signed_apart far s (10 * prefix d place + v) t (10 * prefix e place + w)) here there
     ∙ ap (λ (k : ℕ). signed_apart far s (prefix d k) t (prefix e k)) (sym next)
@@ -125,6 +130,7 @@ row_done r start n room e =
     let digits : length (digits_in r) ≡ length r.front.now + length r.back.now = length-append r.front.now r.back.now in
     row_number (digits_in r) start r.zeros n (omega arith)
 
-pub apart_same : (far : ℕ) (s s' t t' : Bool) (x x' y y' r : ℕ) → r ≡ signed_apart far s x t y → s ≡ s' → x ≡ x' → t ≡ t' → y ≡ y' → r ≡ signed_apart far s' x' t' y'
+pub apart_same : (far : ℕ) (s s' t t' : Bool) (x x' y y' r : ℕ) → r ≡ signed_apart far s x t y → s ≡ s' → x ≡ x' → t ≡ t' → y ≡ y'
+    → r ≡ signed_apart far s' x' t' y'
 apart_same far s s' t t' x x' y y' r h a b c d =
     h ∙ ap₂ (λ (u v : Bool). signed_apart far u x v y) a c ∙ ap₂ (λ (v w : ℕ). signed_apart far s' v t' w) b d

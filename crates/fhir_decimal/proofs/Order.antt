@@ -1,5 +1,6 @@
 -- The order of signed numbers and of values.
-use Rattle.std.proofs.Common.{◌≡◌, ℕ, zero, suc, ◌+◌, ◌-◌, ◌*◌, ◌^◌, ◌<◌, ◌≤◌, min, ◌++◌, length, Bool, true, false, refl, sym, ap, ap₂, ◌∙◌, arith, inl, inr, ◌⊎◌}
+use Rattle.std.proofs.Common.{◌≡◌, ℕ, zero, suc, ◌+◌, ◌-◌, ◌*◌, ◌^◌, ◌<◌, ◌≤◌, min, ◌++◌, length, Bool, true, false, refl, sym, ap, ap₂, ◌∙◌, arith, inl, inr}
+use Rattle.std.proofs.Common.{◌⊎◌}
 use Rattle.std.specs.Prelude.{if◌then◌else◌, ℤ, pos, negsuc, neg_ℤ, ◌*ℤ◌, ◌<ℤ◌}
 use Rattle.std.specs.declared.cmp.Ordering.{Ordering}
 use Rattle.std.specs.declared.cmp.Ordering.TheVariants.{Less, Equal, Greater}
@@ -11,7 +12,7 @@ use Rattle.std.proofs.lemmas.Bool.{cases_lt}
 use Rattle.std.proofs.Math.Nat.{mul_assoc, pow-succ', mul-lt-mul_of_pos_right, eq-zero-or-pos}
 use Rattle.std.proofs.lemmas.Nat.{mul-le, pow-add}
 use Rattle.fhir_decimal.specs.Text.{Parts}
-use Rattle.fhir_decimal.specs.Value.{Value, number_of, value_of, signed, whole_value, value_order, is_same_value}
+use Rattle.fhir_decimal.specs.Value.{Value, number_of, value_of, integer_of, whole_value, value_order, is_same_value}
 use Rattle.fhir_decimal.specs.Rows.{apart, sum_over, signed_apart}
 use Rattle.fhir_decimal.proofs.Digits.{number_below}
 
@@ -32,22 +33,25 @@ nat_same x y v w p q r = nat_cmp_is v w (nat_cmp x y) (matched (nat_cmp x y) (na
 abbrev pub signed_cmp : Bool → ℕ → Bool → ℕ → Ordering
 signed_cmp s x t y = nat_cmp (sum_over s x t y) (sum_over t y s x)
 
-pub int_cmp_signed : (s : Bool) (x : ℕ) (t : Bool) (y : ℕ) → int_cmp (signed s x) (signed t y) ≡ signed_cmp s x t y
-int_cmp_signed s x t y = sym (int_cmp_is (signed s x) (signed t y) (signed_cmp s x t y) (matched (signed_cmp s x t y) (nat_ranks (sum_over s x t y) (sum_over t y s x)) (below s x t y) (same s x t y) (above s x t y)))
+pub int_cmp_signed : (s : Bool) (x : ℕ) (t : Bool) (y : ℕ) → int_cmp (integer_of s x) (integer_of t y) ≡ signed_cmp s x t y
+int_cmp_signed s x t y =
+    let order = signed_cmp s x t y in
+    let ranks = nat_ranks (sum_over s x t y) (sum_over t y s x) in
+    sym (int_cmp_is (integer_of s x) (integer_of t y) order (matched order ranks (below s x t y) (same s x t y) (above s x t y)))
   where
-    below : (s : Bool) (x : ℕ) (t : Bool) (y : ℕ) → sum_over s x t y < sum_over t y s x → signed s x <ℤ signed t y
+    below : (s : Bool) (x : ℕ) (t : Bool) (y : ℕ) → sum_over s x t y < sum_over t y s x → integer_of s x <ℤ integer_of t y
     below true x true y h = omega (arith, ints)
     below true x false y h = omega (arith, ints)
     below false x true y h = omega (arith, ints)
     below false x false y h = omega (arith, ints)
 
-    same : (s : Bool) (x : ℕ) (t : Bool) (y : ℕ) → sum_over s x t y ≡ sum_over t y s x → signed s x ≡ signed t y
+    same : (s : Bool) (x : ℕ) (t : Bool) (y : ℕ) → sum_over s x t y ≡ sum_over t y s x → integer_of s x ≡ integer_of t y
     same true x true y h = omega (arith, ints)
     same true x false y h = omega (arith, ints)
     same false x true y h = omega (arith, ints)
     same false x false y h = omega (arith, ints)
 
-    above : (s : Bool) (x : ℕ) (t : Bool) (y : ℕ) → sum_over t y s x < sum_over s x t y → signed t y <ℤ signed s x
+    above : (s : Bool) (x : ℕ) (t : Bool) (y : ℕ) → sum_over t y s x < sum_over s x t y → integer_of t y <ℤ integer_of s x
     above s x t y h = below t y s x h
 
 pub apart_cmp : (far x y : ℕ) → 0 < far → nat_cmp (apart far x y) far ≡ nat_cmp x y
@@ -72,17 +76,33 @@ signed_times s t x y k p = ap₂ nat_cmp (times_sum s t x y k) (times_sum t s y 
 
 far_left : (s t : Bool) (x v y : ℕ) → ((x ≡ 0) × (v ≡ 0)) ⊎ ((y < x) × (y < v)) → signed_cmp s x t y ≡ signed_cmp s v t y
 far_left s t x v y (inl e) = ap (λ (z : ℕ). signed_cmp s z t y) (e.0 ∙ sym e.1)
-far_left true true x v y (inr h) = nat_same (sum_over true x true y) (sum_over true y true x) (sum_over true v true y) (sum_over true y true v) (λ k. omega arith) (λ k. omega arith) (λ k. omega arith)
-far_left true false x v y (inr h) = nat_same (sum_over true x false y) (sum_over false y true x) (sum_over true v false y) (sum_over false y true v) (λ k. omega arith) (λ k. omega arith) (λ k. omega arith)
-far_left false true x v y (inr h) = nat_same (sum_over false x true y) (sum_over true y false x) (sum_over false v true y) (sum_over true y false v) (λ k. omega arith) (λ k. omega arith) (λ k. omega arith)
-far_left false false x v y (inr h) = nat_same (sum_over false x false y) (sum_over false y false x) (sum_over false v false y) (sum_over false y false v) (λ k. omega arith) (λ k. omega arith) (λ k. omega arith)
+far_left true true x v y (inr h) =
+    nat_same (sum_over true x true y) (sum_over true y true x) (sum_over true v true y) (sum_over true y true v) (λ k. omega arith) (λ k. omega arith)
+    (λ k. omega arith)
+far_left true false x v y (inr h) =
+    nat_same (sum_over true x false y) (sum_over false y true x) (sum_over true v false y) (sum_over false y true v) (λ k. omega arith) (λ k. omega arith)
+    (λ k. omega arith)
+far_left false true x v y (inr h) =
+    nat_same (sum_over false x true y) (sum_over true y false x) (sum_over false v true y) (sum_over true y false v) (λ k. omega arith) (λ k. omega arith)
+    (λ k. omega arith)
+far_left false false x v y (inr h) =
+    nat_same (sum_over false x false y) (sum_over false y false x) (sum_over false v false y) (sum_over false y false v) (λ k. omega arith) (λ k. omega arith)
+    (λ k. omega arith)
 
 far_right : (s t : Bool) (x y v : ℕ) → ((y ≡ 0) × (v ≡ 0)) ⊎ ((x < y) × (x < v)) → signed_cmp s x t y ≡ signed_cmp s x t v
 far_right s t x y v (inl e) = ap (λ (z : ℕ). signed_cmp s x t z) (e.0 ∙ sym e.1)
-far_right true true x y v (inr h) = nat_same (sum_over true x true y) (sum_over true y true x) (sum_over true x true v) (sum_over true v true x) (λ k. omega arith) (λ k. omega arith) (λ k. omega arith)
-far_right true false x y v (inr h) = nat_same (sum_over true x false y) (sum_over false y true x) (sum_over true x false v) (sum_over false v true x) (λ k. omega arith) (λ k. omega arith) (λ k. omega arith)
-far_right false true x y v (inr h) = nat_same (sum_over false x true y) (sum_over true y false x) (sum_over false x true v) (sum_over true v false x) (λ k. omega arith) (λ k. omega arith) (λ k. omega arith)
-far_right false false x y v (inr h) = nat_same (sum_over false x false y) (sum_over false y false x) (sum_over false x false v) (sum_over false v false x) (λ k. omega arith) (λ k. omega arith) (λ k. omega arith)
+far_right true true x y v (inr h) =
+    nat_same (sum_over true x true y) (sum_over true y true x) (sum_over true x true v) (sum_over true v true x) (λ k. omega arith) (λ k. omega arith)
+    (λ k. omega arith)
+far_right true false x y v (inr h) =
+    nat_same (sum_over true x false y) (sum_over false y true x) (sum_over true x false v) (sum_over false v true x) (λ k. omega arith) (λ k. omega arith)
+    (λ k. omega arith)
+far_right false true x y v (inr h) =
+    nat_same (sum_over false x true y) (sum_over true y false x) (sum_over false x true v) (sum_over true v false x) (λ k. omega arith) (λ k. omega arith)
+    (λ k. omega arith)
+far_right false false x y v (inr h) =
+    nat_same (sum_over false x false y) (sum_over false y false x) (sum_over false x false v) (sum_over false v false x) (λ k. omega arith) (λ k. omega arith)
+    (λ k. omega arith)
 
 pub ten_pos : (k : ℕ) → 0 < 10 ^ k
 ten_pos zero = omega arith
@@ -121,7 +141,8 @@ lowered n low k = ap (λ (z : ℕ). n * z) (pow-add 10 low k) ∙ regrouped n (1
 one_time : (n : ℕ) → n ≡ n * 10 ^ 0
 one_time n = omega arith
 
-pub above_right : (s t : Bool) (n m low k b zeros : ℕ) → m < 10 ^ b → IsZeros zeros k b → signed_cmp s (n * 10 ^ (low + k)) t (m * 10 ^ low) ≡ signed_cmp s (n * 10 ^ zeros) t (m * 10 ^ 0)
+pub above_right : (s t : Bool) (n m low k b zeros : ℕ) → m < 10 ^ b → IsZeros zeros k b
+    → signed_cmp s (n * 10 ^ (low + k)) t (m * 10 ^ low) ≡ signed_cmp s (n * 10 ^ zeros) t (m * 10 ^ 0)
 above_right s t n m low k b zeros small h =
     ap (λ (z : ℕ). signed_cmp s z t (m * 10 ^ low)) (lowered n low k)
     ∙ signed_times s t (n * 10 ^ k) m (10 ^ low) (ten_pos low)
@@ -132,7 +153,8 @@ above_right s t n m low k b zeros small h =
     fewer (inl e) = ap (λ (z : ℕ). signed_cmp s (n * 10 ^ z) t m) (sym e)
     fewer (inr e) = far_left s t (n * 10 ^ k) (n * 10 ^ b) m (zeros_enough n m b k small e.1) ∙ ap (λ (z : ℕ). signed_cmp s (n * 10 ^ z) t m) (sym e.0)
 
-pub below_left : (s t : Bool) (n m low k a zeros : ℕ) → n < 10 ^ a → IsZeros zeros k a → signed_cmp s (n * 10 ^ low) t (m * 10 ^ (low + k)) ≡ signed_cmp s (n * 10 ^ 0) t (m * 10 ^ zeros)
+pub below_left : (s t : Bool) (n m low k a zeros : ℕ) → n < 10 ^ a → IsZeros zeros k a
+    → signed_cmp s (n * 10 ^ low) t (m * 10 ^ (low + k)) ≡ signed_cmp s (n * 10 ^ 0) t (m * 10 ^ zeros)
 below_left s t n m low k a zeros small h =
     ap (λ (z : ℕ). signed_cmp s (n * 10 ^ low) t z) (lowered m low k)
     ∙ signed_times s t n (m * 10 ^ k) (10 ^ low) (ten_pos low)
@@ -146,9 +168,11 @@ below_left s t n m low k a zeros small h =
 -- how many zeros the program puts behind each
 abbrev pub Placed : ℕ → ℕ → ℕ → ℕ → ℕ → ℕ → Type 0
 Placed up other_up zeros other_zeros digits other_digits =
-    ((k : ℕ) × (up ≡ other_up + k) × (other_zeros ≡ 0) × IsZeros zeros k other_digits) ⊎ ((k : ℕ) × (other_up ≡ up + k) × (zeros ≡ 0) × IsZeros other_zeros k digits)
+    ((k : ℕ) × (up ≡ other_up + k) × (other_zeros ≡ 0) × IsZeros zeros k other_digits) ⊎
+    ((k : ℕ) × (other_up ≡ up + k) × (zeros ≡ 0) × IsZeros other_zeros k digits)
 
-pub placed : (far x y f g a b e zeros other_zeros : ℕ) → e ≡ apart far x y → zeros ≡ min ((e + g) - (far + f)) b → other_zeros ≡ min ((far + f) - (e + g)) a → b + f ≤ far → a + g ≤ far → Placed (x + g) (y + f) zeros other_zeros a b
+pub placed : (far x y f g a b e zeros other_zeros : ℕ) → e ≡ apart far x y → zeros ≡ min ((e + g) - (far + f)) b → other_zeros ≡ min ((far + f) - (e + g)) a
+    → b + f ≤ far → a + g ≤ far → Placed (x + g) (y + f) zeros other_zeros a b
 unfolding apart
 placed far x y f g a b e zeros other_zeros is left right p q =
     elim (cases_lt (x + g) (y + f)) [
@@ -162,7 +186,8 @@ placed far x y f g a b e zeros other_zeros is left right p q =
     below : x + g < y + f → IsZeros other_zeros (y + f - (x + g)) a
     below less = elim (cases_lt (y + f - (x + g)) a) [ inl few ↦ inl (omega arith) | inr many ↦ inr (omega arith, omega arith) ]
 
-pub placed_order : (s t : Bool) (n m up other_up left right a b : ℕ) → n < 10 ^ a → m < 10 ^ b → Placed up other_up left right a b → signed_cmp s (n * 10 ^ up) t (m * 10 ^ other_up) ≡ signed_cmp s (n * 10 ^ left) t (m * 10 ^ right)
+pub placed_order : (s t : Bool) (n m up other_up left right a b : ℕ) → n < 10 ^ a → m < 10 ^ b → Placed up other_up left right a b
+    → signed_cmp s (n * 10 ^ up) t (m * 10 ^ other_up) ≡ signed_cmp s (n * 10 ^ left) t (m * 10 ^ right)
 placed_order s t n m up other_up left right a b p q (inl h) =
     ap (λ (z : ℕ). signed_cmp s (n * 10 ^ z) t (m * 10 ^ other_up)) h.1 ∙ above_right s t n m other_up h.0 b left q h.3
     ∙ ap (λ (z : ℕ). signed_cmp s (n * 10 ^ left) t (m * 10 ^ z)) (sym h.2)
@@ -172,7 +197,7 @@ placed_order s t n m up other_up left right a b p q (inr h) =
 
 -- ---- whole values
 
-pub times_signed : (s : Bool) (n k : ℕ) → signed s n *ℤ pos k ≡ signed s (n * k)
+pub times_signed : (s : Bool) (n k : ℕ) → integer_of s n *ℤ pos k ≡ integer_of s (n * k)
 times_signed true zero k = ap pos (zero_times k) ∙ ap (λ (z : ℕ). neg_ℤ (pos z)) (sym (zero_times k))
   where
     zero_times : (k : ℕ) → 0 * k ≡ 0
@@ -180,8 +205,10 @@ times_signed true zero k = ap pos (zero_times k) ∙ ap (λ (z : ℕ). neg_ℤ (
 times_signed true (suc n) k = refl
 times_signed false n k = refl
 
-pub whole_order : (s t : Bool) (n m up other_up : ℕ) → int_cmp (signed s n *ℤ pos (10 ^ up)) (signed t m *ℤ pos (10 ^ other_up)) ≡ signed_cmp s (n * 10 ^ up) t (m * 10 ^ other_up)
-whole_order s t n m up other_up = ap₂ int_cmp (times_signed s n (10 ^ up)) (times_signed t m (10 ^ other_up)) ∙ int_cmp_signed s (n * 10 ^ up) t (m * 10 ^ other_up)
+pub whole_order : (s t : Bool) (n m up other_up : ℕ)
+    → int_cmp (integer_of s n *ℤ pos (10 ^ up)) (integer_of t m *ℤ pos (10 ^ other_up)) ≡ signed_cmp s (n * 10 ^ up) t (m * 10 ^ other_up)
+whole_order s t n m up other_up =
+    ap₂ int_cmp (times_signed s n (10 ^ up)) (times_signed t m (10 ^ other_up)) ∙ int_cmp_signed s (n * 10 ^ up) t (m * 10 ^ other_up)
 
 -- ---- the order is total
 
@@ -196,13 +223,13 @@ times_cmp x y k p =
     ∙ sym (int_cmp_signed a.0 a.1 b.0 b.1)
     ∙ ap₂ int_cmp (sym a.2) (sym b.2)
   where
-    as_signed : (x : ℤ) → (s : Bool) × (n : ℕ) × (x ≡ signed s n)
+    as_signed : (x : ℤ) → (s : Bool) × (n : ℕ) × (x ≡ integer_of s n)
     as_signed (pos n) = (false, n, refl)
     as_signed (negsuc n) = (true, suc n, refl)
 
 times_times : (x : ℤ) (j k : ℕ) → (x *ℤ pos j) *ℤ pos k ≡ x *ℤ pos (j * k)
 times_times (pos n) j k = ap pos (mul_assoc n j k)
-times_times (negsuc n) j k = times_signed true (suc n * j) k ∙ ap (signed true) (mul_assoc (suc n) j k)
+times_times (negsuc n) j k = times_signed true (suc n * j) k ∙ ap (integer_of true) (mul_assoc (suc n) j k)
 
 -- a value times the power of ten that makes it and two others whole
 abbrev pub wide : Value → ℕ → ℕ → ℤ
@@ -241,9 +268,11 @@ unfolding value_order
 total_order = record {
   antisymm = λ a b. int_cmp_total.antisymm (whole_value a b.down) (whole_value b a.down);
   trans = λ a b c h k.
-      outer_two a b c ∙ int_cmp_total.trans (wide a b.down c.down) (wide b a.down c.down) (wide c a.down b.down) (sym (first_two a b c) ∙ h) (sym (last_two a b c) ∙ k);
+      outer_two a b c
+      ∙ int_cmp_total.trans (wide a b.down c.down) (wide b a.down c.down) (wide c a.down b.down) (sym (first_two a b c) ∙ h) (sym (last_two a b c) ∙ k);
   congr = λ a b c h.
-      outer_two a b c ∙ int_cmp_total.congr (wide a b.down c.down) (wide b a.down c.down) (wide c a.down b.down) (sym (first_two a b c) ∙ h) ∙ sym (last_two a b c);
+      outer_two a b c ∙ int_cmp_total.congr (wide a b.down c.down) (wide b a.down c.down) (wide c a.down b.down) (sym (first_two a b c) ∙ h)
+      ∙ sym (last_two a b c);
 }
 
 pub same_value_equivalence : IsEquivalence is_same_value
@@ -281,6 +310,6 @@ answer_right p q far e zeros other_zeros last r f is left right room other_room 
     ∙ apart_cmp far (sum_over s v t w) (sum_over t w s v) f
     ∙ sym (placed_order s t n m up other_up zeros other_zeros (length a) (length b) (number_below a) (number_below b) here)
     ∙ sym (whole_order s t n m up other_up)
-    ∙ ap₂ (λ (i j : ℕ). int_cmp (signed s n *ℤ pos (10 ^ i)) (signed t m *ℤ pos (10 ^ j)))
+    ∙ ap₂ (λ (i j : ℕ). int_cmp (integer_of s n *ℤ pos (10 ^ i)) (integer_of t m *ℤ pos (10 ^ j)))
     (regroup (if p.lowers then 0 else number_of p.exponent) (if q.lowers then number_of q.exponent else 0) (length q.fraction))
     (regroup (if q.lowers then 0 else number_of q.exponent) (if p.lowers then number_of p.exponent else 0) (length p.fraction))

@@ -1,5 +1,5 @@
 pub mod Text
 pub mod Reading
 pub mod Value
-pub mod Seen
+pub mod Views
 pub mod Rows

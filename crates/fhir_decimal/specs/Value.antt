@@ -1,8 +1,11 @@
 -- What a decimal means, and the order of such meanings.
-use Rattle.std.specs.Prelude.{ℕ, ◌+◌, ◌-◌, ◌*◌, ◌^◌, ℤ, pos, neg_ℤ, ◌*ℤ◌, List, [], ◌∷◌, ◌++◌, length, Bool, if◌then◌else◌}
+use Rattle.std.specs.Prelude.{ℕ, ◌+◌, ◌-◌, ◌*◌, ◌^◌, ℤ, pos, neg_ℤ, ◌*ℤ◌, [], ◌∷◌, ◌++◌, length, Bool, if◌then◌else◌}
 use Rattle.std.specs.declared.cmp.Ordering.{Ordering}
 use Rattle.std.specs.Ordering.{int_cmp, is_eq}
-use Rattle.fhir_decimal.specs.Text.{Parts, is_digit}
+use Rattle.std.specs.Char.{is_ascii_digit}
+use Rattle.fhir_json.specs.Tree.{Text}
+use Rattle.fhir_json.specs.Bytes.{digit_zero}
+use Rattle.fhir_decimal.specs.Text.{Parts}
 
 -- `mantissa * 10 ^ up / 10 ^ down`
 pub record Value : Type 0 where
@@ -12,20 +15,20 @@ pub record Value : Type 0 where
 
 -- a digit's value. Another byte has none, and stands in no decimal
 abbrev pub digit_value : ℕ → ℕ
-digit_value b = if is_digit b then b - 48 else 0
+digit_value b = if is_ascii_digit b then b - digit_zero else 0
 
 -- the number that digits write
-abbrev pub number_of : List ℕ → ℕ
+abbrev pub number_of : Text → ℕ
 number_of [] = 0
 number_of (d ∷ ds) = digit_value d * 10 ^ length ds + number_of ds
 
-abbrev pub signed : Bool → ℕ → ℤ
-signed negative n = if negative then neg_ℤ (pos n) else pos n
+abbrev pub integer_of : Bool → ℕ → ℤ
+integer_of negative n = if negative then neg_ℤ (pos n) else pos n
 
 -- the digits without the point, times ten to the exponent less the number of digits behind the point
 unfoldable pub value_of : Parts → Value
 value_of p = record {
-  mantissa = signed p.negative (number_of (p.whole ++ p.fraction));
+  mantissa = integer_of p.negative (number_of (p.whole ++ p.fraction));
   up = if p.lowers then 0 else number_of p.exponent;
   down = length p.fraction + (if p.lowers then number_of p.exponent else 0);
 }

@@ -1,11 +1,11 @@
 //! A decimal: its text's parts, and the order of its value.
 
 ghost use Rattle.std.specs.Prelude.{◌≡◌, ◌*◌, ◌^◌, ◌++◌, length, option_map, MatchOption};
-ghost use Rattle.fhir_decimal.specs.Text.{Parts, IsDecimal, unsigned};
+ghost use Rattle.fhir_decimal.specs.Text.{Parts, IsDecimal, unsigned_parts};
 ghost use Rattle.fhir_decimal.specs.Reading.{parts};
 ghost use Rattle.fhir_decimal.specs.Value.{number_of, value_of, value_order, is_same_value};
 ghost use Rattle.fhir_decimal.specs.Rows.{number_in};
-ghost use Rattle.fhir_decimal.specs.Seen.{parts_seen};
+ghost use Rattle.fhir_decimal.specs.Views.{parts_seen};
 
 use crate::reading::{cut_digits, cut_exponent, cut_fraction, cut_minus, is_whole};
 use crate::rows::{FAR, Row, rows_apart};
@@ -55,7 +55,7 @@ impl<'a> Decimal<'a> {
     /// The decimal of the digits before a point and behind it, as those of seconds, which may begin with a 0 and have
     /// no sign and no exponent. A byte that is no digit counts as 0.
     pub fn of_digits(whole: &'a [u8], fraction: &'a [u8]) -> Decimal<'a>
-        ensures { parts_seen result ≡ unsigned whole.now fraction.now }
+        ensures { parts_seen result ≡ unsigned_parts whole.now fraction.now }
     {
         Decimal {
             negative: false,

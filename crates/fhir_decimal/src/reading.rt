@@ -2,14 +2,9 @@
 
 ghost use Rattle.std.specs.Prelude.{◌≡◌, option_map};
 ghost use Rattle.std.specs.List.{list_all};
-ghost use Rattle.fhir_decimal.specs.Text.{is_digit, is_whole, are_digits};
+ghost use Rattle.std.specs.Char.{is_ascii_digit};
+ghost use Rattle.fhir_decimal.specs.Text.{is_whole, are_digits};
 ghost use Rattle.fhir_decimal.specs.Reading.{digits_of, after_digits, is_negative, after_minus, cut_some_digits, cut_fraction, cut_exponent, lowers, after_sign};
-
-pub(crate) fn is_digit(byte: u8) -> bool
-    ensures { result ≡ is_digit byte }
-{
-    byte >= b'0' && byte <= b'9'
-}
 
 // The digits that the text begins with, and what stands behind them.
 pub(crate) fn cut_digits(text: &[u8]) -> (&[u8], &[u8])
@@ -17,7 +12,7 @@ pub(crate) fn cut_digits(text: &[u8]) -> (&[u8], &[u8])
     ensures rest { result.1.now ≡ after_digits text.now }
 {
     let mut count = 0;
-    while count < text.len() && is_digit(text[count]) {
+    while count < text.len() && text[count].is_ascii_digit() {
         count += 1;
     }
     text.split_at(count)
@@ -77,9 +72,9 @@ fn cut_sign(text: &[u8]) -> (bool, &[u8])
 }
 
 fn all_digits(text: &[u8]) -> bool
-    ensures { result ≡ list_all is_digit text.now }
+    ensures { result ≡ list_all is_ascii_digit text.now }
 {
-    text.iter().all(|byte| is_digit(*byte))
+    text.iter().all(|byte| byte.is_ascii_digit())
 }
 
 // One digit or more, and nothing else.

@@ -1,11 +1,8 @@
 //! Whole numbers as rows of digits, and how far one is above another.
 
 ghost use Rattle.std.specs.Prelude.{◌≡◌, ◌+◌, ◌-◌, ◌*◌, ◌≤◌, ◌<◌, ◌^◌, ◌++◌, length, if◌then◌else◌};
-ghost use Rattle.fhir_decimal.specs.Text.{is_digit};
 ghost use Rattle.fhir_decimal.specs.Value.{digit_value};
-ghost use Rattle.fhir_decimal.specs.Rows.{digits_in, number_in, places_in, digit_in, digit_from, apart, stepped, signed_apart};
-
-use crate::reading::is_digit;
+ghost use Rattle.fhir_decimal.specs.Rows.{digits_in, number_in, places_in, digit_in, digit_from, apart, next_apart, signed_apart};
 
 /// More than the lengths of any two texts together. A difference of two numbers is of use only as far as this.
 pub(crate) const FAR: u128 = 1 << 66;
@@ -23,7 +20,11 @@ fn digit_value(byte: u8) -> u8
     ensures value { result ≡ digit_value byte }
     ensures small { result ≤ 9 }
 {
-    if is_digit(byte) { byte - b'0' } else { 0 }
+    if byte.is_ascii_digit() {
+        byte - b'0'
+    } else {
+        0
+    }
 }
 
 fn digit_in(front: &[u8], back: &[u8], place: u128) -> u8
@@ -75,7 +76,7 @@ fn tilt(negative: bool, digit: u8) -> u128
 fn next_apart(apart: u128, tilts: u128) -> u128
     requires near { apart ≤ 2 * FAR }
     requires small { tilts ≤ 36 }
-    ensures { result ≡ stepped FAR apart tilts }
+    ensures { result ≡ next_apart FAR apart tilts }
 {
     (10 * apart + tilts)
         .saturating_sub(9 * FAR + 18)

@@ -49,6 +49,9 @@ equals_sign = 61
 abbrev pub letter_E : ℕ
 letter_E = 69
 
+abbrev pub letter_T : ℕ
+letter_T = 84
+
 abbrev pub open_bracket : ℕ
 open_bracket = 91
 
@@ -66,6 +69,9 @@ letter_e = 101
 
 abbrev pub letter_f : ℕ
 letter_f = 102
+
+abbrev pub letter_h : ℕ
+letter_h = 104
 
 abbrev pub letter_n : ℕ
 letter_n = 110

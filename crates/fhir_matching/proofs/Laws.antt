@@ -5,7 +5,8 @@ use Rattle.std.proofs.lemmas.Bool.{and_parts, and_from, false≢true}
 use Rattle.fhir_json.specs.Tree.{Text, Tree, null, boolean, number, string, array, object, Items, no_items, item, Members, no_members, member, names}
 use Rattle.fhir_json.specs.Sound.{differ, sound, items_sound, members_sound}
 use Rattle.fhir_matching.specs.Equality.{same_flag, equal, items_equal, members_within, are_among}
-use Rattle.fhir_matching.proofs.Members.{same_text, text_is, are_among-from, are_among-at, StandsIn, stands-named, named-stands, passing-stands, stands-passing, members_within-from, members_within-at, stands-sound, stands-once}
+use Rattle.fhir_matching.proofs.Members.{same_text, text_is, are_among-from, are_among-at, StandsIn, stands-named, named-stands, passing-stands, stands-passing}
+use Rattle.fhir_matching.proofs.Members.{members_within-from, members_within-at, stands-sound, stands-once}
 
 same_flag-refl : (b : Bool) → same_flag b b ≡ true
 same_flag-refl true = refl

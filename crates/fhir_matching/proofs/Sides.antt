@@ -1,5 +1,6 @@
 -- A member or a name that is looked for on both sides of a place.
-use Rattle.std.proofs.Common.{◌≡◌, ℕ, suc, Bool, true, false, ◌&&◌, ◌||◌, List, [], ◌∷◌, ◌++◌, take, drop, length, get_or, ◌+◌, ◌-◌, ◌<◌, add-one, eqb, refl, sym, ap, ◌∙◌, arith, rules}
+use Rattle.std.proofs.Common.{◌≡◌, ℕ, suc, Bool, true, false, ◌&&◌, ◌||◌, List, [], ◌∷◌, ◌++◌, take, drop, length, get_or, ◌+◌, ◌-◌, ◌<◌, add-one, eqb, refl}
+use Rattle.std.proofs.Common.{sym, ap, ◌∙◌, arith, rules}
 use Rattle.std.specs.Str.{bytes_eq}
 use Rattle.std.specs.Cow.{cow_str_bytes}
 use Rattle.std.proofs.lemmas.Bool.{ne_eqb, false≢true}
@@ -50,7 +51,8 @@ passing_append name p (m ∷ xs) ys =
 pub naming_append : (name : Text) (xs ys : List Member) → naming name (xs ++ ys) ≡ (naming name xs || naming name ys)
 naming_append name [] ys = refl
 naming_append name (m ∷ xs) ys =
-    ap (λ (b : Bool). bytes_eq name (property_of m).0 || b) (naming_append name xs ys) ∙ or_regroup (bytes_eq name (property_of m).0) (naming name xs) (naming name ys)
+    ap (λ (b : Bool). bytes_eq name (property_of m).0 || b) (naming_append name xs ys)
+    ∙ or_regroup (bytes_eq name (property_of m).0) (naming name xs) (naming name ys)
 
 -- ---- a member at a place, and those on either side of it
 

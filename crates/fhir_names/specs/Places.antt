@@ -3,24 +3,25 @@ use Rattle.std.specs.Prelude.{◌≡◌, ℕ, List, map, String, string_bytes, O
 use Rattle.std.specs.List.{position_from}
 use Rattle.std.specs.Map.{lookup}
 use Rattle.std.specs.Str.{bytes_eq}
+use Rattle.fhir_json.specs.Tree.{Text}
 
 -- names, each with a place
 abbrev pub Places : Type 0
-Places = List (List ℕ × ℕ)
+Places = List (Text × ℕ)
 
 -- the entries of a map, with each key as its bytes
-abbrev pub by_name : {Y V : Type 0} → List (String Y × V) → List (List ℕ × V)
+abbrev pub by_name : {Y V : Type 0} → List (String Y × V) → List (Text × V)
 by_name es = map (λ e. (string_bytes e.0, e.1)) es
 
 -- the place of a name, if it has one
-abbrev pub place_of : Places → List ℕ → Option ℕ
+abbrev pub place_of : Places → Text → Option ℕ
 place_of places name = lookup (bytes_eq name) places
 
 -- the name has that place, and each other name the place that it had
-abbrev pub Puts : Places → Places → List ℕ → ℕ → Type 0
+abbrev pub Puts : Places → Places → Text → ℕ → Type 0
 Puts old new name place =
-    (other : List ℕ) → place_of new other ≡ (if bytes_eq other name then Some place else place_of old other)
+    (other : Text) → place_of new other ≡ (if bytes_eq other name then Some place else place_of old other)
 
 -- each name of the list has the place at which it first stands there, and no other name has one
-abbrev pub Finds : Places → List (List ℕ) → Type 0
-Finds places names = (name : List ℕ) → place_of places name ≡ position_from (bytes_eq name) 0 names
+abbrev pub Finds : Places → List Text → Type 0
+Finds places names = (name : Text) → place_of places name ≡ position_from (bytes_eq name) 0 names

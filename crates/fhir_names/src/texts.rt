@@ -1,7 +1,8 @@
 //! Where texts are cut.
 
 ghost use Rattle.std.specs.Prelude.{◌≡◌, ◌∷◌, ◌++◌, option_map, IfSome};
-ghost use Rattle.fhir_names.specs.Texts.{dot, slash, colon, bar, is_plain, lacks, cut_at_first, cut_at_last};
+ghost use Rattle.fhir_json.specs.Bytes.{dot, slash, colon, bar};
+ghost use Rattle.fhir_names.specs.Texts.{is_plain, lacks, cut_at_first, cut_at_last};
 
 pub(crate) fn cut_at_dot(text: &str) -> Option<(&str, &str)>
     ensures parts { option_map (λ p. (p.0.now, p.1.now)) result ≡ cut_at_first dot text.now }

@@ -1,42 +1,46 @@
 -- What the cut of a written time and a written moment gives, and that the parts pass the tests.
-use Rattle.std.proofs.Common.{◌≡◌, ◌∙◌, ap, ap₂, refl, sym, ℕ, ◌+◌, ◌*◌, ◌%◌, ◌/◌, ◌≤◌, List, [], ◌∷◌, ◌++◌, length, take, drop, Bool, true, ◌&&◌, ◌==◌, nat_le, nat_lt, one-add, arith}
+use Rattle.std.proofs.Common.{◌≡◌, ◌∙◌, ap, ap₂, refl, sym, ℕ, ◌+◌, ◌*◌, ◌%◌, ◌/◌, ◌≤◌, List, [], ◌∷◌, ◌++◌, length, take, drop, Bool, true, ◌&&◌, ◌==◌, nat_le}
+use Rattle.std.proofs.Common.{one-add, arith, not}
 use Rattle.std.specs.Prelude.{codes, if◌then◌else◌}
-use Rattle.std.specs.List.{prefix_len}
+use Rattle.std.specs.List.{prefix_len, list_all}
 use Rattle.std.proofs.Math.Seq.{take-append_seam, drop-append_seam}
 use Rattle.std.proofs.lemmas.List.{append-nil}
-use Rattle.std.proofs.lemmas.Bool.{and_parts, and_from, or_left, or_right, leb-true, lt-ltb, cond-true}
+use Rattle.std.proofs.lemmas.Bool.{and_parts, and_from, or_left, or_right, leb-true, cond-true}
 use Rattle.fhir_prims.specs.declared.calendar.Day.{Day}
-use Rattle.fhir_prims.specs.Bytes.{is_digit, all_digits}
+use Rattle.std.specs.Char.{is_ascii_digit}
+use Rattle.fhir_json.specs.Bytes.{is_empty}
 use Rattle.fhir_prims.specs.Shapes.{has_shape, pair_at}
 use Rattle.fhir_prims.specs.Cut.{TimeParts, MomentParts, fraction_len, cut_time, cut_moment}
-use Rattle.fhir_prims.specs.Moments.{is_leap, is_short_month, year_of, is_in_calendar, has_day, is_day_text, is_time_of_day, is_clock, is_fraction, is_offset_form, is_offset_size, is_zone, has_clock, is_moment}
+use Rattle.fhir_prims.specs.Moments.{is_leap, is_short_month, year_of, is_in_calendar, has_day, is_day_text, is_time_of_day, is_clock, is_fraction}
+use Rattle.fhir_prims.specs.Moments.{is_offset_form, is_offset_size, is_zone, has_clock, is_moment}
 use Rattle.fhir_prims.specs.Calendar.{is_day}
 use Rattle.fhir_prims.specs.Utc.{day_at}
-use Rattle.fhir_prims.specs.Written.{is_offset, Clock, Zone, utc, ahead, behind, day_text, fraction_text, clock_text, zone_text, is_possible_clock, is_possible_zone}
+use Rattle.fhir_prims.specs.Written.{is_offset, Clock, Zone, utc, ahead, behind, day_text, fraction_text, clock_text, zone_text, is_possible_clock}
+use Rattle.fhir_prims.specs.Written.{is_possible_zone}
 use Rattle.fhir_prims.proofs.Days.{day_parts}
 use Rattle.fhir_prims.proofs.Forms.{two_fit, hms_text}
 
 -- ---- the cut
 
-digits_stop : (ds z : List ℕ) → all_digits ds ≡ true → prefix_len is_digit z ≡ 0 → prefix_len is_digit (ds ++ z) ≡ length ds
+digits_stop : (ds z : List ℕ) → list_all is_ascii_digit ds ≡ true → prefix_len is_ascii_digit z ≡ 0 → prefix_len is_ascii_digit (ds ++ z) ≡ length ds
 digits_stop [] z are none = none
 digits_stop (d ∷ ds) z are none =
-    let both = and_parts (is_digit d) (all_digits ds) are in
-    cond-true (is_digit d) (1 + prefix_len is_digit (ds ++ z)) 0 both.0 ∙ ap (λ k. 1 + k) (digits_stop ds z both.1 none) ∙ one-add (length ds)
+    let both = and_parts (is_ascii_digit d) (list_all is_ascii_digit ds) are in
+    cond-true (is_ascii_digit d) (1 + prefix_len is_ascii_digit (ds ++ z)) 0 both.0 ∙ ap (λ k. 1 + k) (digits_stop ds z both.1 none) ∙ one-add (length ds)
 
 -- no digit and no point stands first
 pub record StopsFraction (z : List ℕ) : Type 0 where
-  pub no_digit : prefix_len is_digit z ≡ 0
+  pub no_digit : prefix_len is_ascii_digit z ≡ 0
   pub no_point : fraction_len z ≡ 0
 
-fraction_stop : (f z : List ℕ) → all_digits f ≡ true → StopsFraction z → fraction_len (fraction_text f ++ z) ≡ length (fraction_text f)
+fraction_stop : (f z : List ℕ) → list_all is_ascii_digit f ≡ true → StopsFraction z → fraction_len (fraction_text f ++ z) ≡ length (fraction_text f)
 fraction_stop [] z are stops = stops.no_point
 fraction_stop (b ∷ bs) z are stops = ap (λ k. 1 + k) (digits_stop (b ∷ bs) z are stops.no_digit) ∙ one-add (length (b ∷ bs))
 
 abbrev pub time_parts : Clock → List ℕ → TimeParts
 time_parts c z = record { clock = hms_text c.hour c.minute c.second; fraction = fraction_text c.fraction; zone = z }
 
-cut_written : (c : Clock) (z : List ℕ) → all_digits c.fraction ≡ true → StopsFraction z → cut_time (clock_text c ++ z) ≡ time_parts c z
+cut_written : (c : Clock) (z : List ℕ) → list_all is_ascii_digit c.fraction ≡ true → StopsFraction z → cut_time (clock_text c ++ z) ≡ time_parts c z
 cut_written c z are stops =
     let f = fraction_text c.fraction in
     let clock = hms_text c.hour c.minute c.second in
@@ -52,7 +56,8 @@ zone_stops (behind h m) = record { no_digit = refl; no_point = refl }
 pub time_cut : (c : Clock) → is_possible_clock c ≡ true → cut_time (clock_text c) ≡ time_parts c []
 time_cut c is =
     ap cut_time (sym (append-nil (clock_text c)))
-    ∙ cut_written c [] (and_parts (is_time_of_day c.hour c.minute c.second) (all_digits c.fraction) is).1 (record { no_digit = refl; no_point = refl })
+    ∙ cut_written c [] (and_parts (is_time_of_day c.hour c.minute c.second) (list_all is_ascii_digit c.fraction) is).1
+    (record { no_digit = refl; no_point = refl })
 
 abbrev pub moment_parts : Day → Clock → Zone → MomentParts
 moment_parts d c z = record { day = day_text d; mark = 84; time = time_parts c (zone_text z) }
@@ -61,7 +66,7 @@ pub moment_cut : (d : Day) (c : Clock) (z : Zone) → is_possible_clock c ≡ tr
     → cut_moment (day_text d ++ (codes "T" ++ (clock_text c ++ zone_text z))) ≡ moment_parts d c z
 moment_cut d c z is =
     let whole : TimeParts → MomentParts = λ t. record { day = day_text d; mark = 84; time = t } in
-    ap whole (cut_written c (zone_text z) (and_parts (is_time_of_day c.hour c.minute c.second) (all_digits c.fraction) is).1 (zone_stops z))
+    ap whole (cut_written c (zone_text z) (and_parts (is_time_of_day c.hour c.minute c.second) (list_all is_ascii_digit c.fraction) is).1 (zone_stops z))
 
 -- ---- days
 
@@ -116,11 +121,11 @@ pub record ClockRange (c : Clock) : Type 0 where
   pub hour : c.hour ≤ 23
   pub minute : c.minute ≤ 59
   pub second : c.second ≤ 60
-  pub digits : all_digits c.fraction ≡ true
+  pub digits : list_all is_ascii_digit c.fraction ≡ true
 
 pub clock_range : (c : Clock) → is_possible_clock c ≡ true → ClockRange c
 clock_range c is =
-    let whole = and_parts (is_time_of_day c.hour c.minute c.second) (all_digits c.fraction) is in
+    let whole = and_parts (is_time_of_day c.hour c.minute c.second) (list_all is_ascii_digit c.fraction) is in
     let two = and_parts (nat_le c.hour 23 && nat_le c.minute 59) (nat_le c.second 60) whole.0 in
     let one = and_parts (nat_le c.hour 23) (nat_le c.minute 59) two.0 in
     record { hour = leb-true c.hour 23 one.0; minute = leb-true c.minute 59 one.1; second = leb-true c.second 60 two.1; digits = whole.1 }
@@ -137,9 +142,9 @@ clock_read c range =
     let s = range.second in
     record { hour = omega arith; minute = omega arith; second = omega arith }
 
-fraction_is : (f : List ℕ) → all_digits f ≡ true → is_fraction (fraction_text f) ≡ true
+fraction_is : (f : List ℕ) → list_all is_ascii_digit f ≡ true → is_fraction (fraction_text f) ≡ true
 fraction_is [] are = refl
-fraction_is (b ∷ bs) are = and_from (nat_lt 0 (length (b ∷ bs))) (all_digits (b ∷ bs)) (lt-ltb 0 (length (b ∷ bs)) (omega arith)) are
+fraction_is (b ∷ bs) are = and_from (not (is_empty (b ∷ bs))) (list_all is_ascii_digit (b ∷ bs)) refl are
 
 pub clock_is : (c : Clock) (z : List ℕ) → is_possible_clock c ≡ true → has_clock (time_parts c z) ≡ true
 clock_is c z is =
@@ -151,7 +156,7 @@ clock_is c z is =
     let text = hms_text c.hour c.minute c.second in
     let shape : has_shape (codes "00:00:00") text ≡ true =
     two_fit c.hour _ (omega arith) (two_fit c.minute _ (omega arith) (two_fit c.second _ (omega arith) refl)) in
-    let ranges = (and_parts (is_time_of_day c.hour c.minute c.second) (all_digits c.fraction) is).0 in
+    let ranges = (and_parts (is_time_of_day c.hour c.minute c.second) (list_all is_ascii_digit c.fraction) is).0 in
     let day : is_time_of_day (pair_at text 0) (pair_at text 3) (pair_at text 6) ≡ true =
     ap (λ k. is_time_of_day k (pair_at text 3) (pair_at text 6)) read.hour
     ∙ ap (λ k. is_time_of_day c.hour k (pair_at text 6)) read.minute

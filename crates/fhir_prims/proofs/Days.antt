@@ -36,7 +36,11 @@ month_length y m = long_enough (is_leap y) (m == 2) (is_short_month m)
 
 -- ---- the day after
 
-after_by : (d : Day) (a b : Bool) → nat_lt d.day (days_in d.year d.month) ≡ a → nat_lt d.month 12 ≡ b → is_day d ≡ true → day_number (if a then record { year = d.year; month = d.month; day = d.day + 1 } else (if b then record { year = d.year; month = d.month + 1; day = 1 } else record { year = d.year + 1; month = 1; day = 1 })) ≡ suc (day_number d)
+after_by : (d : Day) (a b : Bool) → nat_lt d.day (days_in d.year d.month) ≡ a → nat_lt d.month 12 ≡ b → is_day d ≡ true
+    → day_number
+    (if a then record { year = d.year; month = d.month; day = d.day + 1 } else
+    (if b then record { year = d.year; month = d.month + 1; day = 1 } else record { year = d.year + 1; month = 1; day = 1 }))
+    ≡ suc (day_number d)
 unfolding days_of_months
 after_by d true b p q is =
     let parts = day_parts d is in
@@ -75,7 +79,11 @@ after_by d false false p q is =
 pub number_after : (d : Day) → is_day d ≡ true → day_number (day_after d) ≡ suc (day_number d)
 number_after d is = after_by d (nat_lt d.day (days_in d.year d.month)) (nat_lt d.month 12) refl refl is
 
-after_exists : (d : Day) (a b : Bool) → nat_lt d.day (days_in d.year d.month) ≡ a → nat_lt d.month 12 ≡ b → is_day d ≡ true → is_day (if a then record { year = d.year; month = d.month; day = d.day + 1 } else (if b then record { year = d.year; month = d.month + 1; day = 1 } else record { year = d.year + 1; month = 1; day = 1 })) ≡ true
+after_exists : (d : Day) (a b : Bool) → nat_lt d.day (days_in d.year d.month) ≡ a → nat_lt d.month 12 ≡ b → is_day d ≡ true
+    → is_day
+    (if a then record { year = d.year; month = d.month; day = d.day + 1 } else
+    (if b then record { year = d.year; month = d.month + 1; day = 1 } else record { year = d.year + 1; month = 1; day = 1 }))
+    ≡ true
 after_exists d true b p q is =
     let parts = day_parts d is in
     let less = ltb-true d.day (days_in d.year d.month) p in
@@ -95,7 +103,12 @@ day_after_exists d is = after_exists d (nat_lt d.day (days_in d.year d.month)) (
 
 -- ---- the day before
 
-before_by : (d : Day) (a b : Bool) → nat_lt 1 d.day ≡ a → nat_lt 1 d.month ≡ b → 1 ≤ d.year → is_day d ≡ true → suc (day_number (if a then record { year = d.year; month = d.month; day = d.day - 1 } else (if b then record { year = d.year; month = d.month - 1; day = days_in d.year (d.month - 1) } else record { year = d.year - 1; month = 12; day = 31 }))) ≡ day_number d
+before_by : (d : Day) (a b : Bool) → nat_lt 1 d.day ≡ a → nat_lt 1 d.month ≡ b → 1 ≤ d.year → is_day d ≡ true
+    → suc
+    (day_number
+    (if a then record { year = d.year; month = d.month; day = d.day - 1 } else
+    (if b then record { year = d.year; month = d.month - 1; day = days_in d.year (d.month - 1) } else record { year = d.year - 1; month = 12; day = 31 })))
+    ≡ day_number d
 unfolding days_of_months
 before_by d true b p q late is =
     let less = ltb-true 1 d.day p in
@@ -129,7 +142,11 @@ before_by d false false p q late is =
 pub number_before : (d : Day) → 1 ≤ d.year → is_day d ≡ true → suc (day_number (day_before d)) ≡ day_number d
 number_before d late is = before_by d (nat_lt 1 d.day) (nat_lt 1 d.month) refl refl late is
 
-before_exists : (d : Day) (a b : Bool) → nat_lt 1 d.day ≡ a → nat_lt 1 d.month ≡ b → is_day d ≡ true → is_day (if a then record { year = d.year; month = d.month; day = d.day - 1 } else (if b then record { year = d.year; month = d.month - 1; day = days_in d.year (d.month - 1) } else record { year = d.year - 1; month = 12; day = 31 })) ≡ true
+before_exists : (d : Day) (a b : Bool) → nat_lt 1 d.day ≡ a → nat_lt 1 d.month ≡ b → is_day d ≡ true
+    → is_day
+    (if a then record { year = d.year; month = d.month; day = d.day - 1 } else
+    (if b then record { year = d.year; month = d.month - 1; day = days_in d.year (d.month - 1) } else record { year = d.year - 1; month = 12; day = 31 }))
+    ≡ true
 before_exists d true b p q is =
     let parts = day_parts d is in
     let last = parts.3 in

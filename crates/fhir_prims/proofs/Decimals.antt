@@ -8,7 +8,9 @@ none_of : (r : Option Parts) → ((p : Parts) → r ≡ Some p → ⊥) → fals
 none_of None h = refl
 none_of (Some p) h = absurd (h p refl)
 
-pub has_parts : {D : Type 0} (seen : D → Parts) (bs : List ℕ) (r : Option D) → ((p : Parts) → parts bs ≡ Some p → IsDecimal bs p) → ((p : Parts) → IsDecimal bs p → parts bs ≡ Some p) → MatchOption r ((p : Parts) → ¬ IsDecimal bs p) (λ d. IsDecimal bs (seen d)) → is_some r ≡ is_some (parts bs)
+pub has_parts : {D : Type 0} (seen : D → Parts) (bs : List ℕ) (r : Option D) → ((p : Parts) → parts bs ≡ Some p → IsDecimal bs p)
+    → ((p : Parts) → IsDecimal bs p → parts bs ≡ Some p) → MatchOption r ((p : Parts) → ¬ IsDecimal bs p) (λ d. IsDecimal bs (seen d))
+    → is_some r ≡ is_some (parts bs)
 has_parts seen bs None found only h = none_of (parts bs) (λ p e. h p (found p e))
 has_parts seen bs (Some d) found only h = sym (ap is_some (only (seen d) h))
 

@@ -2,7 +2,8 @@
 use Rattle.std.proofs.Common.{◌≡◌, false, [], refl}
 use Rattle.fhir_json.specs.Tree.{string}
 use Rattle.fhir_prims.specs.declared.prim.PrimType.{PrimType}
-use Rattle.fhir_prims.specs.declared.prim.PrimType.TheVariants.{Boolean, Integer, UnsignedInt, PositiveInt, Decimal, String, Markdown, Xhtml, Code, Id, Uri, Url, Canonical, Oid, Uuid, Base64Binary, Date, DateTime, Instant, Time}
+use Rattle.fhir_prims.specs.declared.prim.PrimType.TheVariants.{Boolean, Integer, UnsignedInt, PositiveInt, Decimal, String, Markdown, Xhtml, Code, Id, Uri}
+use Rattle.fhir_prims.specs.declared.prim.PrimType.TheVariants.{Url, Canonical, Oid, Uuid, Base64Binary, Date, DateTime, Instant, Time}
 use Rattle.fhir_prims.specs.Values.{lexical}
 
 pub none_empty : (p : PrimType) → lexical p (string []) ≡ false

@@ -2,7 +2,7 @@
 use Rattle.std.proofs.Common.{◌≡◌, ◌∙◌, ap, sym, ℕ, ◌+◌, ◌-◌, ◌*◌, ◌/◌, ◌%◌, ◌≤◌, List, [], ◌∷◌, ◌++◌, length, Bool, true, false, ◌&&◌, ◌==◌, nat_le, arith}
 use Rattle.std.specs.Prelude.{codes}
 use Rattle.std.proofs.lemmas.Bool.{and_parts, and_from, and_left, leb-true, le-leb, eqb-true, ne_eqb}
-use Rattle.fhir_prims.specs.Bytes.{is_digit}
+use Rattle.std.specs.Char.{is_ascii_digit}
 use Rattle.fhir_prims.specs.Shapes.{has_shape, all_fit, pair_at}
 use Rattle.fhir_prims.specs.Moments.{year_of}
 use Rattle.fhir_prims.specs.Utc.{day_at}
@@ -10,15 +10,15 @@ use Rattle.fhir_prims.specs.Written.{month, ahead, behind, two_digits, four_digi
 
 -- ---- two digits
 
-tens : (n : ℕ) → n ≤ 99 → is_digit (48 + n / 10) ≡ true
+tens : (n : ℕ) → n ≤ 99 → is_ascii_digit (48 + n / 10) ≡ true
 tens n small = and_from (nat_le 48 (48 + n / 10)) (nat_le (48 + n / 10) 57) (le-leb 48 (48 + n / 10) (omega arith)) (le-leb (48 + n / 10) 57 (omega arith))
 
-ones : (n : ℕ) → is_digit (48 + n % 10) ≡ true
+ones : (n : ℕ) → is_ascii_digit (48 + n % 10) ≡ true
 ones n = and_from (nat_le 48 (48 + n % 10)) (nat_le (48 + n % 10) 57) (le-leb 48 (48 + n % 10) (omega arith)) (le-leb (48 + n % 10) 57 (omega arith))
 
-pub two_fit : (n : ℕ) (rest : Bool) → n ≤ 99 → rest ≡ true → (is_digit (48 + n / 10) && (is_digit (48 + n % 10) && rest)) ≡ true
+pub two_fit : (n : ℕ) (rest : Bool) → n ≤ 99 → rest ≡ true → (is_ascii_digit (48 + n / 10) && (is_ascii_digit (48 + n % 10) && rest)) ≡ true
 two_fit n rest small is =
-    and_from (is_digit (48 + n / 10)) (is_digit (48 + n % 10) && rest) (tens n small) (and_from (is_digit (48 + n % 10)) rest (ones n) is)
+    and_from (is_ascii_digit (48 + n / 10)) (is_ascii_digit (48 + n % 10) && rest) (tens n small) (and_from (is_ascii_digit (48 + n % 10)) rest (ones n) is)
 
 -- the two bytes are digits
 pub record ArePair (a b : ℕ) (rest : Bool) : Type 0 where
@@ -26,10 +26,10 @@ pub record ArePair (a b : ℕ) (rest : Bool) : Type 0 where
   pub small : 10 * (a - 48) + (b - 48) ≤ 99
   pub behind : rest ≡ true
 
-pub pair_back : (a b : ℕ) (rest : Bool) → (is_digit a && (is_digit b && rest)) ≡ true → ArePair a b rest
+pub pair_back : (a b : ℕ) (rest : Bool) → (is_ascii_digit a && (is_ascii_digit b && rest)) ≡ true → ArePair a b rest
 pair_back a b rest is =
-    let one = and_parts (is_digit a) (is_digit b && rest) is in
-    let two = and_parts (is_digit b) rest one.1 in
+    let one = and_parts (is_ascii_digit a) (is_ascii_digit b && rest) is in
+    let two = and_parts (is_ascii_digit b) rest one.1 in
     let first = and_parts (nat_le 48 a) (nat_le a 57) one.0 in
     let second = and_parts (nat_le 48 b) (nat_le b 57) two.0 in
     let first_low = leb-true 48 a first.0 in
@@ -63,9 +63,10 @@ halves x y a b c d small front back =
     ap (λ k. two_digits k ++ two_digits ((100 * x + y) % 100)) century ∙ ap (λ k. two_digits x ++ two_digits k) rest
     ∙ ap (λ t. t ++ two_digits y) front ∙ ap (λ t. a ∷ (b ∷ t)) back
 
-four_back : (a b c d : ℕ) (rest : Bool) → (is_digit a && (is_digit b && (is_digit c && (is_digit d && rest)))) ≡ true → AreFour a b c d rest
+four_back : (a b c d : ℕ) (rest : Bool) → (is_ascii_digit a && (is_ascii_digit b && (is_ascii_digit c && (is_ascii_digit d && rest)))) ≡ true
+    → AreFour a b c d rest
 four_back a b c d rest is =
-    let front = pair_back a b (is_digit c && (is_digit d && rest)) is in
+    let front = pair_back a b (is_ascii_digit c && (is_ascii_digit d && rest)) is in
     let back = pair_back c d rest front.behind in
     let most = front.small in
     let more = back.small in

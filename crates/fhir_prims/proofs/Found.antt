@@ -1,17 +1,23 @@
 -- What is read is written from its parts.
-use Rattle.std.proofs.Common.{◌≡◌, ◌∙◌, ap, ap₂, refl, sym, ℕ, List, [], ◌∷◌, ◌++◌, length, take, drop, slice_index, Bool, true, false, true≢false, ◌&&◌, ◌||◌, ◌==◌, nat_le, nat_lt, Some, append_assoc, drop-cons, inl, inr, arith}
+use Rattle.std.proofs.Common.{◌≡◌, ◌∙◌, ap, ap₂, refl, sym, ℕ, List, [], ◌∷◌, ◌++◌, length, take, drop, slice_index, Bool, true, false, true≢false, ◌&&◌, ◌||◌}
+use Rattle.std.proofs.Common.{◌==◌, nat_le, Some, append_assoc, drop-cons, inl, inr, arith, not}
 use Rattle.std.specs.Prelude.{codes, is_some}
 use Rattle.std.proofs.Math.ListN.{get_or-eq_default}
 use Rattle.std.proofs.lemmas.List.{take-append-drop, append-nil}
 use Rattle.std.proofs.lemmas.Bool.{and_parts, and_from, or_cases, le-leb, eqb-true, cases_lt}
-use Rattle.fhir_prims.specs.Bytes.{all_digits, are_digits}
+use Rattle.std.specs.Char.{is_ascii_digit}
+use Rattle.std.specs.List.{list_all}
+use Rattle.fhir_json.specs.Bytes.{is_empty}
+use Rattle.fhir_decimal.specs.Text.{are_digits}
 use Rattle.fhir_prims.specs.Shapes.{has_shape, pair_at}
 use Rattle.fhir_prims.specs.Cut.{TimeParts, fraction_len, cut_time, cut_moment}
-use Rattle.fhir_prims.specs.Moments.{is_month, year_of, has_day, is_year_text, is_month_text, is_day_text, is_time_of_day, is_clock, is_fraction, is_offset_form, is_offset_size, is_zone, has_clock, is_instant, is_time}
+use Rattle.fhir_prims.specs.Moments.{is_month, year_of, has_day, is_year_text, is_month_text, is_day_text, is_time_of_day, is_clock, is_fraction}
+use Rattle.fhir_prims.specs.Moments.{is_offset_form, is_offset_size, is_zone, has_clock, is_instant, is_time}
 use Rattle.fhir_prims.specs.Order.{Fields}
 use Rattle.fhir_prims.specs.Utc.{day_at}
 use Rattle.fhir_prims.specs.Reading.{fields_of}
-use Rattle.fhir_prims.specs.Written.{Clock, Zone, utc, ahead, behind, Written, year, month, day, moment, time, fraction_text, clock_text, zone_text, text_of, is_possible_zone, is_possible}
+use Rattle.fhir_prims.specs.Written.{Clock, Zone, utc, ahead, behind, Written, year, month, day, moment, time, fraction_text, clock_text, zone_text, text_of}
+use Rattle.fhir_prims.specs.Written.{is_possible_zone, is_possible}
 use Rattle.fhir_prims.proofs.Told.{which}
 use Rattle.fhir_prims.proofs.Instants.{moment_facts}
 use Rattle.fhir_prims.proofs.Cuts.{offset_back}
@@ -50,7 +56,7 @@ day_written s is =
 
 -- the fraction's digits write it
 record IsFraction (f : List ℕ) : Type 0 where
-  pub digits : all_digits (drop 1 f) ≡ true
+  pub digits : list_all is_ascii_digit (drop 1 f) ≡ true
   pub text : fraction_text (drop 1 f) ≡ f
 
 fraction_back : (f : List ℕ) → is_fraction f ≡ true → IsFraction f
@@ -58,7 +64,7 @@ fraction_back [] is = record { digits = refl; text = refl }
 fraction_back (b ∷ []) is = absurd (true≢false (sym (and_parts (b == 46) (are_digits []) is).1))
 fraction_back (b ∷ (d ∷ ds)) is =
     let parts = and_parts (b == 46) (are_digits (d ∷ ds)) is in
-    let digits = and_parts (nat_lt 0 (length (d ∷ ds))) (all_digits (d ∷ ds)) parts.1 in
+    let digits = and_parts (not (is_empty (d ∷ ds))) (list_all is_ascii_digit (d ∷ ds)) parts.1 in
     record { digits = digits.1; text = ap (λ k. k ∷ (d ∷ ds)) (sym (eqb-true b 46 parts.0)) }
 
 abbrev pub clock_in : TimeParts → Clock
@@ -75,23 +81,23 @@ time_back t is =
     let clock = and_parts (has_shape (codes "00:00:00") t.clock) (is_time_of_day (pair_at t.clock 0) (pair_at t.clock 3) (pair_at t.clock 6)) whole.0 in
     let fraction = fraction_back t.fraction whole.1 in
     record {
-      possible = and_from (is_time_of_day (pair_at t.clock 0) (pair_at t.clock 3) (pair_at t.clock 6)) (all_digits (drop 1 t.fraction)) clock.1 fraction.digits;
+      possible =
+          and_from (is_time_of_day (pair_at t.clock 0) (pair_at t.clock 3) (pair_at t.clock 6))
+          (list_all is_ascii_digit (drop 1 t.fraction)) clock.1 fraction.digits;
       text = ap₂ ◌++◌ (clock_back t.clock clock.0) fraction.text;
     }
 
 whole_time : (s : List ℕ) → (cut_time s).clock ++ ((cut_time s).fraction ++ (cut_time s).zone) ≡ s
 whole_time s = ap (λ r. take 8 s ++ r) (take-append-drop (fraction_len (drop 8 s)) (drop 8 s)) ∙ take-append-drop 8 s
 
-nothing : (s : List ℕ) → (length s == 0) ≡ true → s ≡ []
+nothing : (s : List ℕ) → is_empty s ≡ true → s ≡ []
 nothing [] is = refl
-nothing (b ∷ bs) is =
-    let none = eqb-true (length (b ∷ bs)) 0 is in
-    absurd (omega arith)
+nothing (b ∷ bs) is = absurd (true≢false (sym is))
 
 time_written : (s : List ℕ) → is_time s ≡ true → IsWritten s
 time_written s is =
     let t = cut_time s in
-    let parts = and_parts (has_clock t) (length t.zone == 0) is in
+    let parts = and_parts (has_clock t) (is_empty t.zone) is in
     let back = time_back t parts.0 in
     record {
       written = time (clock_in t);

@@ -56,7 +56,8 @@ module _ (f g : ℕ → ℕ) (next : (i : ℕ) → f (suc i) ≡ f i + g i) wher
       let up = above i j less in
       omega arith
 
-  by_steps : (i j r s : ℕ) (o : Ordering) → MatchOrdering o (i < j) (i ≡ j) (j < i) → r < g i → s < g j → nat_cmp (f i + r) (f j + s) ≡ ordering_then o (nat_cmp r s)
+  by_steps : (i j r s : ℕ) (o : Ordering) → MatchOrdering o (i < j) (i ≡ j) (j < i) → r < g i → s < g j
+      → nat_cmp (f i + r) (f j + s) ≡ ordering_then o (nat_cmp r s)
   by_steps i j r s Less h p q = sym (nat_cmp_is (f i + r) (f j + s) Less (below i j r s p h))
   by_steps i j r s Equal h p q = level (f i) (f j) r s (ap f h)
   by_steps i j r s Greater h p q = sym (nat_cmp_is (f i + r) (f j + s) Greater (below j i s r q h))
@@ -89,7 +90,8 @@ in_year d is =
     let next = month_next d.year (d.month - 1) in
     let rest = further (days_of_months d.year) (λ i. days_in d.year (suc i)) (month_next d.year) (d.month - 1) (12 - d.month) in
     let all : suc (d.month - 1) + (12 - d.month) ≡ 12 = omega arith in
-    let up : days_of_months d.year (suc (d.month - 1)) ≤ days_of_months d.year 12 = subst (λ k. days_of_months d.year (suc (d.month - 1)) ≤ days_of_months d.year k) all rest in
+    let up : days_of_months d.year (suc (d.month - 1)) ≤ days_of_months d.year 12 =
+    subst (λ k. days_of_months d.year (suc (d.month - 1)) ≤ days_of_months d.year k) all rest in
     omega arith
 
 number_is : (d : Day) → day_number d ≡ days_of_years d.year + place_in_year d
@@ -109,7 +111,8 @@ equal_numbers x y e = ranked x y Equal (sym e)
 abbrev pub by_fields : Day → Day → Ordering
 by_fields d e = ordering_then (nat_cmp d.year e.year) (ordering_then (nat_cmp d.month e.month) (nat_cmp d.day e.day))
 
-in_one_year : (d e : Day) → is_day d ≡ true → is_day e ≡ true → d.year ≡ e.year → nat_cmp (place_in_year d) (place_in_year e) ≡ ordering_then (nat_cmp d.month e.month) (nat_cmp d.day e.day)
+in_one_year : (d e : Day) → is_day d ≡ true → is_day e ≡ true → d.year ≡ e.year
+    → nat_cmp (place_in_year d) (place_in_year e) ≡ ordering_then (nat_cmp d.month e.month) (nat_cmp d.day e.day)
 in_one_year d e p q same =
     let one = day_parts d p in
     let other = day_parts e q in
@@ -123,7 +126,8 @@ days_ordered : (d e : Day) → is_day d ≡ true → is_day e ≡ true → nat_c
 days_ordered d e p q =
     ap₂ nat_cmp (number_is d) (number_is e)
     ∙ stepped days_of_years (λ y. days_of_months y 12) year_next d.year e.year (place_in_year d) (place_in_year e) (in_year d p) (in_year e q)
-    ∙ where_equal (nat_cmp d.year e.year) (nat_cmp (place_in_year d) (place_in_year e)) (ordering_then (nat_cmp d.month e.month) (nat_cmp d.day e.day)) (λ y. in_one_year d e p q (equal_numbers d.year e.year y))
+    ∙ where_equal (nat_cmp d.year e.year) (nat_cmp (place_in_year d) (place_in_year e)) (ordering_then (nat_cmp d.month e.month) (nat_cmp d.day e.day))
+    (λ y. in_one_year d e p q (equal_numbers d.year e.year y))
 
 -- ---- minutes
 
@@ -138,14 +142,18 @@ minutes_ordered m n =
     let n_small : n % 60 < 60 = omega arith in
     ap₂ nat_cmp m_is n_is ∙ stepped (λ i. 60 * i) (λ i. 60) (even 60) (m / 60) (n / 60) (m % 60) (n % 60) m_small n_small
 
-pub counted : (d e : Day) (m n : ℕ) → is_day d ≡ true → is_day e ≡ true → m < 1440 → n < 1440 → nat_cmp (minutes_since d m) (minutes_since e n) ≡ ordering_then (by_fields d e) (ordering_then (nat_cmp (m / 60) (n / 60)) (nat_cmp (m % 60) (n % 60)))
+pub counted : (d e : Day) (m n : ℕ) → is_day d ≡ true → is_day e ≡ true → m < 1440 → n < 1440
+    → nat_cmp (minutes_since d m) (minutes_since e n) ≡ ordering_then (by_fields d e) (ordering_then (nat_cmp (m / 60) (n / 60)) (nat_cmp (m % 60) (n % 60)))
 counted d e m n p q small other =
     stepped (λ i. 1440 * i) (λ i. 1440) (even 1440) (day_number d) (day_number e) m n small other
     ∙ ap₂ ordering_then (days_ordered d e p q) (minutes_ordered m n)
 
 -- ---- fields
 
-six : (a b c d e f : Ordering) → partial_ordering_then (Some a) (partial_ordering_then (Some b) (partial_ordering_then (Some c) (partial_ordering_then (Some d) (partial_ordering_then (Some e) (Some f))))) ≡ Some (ordering_then (ordering_then (ordering_then a (ordering_then b c)) (ordering_then d e)) f)
+six : (a b c d e f : Ordering)
+    → partial_ordering_then (Some a)
+    (partial_ordering_then (Some b) (partial_ordering_then (Some c) (partial_ordering_then (Some d) (partial_ordering_then (Some e) (Some f)))))
+    ≡ Some (ordering_then (ordering_then (ordering_then a (ordering_then b c)) (ordering_then d e)) f)
 six Less b c d e f = refl
 six Greater b c d e f = refl
 six Equal Less c d e f = refl
@@ -158,7 +166,8 @@ six Equal Equal Equal Equal Less f = refl
 six Equal Equal Equal Equal Greater f = refl
 six Equal Equal Equal Equal Equal f = refl
 
-pub in_time : (d e : Day) (m n : ℕ) (a b : Value) → is_day d ≡ true → is_day e ≡ true → m < 1440 → n < 1440 → moment_order (moment_fields d m a) (moment_fields e n b) ≡ Some (ordering_then (nat_cmp (minutes_since d m) (minutes_since e n)) (value_order a b))
+pub in_time : (d e : Day) (m n : ℕ) (a b : Value) → is_day d ≡ true → is_day e ≡ true → m < 1440 → n < 1440
+    → moment_order (moment_fields d m a) (moment_fields e n b) ≡ Some (ordering_then (nat_cmp (minutes_since d m) (minutes_since e n)) (value_order a b))
 in_time d e m n a b p q small other =
     six (nat_cmp d.year e.year) (nat_cmp d.month e.month) (nat_cmp d.day e.day) (nat_cmp (m / 60) (n / 60)) (nat_cmp (m % 60) (n % 60)) (value_order a b)
     ∙ ap (λ o. Some (ordering_then o (value_order a b))) (sym (counted d e m n p q small other))

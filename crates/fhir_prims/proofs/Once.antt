@@ -12,7 +12,8 @@ use Rattle.fhir_prims.specs.Moments.{year_of, is_year_text, is_month_text, is_da
 use Rattle.fhir_prims.specs.Calendar.{minutes_since}
 use Rattle.fhir_prims.specs.Order.{Fields}
 use Rattle.fhir_prims.specs.Utc.{day_at, is_behind}
-use Rattle.fhir_prims.specs.Written.{Clock, Zone, utc, ahead, behind, Written, year, month, day, moment, time, fraction_text, zone_text, text_of, is_possible_clock, is_possible_zone, is_possible, Shows, SaysMoment, Says}
+use Rattle.fhir_prims.specs.Written.{Clock, Zone, utc, ahead, behind, Written, year, month, day, moment, time, fraction_text, zone_text, text_of}
+use Rattle.fhir_prims.specs.Written.{is_possible_clock, is_possible_zone, is_possible, Shows, SaysMoment, Says}
 use Rattle.fhir_prims.proofs.InTime.{by_fields, counted, equal_numbers}
 use Rattle.fhir_prims.proofs.Forms.{hms_text}
 use Rattle.fhir_prims.proofs.Cuts.{time_parts, time_cut, moment_parts, day_range, day_read, day_is, clock_range, clock_read, offset_range}

@@ -1,8 +1,10 @@
 -- What is written is read, and says what it is written for.
-use Rattle.std.proofs.Common.{◌≡◌, ◌∙◌, ap, ap₂, refl, ℕ, ◌+◌, ◌*◌, ◌%◌, ◌/◌, ◌<◌, ◌≤◌, List, [], ◌∷◌, length, drop, Bool, true, false, ◌&&◌, ◌==◌, nat_le, Some, None, arith}
+use Rattle.std.proofs.Common.{◌≡◌, ◌∙◌, ap, ap₂, refl, ℕ, ◌+◌, ◌*◌, ◌%◌, ◌/◌, ◌<◌, ◌≤◌, List, [], ◌∷◌, length, drop, Bool, true, false, ◌&&◌, ◌==◌, nat_le}
+use Rattle.std.proofs.Common.{Some, None, arith}
 use Rattle.std.specs.Prelude.{codes}
 use Rattle.std.proofs.lemmas.Bool.{and_parts, and_from, and_left, and_right, leb-true, le-leb}
-use Rattle.fhir_decimal.specs.Text.{unsigned}
+use Rattle.fhir_json.specs.Bytes.{is_empty}
+use Rattle.fhir_decimal.specs.Text.{unsigned_parts}
 use Rattle.fhir_decimal.specs.Value.{Value, value_of}
 use Rattle.fhir_prims.specs.declared.calendar.Day.{Day}
 use Rattle.fhir_prims.specs.Shapes.{has_shape, all_fit, pair_at}
@@ -11,11 +13,14 @@ use Rattle.fhir_prims.specs.Moments.{is_month, year_of, has_day, is_year_text, i
 use Rattle.fhir_prims.specs.Calendar.{minutes_since}
 use Rattle.fhir_prims.specs.Order.{Fields}
 use Rattle.fhir_prims.specs.Utc.{day_at, minutes_at, second_of, offset_of, is_behind}
-use Rattle.fhir_prims.specs.Reading.{date_fields, year_fields, month_fields, day_fields, moment_fields, time_fields, minutes_of, day_of, instant_fields, fields_of}
-use Rattle.fhir_prims.specs.Written.{Clock, Zone, utc, ahead, behind, Written, year, month, day, moment, time, four_digits, day_text, fraction_text, clock_text, zone_text, text_of, is_year, is_possible_clock, is_possible_zone, is_possible, second_in, Shows, SaysMoment, Says}
+use Rattle.fhir_prims.specs.Reading.{date_fields, year_fields, month_fields, day_fields, moment_fields, time_fields, minutes_of, day_of, instant_fields}
+use Rattle.fhir_prims.specs.Reading.{fields_of}
+use Rattle.fhir_prims.specs.Written.{Clock, Zone, utc, ahead, behind, Written, year, month, day, moment, time, four_digits, day_text, fraction_text, clock_text}
+use Rattle.fhir_prims.specs.Written.{zone_text, text_of, is_year, is_possible_clock, is_possible_zone, is_possible, second_in, Shows, SaysMoment, Says}
 use Rattle.fhir_prims.proofs.ToUtc as to_utc
 use Rattle.fhir_prims.proofs.Forms.{two_fit, other_length, hms_text}
-use Rattle.fhir_prims.proofs.Cuts.{time_parts, time_cut, moment_parts, moment_cut, day_range, day_read, day_is, clock_range, clock_read, clock_is, zone_is, offset_range, moment_is}
+use Rattle.fhir_prims.proofs.Cuts.{time_parts, time_cut, moment_parts, moment_cut, day_range, day_read, day_is, clock_range, clock_read, clock_is, zone_is}
+use Rattle.fhir_prims.proofs.Cuts.{offset_range, moment_is}
 
 -- the text is read, as what it is written for
 pub record IsRead (w : Written) : Type 0 where
@@ -135,7 +140,7 @@ digits_read [] = refl
 digits_read (b ∷ bs) = refl
 
 second_read : (c : Clock) (z : List ℕ) → second_of (time_parts c z) ≡ second_in c
-second_read c z = ap (λ f. value_of (unsigned (drop 6 (hms_text c.hour c.minute c.second)) f)) (digits_read c.fraction)
+second_read c z = ap (λ f. value_of (unsigned_parts (drop 6 (hms_text c.hour c.minute c.second)) f)) (digits_read c.fraction)
 
 third_off : (x y : Bool) → (x && (y && false)) ≡ false
 third_off x y = and_right x (y && false) (and_right y false refl)
@@ -159,7 +164,7 @@ no_day_time c = no_day (clock_text c) (no_day_shape c)
 pub time_form : (c : Clock) → is_possible_clock c ≡ true → is_time (clock_text c) ≡ true
 time_form c is =
     let p = time_parts c [] in
-    ap (λ t. has_clock t && (length t.zone == 0)) (time_cut c is) ∙ and_from (has_clock p) (length p.zone == 0) (clock_is c [] is) refl
+    ap (λ t. has_clock t && is_empty t.zone) (time_cut c is) ∙ and_from (has_clock p) (is_empty p.zone) (clock_is c [] is) refl
 
 time_said : (c : Clock) → is_possible_clock c ≡ true → IsRead (time c)
 time_said c is =

@@ -14,7 +14,8 @@ use Rattle.fhir_prims.proofs.Instants.{moment_facts, day_exists}
 
 -- ---- where minutes from the start of the day before fall
 
-landed_by : (n : ℕ) (d : Day) (a b : Bool) → nat_lt n 1440 ≡ a → nat_lt n 2880 ≡ b → n < 4320 → 1 ≤ d.year → is_day d ≡ true → minutes_since (if a then day_before d else (if b then d else day_after d)) (n % 1440) + 1440 ≡ 1440 * day_number d + n
+landed_by : (n : ℕ) (d : Day) (a b : Bool) → nat_lt n 1440 ≡ a → nat_lt n 2880 ≡ b → n < 4320 → 1 ≤ d.year → is_day d ≡ true
+    → minutes_since (if a then day_before d else (if b then d else day_after d)) (n % 1440) + 1440 ≡ 1440 * day_number d + n
 landed_by n d true b p q small late is =
     let less = ltb-true n 1440 p in
     let number = number_before d late is in
@@ -46,13 +47,17 @@ lands n d = lands_by d (nat_lt n 1440) (nat_lt n 2880)
 
 -- ---- the two ways of a move
 
-move_ahead : (d : Day) (m o : ℕ) (b : Bool) → m < 1440 → o ≤ 840 → 1 ≤ d.year → is_day d ≡ true → b ≡ false → minutes_since (day_of_minutes (if b then 1440 + m + o else (1440 + m) - o) d) ((if b then 1440 + m + o else (1440 + m) - o) % 1440) + o ≡ minutes_since d m
+move_ahead : (d : Day) (m o : ℕ) (b : Bool) → m < 1440 → o ≤ 840 → 1 ≤ d.year → is_day d ≡ true → b ≡ false
+    → minutes_since (day_of_minutes (if b then 1440 + m + o else (1440 + m) - o) d) ((if b then 1440 + m + o else (1440 + m) - o) % 1440) + o
+    ≡ minutes_since d m
 move_ahead d m o true p q late is h = absurd (true≢false h)
 move_ahead d m o false p q late is h =
     let there = landed ((1440 + m) - o) d (omega arith) late is in
     omega arith
 
-move_behind : (d : Day) (m o : ℕ) (b : Bool) → m < 1440 → o ≤ 840 → 1 ≤ d.year → is_day d ≡ true → b ≡ true → minutes_since (day_of_minutes (if b then 1440 + m + o else (1440 + m) - o) d) ((if b then 1440 + m + o else (1440 + m) - o) % 1440) ≡ minutes_since d m + o
+move_behind : (d : Day) (m o : ℕ) (b : Bool) → m < 1440 → o ≤ 840 → 1 ≤ d.year → is_day d ≡ true → b ≡ true
+    → minutes_since (day_of_minutes (if b then 1440 + m + o else (1440 + m) - o) d) ((if b then 1440 + m + o else (1440 + m) - o) % 1440)
+    ≡ minutes_since d m + o
 move_behind d m o false p q late is h = absurd (true≢false (sym h))
 move_behind d m o true p q late is h =
     let there = landed (1440 + m + o) d (omega arith) late is in
@@ -94,11 +99,17 @@ local_year p is =
 
 -- ---- the move
 
-pub ahead : (p : MomentParts) → is_moment p ≡ true → is_behind p.time.zone ≡ false → minutes_since (day_of p) (minutes_of p.time % 1440) + offset_of p.time.zone ≡ minutes_since (day_at p.day) (minutes_at p.time.clock 0)
-ahead p is = move_ahead (day_at p.day) (minutes_at p.time.clock 0) (offset_of p.time.zone) (is_behind p.time.zone) (minutes_small p is) (offset_small p is) (local_year p is) (local_day p is)
+pub ahead : (p : MomentParts) → is_moment p ≡ true → is_behind p.time.zone ≡ false
+    → minutes_since (day_of p) (minutes_of p.time % 1440) + offset_of p.time.zone ≡ minutes_since (day_at p.day) (minutes_at p.time.clock 0)
+ahead p is =
+    move_ahead (day_at p.day) (minutes_at p.time.clock 0) (offset_of p.time.zone) (is_behind p.time.zone) (minutes_small p is) (offset_small p is)
+    (local_year p is) (local_day p is)
 
-pub behind : (p : MomentParts) → is_moment p ≡ true → is_behind p.time.zone ≡ true → minutes_since (day_of p) (minutes_of p.time % 1440) ≡ minutes_since (day_at p.day) (minutes_at p.time.clock 0) + offset_of p.time.zone
-behind p is = move_behind (day_at p.day) (minutes_at p.time.clock 0) (offset_of p.time.zone) (is_behind p.time.zone) (minutes_small p is) (offset_small p is) (local_year p is) (local_day p is)
+pub behind : (p : MomentParts) → is_moment p ≡ true → is_behind p.time.zone ≡ true
+    → minutes_since (day_of p) (minutes_of p.time % 1440) ≡ minutes_since (day_at p.day) (minutes_at p.time.clock 0) + offset_of p.time.zone
+behind p is =
+    move_behind (day_at p.day) (minutes_at p.time.clock 0) (offset_of p.time.zone) (is_behind p.time.zone) (minutes_small p is) (offset_small p is)
+    (local_year p is) (local_day p is)
 
 pub on_a_day : (p : MomentParts) → is_moment p ≡ true → is_day (day_of p) ≡ true
 on_a_day p is = lands (minutes_of p.time) (day_at p.day) (local_day p is)

@@ -1,12 +1,15 @@
 -- Of which types a text is that is written so.
-use Rattle.std.proofs.Common.{◌≡◌, ap, ap₂, refl, ℕ, ◌+◌, ◌%◌, ◌/◌, List, [], ◌++◌, length, Bool, true, false, ◌&&◌, ◌||◌, ◌==◌, arith}
+use Rattle.std.proofs.Common.{◌≡◌, ap, ap₂, refl, ℕ, ◌+◌, ◌%◌, ◌/◌, List, [], ◌++◌, Bool, true, false, ◌&&◌, ◌||◌, ◌==◌, arith}
 use Rattle.std.specs.Prelude.{codes}
 use Rattle.std.proofs.lemmas.Bool.{and_left, and_right, ne_eqb}
+use Rattle.fhir_json.specs.Bytes.{is_empty}
 use Rattle.fhir_prims.specs.declared.calendar.Day.{Day}
 use Rattle.fhir_prims.specs.Shapes.{has_shape, pair_at}
 use Rattle.fhir_prims.specs.Cut.{cut_time, cut_moment}
-use Rattle.fhir_prims.specs.Moments.{is_year_text, is_month_text, is_day_text, is_date, is_time_of_day, is_clock, is_fraction, is_zone, has_clock, is_instant, is_date_time, is_time}
-use Rattle.fhir_prims.specs.Written.{Written, year, month, day, moment, time, day_text, clock_text, zone_text, text_of, is_possible, is_written_date, is_written_moment, is_written_time}
+use Rattle.fhir_prims.specs.Moments.{is_year_text, is_month_text, is_day_text, is_date, is_time_of_day, is_clock, is_fraction, is_zone, has_clock, is_instant}
+use Rattle.fhir_prims.specs.Moments.{is_date_time, is_time}
+use Rattle.fhir_prims.specs.Written.{Written, year, month, day, moment, time, day_text, clock_text, zone_text, text_of, is_possible, is_written_date}
+use Rattle.fhir_prims.specs.Written.{is_written_moment, is_written_time}
 use Rattle.fhir_prims.proofs.Cuts.{day_is}
 use Rattle.fhir_prims.proofs.Said.{year_form, month_form, longer, no_day_time, no_instant, time_form, moment_form}
 
@@ -26,7 +29,7 @@ no_time : (d : Day) (rest : List ℕ) → is_time (day_text d ++ rest) ≡ false
 no_time d rest =
     let t = cut_time (day_text d ++ rest) in
     let shape : has_shape (codes "00:00:00") t.clock ≡ false = third_digit _ _ _ d.year in
-    and_left (has_clock t) (length t.zone == 0)
+    and_left (has_clock t) (is_empty t.zone)
     (and_left (is_clock t.clock) (is_fraction t.fraction)
     (and_left (has_shape (codes "00:00:00") t.clock) (is_time_of_day (pair_at t.clock 0) (pair_at t.clock 3) (pair_at t.clock 6)) shape))
 

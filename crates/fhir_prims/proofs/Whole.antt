@@ -1,17 +1,19 @@
 -- Whole numbers, and how they are written.
-use Rattle.std.proofs.Common.{◌≡◌, ◌∙◌, ◌↔◌, ap, ap₂, refl, sym, rules, ℕ, suc, ◌-◌, ◌^◌, ◌<◌, ◌≤◌, List, [], ◌∷◌, length, slice_index, drop, true, true≢false, ◌||◌, ◌==◌, nat_le, nat_lt, inl, inr, arith}
+use Rattle.std.proofs.Common.{◌≡◌, ◌∙◌, ◌↔◌, ap, ap₂, refl, sym, rules, ℕ, suc, ◌-◌, ◌^◌, ◌<◌, ◌≤◌, List, [], ◌∷◌, length, slice_index, drop, true, true≢false}
+use Rattle.std.proofs.Common.{◌||◌, ◌==◌, nat_le, nat_lt, inl, inr, arith}
 use Rattle.std.specs.Prelude.{ℤ, pos, negsuc, FitsSigned}
 use Rattle.std.specs.Int.{w32}
 use Rattle.std.specs.Fmt.{decimal, signed_decimal}
 use Rattle.std.proofs.lemmas.Str.Parse.{IsNumeralModel, numerals_by_weight}
 use Rattle.std.proofs.lemmas.Fmt.{decimal_digit, first_decimal, digits_decimal, digits_value-decimal, decimal-digits_value}
 use Rattle.std.proofs.lemmas.Bool.{and_parts, and_from, or_cases, or_left, or_right, leb-true, le-leb, ltb-true, lt-ltb, eqb-true, cases_lt}
+use Rattle.std.specs.Char.{is_ascii_digit}
+use Rattle.std.specs.List.{list_all}
 use Rattle.fhir_decimal.specs.Value.{number_of}
-use Rattle.fhir_prims.specs.Bytes.{all_digits}
 use Rattle.fhir_prims.specs.Numbers.{are_digits_to, is_positive_to, is_zero, is_negative_to, is_positive_int, is_unsigned_int, is_integer}
 
-own : IsNumeralModel (λ ds. all_digits ds ≡ true) number_of
-own = numerals_by_weight (λ ds. all_digits ds ≡ true) (search rules) number_of (search rules)
+own : IsNumeralModel (λ ds. list_all is_ascii_digit ds ≡ true) number_of
+own = numerals_by_weight (λ ds. list_all is_ascii_digit ds ≡ true) (search rules) number_of (search rules)
 
 -- ---- positive numbers
 
@@ -37,7 +39,7 @@ some_digits (b ∷ bs) first = omega arith
 positive : (most : ℕ) (s : List ℕ) → most < 2 ^ 64 → is_positive_to most s ≡ true → IsPositive most s
 positive most s fits is =
     let whole = and_parts (nat_lt 48 (slice_index s 0)) (are_digits_to most s) is in
-    let parts = and_parts (all_digits s) (nat_le (number_of s) most) whole.1 in
+    let parts = and_parts (list_all is_ascii_digit s) (nat_le (number_of s) most) whole.1 in
     let first = ltb-true 48 (slice_index s 0) whole.0 in
     let small = leb-true (number_of s) most parts.1 in
     let again : decimal (number_of s) ≡ s = decimal-digits_value own s parts.0 (some_digits s first) (λ zero. absurd (omega arith)) (omega arith) in
@@ -49,12 +51,12 @@ positive_back most s fits is =
     let least = is.least in
     let small = is.small in
     let narrow : n < 2 ^ 64 = omega arith in
-    let digits : all_digits (decimal n) ≡ true = digits_decimal own n narrow in
+    let digits : list_all is_ascii_digit (decimal n) ≡ true = digits_decimal own n narrow in
     let value : number_of (decimal n) ≡ n = digits_value-decimal own n narrow in
     let first : 48 < slice_index (decimal n) 0 = first_decimal n (omega arith) narrow in
     ap (is_positive_to most) is.text
     ∙ and_from (nat_lt 48 (slice_index (decimal n) 0)) (are_digits_to most (decimal n)) (lt-ltb 48 (slice_index (decimal n) 0) first)
-    (and_from (all_digits (decimal n)) (nat_le (number_of (decimal n)) most) digits (le-leb (number_of (decimal n)) most (omega arith)))
+    (and_from (list_all is_ascii_digit (decimal n)) (nat_le (number_of (decimal n)) most) digits (le-leb (number_of (decimal n)) most (omega arith)))
 
 -- ---- zero
 

@@ -12,4 +12,4 @@ pub mod Written
 pub mod Utc
 pub mod Reading
 pub mod Values
-pub mod Seen
+pub mod Views

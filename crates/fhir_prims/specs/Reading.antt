@@ -1,5 +1,6 @@
 -- What the text of a date, a moment or a time of day says (FHIR R4, Data Types, date, dateTime, instant, time).
-use Rattle.std.specs.Prelude.{ℕ, ◌%◌, ◌/◌, List, Option, Some, None, if◌then◌else◌}
+use Rattle.std.specs.Prelude.{ℕ, ◌%◌, ◌/◌, Option, Some, None, if◌then◌else◌}
+use Rattle.fhir_json.specs.Tree.{Text}
 use Rattle.fhir_decimal.specs.Value.{Value}
 use Rattle.fhir_prims.specs.declared.calendar.Day.{Day}
 use Rattle.fhir_prims.specs.Shapes.{pair_at}
@@ -11,13 +12,13 @@ use Rattle.fhir_prims.specs.Utc.{day_at, minutes_at, second_of, utc_minutes, day
 abbrev pub date_fields : Option ℕ → Option ℕ → Option ℕ → Fields
 date_fields year month day = record { year = year; month = month; day = day; hour = None; minute = None; second = None }
 
-abbrev pub year_fields : List ℕ → Fields
+abbrev pub year_fields : Text → Fields
 year_fields s = date_fields (Some (year_of s)) None None
 
-abbrev pub month_fields : List ℕ → Fields
+abbrev pub month_fields : Text → Fields
 month_fields s = date_fields (Some (year_of s)) (Some (pair_at s 5)) None
 
-abbrev pub day_fields : List ℕ → Fields
+abbrev pub day_fields : Text → Fields
 day_fields s = date_fields (Some (year_of s)) (Some (pair_at s 5)) (Some (pair_at s 8))
 
 -- the minutes are those from the start of the day
@@ -54,7 +55,7 @@ abbrev pub instant_fields : MomentParts → Fields
 instant_fields p = moment_fields (day_of p) (minutes_of p.time % 1440) (second_of p.time)
 
 -- what a text says, if it is the text of one
-abbrev pub fields_of : List ℕ → Option Fields
+abbrev pub fields_of : Text → Option Fields
 fields_of s =
     if is_year_text s then Some (year_fields s)
     else (if is_month_text s then Some (month_fields s)

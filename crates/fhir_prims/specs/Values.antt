@@ -3,9 +3,11 @@ use Rattle.std.specs.Prelude.{Bool, true, false, Option, Some, None, codes, if�
 use Rattle.std.specs.Str.{bytes_eq}
 use Rattle.fhir_json.specs.Tree.{Text, Tree, boolean, number, string}
 use Rattle.fhir_prims.specs.declared.prim.PrimType.{PrimType}
-use Rattle.fhir_prims.specs.declared.prim.PrimType.TheVariants.{Boolean, Integer, UnsignedInt, PositiveInt, Decimal, String, Markdown, Xhtml, Code, Base64Binary, Id, Uri, Url, Canonical, Oid, Uuid, Date, DateTime, Instant, Time}
+use Rattle.fhir_prims.specs.declared.prim.PrimType.TheVariants.{Boolean, Integer, UnsignedInt, PositiveInt, Decimal, String, Markdown, Xhtml, Code}
+use Rattle.fhir_prims.specs.declared.prim.PrimType.TheVariants.{Base64Binary, Id, Uri, Url, Canonical, Oid, Uuid, Date, DateTime, Instant, Time}
 use Rattle.fhir_prims.specs.Numbers.{is_integer, is_unsigned_int, is_positive_int, is_decimal}
-use Rattle.fhir_prims.specs.Texts.{is_filled, is_string, is_uri, is_id}
+use Rattle.fhir_names.specs.ResourceIds.{is_id}
+use Rattle.fhir_prims.specs.Texts.{is_string, is_uri, is_xhtml}
 use Rattle.fhir_prims.specs.Blanks.{is_code, is_base64}
 use Rattle.fhir_prims.specs.Names.{is_oid, is_uuid}
 use Rattle.fhir_prims.specs.Moments.{is_date, is_date_time, is_instant, is_time}
@@ -49,7 +51,7 @@ allows_number _ s = false
 abbrev pub allows_text : PrimType → Text → Bool
 allows_text String s = is_string s
 allows_text Markdown s = is_string s
-allows_text Xhtml s = is_filled s
+allows_text Xhtml s = is_xhtml s
 allows_text Code s = is_code s
 allows_text Base64Binary s = is_base64 s
 allows_text Id s = is_id s

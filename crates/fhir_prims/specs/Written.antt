@@ -1,9 +1,12 @@
 -- How dates, moments and times of day are written, and what they say (FHIR R4, Data Types, date, dateTime, instant, time).
-use Rattle.std.specs.Prelude.{◌≡◌, ℕ, ◌+◌, ◌*◌, ◌/◌, ◌%◌, ◌<◌, List, [], ◌∷◌, ◌++◌, Bool, true, false, ◌&&◌, nat_le, Some, None, codes, IsTrue}
-use Rattle.fhir_decimal.specs.Text.{unsigned}
+use Rattle.std.specs.Prelude.{◌≡◌, ℕ, ◌+◌, ◌*◌, ◌/◌, ◌%◌, ◌<◌, [], ◌∷◌, ◌++◌, Bool, true, false, ◌&&◌, nat_le, Some, None, codes, IsTrue}
+use Rattle.std.specs.Char.{is_ascii_digit}
+use Rattle.std.specs.List.{list_all}
+use Rattle.fhir_json.specs.Tree.{Text}
+use Rattle.fhir_json.specs.Bytes.{digit_zero}
+use Rattle.fhir_decimal.specs.Text.{unsigned_parts}
 use Rattle.fhir_decimal.specs.Value.{Value, value_of}
 use Rattle.fhir_prims.specs.declared.calendar.Day.{Day}
-use Rattle.fhir_prims.specs.Bytes.{all_digits}
 use Rattle.fhir_prims.specs.Calendar.{is_day, minutes_since}
 use Rattle.fhir_prims.specs.Order.{Fields}
 
@@ -14,7 +17,7 @@ pub record Clock : Type 0 where
   pub hour : ℕ
   pub minute : ℕ
   pub second : ℕ
-  pub fraction : List ℕ
+  pub fraction : Text
 
 -- UTC, or hours and minutes ahead of it or behind it
 pub data Zone : Type 0 where
@@ -47,34 +50,34 @@ is_written_time _ = false
 
 -- ---- how
 
-abbrev pub two_digits : ℕ → List ℕ
-two_digits n = (48 + n / 10) ∷ ((48 + n % 10) ∷ [])
+abbrev pub two_digits : ℕ → Text
+two_digits n = (digit_zero + n / 10) ∷ ((digit_zero + n % 10) ∷ [])
 
-abbrev pub four_digits : ℕ → List ℕ
+abbrev pub four_digits : ℕ → Text
 four_digits n = two_digits (n / 100) ++ two_digits (n % 100)
 
 -- YYYY-MM-DD
-abbrev pub day_text : Day → List ℕ
+abbrev pub day_text : Day → Text
 day_text d = four_digits d.year ++ (codes "-" ++ (two_digits d.month ++ (codes "-" ++ two_digits d.day)))
 
 -- hh:mm
-abbrev pub minute_text : ℕ → ℕ → List ℕ
+abbrev pub minute_text : ℕ → ℕ → Text
 minute_text hour minute = two_digits hour ++ (codes ":" ++ two_digits minute)
 
-abbrev pub fraction_text : List ℕ → List ℕ
+abbrev pub fraction_text : Text → Text
 fraction_text [] = []
 fraction_text (b ∷ bs) = codes "." ++ (b ∷ bs)
 
 -- hh:mm:ss and a fraction
-abbrev pub clock_text : Clock → List ℕ
+abbrev pub clock_text : Clock → Text
 clock_text c = minute_text c.hour c.minute ++ (codes ":" ++ (two_digits c.second ++ fraction_text c.fraction))
 
-abbrev pub zone_text : Zone → List ℕ
+abbrev pub zone_text : Zone → Text
 zone_text utc = codes "Z"
 zone_text (ahead hours minutes) = codes "+" ++ minute_text hours minutes
 zone_text (behind hours minutes) = codes "-" ++ minute_text hours minutes
 
-abbrev pub text_of : Written → List ℕ
+abbrev pub text_of : Written → Text
 text_of (year y) = four_digits y
 text_of (month y m) = four_digits y ++ (codes "-" ++ two_digits m)
 text_of (day d) = day_text d
@@ -92,7 +95,7 @@ is_possible_day d = is_year d.year && is_day d
 
 -- to 23:59:60
 abbrev pub is_possible_clock : Clock → Bool
-is_possible_clock c = nat_le c.hour 23 && nat_le c.minute 59 && nat_le c.second 60 && all_digits c.fraction
+is_possible_clock c = nat_le c.hour 23 && nat_le c.minute 59 && nat_le c.second 60 && list_all is_ascii_digit c.fraction
 
 -- to 14:00
 abbrev pub is_offset : ℕ → ℕ → Bool
@@ -114,7 +117,7 @@ is_possible (time c) = is_possible_clock c
 
 -- the second, with its fraction
 abbrev pub second_in : Clock → Value
-second_in c = value_of (unsigned (two_digits c.second) c.fraction)
+second_in c = value_of (unsigned_parts (two_digits c.second) c.fraction)
 
 -- where it is so many minutes in UTC, the clocks of a zone show so many
 abbrev pub Shows : Zone → ℕ → ℕ → Type 0
@@ -151,7 +154,7 @@ Says (moment d c z) f = SaysMoment d c z f
 Says (time c) f = f ≡ record { year = None; month = None; day = None; hour = Some c.hour; minute = Some c.minute; second = Some (second_in c) }
 
 -- the fields are what a text says
-pub record IsSaid (s : List ℕ) (f : Fields) : Type 0 where
+pub record IsSaid (s : Text) (f : Fields) : Type 0 where
   pub written : Written
   pub possible : IsTrue (is_possible written)
   pub text : text_of written ≡ s

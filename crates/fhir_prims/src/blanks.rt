@@ -2,7 +2,8 @@
 
 ghost use Rattle.std.specs.Prelude.{◌≡◌};
 ghost use Rattle.std.specs.List.{list_all, list_any, slice_split};
-ghost use Rattle.fhir_prims.specs.Bytes.{is_blank, is_base64_byte};
+ghost use Rattle.fhir_json.specs.Bytes.{is_blank};
+ghost use Rattle.fhir_prims.specs.Bytes.{is_base64_byte};
 ghost use Rattle.fhir_prims.specs.Blanks.{is_word, is_code, are_fours, is_base64};
 
 use crate::bytes::{is_base64_byte, is_blank};
@@ -10,7 +11,7 @@ use crate::bytes::{is_base64_byte, is_blank};
 fn is_word(text: &[u8]) -> bool
     ensures { result ≡ is_word text.now }
 {
-    text.len() > 0
+    !text.is_empty()
 }
 
 fn are_words(text: &[u8]) -> bool

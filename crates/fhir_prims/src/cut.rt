@@ -3,11 +3,10 @@
 
 ghost use Rattle.std.specs.Prelude.{◌≡◌, ◌≤◌, length};
 ghost use Rattle.std.specs.List.{prefix_len};
-ghost use Rattle.fhir_prims.specs.Bytes.{is_digit};
+ghost use Rattle.std.specs.Char.{is_ascii_digit};
 ghost use Rattle.fhir_prims.specs.Cut.{fraction_len, cut_time, cut_moment};
-ghost use Rattle.fhir_prims.specs.Seen.{time_seen, moment_seen};
+ghost use Rattle.fhir_prims.specs.Views.{time_seen, moment_seen};
 
-use crate::bytes::is_digit;
 use crate::shapes::{byte_at, cut_at};
 
 /// `hh:mm:ss`, a fraction or none, and what stands behind them.
@@ -28,11 +27,11 @@ pub(crate) struct MomentText<'a> {
 
 // How many digits a text begins with.
 fn digits_len(text: &[u8]) -> usize
-    ensures value { result ≡ prefix_len is_digit text.now }
+    ensures value { result ≡ prefix_len is_ascii_digit text.now }
     ensures bound { result ≤ length text.now }
 {
     let mut count = 0;
-    while count < text.len() && is_digit(text[count]) {
+    while count < text.len() && text[count].is_ascii_digit() {
         count += 1;
     }
     count

@@ -1,4 +1,16 @@
-//! The primitive types of FHIR (R4, Data Types) and the JSON values that each allows.
+//! The primitive types of FHIR (R4, Data Types), the JSON values that each allows, and the order of dates and times.
+//!
+//! ```
+//! if let (Some(date), Ok(json)) = (PrimType::of("date"), read(alloc, b"\"2024-02-30\"")) {
+//!     lexical(date, &json) // false: no such day
+//! }
+//! if let (Some(left), Some(right)) = (Moment::of("2024-02"), Moment::of("2024-03-01")) {
+//!     cmp_moment(&left, &right) // Some(Ordering::Less)
+//! }
+//! ```
+//!
+//! Read first the contract of `lexical`: it answers its word of `specs/Values.antt`, which names the word of each type. For
+//! dates and times read that of `moments_as_written`: what is read from a text is what is written in it.
 #![tactic(auto)]
 
 mod blanks;

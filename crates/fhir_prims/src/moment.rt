@@ -3,11 +3,11 @@
 ghost use Rattle.std.specs.Prelude.{◌≡◌, IsTrue, option_map};
 ghost use Rattle.std.specs.Ordering.{nat_cmp, partial_ordering_then};
 ghost use Rattle.fhir_decimal.specs.Value.{value_of, value_order};
-ghost use Rattle.fhir_decimal.specs.Seen.{parts_seen};
+ghost use Rattle.fhir_decimal.specs.Views.{parts_seen};
 ghost use Rattle.fhir_prims.specs.Moments.{is_moment};
 ghost use Rattle.fhir_prims.specs.Order.{field_order, moment_order};
 ghost use Rattle.fhir_prims.specs.Reading.{date_fields, year_fields, month_fields, day_fields, moment_fields, time_fields, minutes_of, instant_fields, fields_of};
-ghost use Rattle.fhir_prims.specs.Seen.{fields_seen, time_seen, moment_seen};
+ghost use Rattle.fhir_prims.specs.Views.{fields_seen, time_seen, moment_seen};
 
 use crate::calendar::Day;
 use crate::cut::{MomentText, TimeText, cut_moment, cut_time};

@@ -2,7 +2,7 @@
 
 ghost use Rattle.std.specs.Prelude.{◌≡◌, ◌≤◌};
 ghost use Rattle.fhir_prims.specs.Moments.{is_in_calendar, is_month, year_of, is_year_text, is_month_text, has_day, is_day_text, is_date, is_time_of_day, is_clock, is_fraction, is_offset_form, is_offset_size, is_zone, has_clock, is_time, is_moment, is_instant, is_date_time};
-ghost use Rattle.fhir_prims.specs.Seen.{time_seen, moment_seen};
+ghost use Rattle.fhir_prims.specs.Views.{time_seen, moment_seen};
 
 use crate::bytes::are_digits;
 use crate::cut::{MomentText, TimeText, cut_moment, cut_time};

@@ -3,7 +3,6 @@
 ghost use Rattle.std.specs.Prelude.{◌≡◌};
 ghost use Rattle.fhir_prims.specs.Numbers.{are_digits_to, is_positive_to, is_zero, is_negative_to, is_positive_int, is_unsigned_int, is_integer, is_decimal};
 
-use crate::bytes::is_digit;
 use crate::shapes::{byte_at, cut_at};
 use fhir_decimal::{Decimal, grammar};
 
@@ -14,7 +13,7 @@ fn are_digits_to(most: u32, digits: &[u8]) -> bool
     let mut number: u64 = 0;
     for digit in digits {
         let digit = *digit;
-        if !is_digit(digit) {
+        if !digit.is_ascii_digit() {
             return false;
         }
         number = 10 * number + u64::from(digit - b'0');

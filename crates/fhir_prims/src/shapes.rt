@@ -3,15 +3,15 @@
 ghost use Rattle.std.specs.Prelude.{◌≡◌, ◌≤◌, slice_index, take, drop};
 ghost use Rattle.fhir_prims.specs.Shapes.{fits, all_fit, has_shape, digit_at, pair_at};
 
-use crate::bytes::{is_digit, is_hex};
+use crate::bytes::is_lowercase_hexdigit;
 
 fn fits(mark: u8, byte: u8) -> bool
     ensures { result ≡ fits mark byte }
 {
     if mark == b'0' {
-        is_digit(byte)
+        byte.is_ascii_digit()
     } else if mark == b'h' {
-        is_hex(byte)
+        is_lowercase_hexdigit(byte)
     } else {
         byte == mark
     }

@@ -2,10 +2,10 @@
 
 ghost use Rattle.std.specs.Prelude.{◌≡◌, ◌≤◌, IsTrue};
 ghost use Rattle.fhir_decimal.specs.Value.{value_of};
-ghost use Rattle.fhir_decimal.specs.Seen.{parts_seen};
+ghost use Rattle.fhir_decimal.specs.Views.{parts_seen};
 ghost use Rattle.fhir_prims.specs.Moments.{has_day};
 ghost use Rattle.fhir_prims.specs.Utc.{day_at, minutes_at, second_of, offset_of, is_behind, utc_minutes, day_of_minutes};
-ghost use Rattle.fhir_prims.specs.Seen.{time_seen};
+ghost use Rattle.fhir_prims.specs.Views.{time_seen};
 
 use crate::calendar::{Day, day_after, day_before};
 use crate::cut::TimeText;

@@ -9,8 +9,9 @@ use crate::moments::{is_date, is_date_time, is_instant, is_time};
 use crate::names::{is_oid, is_uuid};
 use crate::numbers::{is_decimal, is_integer, is_positive_int, is_unsigned_int};
 use crate::prim::PrimType;
-use crate::texts::{is_filled, is_id, is_string, is_uri};
+use crate::texts::{is_string, is_uri, is_xhtml};
 use fhir_json::Json;
+use fhir_names::is_id;
 
 fn allows_flag(prim: PrimType) -> bool
     ensures { result ≡ allows_flag prim }
@@ -36,7 +37,7 @@ fn allows_text(prim: PrimType, text: &str) -> bool
     match prim {
         PrimType::String => is_string(text),
         PrimType::Markdown => is_string(text),
-        PrimType::Xhtml => is_filled(text),
+        PrimType::Xhtml => is_xhtml(text),
         PrimType::Code => is_code(text),
         PrimType::Base64Binary => is_base64(text),
         PrimType::Id => is_id(text),

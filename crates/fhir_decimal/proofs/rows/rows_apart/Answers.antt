@@ -17,8 +17,10 @@ loop-place-preserved c =
     place_step FAR left.negative right.negative
     (digit_from (c.max-places.result - c.places_in-3.result) (digits_in left))
     (digit_from (c.max-places.result - c.places_in-4.result) (digits_in right))
-    c.loop-place.place c.loop-place.apart c.tilt-raise.result c.tilt-lower.result c.digit_from.result c.digit_from-in-loop-place.result c.next_apart-apart.result
-    (omega arith) c.loop-place.invariant c.digit_from.ensures.value c.digit_from-in-loop-place.ensures.value c.digit_from.ensures.small c.digit_from-in-loop-place.ensures.small
+    c.loop-place.place c.loop-place.apart c.tilt-raise.result c.tilt-lower.result c.digit_from.result c.digit_from-in-loop-place.result
+    c.next_apart-apart.result
+    (omega arith) c.loop-place.invariant c.digit_from.ensures.value c.digit_from-in-loop-place.ensures.value
+    c.digit_from.ensures.small c.digit_from-in-loop-place.ensures.small
     c.tilt-raise.ensures.value c.tilt-lower.ensures.value c.next_apart-apart.ensures
 
 pub returns-clause-value : goal.returns-clause-value
@@ -29,8 +31,10 @@ returns-clause-value c =
     let ended : c.loop-place.place ≡ n = omega arith in
     let mine = row_done left (n - c.places_in-3.result) n (omega arith) (ap (λ (k : ℕ). n - k) c.places_in-3.ensures.value) in
     let other = row_done right (n - c.places_in-4.result) n (omega arith) (ap (λ (k : ℕ). n - k) c.places_in-4.ensures.value) in
+    let digits = digit_from (n - c.places_in-3.result) (digits_in left) in
+    let other_digits = digit_from (n - c.places_in-4.result) (digits_in right) in
     c.loop-place.invariant
-    ∙ ap (λ (k : ℕ). signed_apart FAR left.negative (prefix (digit_from (n - c.places_in-3.result) (digits_in left)) k) right.negative (prefix (digit_from (n - c.places_in-4.result) (digits_in right)) k)) ended
+    ∙ ap (λ (k : ℕ). signed_apart FAR left.negative (prefix digits k) right.negative (prefix other_digits k)) ended
     ∙ ap₂ (λ (v w : ℕ). signed_apart FAR left.negative v right.negative w) mine other
 
 pub returns-clause-near : goal.returns-clause-near

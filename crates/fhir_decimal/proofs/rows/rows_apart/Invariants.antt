@@ -6,4 +6,6 @@ use Rattle.fhir_decimal.proofs.rows.rows_apart.Given as goal
 
 abbrev pub invariant-loop-place : goal.invariant-loop-place
 invariant-loop-place l =
-    l.apart ≡ signed_apart FAR l.left.negative (prefix (digit_from l.left_start (digits_in l.left)) l.place) l.right.negative (prefix (digit_from l.right_start (digits_in l.right)) l.place)
+    l.apart
+    ≡ signed_apart FAR l.left.negative (prefix (digit_from l.left_start (digits_in l.left)) l.place) l.right.negative
+    (prefix (digit_from l.right_start (digits_in l.right)) l.place)

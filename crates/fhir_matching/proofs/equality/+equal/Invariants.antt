@@ -13,4 +13,5 @@ invariant-members_among-loop-member l =
 
 abbrev pub invariant-has_equal-loop-other : goal.invariant-has_equal-loop-other
 invariant-has_equal-loop-other l =
-    has_passing (property_of l.member).0 (equal (property_of l.member).1) (members_view (drop l.other-index l.others)) ≡ has_passing (property_of l.member).0 (equal (property_of l.member).1) (members_view l.others)
+    has_passing (property_of l.member).0 (equal (property_of l.member).1) (members_view (drop l.other-index l.others))
+    ≡ has_passing (property_of l.member).0 (equal (property_of l.member).1) (members_view l.others)

@@ -10,7 +10,8 @@ invariant-items_fit-loop-pattern l =
 
 abbrev pub invariant-some_item_fits-loop-item : goal.invariant-some_item_fits-loop-item
 invariant-some_item_fits-loop-item l =
-    some_passing (pattern_test (tree_of l.pattern)) (items_view (drop l.item-index l.items)) ≡ some_passing (pattern_test (tree_of l.pattern)) (items_view l.items)
+    some_passing (pattern_test (tree_of l.pattern)) (items_view (drop l.item-index l.items))
+    ≡ some_passing (pattern_test (tree_of l.pattern)) (items_view l.items)
 
 abbrev pub invariant-members_fit-loop-pattern : goal.invariant-members_fit-loop-pattern
 invariant-members_fit-loop-pattern l =
@@ -18,4 +19,5 @@ invariant-members_fit-loop-pattern l =
 
 abbrev pub invariant-some_member_fits-loop-member : goal.invariant-some_member_fits-loop-member
 invariant-some_member_fits-loop-member l =
-    has_passing (property_of l.pattern).0 (pattern_test (property_of l.pattern).1) (members_view (drop l.member-index l.members)) ≡ has_passing (property_of l.pattern).0 (pattern_test (property_of l.pattern).1) (members_view l.members)
+    has_passing (property_of l.pattern).0 (pattern_test (property_of l.pattern).1) (members_view (drop l.member-index l.members))
+    ≡ has_passing (property_of l.pattern).0 (pattern_test (property_of l.pattern).1) (members_view l.members)

@@ -1,4 +1,4 @@
-use Rattle.fhir_prims.specs.Seen.{moment_seen}
+use Rattle.fhir_prims.specs.Views.{moment_seen}
 use Rattle.fhir_prims.proofs.Instants.{has_its_day}
 use Rattle.fhir_prims.proofs.moment.of_instant.Goals as goal
 

@@ -1,5 +1,5 @@
 use Rattle.std.proofs.Common.{◌∙◌}
-use Rattle.fhir_decimal.specs.Seen.{parts_seen}
+use Rattle.fhir_decimal.specs.Views.{parts_seen}
 use Rattle.fhir_prims.proofs.Decimals.{has_parts}
 use Rattle.fhir_prims.proofs.numbers.is_decimal.Goals as goal
 

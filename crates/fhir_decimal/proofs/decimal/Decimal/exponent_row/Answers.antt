@@ -9,5 +9,6 @@ unfolding number_in
 returns-clause-number c =
     let digits = c.args.self.now.exponent.now in
     let none : c.default.result.now ≡ [] = c.default.ensures in
-    let whole : number_of (digits ++ c.default.result.now) ≡ number_of digits = ap (λ (w : List ℕ). number_of (digits ++ w)) none ∙ ap number_of (append-nil digits) in
+    let whole : number_of (digits ++ c.default.result.now) ≡ number_of digits =
+    ap (λ (w : List ℕ). number_of (digits ++ w)) none ∙ ap number_of (append-nil digits) in
     omega arith

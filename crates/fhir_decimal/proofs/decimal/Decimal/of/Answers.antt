@@ -1,4 +1,4 @@
-use Rattle.fhir_decimal.specs.Seen.{parts_seen}
+use Rattle.fhir_decimal.specs.Views.{parts_seen}
 use Rattle.fhir_decimal.proofs.Texts.{read_right}
 use Rattle.fhir_decimal.proofs.decimal.Decimal.of.Goals as goal
 

@@ -8,4 +8,5 @@ returns-then-is_some-clause-added c = λ names h e.
 
 pub returns-clause-added : goal.returns-clause-added
 returns-clause-added c = λ names h e.
-    added c.args.self.now c.put.new.self names c.args.name.now c.args.place (ap is_some (sym c.get.ensures) ∙ sym c.is_some.ensures ∙ c.if-is_some.false) c.in_ok-put.ensures.put e h
+    added c.args.self.now c.put.new.self names c.args.name.now c.args.place
+    (ap is_some (sym c.get.ensures) ∙ sym c.is_some.ensures ∙ c.if-is_some.false) c.in_ok-put.ensures.put e h

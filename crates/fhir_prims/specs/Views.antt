@@ -1,7 +1,7 @@
 -- A moment of the program as its fields, and texts that it has cut as their parts.
 use Rattle.std.specs.Option.{option_map}
 use Rattle.fhir_decimal.specs.Value.{value_of}
-use Rattle.fhir_decimal.specs.Seen.{parts_seen}
+use Rattle.fhir_decimal.specs.Views.{parts_seen}
 use Rattle.fhir_prims.specs.declared.moment.Moment.{Moment}
 use Rattle.fhir_prims.specs.declared.cut.TimeText.{TimeText}
 use Rattle.fhir_prims.specs.declared.cut.MomentText.{MomentText}
