@@ -5,7 +5,7 @@ use Rattle.std.specs.Result.{result_ok}
 use Rattle.std.specs.Str.{bytes_eq}
 use Rattle.fhir_json.specs.Tree.{Text, Tree}
 use Rattle.fhir_json.specs.Fields.{field, as_text}
-use Rattle.fhir_names.specs.Canonicals.{Reference, read_canonical}
+use Rattle.fhir_names.specs.Canonicals.{CanonicalParts, read_canonical}
 use Rattle.fhir_package.specs.declared.kind.Kind.{Kind}
 use Rattle.fhir_package.specs.Definitions.{Definitions, at_url}
 
@@ -21,7 +21,7 @@ abbrev pub where_version : Option Text → Tree → Option Tree
 where_version version t = if option_map_or (λ v. is_of_version v t) version true then Some t else None
 
 -- the definition of a kind that a url and perhaps a version mean
-abbrev pub at_version : Kind → Definitions → Reference → Option Tree
+abbrev pub at_version : Kind → Definitions → CanonicalParts → Option Tree
 at_version kind p r = option_and_then (where_version r.1) (at_url kind r.0 p)
 
 -- the definition that a canonical names; a text that is no canonical names none

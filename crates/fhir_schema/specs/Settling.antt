@@ -5,7 +5,7 @@ use Rattle.std.specs.List.{list_all, slice_get, starts_with}
 use Rattle.std.specs.Result.{result_ok}
 use Rattle.std.specs.Str.{bytes_eq}
 use Rattle.fhir_json.specs.Tree.{Text}
-use Rattle.fhir_names.specs.Canonicals.{Reference, read_canonical}
+use Rattle.fhir_names.specs.Canonicals.{CanonicalParts, read_canonical}
 use Rattle.fhir_package.specs.Canonical.{has_version}
 use Rattle.fhir_elements.specs.declared.reason.Reason.{Reason}
 use Rattle.fhir_elements.specs.declared.reason.Reason.TheVariants.{NotYet, UnusableType, NoTree, BaseCycle, NoSnapshot, SecondType}
@@ -34,7 +34,7 @@ abbrev pub where_versioned : List Definition → Option Text → ℕ → Option 
 where_versioned ds version place =
     if option_map_or (λ v. is_versioned ds v place) version true then Some place else None
 
-abbrev pub version_place : List Definition → Reference → Option ℕ
+abbrev pub version_place : List Definition → CanonicalParts → Option ℕ
 version_place ds r = option_and_then (where_versioned ds r.1) (url_place ds r.0)
 
 -- the place of the definition that a canonical names; a text that is no canonical names none
