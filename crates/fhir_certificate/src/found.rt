@@ -3,10 +3,10 @@
 ghost use Rattle.std.specs.Prelude.{◌≡◌, ◌+◌, ◌++◌, ◌<◌, ◌≤◌, ◌^◌, ◌⊎◌, [], None, Some, option_map, IfOk, IfErr, OnOk};
 ghost use Rattle.fhir_certificate.specs.declared.fault.CertFault.TheVariants as faults;
 ghost use Rattle.fhir_certificate.specs.declared.pair.Pair.TheVariants.{Item, Kids};
-ghost use Rattle.fhir_certificate.specs.Meaning.{limit, node_of, pair_of};
+ghost use Rattle.fhir_certificate.specs.Judging.{limit, node_of, pair_of};
 ghost use Rattle.fhir_certificate.specs.Reading.{lines_of, pair_lines, pairs_at};
-ghost use Rattle.fhir_certificate.specs.Building.{pair_in, item_in, kids_in, Reads, LeadsTo};
-ghost use Rattle.fhir_certificate.specs.Seen.{name_seen, line_seen};
+ghost use Rattle.fhir_certificate.specs.Found.{pair_in, item_in, kids_in, Reads, LeadsTo};
+ghost use Rattle.fhir_certificate.specs.Views.{name_seen, line_seen};
 
 use crate::fault::CertFault;
 use crate::format::{NameText, PairLine, next_pair};

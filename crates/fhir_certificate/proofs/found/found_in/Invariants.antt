@@ -3,7 +3,7 @@ use Rattle.std.specs.Prelude.{is_some}
 use denote.Text.{Utf8}
 use denote.Shadow.{shadow}
 use Rattle.fhir_certificate.specs.Reading.{lines_of, pair_lines, pairs_at}
-use Rattle.fhir_certificate.specs.Building.{LeadsTo}
+use Rattle.fhir_certificate.specs.Found.{LeadsTo}
 use Rattle.fhir_certificate.proofs.found.found_in.Given as goal
 
 abbrev pub invariant-loop-line : goal.invariant-loop-line

@@ -1,5 +1,5 @@
 use Rattle.std.proofs.lemmas.Bool.{not-true, not-false}
-use Rattle.fhir_certificate.specs.Seen.{written_with}
+use Rattle.fhir_certificate.specs.Views.{written_with}
 use Rattle.fhir_certificate.proofs.Judging.{found_unknown, found_over, found_certificate}
 use Rattle.fhir_certificate.proofs.reading.judge.Goals as goal
 
@@ -12,5 +12,5 @@ returns-then-found-gt-MAX_PAIRS c = λ s lines h.
 
 pub returns-else-found-gt-MAX_PAIRS : goal.returns-else-found-gt-MAX_PAIRS
 returns-else-found-gt-MAX_PAIRS c = λ s lines h.
-    found_certificate s (written_with c.args.head lines) c.args.found h c.certificate_of.result
-    (not-false _ c.if-not-found.false) c.if-found-gt-MAX_PAIRS.false c.certificate_of.ensures
+    found_certificate s (written_with c.args.head lines) c.args.found h c.certificate_with.result
+    (not-false _ c.if-not-found.false) c.if-found-gt-MAX_PAIRS.false c.certificate_with.ensures

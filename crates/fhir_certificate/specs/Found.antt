@@ -8,7 +8,7 @@ use Rattle.fhir_certificate.specs.declared.pair.Pair.{Pair}
 use Rattle.fhir_certificate.specs.declared.pair.Pair.TheVariants.{Item, Kids}
 use Rattle.fhir_certificate.specs.declared.found.Found.{Found}
 use Rattle.fhir_certificate.specs.Format.{Line, item, kids}
-use Rattle.fhir_certificate.specs.Meaning.{limit, pair_of}
+use Rattle.fhir_certificate.specs.Judging.{limit, pair_of}
 
 -- the pair of a line, where its nodes are known
 abbrev pub pair_in : SchemaValue → Line → Option Pair
