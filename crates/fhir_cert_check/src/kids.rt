@@ -53,16 +53,13 @@ fn bounds_answer(own: &ElementDef, base: &ElementDef) -> bool
 fn allows_none(most: Max) -> bool
     ensures { result ≡ allows_none most }
 {
-    match most {
-        Max::Unbounded => false,
-        Max::UpTo(count) => count == 0,
-    }
+    matches!(most, Max::UpTo(0))
 }
 
 fn is_forbidden(element: &ElementDef) -> bool
     ensures { result ≡ is_forbidden element.now }
 {
-    element.max().map_or(false, |most| allows_none(most))
+    element.max().is_some_and(|most| allows_none(most))
 }
 
 fn cardinality_answers(schema: &Schema, n: NodeRef, m: NodeRef) -> bool

@@ -13,7 +13,7 @@ use Rattle.fhir_json.specs.Tree.{Text}
 use Rattle.fhir_certificate.specs.Format.{Name, Line, item, kids, Written, line_text, pair_text, is_field, is_name, is_line, Spells}
 use Rattle.fhir_certificate.specs.Reading.{cut_at, lines_of, is_ended, line_with, field_at, name_at, name_of}
 use Rattle.fhir_certificate.specs.Reading.{line_of, pairs_in, pairs_at, behind_line, field_of, field_line, written_of}
-use Rattle.fhir_certificate.proofs.Cuts.{Lacks, tail_lacks, cut_found, lines_at, ended_at}
+use Rattle.fhir_certificate.proofs.Cuts.{Lacks, tail_lacks, cut_some, lines_at, ended_at}
 use Rattle.fhir_certificate.proofs.Taken.{fields_text, four_fields, five_parts}
 
 -- ---- what lacks a byte
@@ -46,7 +46,7 @@ tab_between xs ys h k = lacks_append 10 xs (9 ∷ ys) h (lacks_more 10 9 ys (ome
 -- ---- fields
 
 field_cut : (c : ℕ) (f rest : Text) → EndsField c → IsTrue (is_field f) → cut_at c (f ++ c ∷ rest) ≡ Some (f, rest)
-field_cut c f rest ends is = cut_found c f rest (field_lacks c f ends is)
+field_cut c f rest ends is = cut_some c f rest (field_lacks c f ends is)
 
 pub field_at_again : (f rest : Text) → IsTrue (is_field f) → field_at (f ++ 9 ∷ rest) ≡ Some (f, rest)
 field_at_again f rest is = rw (field_cut 9 f rest (inl refl) is) (cond-true _ _ _ is)
@@ -151,7 +151,7 @@ field_line_again word f rest w is =
     let text : line_text word (f ∷ []) ++ rest ≡ (word ++ 9 ∷ f) ++ 10 ∷ rest =
     append_assoc (word ++ 9 ∷ (f ++ [])) (10 ∷ []) rest ∙ ap (λ t. (word ++ 9 ∷ t) ++ 10 ∷ rest) (append-nil f) in
     ap (field_line word) text
-    ∙ ap (option_and_then (λ p. option_map (λ field. (field, p.1)) (field_of word p.0))) (cut_found 10 (word ++ 9 ∷ f) rest lacks)
+    ∙ ap (option_and_then (λ p. option_map (λ field. (field, p.1)) (field_of word p.0))) (cut_some 10 (word ++ 9 ∷ f) rest lacks)
     ∙ ap (option_map (λ field. (field, rest))) (field_of_again word f w is)
 
 -- ---- the whole text

@@ -24,8 +24,8 @@ use Rattle.fhir_certificate.specs.Judging.{limit, node_of, pair_of, with_item, w
 use Rattle.fhir_certificate.specs.Judging.{are_usable, certificate_of, has_room, certificate_or_fault, Stands}
 use Rattle.fhir_certificate.specs.Faults.{is_no_memory, Means}
 use Rattle.fhir_certificate.specs.Reading.{written_of, reading}
-use Rattle.fhir_certificate.specs.Found.{are_known, pairs_of, item_in, kids_in, LeadsTo}
-use Rattle.fhir_certificate.specs.declared.found.Found.{Found}
+use Rattle.fhir_certificate.specs.Lines.{are_known, pairs_of, item_in, kids_in, LeadsTo}
+use Rattle.fhir_certificate.specs.declared.lines.LinesRead.{LinesRead}
 use Rattle.fhir_certificate.proofs.Taken.{written_is}
 use Rattle.fhir_certificate.proofs.Again.{written_again}
 
@@ -107,7 +107,7 @@ built_or_fault s w (Err WrongFormat) is le e = cc
 built_or_fault s w (Err UnknownNode) is le e = cc
 built_or_fault s w (Err TooManyPairs) is le e = cc
 
--- ---- what was found is judged
+-- ---- what the lines say is judged
 
 and_true : (a : Bool) → (a && true) ≡ a
 and_true true = refl
@@ -120,42 +120,42 @@ none_of (Some c) is = cc
 over : (n : ℕ) → limit < n → nat_le n limit ≡ false
 over n lt = grind (arith, nat_tests)
 
-module _ (s : SchemaValue) (w : Written) (found : Found) (h : LeadsTo s (are_usable s w) found [] w.lines) where
-  found_known : found.is_known ≡ is_some (certificate_of s w)
-  found_known = sym (and_true found.is_known) ∙ h.known ∙ has_certificate s w
+module _ (s : SchemaValue) (w : Written) (so_far : LinesRead) (h : LeadsTo s (are_usable s w) so_far [] w.lines) where
+  lines_known : so_far.is_known ≡ is_some (certificate_of s w)
+  lines_known = sym (and_true so_far.is_known) ∙ h.known ∙ has_certificate s w
 
-  found_count : found.count ≡ length w.lines
-  found_count = let e = h.count in omega arith
+  lines_count : so_far.count ≡ length w.lines
+  lines_count = let e = h.count in omega arith
 
-  pub found_unknown : found.is_known ≡ false → certificate_or_fault s w ≡ Err UnknownNode
-  found_unknown is =
-      ap (λ o. option_map_or (λ c. if has_room w then Ok c else Err TooManyPairs) o (Err UnknownNode)) (none_of (certificate_of s w) (sym found_known ∙ is))
+  pub lines_unknown : so_far.is_known ≡ false → certificate_or_fault s w ≡ Err UnknownNode
+  lines_unknown is =
+      ap (λ o. option_map_or (λ c. if has_room w then Ok c else Err TooManyPairs) o (Err UnknownNode)) (none_of (certificate_of s w) (sym lines_known ∙ is))
 
-  pub found_over : found.is_known ≡ true → limit < found.count → certificate_or_fault s w ≡ Err TooManyPairs
-  found_over is lt =
-      let many : limit < length w.lines = let e = found_count in omega arith in
-      ap (λ o. option_map_or (λ c. if has_room w then Ok c else Err TooManyPairs) o (Err UnknownNode)) (certificate_built s w (sym found_known ∙ is))
+  pub lines_over : so_far.is_known ≡ true → limit < so_far.count → certificate_or_fault s w ≡ Err TooManyPairs
+  lines_over is lt =
+      let many : limit < length w.lines = let e = lines_count in omega arith in
+      ap (λ o. option_map_or (λ c. if has_room w then Ok c else Err TooManyPairs) o (Err UnknownNode)) (certificate_built s w (sym lines_known ∙ is))
       ∙ cond-false _ _ _ (over (length w.lines) many)
 
-  -- the certificate of what was found
+  -- the certificate of what the lines say
   abbrev pub kept : CertificateValue
-  kept = record { derived = w.derived; base = w.base; items = found.items.items; kids = found.kids.items }
+  kept = record { derived = w.derived; base = w.base; items = so_far.items.items; kids = so_far.kids.items }
 
-  kept_built : found.is_known ≡ true → found.count ≤ limit → kept ≡ built s w
+  kept_built : so_far.is_known ≡ true → so_far.count ≤ limit → kept ≡ built s w
   kept_built is le =
-      let items : found.items.items ≡ flat_map item_in (pairs_of s w.lines) = sym (append-nil found.items.items) ∙ h.items is le in
-      let kids : found.kids.items ≡ flat_map kids_in (pairs_of s w.lines) = sym (append-nil found.kids.items) ∙ h.kids is le in
+      let items : so_far.items.items ≡ flat_map item_in (pairs_of s w.lines) = sym (append-nil so_far.items.items) ∙ h.items is le in
+      let kids : so_far.kids.items ≡ flat_map kids_in (pairs_of s w.lines) = sym (append-nil so_far.kids.items) ∙ h.kids is le in
       rw (items, kids) refl
 
-  pub found_certificate : (r : Result CertificateValue CertFault) → found.is_known ≡ true → found.count ≤ limit
+  pub lines_certificate : (r : Result CertificateValue CertFault) → so_far.is_known ≡ true → so_far.count ≤ limit
       → MatchResult r (λ c. c ≡ kept) (λ fault. fault ≡ NoMemory)
       → GivesOr is_no_memory (λ c. c) r (certificate_or_fault s w)
-  found_certificate (Ok c) is le e =
-      let few : length w.lines ≤ limit = let n = found_count in omega arith in
-      built_or_fault s w (Ok c) (sym found_known ∙ is) few (e ∙ kept_built is le)
-  found_certificate (Err fault) is le e =
-      let few : length w.lines ≤ limit = let n = found_count in omega arith in
-      built_or_fault s w (Err fault) (sym found_known ∙ is) few e
+  lines_certificate (Ok c) is le e =
+      let few : length w.lines ≤ limit = let n = lines_count in omega arith in
+      built_or_fault s w (Ok c) (sym lines_known ∙ is) few (e ∙ kept_built is le)
+  lines_certificate (Err fault) is le e =
+      let few : length w.lines ≤ limit = let n = lines_count in omega arith in
+      built_or_fault s w (Err fault) (sym lines_known ∙ is) few e
 
 -- ---- what is read of bytes
 

@@ -4,4 +4,4 @@ pub mod Judging
 pub mod Faults
 pub mod Reading
 pub mod Views
-pub mod Found
+pub mod Lines

@@ -17,14 +17,14 @@
 mod certificate;
 mod fault;
 mod format;
-mod found;
 mod laws;
+mod lines;
 mod pair;
 mod reading;
 
 pub use certificate::{Certificate, fits};
 pub use fault::CertFault;
-pub use found::MAX_PAIRS;
 pub use laws::format_agrees;
+pub use lines::MAX_PAIRS;
 pub use pair::{NodePair, Pair};
 pub use reading::read;

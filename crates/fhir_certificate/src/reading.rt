@@ -11,12 +11,12 @@ ghost use Rattle.fhir_certificate.specs.Judging.{are_usable, certificate_or_faul
 ghost use Rattle.fhir_certificate.specs.Faults.{is_no_memory, Means};
 ghost use Rattle.fhir_certificate.specs.Reading.{pairs_at, reading};
 ghost use Rattle.fhir_certificate.specs.Views.{written_with};
-ghost use Rattle.fhir_certificate.specs.Found.{LeadsTo};
+ghost use Rattle.fhir_certificate.specs.Lines.{LeadsTo};
 
 use crate::certificate::Certificate;
 use crate::fault::CertFault;
 use crate::format::{Head, head_of};
-use crate::found::{Found, MAX_PAIRS, found_in};
+use crate::lines::{LinesRead, MAX_PAIRS, read_lines};
 use fhir_schema::{Schema, named_nodes};
 use std::alloc::Global;
 
@@ -26,13 +26,17 @@ fn are_usable(schema: &Schema, head: Head<'_>) -> bool
     schema.root(head.derived).is_some() && schema.root(head.base).is_some()
 }
 
-// The certificate of what was found, all of which is known and within the limit.
-fn certificate_with(alloc: Global, head: Head<'_>, found: Found) -> Result<Certificate, CertFault>
+// The certificate of what the lines say, all of which is known and within the limit.
+fn certificate_with(
+    alloc: Global,
+    head: Head<'_>,
+    so_far: LinesRead,
+) -> Result<Certificate, CertFault>
     ensures { MatchResult result (λ c. c ≡ record {
       derived = head.entry.derived.now;
       base = head.entry.base.now;
-      items = found.items.items;
-      kids = found.kids.items;
+      items = so_far.items.items;
+      kids = so_far.kids.items;
     })
         (λ fault. fault ≡ faults.NoMemory) }
 {
@@ -41,21 +45,21 @@ fn certificate_with(alloc: Global, head: Head<'_>, found: Found) -> Result<Certi
     Ok(Certificate {
         derived,
         base,
-        items: found.items,
-        kids: found.kids,
+        items: so_far.items,
+        kids: so_far.kids,
     })
 }
 
-fn judge(alloc: Global, head: Head<'_>, found: Found) -> Result<Certificate, CertFault>
+fn judge(alloc: Global, head: Head<'_>, so_far: LinesRead) -> Result<Certificate, CertFault>
     ensures { (s : SchemaValue) (lines : List Line) → let w = written_with head.entry lines in
-        LeadsTo s (are_usable s w) found [] lines → GivesOr is_no_memory (λ c. c) result (certificate_or_fault s w) }
+        LeadsTo s (are_usable s w) so_far [] lines → GivesOr is_no_memory (λ c. c) result (certificate_or_fault s w) }
 {
-    if !found.is_known {
+    if !so_far.is_known {
         Err(CertFault::UnknownNode)
-    } else if found.count > MAX_PAIRS {
+    } else if so_far.count > MAX_PAIRS {
         Err(CertFault::TooManyPairs)
     } else {
-        certificate_with(alloc, head, found)
+        certificate_with(alloc, head, so_far)
     }
 }
 
@@ -64,8 +68,8 @@ fn read_behind(alloc: Global, schema: &Schema, head: Head<'_>) -> Result<Certifi
         (option_map (written_with head.entry) (pairs_at head.entry.pairs.now))
         (Err faults.WrongFormat)) }
 {
-    let found = found_in(alloc, schema, are_usable(schema, head), head.pairs)?;
-    judge(alloc, head, found)
+    let so_far = read_lines(alloc, schema, are_usable(schema, head), head.pairs)?;
+    judge(alloc, head, so_far)
 }
 
 fn read_exactly(alloc: Global, schema: &Schema, bytes: &[u8]) -> Result<Certificate, CertFault>
@@ -91,7 +95,7 @@ pub fn read(alloc: Global, schema: &Schema, bytes: &[u8]) -> Result<Certificate,
     // Which certificate or which fault it is.
     ensures exact { GivesOr is_no_memory (λ c. c) result (reading schema.now bytes.now) }
     // What is read is what the bytes spell.
-    ensures spelled { IfOk result (λ c. Stands schema.now bytes.now c) }
+    ensures found { IfOk result (λ c. Stands schema.now bytes.now c) }
     // What the bytes spell is read or refused for what it says.
     ensures only { (w : Written) → Spells bytes.now w → GivesOr is_no_memory (λ c. c) result (certificate_or_fault schema.now w) }
     // What a fault says of the bytes.

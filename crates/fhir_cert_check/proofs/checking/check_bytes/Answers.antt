@@ -15,7 +15,7 @@ returns-clause-first c =
 pub returns-clause-includes : goal.returns-clause-includes
 returns-clause-includes c right w spells =
     let s = c.args.schema.now in
-    let read = c.in_ok-certificate.ensures.spelled in
+    let read = c.in_ok-certificate.ensures.found in
     let same = c.format_agrees.ensures.one c.args.bytes.now read.0 w read.1 spells in
     let of = of_written s read.0 c.in_ok-certificate.certificate read.2 in
     subst (λ v. Includes s v.derived v.base) same
@@ -25,7 +25,7 @@ returns-clause-includes c right w spells =
 pub returns-clause-items : goal.returns-clause-items
 returns-clause-items c right w spells n m is_n is_m =
     let s = c.args.schema.now in
-    let read = c.in_ok-certificate.ensures.spelled in
+    let read = c.in_ok-certificate.ensures.found in
     let same = c.format_agrees.ensures.one c.args.bytes.now read.0 w read.1 spells in
     let of = of_written s read.0 c.in_ok-certificate.certificate read.2 in
     c.in_ok-check.ensures.items right n m

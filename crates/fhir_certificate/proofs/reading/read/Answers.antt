@@ -1,8 +1,8 @@
 use Rattle.fhir_certificate.proofs.Judging.{is_found, is_only, is_refused, is_fit}
 use Rattle.fhir_certificate.proofs.reading.read.Goals as goal
 
-pub returns-clause-spelled : goal.returns-clause-spelled
-returns-clause-spelled c = is_found c.args.schema.now c.args.bytes.now c.read_exactly.result c.read_exactly.ensures
+pub returns-clause-found : goal.returns-clause-found
+returns-clause-found c = is_found c.args.schema.now c.args.bytes.now c.read_exactly.result c.read_exactly.ensures
 
 pub returns-clause-only : goal.returns-clause-only
 returns-clause-only c = λ w. is_only c.args.schema.now c.args.bytes.now c.read_exactly.result w c.read_exactly.ensures
