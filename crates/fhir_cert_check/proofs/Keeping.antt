@@ -29,10 +29,10 @@ use Rattle.fhir_certificate.specs.declared.pair.Pair.{Pair}
 use Rattle.fhir_certificate.specs.declared.pair.Pair.TheVariants.{Item as ItemPair, Kids as KidsPair}
 use Rattle.fhir_cert_check.specs.Lists.{all_hold}
 use Rattle.fhir_cert_check.specs.Rule.{RuleName}
-use Rattle.fhir_cert_check.specs.Rules.{entry_answers, types_answer, roots_answer, type_answers, fixed_at}
+use Rattle.fhir_cert_check.specs.Rules.{entry_answers, types_answer, roots_answer, type_answers}
 use Rattle.fhir_cert_check.specs.Rules.{fixed_answers, max_answers, most_answers, bounds_answer, allows_none}
 use Rattle.fhir_cert_check.specs.Rules.{is_forbidden, cardinality_answers, is_forbidden_at, has_item, has_kids}
-use Rattle.fhir_cert_check.specs.Rules.{children_answer, entry_rules, own_slot_rules, slot_rules, kids_rules, rules_of, is_local}
+use Rattle.fhir_cert_check.specs.Rules.{children_answer, entry_rules, own_slot_rules, slot_rules}
 use Rattle.fhir_cert_check.specs.Checking.{IsRight}
 use Rattle.fhir_cert_check.specs.Inclusion.{IncludesItems}
 use Rattle.fhir_cert_check.proofs.Answered.{cases_if, answers_any, all_step, all_map, all_weaker, all_filter, all_given, found_passes, none_of_length}
