@@ -1,15 +1,17 @@
 -- The first rule that fails, in parts of a list.
-use Rattle.std.proofs.Common.{◌≡◌, Bool, true, false, List, [], ◌∷◌, ◌++◌, Option, Some, None, refl, cond, ◌&&◌, ℕ, ◌+◌, ◌<◌, length, get_or, drop, drop-cons, add-one, suc, option_map, sym, ap, ◌∙◌}
+use Rattle.std.proofs.Common.{◌≡◌, Bool, true, false, List, [], ◌∷◌, ◌++◌, Option, Some, None, refl, cond, ◌&&◌}
+use Rattle.std.proofs.Common.{ℕ, ◌+◌, ◌<◌, length, get_or, drop, drop-cons, add-one, suc, option_map, sym, ap, ◌∙◌}
 use Rattle.std.specs.List.{list_all, flat_map}
 use Rattle.std.specs.Option.{option_or, is_none, is_some}
 use Rattle.std.proofs.lemmas.Bool.{false≢true, true≢false}
-use Rattle.fhir_cert_check.specs.Answering.{first_of}
+use Rattle.fhir_cert_check.specs.Lists.{first_of}
 
 pub first_of-append : {R : Type 0} (xs ys : List (Bool × R)) → first_of (xs ++ ys) ≡ option_or (first_of xs) (first_of ys)
 first_of-append [] ys = refl
 first_of-append (x ∷ xs) ys = go x.0 (first_of-append xs ys)
   where
-    go : (b : Bool) → first_of (xs ++ ys) ≡ option_or (first_of xs) (first_of ys) → cond b (first_of (xs ++ ys)) (Some x.1) ≡ option_or (cond b (first_of xs) (Some x.1)) (first_of ys)
+    go : (b : Bool) → first_of (xs ++ ys) ≡ option_or (first_of xs) (first_of ys)
+        → cond b (first_of (xs ++ ys)) (Some x.1) ≡ option_or (cond b (first_of xs) (Some x.1)) (first_of ys)
     go true e = e
     go false e = refl
 
@@ -27,12 +29,14 @@ first_stays None p h = absurd (false≢true h)
 first_stays (Some x) p h = refl
 
 -- a loop's step, where an element's rules all hold
-pub first_past : {A R : Type 0} (f : A → List (Bool × R)) (xs : List A) (i : ℕ) (x : A) → i < length xs → x ≡ get_or xs i x → first_of (f x) ≡ None → first_of (flat_map f (drop (i + 1) xs)) ≡ first_of (flat_map f (drop i xs))
+pub first_past : {A R : Type 0} (f : A → List (Bool × R)) (xs : List A) (i : ℕ) (x : A) → i < length xs → x ≡ get_or xs i x → first_of (f x) ≡ None
+    → first_of (flat_map f (drop (i + 1) xs)) ≡ first_of (flat_map f (drop i xs))
 first_past f xs i x within is none =
     rw (add-one i, drop-cons xs i x within, ← is, first_of-append (f x) (flat_map f (drop (suc i) xs)), none) refl
 
 -- and its end, where one doesn't
-pub first_here : {A R : Type 0} (f : A → List (Bool × R)) (xs : List A) (i : ℕ) (x : A) → i < length xs → x ≡ get_or xs i x → is_some (first_of (f x)) ≡ true → first_of (f x) ≡ first_of (flat_map f (drop i xs))
+pub first_here : {A R : Type 0} (f : A → List (Bool × R)) (xs : List A) (i : ℕ) (x : A) → i < length xs → x ≡ get_or xs i x → is_some (first_of (f x)) ≡ true
+    → first_of (f x) ≡ first_of (flat_map f (drop i xs))
 first_here f xs i x within is some =
     rw (drop-cons xs i x within, ← is, first_of-append (f x) (flat_map f (drop (suc i) xs))) (first_stays (first_of (f x)) _ some)
 
@@ -44,7 +48,8 @@ isnt_some : {A : Type 0} (o : Option A) → is_some o ≡ false → o ≡ None
 isnt_some None h = refl
 isnt_some (Some x) h = absurd (true≢false h)
 
-module _ {A Q R : Type 0} (w : Q → R) (o : Option Q) (f : A → List (Bool × R)) (xs : List A) (i : ℕ) (x : A) (ensures : option_map w o ≡ first_of (f x)) (within : i < length xs) (is : x ≡ get_or xs i x) (sofar : first_of (flat_map f (drop i xs)) ≡ first_of (flat_map f xs)) where
+module _ {A Q R : Type 0} (w : Q → R) (o : Option Q) (f : A → List (Bool × R)) (xs : List A) (i : ℕ) (x : A) (ensures : option_map w o ≡ first_of (f x))
+    (within : i < length xs) (is : x ≡ get_or xs i x) (sofar : first_of (flat_map f (drop i xs)) ≡ first_of (flat_map f xs)) where
   -- a loop's step, and its end, by what a call answered
   pub first_goes : is_some o ≡ false → first_of (flat_map f (drop (i + 1) xs)) ≡ first_of (flat_map f xs)
   first_goes none = first_past f xs i x within is (isnt_some (first_of (f x)) (ap is_some (sym ensures) ∙ is_some-option_map w o ∙ none)) ∙ sofar

@@ -1,5 +1,6 @@
 -- What the pairs of a right certificate say holds at each item.
-use Rattle.std.proofs.Common.{◌≡◌, ℕ, Bool, true, false, List, [], ◌∷◌, Option, Some, None, refl, sym, subst, ◌∙◌, inl, inr, arith, ◌&&◌, ◌||◌, IsTrue, not, nat_eq, nat_le, length, cond}
+use Rattle.std.proofs.Common.{◌≡◌, ℕ, Bool, true, false, List, [], ◌∷◌, Option, Some, None, refl, sym}
+use Rattle.std.proofs.Common.{subst, ◌∙◌, inl, inr, arith, ◌&&◌, ◌||◌, IsTrue, not, nat_eq, nat_le, length, cond}
 use Rattle.std.specs.Prelude.{if◌then◌else◌}
 use Rattle.std.specs.List.{list_all, list_any, AllByRecursion}
 use Rattle.std.specs.Option.{option_map_or, option_and_then}
@@ -21,11 +22,17 @@ use Rattle.fhir_schema.specs.Covers.{covers, type_at}
 use Rattle.fhir_instance.specs.Items.{Item, item, Kids, no_kids, kid, Interpretation, type_of, json_of}
 use Rattle.fhir_instance.specs.Items.{has_kids as has_children}
 use Rattle.fhir_instance.specs.Typing.{entry_of}
-use Rattle.fhir_instance.specs.Conformance.{Around, Child, least_of, count_fits, is_fixed_to, fixed_holds, named, takes, slot_holds, kids_hold, is_untyped, facets_hold, root_holds, entry_holds, types_hold, own_type_holds, inner_holds, node_holds, below, conforms, children_of}
+use Rattle.fhir_instance.specs.Conformance.{Around, Child, least_of, is_count_within, is_fixed_to, fixed_holds, children_of_name, takes, slot_holds, kids_hold}
+use Rattle.fhir_instance.specs.Conformance.{is_untyped, facets_hold, root_holds, entry_holds, types_hold}
+use Rattle.fhir_instance.specs.Conformance.{own_type_holds, inner_holds, node_holds, below, conforms, children_of}
 use Rattle.fhir_certificate.specs.declared.pair.Pair.{Pair}
 use Rattle.fhir_certificate.specs.declared.pair.Pair.TheVariants.{Item as ItemPair, Kids as KidsPair}
-use Rattle.fhir_cert_check.specs.Answering.{all_hold}
-use Rattle.fhir_cert_check.specs.Rules.{Word, entry_answers, types_answer, roots_answer, type_answers, fixed_at, fixed_answers, max_answers, most_answers, bounds_answer, is_none, is_forbidden, cardinality_answers, is_forbidden_at, has_item, has_kids, children_answer, entry_rules, found_rules, slot_rules, kids_rules, rules_of, is_local}
+use Rattle.fhir_cert_check.specs.Lists.{all_hold}
+use Rattle.fhir_cert_check.specs.Rule.{RuleName}
+use Rattle.fhir_cert_check.specs.Rules.{entry_answers, types_answer, roots_answer, type_answers}
+use Rattle.fhir_cert_check.specs.Rules.{fixed_answers, max_answers, most_answers, bounds_answer, allows_none}
+use Rattle.fhir_cert_check.specs.Rules.{is_forbidden, cardinality_answers, is_forbidden_at, has_item, has_kids}
+use Rattle.fhir_cert_check.specs.Rules.{children_answer, entry_rules, own_slot_rules, slot_rules}
 use Rattle.fhir_cert_check.specs.Checking.{IsRight}
 use Rattle.fhir_cert_check.specs.Inclusion.{IncludesItems}
 use Rattle.fhir_cert_check.proofs.Answered.{cases_if, answers_any, all_step, all_map, all_weaker, all_filter, all_given, found_passes, none_of_length}
@@ -65,7 +72,7 @@ most_wider p None n answers holds = refl
 most_wider None (Some most) n answers holds = absurd (false≢true answers)
 most_wider (Some own) (Some most) n answers holds = within_wider own most n answers holds
 
-count_wider : (e f : Element) (n : ℕ) → IsTrue (bounds_answer e f) → IsTrue (count_fits e n) → IsTrue (count_fits f n)
+count_wider : (e f : Element) (n : ℕ) → IsTrue (bounds_answer e f) → IsTrue (is_count_within e n) → IsTrue (is_count_within f n)
 count_wider e f n answers holds =
     let p = and_parts (nat_le (least_of f) (least_of e)) (most_answers e.max f.max) answers in
     let h = and_parts (nat_le (least_of e) n) (option_map_or (is_within n) e.max true) holds in
@@ -73,21 +80,24 @@ count_wider e f n answers holds =
     (le-leb (least_of f) n (omega (arith, leb-true (least_of f) (least_of e) p.0, leb-true (least_of e) n h.0)))
     (most_wider e.max f.max n p.1 h.1)
 
-none_there : {A : Type 0} (o : Option Max) (xs : List A) → IsTrue (option_map_or is_none o false) → IsTrue (option_map_or (is_within (length xs)) o true) → xs ≡ []
+none_there : {A : Type 0} (o : Option Max) (xs : List A) → IsTrue (option_map_or allows_none o false) → IsTrue (option_map_or (is_within (length xs)) o true)
+    → xs ≡ []
 none_there o [] forbidden holds = refl
 none_there None (x ∷ xs) forbidden holds = absurd (false≢true forbidden)
 none_there (Some Unbounded) (x ∷ xs) forbidden holds = absurd (false≢true forbidden)
 none_there (Some (UpTo k)) (x ∷ xs) forbidden holds =
     absurd (omega (arith, eqb-true k 0 forbidden, leb-true (length (x ∷ xs)) k holds))
 
-module _ (s : SchemaValue) (covers_on : (a b c : Text) → IsTrue (covers s a b) → IsTrue (covers s b c) → IsTrue (covers s a c)) (equal_on : (t u v : Tree) → IsTrue (equal t u) → IsTrue (equal u v) → IsTrue (equal t v)) where
+module _ (s : SchemaValue) (covers_on : (a b c : Text) → IsTrue (covers s a b) → IsTrue (covers s b c) → IsTrue (covers s a c))
+    (equal_on : (t u v : Tree) → IsTrue (equal t u) → IsTrue (equal u v) → IsTrue (equal t v)) where
   abbrev count_holds : NodeRef → List Child → Bool
-  count_holds n mine = option_map_or (λ e. count_fits e (length mine)) (element_at s n) true
+  count_holds n mine = option_map_or (λ e. is_count_within e (length mine)) (element_at s n) true
 
   cardinality_step : (n m : NodeRef) (mine : List Child) → IsTrue (cardinality_answers s n m) → IsTrue (count_holds n mine) → IsTrue (count_holds m mine)
   cardinality_step n m mine = go (element_at s n) (element_at s m)
     where
-      go : (o p : Option Element) → IsTrue (option_map_or (λ f. option_map_or (λ e. bounds_answer e f) o false) p true) → IsTrue (option_map_or (λ e. count_fits e (length mine)) o true) → IsTrue (option_map_or (λ e. count_fits e (length mine)) p true)
+      go : (o p : Option Element) → IsTrue (option_map_or (λ f. option_map_or (λ e. bounds_answer e f) o false) p true)
+          → IsTrue (option_map_or (λ e. is_count_within e (length mine)) o true) → IsTrue (option_map_or (λ e. is_count_within e (length mine)) p true)
       go o None answers holds = refl
       go None (Some f) answers holds = absurd (false≢true answers)
       go (Some e) (Some f) answers holds = count_wider e f (length mine) answers holds
@@ -95,7 +105,7 @@ module _ (s : SchemaValue) (covers_on : (a b c : Text) → IsTrue (covers s a b)
   forbidden_step : (n : NodeRef) (mine : List Child) → IsTrue (is_forbidden_at s n) → IsTrue (count_holds n mine) → mine ≡ []
   forbidden_step n mine = go (element_at s n)
     where
-      go : (o : Option Element) → IsTrue (option_map_or is_forbidden o false) → IsTrue (option_map_or (λ e. count_fits e (length mine)) o true) → mine ≡ []
+      go : (o : Option Element) → IsTrue (option_map_or is_forbidden o false) → IsTrue (option_map_or (λ e. is_count_within e (length mine)) o true) → mine ≡ []
       go None forbidden holds = absurd (false≢true forbidden)
       go (Some e) forbidden holds =
           none_there e.max mine forbidden (and_parts (nat_le (least_of e) (length mine)) (option_map_or (is_within (length mine)) e.max true) holds).1
@@ -105,21 +115,26 @@ module _ (s : SchemaValue) (covers_on : (a b c : Text) → IsTrue (covers s a b)
   fixed_step : (x : Item) (p q : Tree) → IsTrue (equal q p) → IsTrue (is_fixed_to p x) → IsTrue (is_fixed_to q x)
   fixed_step x p q same = go (json_of x)
     where
-      go : (o : Option Tree) → IsTrue (option_map_or (λ json. equal p json && (is_object json || not (has_children x))) o false) → IsTrue (option_map_or (λ json. equal q json && (is_object json || not (has_children x))) o false)
+      go : (o : Option Tree) → IsTrue (option_map_or (λ json. equal p json && (is_object json || not (has_children x))) o false)
+          → IsTrue (option_map_or (λ json. equal q json && (is_object json || not (has_children x))) o false)
       go None holds = holds
       go (Some json) holds =
           let h = and_parts (equal p json) (is_object json || not (has_children x)) holds in
           and_from (equal q json) (is_object json || not (has_children x)) (equal_on q p json same h.0) h.1
 
-  facets_step : (x : Item) (children : List Child) (n m : NodeRef) → IsTrue (fixed_answers s n m) → IsTrue (facets_hold s x children n) → IsTrue (facets_hold s x children m)
+  facets_step : (x : Item) (children : List Child) (n m : NodeRef) → IsTrue (fixed_answers s n m) → IsTrue (facets_hold s x children n)
+      → IsTrue (facets_hold s x children m)
   facets_step x children n m = outer (element_at s n) (element_at s m)
     where
-      inner : (p q : Option Property) → IsTrue (option_map_or (λ q. option_map_or (λ p. equal q.1 p.1) p false) q true) → IsTrue (option_map_or (λ p. is_fixed_to p.1 x) p true) → IsTrue (option_map_or (λ p. is_fixed_to p.1 x) q true)
+      inner : (p q : Option Property) → IsTrue (option_map_or (λ q. option_map_or (λ p. equal q.1 p.1) p false) q true)
+          → IsTrue (option_map_or (λ p. is_fixed_to p.1 x) p true) → IsTrue (option_map_or (λ p. is_fixed_to p.1 x) q true)
       inner p None answers holds = refl
       inner None (Some q) answers holds = absurd (false≢true answers)
       inner (Some p) (Some q) answers holds = fixed_step x p.1 q.1 answers holds
 
-      outer : (o p : Option Element) → IsTrue (option_map_or (λ q. option_map_or (λ p. equal q.1 p.1) (option_and_then (λ e. e.fixed) o) false) (option_and_then (λ e. e.fixed) p) true) → IsTrue (option_map_or (λ e. fixed_holds e x) o true) → IsTrue (option_map_or (λ e. fixed_holds e x) p true)
+      outer : (o p : Option Element) → IsTrue
+          (option_map_or (λ q. option_map_or (λ p. equal q.1 p.1) (option_and_then (λ e. e.fixed) o) false) (option_and_then (λ e. e.fixed) p) true)
+          → IsTrue (option_map_or (λ e. fixed_holds e x) o true) → IsTrue (option_map_or (λ e. fixed_holds e x) p true)
       outer o None answers holds = refl
       outer None (Some f) answers holds = inner None f.fixed answers refl
       outer (Some e) (Some f) answers holds = inner e.fixed f.fixed answers holds
@@ -134,10 +149,13 @@ module _ (s : SchemaValue) (covers_on : (a b c : Text) → IsTrue (covers s a b)
     abbrev EachKeeps : List Child → Type 0
     EachKeeps children = AllByRecursion (λ c. Keeps c.conforms_to) children
 
-    entry_step : (name : Text) (n m : NodeRef) (mine : List Child) → EachKeeps mine → IsTrue (all_hold (entry_rules pairs s name n m)) → IsTrue (count_holds n mine) → IsTrue (list_all (λ c. c.conforms_to n) mine) → IsTrue (list_all (λ c. c.conforms_to m) mine)
+    entry_step : (name : Text) (n m : NodeRef) (mine : List Child) → EachKeeps mine → IsTrue (all_hold (entry_rules pairs s name n m))
+        → IsTrue (count_holds n mine) → IsTrue (list_all (λ c. c.conforms_to n) mine) → IsTrue (list_all (λ c. c.conforms_to m) mine)
     entry_step name n m mine keeps = go (is_forbidden_at s n) refl
       where
-        go : (b : Bool) → is_forbidden_at s n ≡ b → IsTrue (all_hold (if b then [] else (has_item pairs n m, Rattle.fhir_cert_check.specs.Rules.entry name) ∷ [])) → IsTrue (count_holds n mine) → IsTrue (list_all (λ c. c.conforms_to n) mine) → IsTrue (list_all (λ c. c.conforms_to m) mine)
+        go : (b : Bool) → is_forbidden_at s n ≡ b
+            → IsTrue (all_hold (if b then [] else (has_item pairs n m, Rattle.fhir_cert_check.specs.Rule.entry name) ∷ [])) → IsTrue (count_holds n mine)
+            → IsTrue (list_all (λ c. c.conforms_to n) mine) → IsTrue (list_all (λ c. c.conforms_to m) mine)
         go true forbidden rules count each = rw (forbidden_step n mine forbidden count) refl
         go false allowed rules count each =
             let pair = (and_parts (has_item pairs n m) true rules).0 in
@@ -145,7 +163,8 @@ module _ (s : SchemaValue) (covers_on : (a b c : Text) → IsTrue (covers s a b)
             (all_weaker (λ c. Keeps c.conforms_to) (λ c. IsTrue (c.conforms_to n) → IsTrue (c.conforms_to m)) (λ c keep. keep n m pair) mine keeps)
             each
 
-    takes_step : (name : Text) (n m : NodeRef) (mine : List Child) → EachKeeps mine → IsTrue (cardinality_answers s n m && all_hold (entry_rules pairs s name n m)) → IsTrue (takes s n mine) → IsTrue (takes s m mine)
+    takes_step : (name : Text) (n m : NodeRef) (mine : List Child) → EachKeeps mine
+        → IsTrue (cardinality_answers s n m && all_hold (entry_rules pairs s name n m)) → IsTrue (takes s n mine) → IsTrue (takes s m mine)
     takes_step name n m mine keeps rules holds =
         let r = and_parts (cardinality_answers s n m) (all_hold (entry_rules pairs s name n m)) rules in
         let h = and_parts (count_holds n mine) (list_all (λ c. c.conforms_to n) mine) holds in
@@ -153,19 +172,21 @@ module _ (s : SchemaValue) (covers_on : (a b c : Text) → IsTrue (covers s a b)
         (cardinality_step n m mine r.0 h.0)
         (entry_step name n m mine keeps r.1 h.0 h.1)
 
-    slot_step : (children : List Child) → EachKeeps children → (n m : NodeRef) (b : Slot) → IsTrue (kids_hold s n children) → IsTrue (all_hold (slot_rules pairs s n m b)) → IsTrue (slot_holds s m children b)
+    slot_step : (children : List Child) → EachKeeps children → (n m : NodeRef) (b : Slot) → IsTrue (kids_hold s n children)
+        → IsTrue (all_hold (slot_rules pairs s n m b)) → IsTrue (slot_holds s m children b)
     slot_step children keeps n m b holds = go (kids s n b.name) refl
       where
-        go : (o : Option Slot) → kids s n b.name ≡ o → IsTrue (all_hold (found_rules pairs s n m b o)) → IsTrue (slot_holds s m children b)
+        go : (o : Option Slot) → kids s n b.name ≡ o → IsTrue (all_hold (own_slot_rules pairs s n m b o)) → IsTrue (slot_holds s m children b)
         go None e rules = absurd (false≢true rules)
         go (Some a) e rules =
-            let found = found_passes (λ slot. bytes_eq b.name slot.name) (slot_holds s n children) (slots s n) a e holds in
-            takes_step b.name (entry_of n a) (entry_of m b) (named b.name children)
+            let own = found_passes (λ slot. bytes_eq b.name slot.name) (slot_holds s n children) (slots s n) a e holds in
+            takes_step b.name (entry_of n a) (entry_of m b) (children_of_name b.name children)
             (all_filter (λ c. Keeps c.conforms_to) (λ c. bytes_eq b.name c.name) children keeps)
             rules
-            (subst (λ name. IsTrue (takes s (entry_of n a) (named name children))) (sym (same_text b.name a.name found.0)) found.1)
+            (subst (λ name. IsTrue (takes s (entry_of n a) (children_of_name name children))) (sym (same_text b.name a.name own.0)) own.1)
 
-    kids_step : (children : List Child) → EachKeeps children → (n m : NodeRef) → IsTrue (has_kids pairs n m) → IsTrue (kids_hold s n children) → IsTrue (kids_hold s m children)
+    kids_step : (children : List Child) → EachKeeps children → (n m : NodeRef) → IsTrue (has_kids pairs n m) → IsTrue (kids_hold s n children)
+        → IsTrue (kids_hold s m children)
     kids_step children keeps n m pair holds =
         all_map (λ b. all_hold (slot_rules pairs s n m b)) (slot_holds s m children)
         (λ b rules. slot_step children keeps n m b holds rules) (slots s m)
@@ -176,12 +197,15 @@ module _ (s : SchemaValue) (covers_on : (a b c : Text) → IsTrue (covers s a b)
       children_step n m answers holds =
           go (nat_eq (length (slots s m)) 0) refl (nat_eq (length (slots s n)) 0) answers
         where
-          go : (b : Bool) → nat_eq (length (slots s m)) 0 ≡ b → (a : Bool) → IsTrue (option_map_or (λ base. option_map_or (λ derived. has_kids pairs derived base) (cond a None (Some n)) false) (cond b None (Some m)) true) → IsTrue (kids_hold s m children)
+          go : (b : Bool) → nat_eq (length (slots s m)) 0 ≡ b → (a : Bool)
+              → IsTrue (option_map_or (λ base. option_map_or (λ derived. has_kids pairs derived base) (cond a None (Some n)) false) (cond b None (Some m)) true)
+              → IsTrue (kids_hold s m children)
           go true leaf a h = rw (none_of_length (slots s m) leaf) refl
           go false is true h = absurd (false≢true h)
           go false is false h = kids_step children keeps n m h holds
 
-      root_step : (n m : NodeRef) → IsTrue (covers s (type_at s m) (type_at s n)) → IsTrue (fixed_answers s n m) → IsTrue (children_answer pairs s n m) → IsTrue (root_holds s x children n) → IsTrue (root_holds s x children m)
+      root_step : (n m : NodeRef) → IsTrue (covers s (type_at s m) (type_at s n)) → IsTrue (fixed_answers s n m) → IsTrue (children_answer pairs s n m)
+          → IsTrue (root_holds s x children n) → IsTrue (root_holds s x children m)
       root_step n m type fixed below holds =
           let h = and_parts (covers s (type_at s n) (type_of x) && facets_hold s x children n) (kids_hold s n children) holds in
           let k = and_parts (covers s (type_at s n) (type_of x)) (facets_hold s x children n) h.0 in
@@ -201,11 +225,13 @@ module _ (s : SchemaValue) (covers_on : (a b c : Text) → IsTrue (covers s a b)
                   | inl untyped ↦ absurd (true≢false (sym untyped ∙ not-true (is_untyped s n) p.0))
                   | inr some ↦
                       or_right (is_untyped s m) (list_any (entry_holds s x children) (types s m))
-                      (answers_any (entry_answers s) (entry_holds s x children) (entry_holds s x children) (λ e f covered here. covers_on f.code e.code (type_of x) covered here) (types s n) (types s m) p.1 some)
+                      (answers_any (entry_answers s) (entry_holds s x children) (entry_holds s x children)
+                      (λ e f covered here. covers_on f.code e.code (type_of x) covered here) (types s n) (types s m) p.1 some)
                 ]
           ]
 
-      inner_step : (n m : NodeRef) → IsTrue (types_answer s n m) → IsTrue (fixed_answers s n m) → IsTrue (children_answer pairs s n m) → IsTrue (inner_holds s x children n) → IsTrue (inner_holds s x children m)
+      inner_step : (n m : NodeRef) → IsTrue (types_answer s n m) → IsTrue (fixed_answers s n m) → IsTrue (children_answer pairs s n m)
+          → IsTrue (inner_holds s x children n) → IsTrue (inner_holds s x children m)
       inner_step n m type fixed below holds =
           let h = and_parts (types_hold s x children n && own_type_holds s x children && facets_hold s x children n) (kids_hold s n children) holds in
           let k = and_parts (types_hold s x children n && own_type_holds s x children) (facets_hold s x children n) h.0 in

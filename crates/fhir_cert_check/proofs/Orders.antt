@@ -9,7 +9,7 @@ use Rattle.fhir_schema.specs.declared.node.NodeRef.{NodeRef}
 use Rattle.fhir_certificate.specs.declared.pair.NodePair.{NodePair}
 use Rattle.fhir_certificate.specs.contracts.pair.NodePairOrd.TheImpl.{cmp-value}
 use Rattle.fhir_cert_check.specs.Checking.{same_node, same_nodes}
-use Rattle.fhir_cert_check.specs.Sets.{AreSame}
+use Rattle.fhir_cert_check.specs.PairSet.{AreSame}
 
 pub is_at_pair : (p q : NodePair) → is_at (cmp-value.it p) q ≡ same_nodes p q
 is_at_pair p q =
@@ -53,7 +53,9 @@ same_nodes-refl p =
     and_from (same_node p.derived p.derived) (same_node p.base p.base) (same_node-refl p.derived) (same_node-refl p.base)
 
 -- one pair more in the set, and one more of the list
-pub one_more : (old new ps : List NodePair) (p : NodePair) → ((q : NodePair) → list_any (is_at (cmp-value.it q)) new ≡ cond (is_at (cmp-value.it p) q) true (list_any (is_at (cmp-value.it q)) old)) → AreSame old ps → AreSame new (ps ++ p ∷ [])
+pub one_more : (old new ps : List NodePair) (p : NodePair)
+    → ((q : NodePair) → list_any (is_at (cmp-value.it q)) new ≡ cond (is_at (cmp-value.it p) q) true (list_any (is_at (cmp-value.it q)) old)) → AreSame old ps
+    → AreSame new (ps ++ p ∷ [])
 one_more old new ps p updates same q =
     sym (any_at_pair q new) ∙ updates q
     ∙ (λ j. cond ((is_at_pair p q ∙ same_nodes_back p q) j) true ((any_at_pair q old ∙ same q) j))

@@ -16,8 +16,8 @@ use Rattle.fhir_cert_check.specs.declared.pair_set.PairSet.{PairSet}
 use Rattle.fhir_cert_check.specs.Rules.{has_item}
 use Rattle.fhir_cert_check.specs.Checking.{is_among, roots_of, IsRight, IsCertificate, pairs_of, first_wrong, wrong_with}
 use Rattle.fhir_cert_check.specs.Inclusion.{IncludesItems, Includes}
-use Rattle.fhir_cert_check.specs.Seen.{is_yes, wrong_in, word_of}
-use Rattle.fhir_cert_check.specs.Sets.{has_in}
+use Rattle.fhir_cert_check.specs.Views.{is_yes, wrong_in, rule_name}
+use Rattle.fhir_cert_check.specs.PairSet.{has_in}
 use Rattle.fhir_cert_check.proofs.Certified.{wrong_or_not}
 
 yes_none : (a : Answer) → IsTrue (is_yes a) → wrong_in a ≡ None
@@ -26,30 +26,34 @@ yes_none (No pair rule) h = absurd (false≢true h)
 
 none_yes : (a : Answer) → wrong_in a ≡ None → IsTrue (is_yes a)
 none_yes Yes e = refl
-none_yes (No pair rule) e = absurd (none-some (pair, word_of rule) (sym e))
+none_yes (No pair rule) e = absurd (none-some (pair, rule_name rule) (sym e))
 
 -- the set answers as the certificate
 pub same_set : (v : PairSet) (c : CertificateValue) → ((p : Pair) → has_in v p ≡ is_among c p) → has_in v ≡ is_among c
 same_set v c same = λ j p. same p j
 
-pub judged : (s : SchemaValue) (v : PairSet) (c : CertificateValue) (roots : NodePair) (a : Answer) → ((p : Pair) → has_in v p ≡ is_among c p) → wrong_in a ≡ first_wrong s (has_in v) roots (pairs_of c) → wrong_in a ≡ wrong_with s c roots
-judged s v c roots a same e = e ∙ ap (λ pairs. first_wrong s pairs roots (pairs_of c)) (same_set v c same)
+pub wrong_as_certificate : (s : SchemaValue) (v : PairSet) (c : CertificateValue) (roots : NodePair) (a : Answer) → ((p : Pair) → has_in v p ≡ is_among c p)
+    → wrong_in a ≡ first_wrong s (has_in v) roots (pairs_of c) → wrong_in a ≡ wrong_with s c roots
+wrong_as_certificate s v c roots a same e = e ∙ ap (λ pairs. first_wrong s pairs roots (pairs_of c)) (same_set v c same)
 
-pub yes_exactly : (s : SchemaValue) (c : CertificateValue) (roots : NodePair) (a : Answer) → roots_of s c ≡ Some roots → wrong_in a ≡ wrong_with s c roots → IsTrue (is_yes a) ↔ IsCertificate s c
+pub yes_exactly : (s : SchemaValue) (c : CertificateValue) (roots : NodePair) (a : Answer) → roots_of s c ≡ Some roots → wrong_in a ≡ wrong_with s c roots
+    → IsTrue (is_yes a) ↔ IsCertificate s c
 yes_exactly s c roots a are_roots e = (
   λ yes. (wrong_or_not s c roots are_roots).0 (sym e ∙ yes_none a yes),
   λ cert. none_yes a (e ∙ (wrong_or_not s c roots are_roots).1 cert),
 )
 
 -- the nodes of the roots
-roots_parts : (o p : Option NodeRef) (roots : NodePair) → option_and_then (λ n. option_map (λ m. record { derived = n; base = m }) p) o ≡ Some roots → (o ≡ Some roots.derived) × (p ≡ Some roots.base)
+roots_parts : (o p : Option NodeRef) (roots : NodePair) → option_and_then (λ n. option_map (λ m. record { derived = n; base = m }) p) o ≡ Some roots
+    → (o ≡ Some roots.derived) × (p ≡ Some roots.base)
 roots_parts None p roots e = absurd (none-some roots e)
 roots_parts (Some n) None roots e = absurd (none-some roots e)
 roots_parts (Some n) (Some m) roots e =
     let same = same_Some (record { derived = n; base = m }) roots e in
     (ap (λ r. Some r.derived) same, ap (λ r. Some r.base) same)
 
-module _ (s : SchemaValue) (c : CertificateValue) (includes : (pairs : Pair → Bool) → IsRight s pairs → (n m : NodeRef) → IsTrue (has_item pairs n m) → IncludesItems s n m) (cert : IsCertificate s c) where
+module _ (s : SchemaValue) (c : CertificateValue)
+    (includes : (pairs : Pair → Bool) → IsRight s pairs → (n m : NodeRef) → IsTrue (has_item pairs n m) → IncludesItems s n m) (cert : IsCertificate s c) where
   parts : (root s c.derived ≡ Some cert.roots.derived) × (root s c.base ≡ Some cert.roots.base)
   parts = roots_parts (root s c.derived) (root s c.base) cert.roots cert.are_roots
 

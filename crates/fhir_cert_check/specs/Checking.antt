@@ -11,9 +11,10 @@ use Rattle.fhir_json.specs.Tree.{Text}
 use Rattle.fhir_certificate.specs.declared.fault.CertFault.{CertFault}
 use Rattle.fhir_certificate.specs.declared.fault.CertFault.TheVariants.{UnknownNode}
 use Rattle.fhir_certificate.specs.Certificate.{CertificateValue}
-use Rattle.fhir_certificate.specs.Meaning.{Stands}
-use Rattle.fhir_cert_check.specs.Rules.{Word, failing, is_local}
-use Rattle.fhir_cert_check.specs.Rules.{root as no_roots}
+use Rattle.fhir_certificate.specs.Judging.{Stands}
+use Rattle.fhir_cert_check.specs.Rules.{failing, is_local}
+use Rattle.fhir_cert_check.specs.Rule.{RuleName}
+use Rattle.fhir_cert_check.specs.Rule.{root as no_roots}
 
 abbrev pub same_node : NodeRef → NodeRef → Bool
 same_node n m = nat_eq n.definition m.definition && nat_eq n.element m.element
@@ -48,27 +49,27 @@ abbrev pub pairs_of : CertificateValue → List Pair
 pairs_of c = map Item c.items ++ map Kids c.kids
 
 -- the first pair that fails a rule, with that rule
-abbrev pub first_in : (Pair → Option Word) → List Pair → Option (Pair × Word)
+abbrev pub first_in : (Pair → Option RuleName) → List Pair → Option (Pair × RuleName)
 first_in failing [] = None
-first_in failing (p ∷ ps) = option_map_or (λ word. Some (p, word)) (failing p) (first_in failing ps)
+first_in failing (p ∷ ps) = option_map_or (λ rule. Some (p, rule)) (failing p) (first_in failing ps)
 
 -- where the pairs that count are those that pass the test
-abbrev pub first_wrong : SchemaValue → (Pair → Bool) → NodePair → List Pair → Option (Pair × Word)
+abbrev pub first_wrong : SchemaValue → (Pair → Bool) → NodePair → List Pair → Option (Pair × RuleName)
 first_wrong s pairs roots order =
     if pairs (Item roots) then first_in (failing pairs s) order else Some (Item roots, no_roots)
 
 -- what is wrong with the certificate first, if anything: that it lacks the pair of the roots, or a pair of its own
-abbrev pub wrong_with : SchemaValue → CertificateValue → NodePair → Option (Pair × Word)
+abbrev pub wrong_with : SchemaValue → CertificateValue → NodePair → Option (Pair × RuleName)
 wrong_with s c roots = first_wrong s (is_among c) roots (pairs_of c)
 
 -- the same of a certificate whose roots are still to be found; it has none where a definition can't be used
-abbrev pub wrong_at : SchemaValue → CertificateValue → Result (Option (Pair × Word)) CertFault
+abbrev pub wrong_at : SchemaValue → CertificateValue → Result (Option (Pair × RuleName)) CertFault
 wrong_at s c = option_map_or (λ roots. Ok (wrong_with s c roots)) (roots_of s c) (Err UnknownNode)
 
 -- what is wrong with the certificate that was read, if anything, or why none was
-abbrev pub checked : Result CertificateValue CertFault → SchemaValue → Result (Option (Pair × Word)) CertFault
-checked (Ok c) s = wrong_at s c
-checked (Err fault) s = Err fault
+abbrev pub answer_of : Result CertificateValue CertFault → SchemaValue → Result (Option (Pair × RuleName)) CertFault
+answer_of (Ok c) s = wrong_at s c
+answer_of (Err fault) s = Err fault
 
 -- the bytes spell a right certificate
 abbrev pub SpellsCertificate : SchemaValue → Text → Type 0

@@ -1,6 +1,7 @@
-pub mod Answering
+pub mod Lists
+pub mod Rule
 pub mod Rules
 pub mod Checking
-pub mod Sets
-pub mod Seen
+pub mod PairSet
+pub mod Views
 pub mod Inclusion

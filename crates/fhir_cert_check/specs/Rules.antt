@@ -1,7 +1,7 @@
 -- The rules of a certificate's pairs: when a pair is right by the certificate's others. A pair of items says that each
 -- item which conforms to its derived node conforms to its base node, and a pair of children the same of an item's
 -- children; no item occurs in the rules.
-use Rattle.std.specs.Prelude.{ℕ, List, [], ◌∷◌, Bool, true, false, not, ◌&&◌, ◌||◌, nat_le, nat_eq, Option, None, Some, if◌then◌else◌}
+use Rattle.std.specs.Prelude.{List, [], ◌∷◌, Bool, true, false, not, ◌&&◌, ◌||◌, nat_le, nat_eq, Option, None, Some, if◌then◌else◌}
 use Rattle.std.specs.Option.{option_map_or, option_and_then}
 use Rattle.std.specs.List.{flat_map}
 use Rattle.fhir_json.specs.Tree.{Text}
@@ -20,12 +20,8 @@ use Rattle.fhir_instance.specs.Typing.{entry_of}
 use Rattle.fhir_instance.specs.Conformance.{least_of, is_untyped}
 use Rattle.fhir_certificate.specs.declared.pair.Pair.{Pair}
 use Rattle.fhir_certificate.specs.declared.pair.Pair.TheVariants.{Item, Kids}
-use Rattle.fhir_cert_check.specs.Answering.{each_answers, first_of, all_hold}
-
--- a rule's word, with the name of the slot that it is about
-pub data Word : Type 0 where
-  root type fixed children : Word
-  slot cardinality entry : List ℕ → Word
+use Rattle.fhir_cert_check.specs.Rule.{RuleName, type, fixed, children, slot, cardinality, entry}
+use Rattle.fhir_cert_check.specs.Lists.{each_answers, first_of, all_hold}
 
 -- ---- items
 
@@ -65,13 +61,13 @@ most_answers p q = option_map_or (λ most. option_map_or (λ own. max_answers ow
 abbrev pub bounds_answer : Element → Element → Bool
 bounds_answer e f = nat_le (least_of f) (least_of e) && most_answers e.max f.max
 
-abbrev pub is_none : Max → Bool
-is_none Unbounded = false
-is_none (UpTo n) = nat_eq n 0
+abbrev pub allows_none : Max → Bool
+allows_none Unbounded = false
+allows_none (UpTo n) = nat_eq n 0
 
 -- no item may be there
 abbrev pub is_forbidden : Element → Bool
-is_forbidden e = option_map_or is_none e.max false
+is_forbidden e = option_map_or allows_none e.max false
 
 abbrev pub cardinality_answers : SchemaValue → NodeRef → NodeRef → Bool
 cardinality_answers s n m =
@@ -95,33 +91,33 @@ module _ (pairs : Pair → Bool) where
     children_answer n m =
         option_map_or (λ base. option_map_or (λ derived. has_kids derived base) (holder s n) false) (holder s m) true
 
-    abbrev pub item_rules : NodeRef → NodeRef → List (Bool × Word)
+    abbrev pub item_rules : NodeRef → NodeRef → List (Bool × RuleName)
     item_rules n m =
         (type_answers s n m, type) ∷ (fixed_answers s n m, fixed) ∷ (children_answer n m, children) ∷ []
 
     -- where none may be, nothing more is asked
-    abbrev pub entry_rules : Text → NodeRef → NodeRef → List (Bool × Word)
+    abbrev pub entry_rules : Text → NodeRef → NodeRef → List (Bool × RuleName)
     entry_rules name n m = if is_forbidden_at s n then [] else (has_item n m, entry name) ∷ []
 
-    abbrev pub found_rules : NodeRef → NodeRef → Slot → Option Slot → List (Bool × Word)
-    found_rules n m b None = (false, slot b.name) ∷ []
-    found_rules n m b (Some a) =
+    abbrev pub own_slot_rules : NodeRef → NodeRef → Slot → Option Slot → List (Bool × RuleName)
+    own_slot_rules n m b None = (false, slot b.name) ∷ []
+    own_slot_rules n m b (Some a) =
         (cardinality_answers s (entry_of n a) (entry_of m b), cardinality b.name)
         ∷ entry_rules b.name (entry_of n a) (entry_of m b)
 
     -- what a slot of the base node asks of the derived one
-    abbrev pub slot_rules : NodeRef → NodeRef → Slot → List (Bool × Word)
-    slot_rules n m b = found_rules n m b (kids s n b.name)
+    abbrev pub slot_rules : NodeRef → NodeRef → Slot → List (Bool × RuleName)
+    slot_rules n m b = own_slot_rules n m b (kids s n b.name)
 
-    abbrev pub kids_rules : NodeRef → NodeRef → List (Bool × Word)
+    abbrev pub kids_rules : NodeRef → NodeRef → List (Bool × RuleName)
     kids_rules n m = flat_map (slot_rules n m) (slots s m)
 
-    abbrev pub rules_of : Pair → List (Bool × Word)
+    abbrev pub rules_of : Pair → List (Bool × RuleName)
     rules_of (Item p) = item_rules p.derived p.base
     rules_of (Kids p) = kids_rules p.derived p.base
 
     -- the first rule that a pair fails
-    abbrev pub failing : Pair → Option Word
+    abbrev pub failing : Pair → Option RuleName
     failing p = first_of (rules_of p)
 
     -- the pair fails no rule

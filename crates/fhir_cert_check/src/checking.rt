@@ -8,13 +8,13 @@ ghost use Rattle.fhir_certificate.specs.declared.pair.NodePair.{NodePair};
 ghost use Rattle.fhir_certificate.specs.declared.pair.Pair.TheVariants as variants;
 ghost use Rattle.fhir_certificate.specs.Certificate.{fits};
 ghost use Rattle.fhir_certificate.specs.Format.{Written, Spells};
-ghost use Rattle.fhir_certificate.specs.Meaning.{Means, is_memory};
+ghost use Rattle.fhir_certificate.specs.Faults.{Means, is_no_memory};
 ghost use Rattle.fhir_certificate.specs.Reading.{reading};
 ghost use Rattle.fhir_cert_check.specs.Rules.{failing, is_local};
-ghost use Rattle.fhir_cert_check.specs.Checking.{is_among, roots_of, IsCertificate, pairs_of, first_in, first_wrong, wrong_with, checked, SpellsCertificate};
+ghost use Rattle.fhir_cert_check.specs.Checking.{is_among, roots_of, IsCertificate, pairs_of, first_in, first_wrong, wrong_with, answer_of, SpellsCertificate};
 ghost use Rattle.fhir_cert_check.specs.Inclusion.{IncludesItems, Includes};
-ghost use Rattle.fhir_cert_check.specs.Seen.{found_seen, rule_seen, is_yes, wrong_in};
-ghost use Rattle.fhir_cert_check.specs.Sets.{has_in, OrdersFirsts};
+ghost use Rattle.fhir_cert_check.specs.Views.{failing_seen, rule_seen, is_yes, wrong_in};
+ghost use Rattle.fhir_cert_check.specs.PairSet.{has_in, OrdersFirsts};
 
 use crate::answer::Answer;
 use crate::laws::inclusion;
@@ -31,7 +31,7 @@ fn first_item<'s>(
     pairs: &PairSet,
     nodes: &[NodePair],
 ) -> Option<(Pair, Rule<'s>)>
-    ensures { found_seen result ≡ first_in (failing (has_in pairs.now) schema.now) (map variants.Item nodes.now) }
+    ensures { failing_seen result ≡ first_in (failing (has_in pairs.now) schema.now) (map variants.Item nodes.now) }
 {
     for pair in nodes {
         let pair = Pair::Item(*pair);
@@ -47,7 +47,7 @@ fn first_kids<'s>(
     pairs: &PairSet,
     nodes: &[NodePair],
 ) -> Option<(Pair, Rule<'s>)>
-    ensures { found_seen result ≡ first_in (failing (has_in pairs.now) schema.now) (map variants.Kids nodes.now) }
+    ensures { failing_seen result ≡ first_in (failing (has_in pairs.now) schema.now) (map variants.Kids nodes.now) }
 {
     for pair in nodes {
         let pair = Pair::Kids(*pair);
@@ -65,10 +65,10 @@ fn first_wrong<'s>(
     certificate: &Certificate,
 ) -> Option<(Pair, Rule<'s>)>
     requires { OrdersFirsts pairs.now certificate.now }
-    ensures { found_seen result ≡ first_in (failing (has_in pairs.now) schema.now) (pairs_of certificate.now) }
+    ensures { failing_seen result ≡ first_in (failing (has_in pairs.now) schema.now) (pairs_of certificate.now) }
 {
     match first_item(schema, pairs, pairs.items()) {
-        Some(found) => Some(found),
+        Some(wrong) => Some(wrong),
         None => first_kids(schema, pairs, pairs.kids()),
     }
 }
@@ -147,7 +147,7 @@ pub fn check_bytes<'s>(
     schema: &'s Schema,
     bytes: &[u8],
 ) -> Result<Answer<'s>, CertFault>
-    ensures first { GivesOr is_memory wrong_in result (checked (reading schema.now bytes.now) schema.now) }
+    ensures first { GivesOr is_no_memory wrong_in result (answer_of (reading schema.now bytes.now) schema.now) }
     ensures yes { IfOk result (λ answer. IsTrue (is_yes answer) ↔ SpellsCertificate schema.now bytes.now) }
     ensures refused { IfErr result (λ fault. Means fault schema.now bytes.now) }
     ensures includes { IfOk result (λ answer. IsTrue (is_yes answer) → (w : Written) → Spells bytes.now w

@@ -4,10 +4,10 @@ ghost use Rattle.std.specs.Prelude.{◌≡◌, option_map};
 ghost use Rattle.std.specs.List.{list_any};
 ghost use Rattle.fhir_json.specs.Views.{property_seen};
 ghost use Rattle.fhir_instance.specs.Conformance.{is_untyped};
-ghost use Rattle.fhir_cert_check.specs.Answering.{each_answers, first_of};
+ghost use Rattle.fhir_cert_check.specs.Lists.{each_answers, first_of};
 ghost use Rattle.fhir_cert_check.specs.Rules.{entry_answers, types_answer, roots_answer, type_answers, fixed_at, fixed_answers, children_answer, item_rules};
-ghost use Rattle.fhir_cert_check.specs.Seen.{word_of};
-ghost use Rattle.fhir_cert_check.specs.Sets.{has_in};
+ghost use Rattle.fhir_cert_check.specs.Views.{rule_name};
+ghost use Rattle.fhir_cert_check.specs.PairSet.{has_in};
 
 use crate::pair_set::PairSet;
 use crate::rule::Rule;
@@ -104,10 +104,10 @@ pub(crate) fn item_failing<'s>(
     n: NodeRef,
     m: NodeRef,
 ) -> Option<Rule<'s>>
-    ensures { option_map word_of result ≡ first_of (item_rules (has_in pairs.now) schema.now n m) }
+    ensures { option_map rule_name result ≡ first_of (item_rules (has_in pairs.now) schema.now n m) }
 {
     if !type_answers(schema, n, m) {
-        return Some(Rule::Types);
+        return Some(Rule::TypeCode);
     }
     if !fixed_answers(schema, n, m) {
         return Some(Rule::Fixed);

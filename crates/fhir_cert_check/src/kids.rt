@@ -5,10 +5,12 @@ ghost use Rattle.std.specs.Option.{option_copied};
 ghost use Rattle.std.specs.List.{flat_map};
 ghost use Rattle.fhir_instance.specs.Typing.{entry_of};
 ghost use Rattle.fhir_instance.specs.Conformance.{least_of};
-ghost use Rattle.fhir_cert_check.specs.Answering.{first_of};
-ghost use Rattle.fhir_cert_check.specs.Rules.{max_answers, most_answers, bounds_answer, is_none, is_forbidden, cardinality_answers, is_forbidden_at, cardinality, has_item, entry_rules, slot_rules, kids_rules};
-ghost use Rattle.fhir_cert_check.specs.Seen.{word_of};
-ghost use Rattle.fhir_cert_check.specs.Sets.{has_in};
+ghost use Rattle.fhir_cert_check.specs.Lists.{first_of};
+ghost use Rattle.fhir_cert_check.specs.Rule.{cardinality};
+ghost use Rattle.fhir_cert_check.specs.Rules.{max_answers, most_answers, bounds_answer, allows_none, is_forbidden};
+ghost use Rattle.fhir_cert_check.specs.Rules.{cardinality_answers, is_forbidden_at, has_item, entry_rules, slot_rules, kids_rules};
+ghost use Rattle.fhir_cert_check.specs.Views.{rule_name};
+ghost use Rattle.fhir_cert_check.specs.PairSet.{has_in};
 
 use crate::pair_set::PairSet;
 use crate::rule::Rule;
@@ -48,19 +50,16 @@ fn bounds_answer(own: &ElementDef, base: &ElementDef) -> bool
     least_of(base) <= least_of(own) && most_answers(own.max(), base.max())
 }
 
-fn is_none(most: Max) -> bool
-    ensures { result ≡ is_none most }
+fn allows_none(most: Max) -> bool
+    ensures { result ≡ allows_none most }
 {
-    match most {
-        Max::Unbounded => false,
-        Max::UpTo(count) => count == 0,
-    }
+    matches!(most, Max::UpTo(0))
 }
 
 fn is_forbidden(element: &ElementDef) -> bool
     ensures { result ≡ is_forbidden element.now }
 {
-    element.max().map_or(false, |most| is_none(most))
+    element.max().is_some_and(|most| allows_none(most))
 }
 
 fn cardinality_answers(schema: &Schema, n: NodeRef, m: NodeRef) -> bool
@@ -109,7 +108,7 @@ fn entry_failing<'s>(
     n: NodeRef,
     m: NodeRef,
 ) -> Option<Rule<'s>>
-    ensures { option_map word_of result ≡ first_of (entry_rules (has_in pairs.now) schema.now name.now n m) }
+    ensures { option_map rule_name result ≡ first_of (entry_rules (has_in pairs.now) schema.now name.now n m) }
 {
     if is_forbidden_at(schema, n) || has_item(pairs, n, m) {
         None
@@ -118,14 +117,14 @@ fn entry_failing<'s>(
     }
 }
 
-fn found_failing<'s>(
+fn own_slot_failing<'s>(
     schema: &Schema,
     pairs: &PairSet,
     name: &'s str,
     n: NodeRef,
     m: NodeRef,
 ) -> Option<Rule<'s>>
-    ensures { option_map word_of result ≡ first_of
+    ensures { option_map rule_name result ≡ first_of
         ((cardinality_answers schema.now n m, cardinality name.now)
         ∷ entry_rules (has_in pairs.now) schema.now name.now n m) }
 {
@@ -142,10 +141,10 @@ fn slot_failing<'s>(
     m: NodeRef,
     slot: &'s Slot,
 ) -> Option<Rule<'s>>
-    ensures { option_map word_of result ≡ first_of (slot_rules (has_in pairs.now) schema.now n m slot.now) }
+    ensures { option_map rule_name result ≡ first_of (slot_rules (has_in pairs.now) schema.now n m slot.now) }
 {
     match schema.kids(n, slot.name()) {
-        Some(own) => found_failing(
+        Some(own) => own_slot_failing(
             schema,
             pairs,
             slot.name(),
@@ -163,7 +162,7 @@ pub(crate) fn kids_failing<'s>(
     n: NodeRef,
     m: NodeRef,
 ) -> Option<Rule<'s>>
-    ensures { option_map word_of result ≡ first_of (kids_rules (has_in pairs.now) schema.now n m) }
+    ensures { option_map rule_name result ≡ first_of (kids_rules (has_in pairs.now) schema.now n m) }
 {
     for slot in schema.slots(m) {
         let rule = slot_failing(schema, pairs, n, m, slot);

@@ -1,4 +1,14 @@
 //! Checking certificates: where one is right, each resource that conforms to its derived profile conforms to its base.
+//!
+//! ```
+//! match check_bytes(alloc, &schema, bytes)? {
+//!     Answer::Yes => println!(rt; "yes")?,
+//!     Answer::No(_, rule) => println!(rt; "no: {rule}")?, // the first rule that the first wrong pair fails
+//! }
+//! ```
+//!
+//! Read the contract of `check_bytes` first; its clause `includes` is the theorem, in the words of `specs/Inclusion.antt`.
+//! The rules of a pair stand in `specs/Rules.antt`, and their names and texts in `specs/Rule.antt`.
 #![tactic(auto)]
 
 mod answer;

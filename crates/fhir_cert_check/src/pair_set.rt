@@ -5,7 +5,7 @@ ghost use Rattle.std.specs.List.{list_any};
 ghost use Rattle.fhir_certificate.specs.declared.pair.NodePair.{NodePair};
 ghost use Rattle.fhir_certificate.specs.declared.pair.Pair.{Pair};
 ghost use Rattle.fhir_cert_check.specs.Checking.{same_nodes, is_among};
-ghost use Rattle.fhir_cert_check.specs.Sets.{has_in, AreDistinct, OrdersFirsts};
+ghost use Rattle.fhir_cert_check.specs.PairSet.{has_in, AreDistinct, OrdersFirsts};
 
 use fhir_certificate::{Certificate, NodePair, Pair};
 use std::alloc::{AllocError, Global};

@@ -2,8 +2,8 @@
 
 ghost use Rattle.std.specs.Prelude.{◌≡◌, option_map};
 ghost use Rattle.fhir_cert_check.specs.Rules.{failing};
-ghost use Rattle.fhir_cert_check.specs.Seen.{word_of};
-ghost use Rattle.fhir_cert_check.specs.Sets.{has_in};
+ghost use Rattle.fhir_cert_check.specs.Views.{rule_name};
+ghost use Rattle.fhir_cert_check.specs.PairSet.{has_in};
 
 use crate::items::item_failing;
 use crate::kids::kids_failing;
@@ -14,7 +14,7 @@ use fhir_schema::Schema;
 
 /// The first rule that a pair fails.
 pub(crate) fn failing<'s>(schema: &'s Schema, pairs: &PairSet, pair: Pair) -> Option<Rule<'s>>
-    ensures { option_map word_of result ≡ failing (has_in pairs.now) schema.now pair }
+    ensures { option_map rule_name result ≡ failing (has_in pairs.now) schema.now pair }
 {
     match pair {
         Pair::Item(nodes) => item_failing(schema, pairs, nodes.derived, nodes.base),

@@ -1,5 +1,6 @@
 -- What stands in a text is read.
-use Rattle.std.proofs.Common.{◌≡◌, ◌≢◌, ℕ, zero, suc, ◌&&◌, ◌==◌, not, true, ◌⊎◌, inl, inr, List, [], ◌∷◌, ◌++◌, Some, None, option_map, if◌then◌else◌, refl, sym, ap, ◌∙◌, arith, append_assoc}
+use Rattle.std.proofs.Common.{◌≡◌, ◌≢◌, ℕ, zero, suc, ◌&&◌, ◌==◌, not, true, ◌⊎◌, inl, inr, List, [], ◌∷◌}
+use Rattle.std.proofs.Common.{◌++◌, Some, None, option_map, if◌then◌else◌, refl, sym, ap, ◌∙◌, arith, append_assoc}
 use Rattle.std.specs.Prelude.{codes, IsTrue}
 use Rattle.std.specs.Option.{option_and_then}
 use Rattle.std.specs.List.{flat_map, list_all}
@@ -10,8 +11,9 @@ use Rattle.std.proofs.lemmas.List.{append-nil}
 use Rattle.std.proofs.lemmas.Slice.Eq.{bytes_eq-Decides}
 use Rattle.fhir_json.specs.Tree.{Text}
 use Rattle.fhir_certificate.specs.Format.{Name, Line, item, kids, Written, line_text, pair_text, is_field, is_name, is_line, Spells}
-use Rattle.fhir_certificate.specs.Reading.{cut_at, lines_of, is_ended, line_with, field_at, name_at, name_of, line_of, pairs_in, pairs_at, behind_line, field_of, field_line, written}
-use Rattle.fhir_certificate.proofs.Cuts.{Lacks, tail_lacks, cut_found, lines_at, ended_at}
+use Rattle.fhir_certificate.specs.Reading.{cut_at, lines_of, is_ended, line_with, field_at, name_at, name_of}
+use Rattle.fhir_certificate.specs.Reading.{line_of, pairs_in, pairs_at, behind_line, field_of, field_line, written_of}
+use Rattle.fhir_certificate.proofs.Cuts.{Lacks, tail_lacks, cut_some, lines_at, ended_at}
 use Rattle.fhir_certificate.proofs.Taken.{fields_text, four_fields, five_parts}
 
 -- ---- what lacks a byte
@@ -44,7 +46,7 @@ tab_between xs ys h k = lacks_append 10 xs (9 ∷ ys) h (lacks_more 10 9 ys (ome
 -- ---- fields
 
 field_cut : (c : ℕ) (f rest : Text) → EndsField c → IsTrue (is_field f) → cut_at c (f ++ c ∷ rest) ≡ Some (f, rest)
-field_cut c f rest ends is = cut_found c f rest (field_lacks c f ends is)
+field_cut c f rest ends is = cut_some c f rest (field_lacks c f ends is)
 
 pub field_at_again : (f rest : Text) → IsTrue (is_field f) → field_at (f ++ 9 ∷ rest) ≡ Some (f, rest)
 field_at_again f rest is = rw (field_cut 9 f rest (inl refl) is) (cond-true _ _ _ is)
@@ -61,7 +63,8 @@ name_of_again n is =
 
 -- ---- pair lines
 
-pub names_again : (word : Text) (derived base : Name) → IsTrue (is_field word) → IsTrue (is_name derived && is_name base) → line_of (fields_text word derived base) ≡ line_with word derived base
+pub names_again : (word : Text) (derived base : Name) → IsTrue (is_field word) → IsTrue (is_name derived && is_name base)
+    → line_of (fields_text word derived base) ≡ line_with word derived base
 names_again word derived base w is =
     let parts = and_parts (is_name derived) (is_name base) is in
     let cut = field_cut 9 word (derived.url ++ 9 ∷ (derived.id ++ 9 ∷ (base.url ++ 9 ∷ base.id))) (inl refl) w in
@@ -148,21 +151,25 @@ field_line_again word f rest w is =
     let text : line_text word (f ∷ []) ++ rest ≡ (word ++ 9 ∷ f) ++ 10 ∷ rest =
     append_assoc (word ++ 9 ∷ (f ++ [])) (10 ∷ []) rest ∙ ap (λ t. (word ++ 9 ∷ t) ++ 10 ∷ rest) (append-nil f) in
     ap (field_line word) text
-    ∙ ap (option_and_then (λ p. option_map (λ field. (field, p.1)) (field_of word p.0))) (cut_found 10 (word ++ 9 ∷ f) rest lacks)
+    ∙ ap (option_and_then (λ p. option_map (λ field. (field, p.1)) (field_of word p.0))) (cut_some 10 (word ++ 9 ∷ f) rest lacks)
     ∙ ap (option_map (λ field. (field, rest))) (field_of_again word f w is)
 
 -- ---- the whole text
 
-pub written_again : (bytes : Text) (w : Written) → Spells bytes w → written bytes ≡ Some w
+pub written_again : (bytes : Text) (w : Written) → Spells bytes w → written_of bytes ≡ Some w
 written_again bytes w h =
     let rest2 = line_text (codes "base") (w.base ∷ []) ++ tail_of w.lines in
     let rest1 = line_text (codes "derived") (w.derived ∷ []) ++ rest2 in
     let text : bytes ≡ line_text (codes "fhirprof-certificate 1") [] ++ rest1 =
-    h.text ∙ sym (five_parts (line_text (codes "fhirprof-certificate 1") []) (line_text (codes "derived") (w.derived ∷ [])) (line_text (codes "base") (w.base ∷ [])) (flat_map pair_text w.lines) (line_text (codes "end") [])) in
-    ap written text
-    ∙ ap (option_and_then (λ rest. option_and_then (λ derived. option_and_then (λ base. option_map (λ pairs. record { derived = derived.0; base = base.0; lines = pairs }) (pairs_at base.1)) (field_line (codes "base") derived.1)) (field_line (codes "derived") rest)))
+    h.text ∙ sym (five_parts (line_text (codes "fhirprof-certificate 1") []) (line_text (codes "derived") (w.derived ∷ []))
+    (line_text (codes "base") (w.base ∷ [])) (flat_map pair_text w.lines) (line_text (codes "end") [])) in
+    ap written_of text
+    ∙ ap (option_and_then (λ rest. option_and_then
+    (λ derived. option_and_then (λ base. option_map (λ pairs. record { derived = derived.0; base = base.0; lines = pairs }) (pairs_at base.1))
+    (field_line (codes "base") derived.1)) (field_line (codes "derived") rest)))
     (head_again (codes "fhirprof-certificate 1") rest1 refl)
-    ∙ ap (option_and_then (λ derived. option_and_then (λ base. option_map (λ pairs. record { derived = derived.0; base = base.0; lines = pairs }) (pairs_at base.1)) (field_line (codes "base") derived.1)))
+    ∙ ap (option_and_then (λ derived. option_and_then
+    (λ base. option_map (λ pairs. record { derived = derived.0; base = base.0; lines = pairs }) (pairs_at base.1)) (field_line (codes "base") derived.1)))
     (field_line_again (codes "derived") w.derived rest2 refl h.derived)
     ∙ ap (option_and_then (λ base. option_map (λ pairs. record { derived = w.derived; base = base.0; lines = pairs }) (pairs_at base.1)))
     (field_line_again (codes "base") w.base (tail_of w.lines) refl h.base)

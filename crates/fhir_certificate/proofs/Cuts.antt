@@ -1,10 +1,11 @@
 -- Where a text is cut: at its first tab or line feed, and at all of its line feeds.
-use Rattle.std.proofs.Common.{◌≡◌, ◌≢◌, ℕ, suc, ◌<◌, ◌==◌, false, [], ◌∷◌, ◌++◌, length, get_or, Option, Some, None, MatchOption, IfSome, Bor, refl, sym, ap, ◌∙◌, arith, eq-eqb, ne_eqb, lit<}
+use Rattle.std.proofs.Common.{◌≡◌, ◌≢◌, ℕ, suc, ◌<◌, ◌==◌, false, [], ◌∷◌, ◌++◌, length, get_or}
+use Rattle.std.proofs.Common.{Option, Some, None, MatchOption, IfSome, Bor, refl, sym, ap, ◌∙◌, arith, eq-eqb, ne_eqb, lit<}
 use Rattle.std.proofs.lemmas.Bool.{cond-true, cond-false}
 use Rattle.std.proofs.lemmas.Str.Pattern.{IsSplitOnceResult, split_parts}
 use Rattle.fhir_json.specs.Tree.{Text}
 use Rattle.fhir_certificate.specs.Reading.{cut_at, lines_of, is_ended}
-use Rattle.fhir_certificate.specs.Seen.{parts_seen}
+use Rattle.fhir_certificate.specs.Views.{parts_seen}
 
 -- no byte of the text is c
 abbrev pub Lacks : ℕ → Text → Type 0
@@ -22,9 +23,9 @@ pub cut_none : (c : ℕ) (xs : Text) → Lacks c xs → cut_at c xs ≡ None
 cut_none c [] none = refl
 cut_none c (x ∷ xs) none = rw (cut_none c xs (tail_lacks c x xs none)) (cond-false _ _ _ (head_lacks c x xs none))
 
-pub cut_found : (c : ℕ) (xs ys : Text) → Lacks c xs → cut_at c (xs ++ c ∷ ys) ≡ Some (xs, ys)
-cut_found c [] ys none = cond-true _ _ _ (eq-eqb c c refl)
-cut_found c (x ∷ xs) ys none = rw (cut_found c xs ys (tail_lacks c x xs none)) (cond-false _ _ _ (head_lacks c x xs none))
+pub cut_some : (c : ℕ) (xs ys : Text) → Lacks c xs → cut_at c (xs ++ c ∷ ys) ≡ Some (xs, ys)
+cut_some c [] ys none = cond-true _ _ _ (eq-eqb c c refl)
+cut_some c (x ∷ xs) ys none = rw (cut_some c xs ys (tail_lacks c x xs none)) (cond-false _ _ _ (head_lacks c x xs none))
 
 -- ---- lines
 
@@ -51,9 +52,10 @@ pub first_cut : (c : ℕ) (text : Text) (r : Option (Bor Text × Bor Text)) → 
 first_cut c text None h low = sym (cut_none c text (split_parts c text None h low))
 first_cut c text (Some x) h low =
     let parts = split_parts c text (Some x) h low in
-    sym (ap (cut_at c) parts.0 ∙ cut_found c x.0.now x.1.now parts.1)
+    sym (ap (cut_at c) parts.0 ∙ cut_some c x.0.now x.1.now parts.1)
 
-pub first_line : (text : Text) (r : Option (Bor Text × Bor Text)) → IsSplitOnceResult 10 text r → MatchOption r (lines_of text ≡ []) (λ p. lines_of text ≡ p.0.now ∷ lines_of p.1.now)
+pub first_line : (text : Text) (r : Option (Bor Text × Bor Text)) → IsSplitOnceResult 10 text r
+    → MatchOption r (lines_of text ≡ []) (λ p. lines_of text ≡ p.0.now ∷ lines_of p.1.now)
 first_line text None h = lines_none text (split_parts 10 text None h (lit< tt))
 first_line text (Some x) h =
     let parts = split_parts 10 text (Some x) h (lit< tt) in

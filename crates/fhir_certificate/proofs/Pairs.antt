@@ -1,5 +1,6 @@
 -- The pair lines of a text, and its end.
-use Rattle.std.proofs.Common.{◌≡◌, ℕ, ◌==◌, Bool, true, false, List, [], ◌∷◌, ◌++◌, Option, Some, None, option_map, is_some, if◌then◌else◌, refl, sym, ap, ◌∙◌, arith, eqb-true}
+use Rattle.std.proofs.Common.{◌≡◌, ℕ, ◌==◌, Bool, true, false, List, [], ◌∷◌, ◌++◌, Option, Some}
+use Rattle.std.proofs.Common.{None, option_map, is_some, if◌then◌else◌, refl, sym, ap, ◌∙◌, arith, eqb-true}
 use Rattle.std.specs.Prelude.{codes}
 use Rattle.std.specs.Option.{option_map_or}
 use Rattle.std.specs.List.{flat_map}
@@ -35,12 +36,14 @@ whole (b ∷ c ∷ cs) e =
 -- ---- pair lines
 
 -- one pair line more in front
-some_more : (l : Line) (ended : Bool) (pairs : Option (List Line)) → is_some (if ended then option_map (λ ps. l ∷ ps) pairs else None) ≡ is_some (if ended then pairs else None)
+some_more : (l : Line) (ended : Bool) (pairs : Option (List Line))
+    → is_some (if ended then option_map (λ ps. l ∷ ps) pairs else None) ≡ is_some (if ended then pairs else None)
 some_more l true (Some ps) = refl
 some_more l true None = refl
 some_more l false pairs = refl
 
-pub next_all : (text line rest : Text) (l : Line) → is_ended text ≡ is_ended rest → lines_of text ≡ line ∷ lines_of rest → line_of line ≡ Some l → is_some (pairs_at text) ≡ is_some (pairs_at rest)
+pub next_all : (text line rest : Text) (l : Line) → is_ended text ≡ is_ended rest → lines_of text ≡ line ∷ lines_of rest → line_of line ≡ Some l
+    → is_some (pairs_at text) ≡ is_some (pairs_at rest)
 next_all text line rest l e lines is = rw (e, lines, is) (some_more l (is_ended rest) (pairs_in (lines_of rest)))
 
 are_step : (o : Option Line) (all : Option (List Line)) (is : Bool) (ls ps : List Line)

@@ -1,5 +1,6 @@
 -- What is read stands in the text.
-use Rattle.std.proofs.Common.{◌≡◌, ℕ, ◌==◌, ◌&&◌, Bool, true, false, List, [], ◌∷◌, ◌++◌, Option, Some, None, option_map, if◌then◌else◌, refl, sym, ap, subst, ◌∙◌, eqb-true, append_assoc}
+use Rattle.std.proofs.Common.{◌≡◌, ℕ, ◌==◌, ◌&&◌, Bool, true, false, List, [], ◌∷◌, ◌++◌, Option, Some}
+use Rattle.std.proofs.Common.{None, option_map, if◌then◌else◌, refl, sym, ap, subst, ◌∙◌, eqb-true, append_assoc}
 use Rattle.std.specs.Prelude.{codes, IsTrue, IsUtf8}
 use Rattle.std.specs.Option.{option_map_or, option_and_then}
 use Rattle.std.specs.List.{flat_map, list_all}
@@ -10,12 +11,14 @@ use Rattle.std.proofs.lemmas.Option.{option_and_then_some, cond_some}
 use Rattle.std.proofs.lemmas.Slice.Eq.{bytes_eq-Decides}
 use Rattle.fhir_json.specs.Tree.{Text}
 use Rattle.fhir_certificate.specs.Format.{Name, Line, item, kids, Written, line_text, pair_text, text_of, is_field, is_name, is_line, Spells}
-use Rattle.fhir_certificate.specs.Reading.{cut_at, lines_of, is_ended, line_with, field_at, name_at, name_of, line_of, is_end, pairs_in, pairs_at, behind_line, field_of, field_line, written}
+use Rattle.fhir_certificate.specs.Reading.{cut_at, lines_of, is_ended, line_with, field_at, name_at, name_of}
+use Rattle.fhir_certificate.specs.Reading.{line_of, is_end, pairs_in, pairs_at, behind_line, field_of, field_line, written_of}
 use Rattle.fhir_certificate.proofs.Pairs.{ended, whole, end_line, at_some, some_true}
 
 -- ---- fields
 
-cut_step : (c b : ℕ) (bs : Text) (o : Option (Text × Text)) (p : Text × Text) → ((q : Text × Text) → o ≡ Some q → bs ≡ q.0 ++ c ∷ q.1) → (v : Bool) → (b == c) ≡ v → (if v then Some ([], bs) else option_map (λ q. (b ∷ q.0, q.1)) o) ≡ Some p → b ∷ bs ≡ p.0 ++ c ∷ p.1
+cut_step : (c b : ℕ) (bs : Text) (o : Option (Text × Text)) (p : Text × Text) → ((q : Text × Text) → o ≡ Some q → bs ≡ q.0 ++ c ∷ q.1) → (v : Bool)
+    → (b == c) ≡ v → (if v then Some ([], bs) else option_map (λ q. (b ∷ q.0, q.1)) o) ≡ Some p → b ∷ bs ≡ p.0 ++ c ∷ p.1
 cut_step c b bs o p h true is e =
     let same : b ≡ c = eqb-true b c is in
     let P : Text × Text → Type 0 = λ p. b ∷ bs ≡ p.0 ++ c ∷ p.1 in
@@ -67,15 +70,19 @@ name_of_is text n e =
 abbrev pub fields_text : Text → Name → Name → Text
 fields_text word derived base = word ++ 9 ∷ (derived.url ++ 9 ∷ (derived.id ++ 9 ∷ (base.url ++ 9 ∷ base.id)))
 
-pub four_fields : (word : Text) (derived base : Name) → fields_text word derived base ++ 10 ∷ [] ≡ line_text word (derived.url ∷ derived.id ∷ base.url ∷ base.id ∷ [])
+pub four_fields : (word : Text) (derived base : Name)
+    → fields_text word derived base ++ 10 ∷ [] ≡ line_text word (derived.url ∷ derived.id ∷ base.url ∷ base.id ∷ [])
 four_fields word derived base =
     ap (λ t. (word ++ 9 ∷ (derived.url ++ 9 ∷ (derived.id ++ 9 ∷ (base.url ++ 9 ∷ t)))) ++ 10 ∷ []) (sym (append-nil base.id))
 
-pub line_with_is : (word : Text) (derived base : Name) (l : Line) → line_with word derived base ≡ Some l → IsTrue (is_name derived) → IsTrue (is_name base) → (fields_text word derived base ++ 10 ∷ [] ≡ pair_text l) × IsTrue (is_line l)
+pub line_with_is : (word : Text) (derived base : Name) (l : Line) → line_with word derived base ≡ Some l → IsTrue (is_name derived) → IsTrue (is_name base)
+    → (fields_text word derived base ++ 10 ∷ [] ≡ pair_text l) × IsTrue (is_line l)
 line_with_is word derived base l e d b =
     let Q : Line → Type 0 = λ l. (fields_text word derived base ++ 10 ∷ [] ≡ pair_text l) × IsTrue (is_line l) in
     let fields : IsTrue (is_name derived && is_name base) = rw d b in
-    elim (bytes_eq word (codes "item")) as (λ v. bytes_eq word (codes "item") ≡ v → (if v then Some (item derived base) else (if bytes_eq word (codes "kids") then Some (kids derived base) else None)) ≡ Some l → Q l) [
+    elim (bytes_eq word (codes "item")) as
+    (λ v. bytes_eq word (codes "item") ≡ v
+    → (if v then Some (item derived base) else (if bytes_eq word (codes "kids") then Some (kids derived base) else None)) ≡ Some l → Q l) [
       | true ↦ λ is some.
           let same : item derived base ≡ l = cc in
           subst Q same (rw ((bytes_eq-Decides word (codes "item")).0 is) (four_fields (codes "item") derived base), fields)
@@ -86,7 +93,8 @@ line_with_is word derived base l e d b =
 
 pub line_of_is : (line : Text) (l : Line) → line_of line ≡ Some l → (line ++ 10 ∷ [] ≡ pair_text l) × IsTrue (is_line l)
 line_of_is line l e =
-    option_and_then_some (λ word. option_and_then (λ derived. option_and_then (line_with word.0 derived.0) (name_of derived.1)) (name_at word.1)) (cut_at 9 line) l e (λ word first names.
+    option_and_then_some (λ word. option_and_then (λ derived. option_and_then (line_with word.0 derived.0) (name_of derived.1)) (name_at word.1))
+    (cut_at 9 line) l e (λ word first names.
     option_and_then_some (λ derived. option_and_then (line_with word.0 derived.0) (name_of derived.1)) (name_at word.1) l names (λ derived second rest.
     option_and_then_some (line_with word.0 derived.0) (name_of derived.1) l rest (λ base third with.
     let a = cut_is 9 line word first in
@@ -100,11 +108,17 @@ line_of_is line l e =
 abbrev pub Are : List Text → List Line → Type 0
 Are lines ps = (flat_map ended lines ≡ flat_map pair_text ps ++ line_text (codes "end") []) × IsTrue (list_all is_line ps)
 
-are_more : (line : Text) (lines : List Text) (l : Line) (ps : List Line) → (line ++ 10 ∷ [] ≡ pair_text l) × IsTrue (is_line l) → Are lines ps → Are (line ∷ lines) (l ∷ ps)
-are_more line lines l ps h rest =
-    (ap (λ t. t ++ flat_map ended lines) h.0 ∙ ap (λ t. pair_text l ++ t) rest.0 ∙ sym (append_assoc (pair_text l) (flat_map pair_text ps) (line_text (codes "end") [])), rw h.1 rest.1)
+are_more : (line : Text) (lines : List Text) (l : Line) (ps : List Line) → (line ++ 10 ∷ [] ≡ pair_text l) × IsTrue (is_line l) → Are lines ps
+    → Are (line ∷ lines) (l ∷ ps)
+are_more line lines l ps h rest = (
+  ap (λ t. t ++ flat_map ended lines) h.0 ∙ ap (λ t. pair_text l ++ t) rest.0
+      ∙ sym (append_assoc (pair_text l) (flat_map pair_text ps) (line_text (codes "end") [])),
+  rw h.1 rest.1,
+)
 
-are_some : (line : Text) (lines : List Text) (ps : List Line) → ((qs : List Line) → pairs_in lines ≡ Some qs → Are lines qs) → (o : Option Line) → line_of line ≡ o → option_map_or (λ l. option_map (λ qs. l ∷ qs) (pairs_in lines)) o (if is_end line lines then Some [] else None) ≡ Some ps → Are (line ∷ lines) ps
+are_some : (line : Text) (lines : List Text) (ps : List Line) → ((qs : List Line) → pairs_in lines ≡ Some qs → Are lines qs) → (o : Option Line)
+    → line_of line ≡ o → option_map_or (λ l. option_map (λ qs. l ∷ qs) (pairs_in lines)) o (if is_end line lines then Some [] else None) ≡ Some ps
+    → Are (line ∷ lines) ps
 are_some line lines ps h None is e =
     let parts = cond_some (is_end line lines) [] ps e in
     let last = end_line line lines parts.0 in
@@ -117,7 +131,8 @@ pub pairs_in_are : (lines : List Text) (ps : List Line) → pairs_in lines ≡ S
 pairs_in_are [] ps e = cc
 pairs_in_are (line ∷ lines) ps e = are_some line lines ps (pairs_in_are lines) (line_of line) refl e
 
-pub pairs_at_are : (text : Text) (ps : List Line) → pairs_at text ≡ Some ps → (text ≡ flat_map pair_text ps ++ line_text (codes "end") []) × IsTrue (list_all is_line ps)
+pub pairs_at_are : (text : Text) (ps : List Line) → pairs_at text ≡ Some ps
+    → (text ≡ flat_map pair_text ps ++ line_text (codes "end") []) × IsTrue (list_all is_line ps)
 pairs_at_are text ps e =
     let is = some_true (is_ended text) (pairs_in (lines_of text)) (ap is_some_of e) in
     let are = pairs_in_are (lines_of text) ps (at_some (is_ended text) (pairs_in (lines_of text)) ps e) in
@@ -159,7 +174,7 @@ field_line_is word text p e =
 pub five_parts : (a b c d e : Text) → a ++ (b ++ (c ++ (d ++ e))) ≡ a ++ b ++ c ++ d ++ e
 five_parts a b c d e = simp append_assoc
 
-pub written_is : (bytes : Text) (w : Written) → IsUtf8 bytes → written bytes ≡ Some w → Spells bytes w
+pub written_is : (bytes : Text) (w : Written) → IsUtf8 bytes → written_of bytes ≡ Some w → Spells bytes w
 written_is bytes w u e =
     option_and_then_some
     (λ rest. option_and_then
@@ -186,5 +201,6 @@ written_is bytes w u e =
     ∙ ap (λ t. line_text (codes "fhirprof-certificate 1") [] ++ t)
     (d.0 ∙ ap (λ t. line_text (codes "derived") (derived.0 ∷ []) ++ t)
     (b.0 ∙ ap (λ t. line_text (codes "base") (base.0 ∷ []) ++ t) ps.0))
-    ∙ five_parts (line_text (codes "fhirprof-certificate 1") []) (line_text (codes "derived") (derived.0 ∷ [])) (line_text (codes "base") (base.0 ∷ [])) (flat_map pair_text all.0) (line_text (codes "end") []) in
+    ∙ five_parts (line_text (codes "fhirprof-certificate 1") []) (line_text (codes "derived") (derived.0 ∷ [])) (line_text (codes "base") (base.0 ∷ []))
+    (flat_map pair_text all.0) (line_text (codes "end") []) in
     subst (Spells bytes) all.2 (record { utf8 = u; text = text; derived = d.1; base = b.1; lines = ps.1 }))))

@@ -1,8 +1,14 @@
 -- The text of a certificate, format 1: what is written in it, and how. Lines end with a line feed, and their fields are
 -- parted by one tab.
-use Rattle.std.specs.Prelude.{◌≡◌, List, [], ◌∷◌, ◌++◌, Bool, not, ◌==◌, ◌&&◌, IsUtf8, IsTrue, codes}
+use Rattle.std.specs.Prelude.{◌≡◌, ℕ, List, [], ◌∷◌, ◌++◌, Bool, not, ◌==◌, ◌&&◌, IsUtf8, IsTrue, codes}
 use Rattle.std.specs.List.{list_all, flat_map}
 use Rattle.fhir_json.specs.Tree.{Text}
+
+abbrev pub tab : ℕ
+tab = 9
+
+abbrev pub line_feed : ℕ
+line_feed = 10
 
 -- an element by the url of its definition and its id
 pub record Name : Type 0 where
@@ -22,7 +28,7 @@ pub record Written : Type 0 where
 
 -- fields behind a word, each behind a tab, and a line feed
 abbrev pub line_text : Text → List Text → Text
-line_text word fields = word ++ flat_map (λ field. 9 ∷ field) fields ++ 10 ∷ []
+line_text word fields = word ++ flat_map (λ field. tab ∷ field) fields ++ line_feed ∷ []
 
 abbrev pub pair_text : Line → Text
 pair_text (item derived base) = line_text (codes "item") (derived.url ∷ derived.id ∷ base.url ∷ base.id ∷ [])
@@ -38,7 +44,7 @@ text_of w =
 
 -- a field has no tab and no line feed, so that it ends where one stands
 abbrev pub is_field : Text → Bool
-is_field = list_all (λ b. not (b == 9) && not (b == 10))
+is_field = list_all (λ b. not (b == tab) && not (b == line_feed))
 
 abbrev pub is_name : Name → Bool
 is_name n = is_field n.url && is_field n.id

@@ -1,6 +1,7 @@
 pub mod Certificate
 pub mod Format
-pub mod Meaning
+pub mod Judging
+pub mod Faults
 pub mod Reading
-pub mod Seen
-pub mod Building
+pub mod Views
+pub mod Lines

@@ -7,8 +7,8 @@ use Rattle.fhir_schema.specs.Schemas.{SchemaValue}
 use Rattle.fhir_certificate.specs.declared.fault.CertFault.{CertFault}
 use Rattle.fhir_certificate.specs.declared.fault.CertFault.TheVariants.{WrongFormat}
 use Rattle.fhir_certificate.specs.Certificate.{CertificateValue}
-use Rattle.fhir_certificate.specs.Format.{Name, Line, item, kids, Written, is_field}
-use Rattle.fhir_certificate.specs.Meaning.{judged}
+use Rattle.fhir_certificate.specs.Format.{tab, line_feed, Name, Line, item, kids, Written, is_field}
+use Rattle.fhir_certificate.specs.Judging.{certificate_or_fault}
 
 -- ---- lines
 
@@ -25,7 +25,7 @@ longer b (line ∷ lines) = (b ∷ line) ∷ lines
 -- the lines that are ended by a line feed
 abbrev pub lines_of : Text → List Text
 lines_of [] = []
-lines_of (b ∷ bs) = if b == 10 then [] ∷ lines_of bs else longer b (lines_of bs)
+lines_of (b ∷ bs) = if b == line_feed then [] ∷ lines_of bs else longer b (lines_of bs)
 
 abbrev pub is_empty : {X : Type 0} → List X → Bool
 is_empty [] = true
@@ -34,7 +34,7 @@ is_empty (x ∷ xs) = false
 -- nothing stands behind the last line
 abbrev pub is_ended : Text → Bool
 is_ended [] = true
-is_ended (b ∷ bs) = if is_empty bs then b == 10 else is_ended bs
+is_ended (b ∷ bs) = if is_empty bs then b == line_feed else is_ended bs
 
 -- ---- pairs
 
@@ -46,7 +46,7 @@ line_with word derived base =
 
 -- a field and what stands behind its tab
 abbrev pub field_at : Text → Option (Text × Text)
-field_at text = option_and_then (λ p. if is_field p.0 then Some p else None) (cut_at 9 text)
+field_at text = option_and_then (λ p. if is_field p.0 then Some p else None) (cut_at tab text)
 
 -- a name and what stands behind its tab
 abbrev pub name_at : Text → Option (Name × Text)
@@ -61,7 +61,7 @@ abbrev pub line_of : Text → Option Line
 line_of line =
     option_and_then
     (λ word. option_and_then (λ derived. option_and_then (line_with word.0 derived.0) (name_of derived.1)) (name_at word.1))
-    (cut_at 9 line)
+    (cut_at tab line)
 
 -- the pair lines in front
 abbrev pub pair_lines : List Text → List Line
@@ -85,19 +85,19 @@ pairs_at text = if is_ended text then pairs_in (lines_of text) else None
 
 -- what stands behind a first line that is this word
 abbrev pub behind_line : Text → Text → Option Text
-behind_line word text = option_and_then (λ p. if bytes_eq p.0 word then Some p.1 else None) (cut_at 10 text)
+behind_line word text = option_and_then (λ p. if bytes_eq p.0 word then Some p.1 else None) (cut_at line_feed text)
 
 -- the field of a line behind this word
 abbrev pub field_of : Text → Text → Option Text
 field_of word line =
-    option_and_then (λ p. if bytes_eq p.0 word && is_field p.1 then Some p.1 else None) (cut_at 9 line)
+    option_and_then (λ p. if bytes_eq p.0 word && is_field p.1 then Some p.1 else None) (cut_at tab line)
 
 -- the field of the first line behind this word, and what stands behind the line
 abbrev pub field_line : Text → Text → Option (Text × Text)
-field_line word text = option_and_then (λ p. option_map (λ field. (field, p.1)) (field_of word p.0)) (cut_at 10 text)
+field_line word text = option_and_then (λ p. option_map (λ field. (field, p.1)) (field_of word p.0)) (cut_at line_feed text)
 
-abbrev pub written : Text → Option Written
-written text =
+abbrev pub written_of : Text → Option Written
+written_of text =
     option_and_then
     (λ rest. option_and_then
     (λ derived. option_and_then
@@ -108,4 +108,4 @@ written text =
 
 -- the certificate that the bytes are in a schema, or the first fault
 abbrev pub reading : SchemaValue → Text → Result CertificateValue CertFault
-reading s bytes = if is_utf8 bytes then option_map_or (judged s) (written bytes) (Err WrongFormat) else Err WrongFormat
+reading s bytes = if is_utf8 bytes then option_map_or (certificate_or_fault s) (written_of bytes) (Err WrongFormat) else Err WrongFormat

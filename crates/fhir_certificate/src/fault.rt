@@ -2,25 +2,37 @@
 
 ghost use Rattle.std.specs.Prelude.{◌≡◌};
 ghost use Rattle.fhir_certificate.specs.declared.fault.CertFault.TheVariants as faults;
+ghost use Rattle.fhir_certificate.specs.Faults.{cert_number};
 
 use std::alloc::{AllocError, AllocFailed};
 use thiserror::Error;
 
 /// Why bytes are not taken as a certificate: the first that applies.
 #[derive(Clone, Copy, Debug, PartialEq, Eq, Error)]
+#[error("{}", self.number())]
 pub enum CertFault {
     /// The bytes are not the text of a certificate.
-    #[error("C1")]
     WrongFormat,
     /// A definition is missing or can't be used, or an element is not its definition's.
-    #[error("C2")]
     UnknownNode,
     /// There are more than 1,048,576 pair lines.
-    #[error("C3")]
     TooManyPairs,
     /// A growth of memory was refused.
-    #[error("C4")]
     NoMemory,
+}
+
+impl CertFault {
+    /// The number that `Display` prints.
+    pub fn number(&self) -> &'static str
+        ensures { result.now ≡ cert_number self.now }
+    {
+        match self {
+            CertFault::WrongFormat => "C1",
+            CertFault::UnknownNode => "C2",
+            CertFault::TooManyPairs => "C3",
+            CertFault::NoMemory => "C4",
+        }
+    }
 }
 
 impl From<AllocError> for CertFault {

@@ -1,10 +1,11 @@
 //! The text of a certificate.
 
 ghost use Rattle.std.specs.Prelude.{◌≡◌, ◌<◌, [], ◌∷◌, length, None, is_some, option_map, IfSome, MatchOption};
-ghost use Rattle.fhir_json.specs.Views.{text_seen};
-ghost use Rattle.fhir_certificate.specs.Format.{is_field};
-ghost use Rattle.fhir_certificate.specs.Reading.{cut_at, lines_of, is_ended, field_at, name_at, name_of, line_with, line_of, pair_lines, pairs_at, behind_line, field_of, field_line, written};
-ghost use Rattle.fhir_certificate.specs.Seen.{parts_seen, name_seen, line_seen, written_with};
+ghost use Rattle.fhir_json.specs.View.{text_seen};
+ghost use Rattle.fhir_certificate.specs.Format.{tab, line_feed, is_field};
+ghost use Rattle.fhir_certificate.specs.Reading.{cut_at, lines_of, is_ended, field_at, name_at, name_of, line_with};
+ghost use Rattle.fhir_certificate.specs.Reading.{line_of, pair_lines, pairs_at, behind_line, field_of, field_line, written_of};
+ghost use Rattle.fhir_certificate.specs.Views.{parts_seen, name_seen, line_seen, written_with};
 
 /// An element by the url of its definition and its id.
 #[derive(Clone, Copy)]
@@ -29,13 +30,13 @@ pub(crate) struct Head<'a> {
 }
 
 fn cut_at_tab(text: &str) -> Option<(&str, &str)>
-    ensures { parts_seen result ≡ cut_at 9 text.now }
+    ensures { parts_seen result ≡ cut_at tab text.now }
 {
     text.split_once('\t')
 }
 
 fn cut_at_feed(text: &str) -> Option<(&str, &str)>
-    ensures parts { parts_seen result ≡ cut_at 10 text.now }
+    ensures parts { parts_seen result ≡ cut_at line_feed text.now }
     ensures lines { MatchOption result (lines_of text.now ≡ []) (λ p. lines_of text.now ≡ p.0.now ∷ lines_of p.1.now) }
     ensures ended { IfSome result (λ p. is_ended text.now ≡ is_ended p.1.now) }
     ensures shorter { IfSome result (λ p. length p.1.now < length text.now) }
@@ -137,8 +138,8 @@ fn field_line<'a>(word: &str, text: &'a str) -> Option<(&'a str, &'a str)>
 
 /// The head of a certificate's text.
 pub(crate) fn head_of(text: &str) -> Option<Head<'_>>
-    ensures { MatchOption result (written text.now ≡ None)
-        (λ head. written text.now ≡ option_map (written_with head) (pairs_at head.pairs.now)) }
+    ensures { MatchOption result (written_of text.now ≡ None)
+        (λ head. written_of text.now ≡ option_map (written_with head) (pairs_at head.pairs.now)) }
 {
     let rest = behind_line("fhirprof-certificate 1", text)?;
     let (derived, rest) = field_line("derived", rest)?;

@@ -1,17 +1,30 @@
 //! Certificates that what conforms to a derived profile conforms to its base, and their text.
+//!
+//! A certificate names two profiles and lists pairs of nodes. It is read by the nodes of a schema; whether it is right,
+//! `fhir_cert_check` says.
+//!
+//! ```
+//! match read(alloc, &schema, bytes) {
+//!     Ok(certificate) => use_it(&certificate),
+//!     Err(fault) => println!(rt; "{fault}")?, // its number: C1, C2, C3 or C4
+//! }
+//! ```
+//!
+//! Read the contract of `read` first. How a certificate is written stands in `specs/Format.antt` (`Spells`), and which
+//! one a text is, in `specs/Judging.antt` (`certificate_of`).
 #![tactic(auto)]
 
 mod certificate;
 mod fault;
 mod format;
-mod found;
 mod laws;
+mod lines;
 mod pair;
 mod reading;
 
 pub use certificate::{Certificate, fits};
 pub use fault::CertFault;
-pub use found::MAX_PAIRS;
 pub use laws::format_agrees;
+pub use lines::MAX_PAIRS;
 pub use pair::{NodePair, Pair};
 pub use reading::read;

@@ -7,15 +7,16 @@ ghost use Rattle.fhir_schema.specs.Schemas.{SchemaValue};
 ghost use Rattle.fhir_certificate.specs.declared.fault.CertFault.TheVariants as faults;
 ghost use Rattle.fhir_certificate.specs.Certificate.{fits};
 ghost use Rattle.fhir_certificate.specs.Format.{Line, Written, Spells};
-ghost use Rattle.fhir_certificate.specs.Meaning.{are_usable, is_memory, judged, Means, Stands};
+ghost use Rattle.fhir_certificate.specs.Judging.{are_usable, certificate_or_fault, Stands};
+ghost use Rattle.fhir_certificate.specs.Faults.{is_no_memory, Means};
 ghost use Rattle.fhir_certificate.specs.Reading.{pairs_at, reading};
-ghost use Rattle.fhir_certificate.specs.Seen.{written_with};
-ghost use Rattle.fhir_certificate.specs.Building.{LeadsTo};
+ghost use Rattle.fhir_certificate.specs.Views.{written_with};
+ghost use Rattle.fhir_certificate.specs.Lines.{LeadsTo};
 
 use crate::certificate::Certificate;
 use crate::fault::CertFault;
 use crate::format::{Head, head_of};
-use crate::found::{Found, MAX_PAIRS, found_in};
+use crate::lines::{LinesRead, MAX_PAIRS, read_lines};
 use fhir_schema::{Schema, named_nodes};
 use std::alloc::Global;
 
@@ -25,13 +26,17 @@ fn are_usable(schema: &Schema, head: Head<'_>) -> bool
     schema.root(head.derived).is_some() && schema.root(head.base).is_some()
 }
 
-// The certificate of what was found, all of which is known and within the limit.
-fn certificate_of(alloc: Global, head: Head<'_>, found: Found) -> Result<Certificate, CertFault>
+// The certificate of what the lines say, all of which is known and within the limit.
+fn certificate_with(
+    alloc: Global,
+    head: Head<'_>,
+    so_far: LinesRead,
+) -> Result<Certificate, CertFault>
     ensures { MatchResult result (λ c. c ≡ record {
       derived = head.entry.derived.now;
       base = head.entry.base.now;
-      items = found.items.items;
-      kids = found.kids.items;
+      items = so_far.items.items;
+      kids = so_far.kids.items;
     })
         (λ fault. fault ≡ faults.NoMemory) }
 {
@@ -40,35 +45,35 @@ fn certificate_of(alloc: Global, head: Head<'_>, found: Found) -> Result<Certifi
     Ok(Certificate {
         derived,
         base,
-        items: found.items,
-        kids: found.kids,
+        items: so_far.items,
+        kids: so_far.kids,
     })
 }
 
-fn judge(alloc: Global, head: Head<'_>, found: Found) -> Result<Certificate, CertFault>
+fn judge(alloc: Global, head: Head<'_>, so_far: LinesRead) -> Result<Certificate, CertFault>
     ensures { (s : SchemaValue) (lines : List Line) → let w = written_with head.entry lines in
-        LeadsTo s (are_usable s w) found [] lines → GivesOr is_memory (λ c. c) result (judged s w) }
+        LeadsTo s (are_usable s w) so_far [] lines → GivesOr is_no_memory (λ c. c) result (certificate_or_fault s w) }
 {
-    if !found.is_known {
+    if !so_far.is_known {
         Err(CertFault::UnknownNode)
-    } else if found.count > MAX_PAIRS {
+    } else if so_far.count > MAX_PAIRS {
         Err(CertFault::TooManyPairs)
     } else {
-        certificate_of(alloc, head, found)
+        certificate_with(alloc, head, so_far)
     }
 }
 
 fn read_behind(alloc: Global, schema: &Schema, head: Head<'_>) -> Result<Certificate, CertFault>
-    ensures { GivesOr is_memory (λ c. c) result (option_map_or (judged schema.now)
+    ensures { GivesOr is_no_memory (λ c. c) result (option_map_or (certificate_or_fault schema.now)
         (option_map (written_with head.entry) (pairs_at head.entry.pairs.now))
         (Err faults.WrongFormat)) }
 {
-    let found = found_in(alloc, schema, are_usable(schema, head), head.pairs)?;
-    judge(alloc, head, found)
+    let so_far = read_lines(alloc, schema, are_usable(schema, head), head.pairs)?;
+    judge(alloc, head, so_far)
 }
 
 fn read_exactly(alloc: Global, schema: &Schema, bytes: &[u8]) -> Result<Certificate, CertFault>
-    ensures { GivesOr is_memory (λ c. c) result (reading schema.now bytes.now) }
+    ensures { GivesOr is_no_memory (λ c. c) result (reading schema.now bytes.now) }
 {
     let Ok(text) = str::from_utf8(bytes) else {
         return Err(CertFault::WrongFormat);
@@ -88,11 +93,11 @@ fn read_exactly(alloc: Global, schema: &Schema, bytes: &[u8]) -> Result<Certific
 /// then `TooManyPairs`. `NoMemory` decides nothing.
 pub fn read(alloc: Global, schema: &Schema, bytes: &[u8]) -> Result<Certificate, CertFault>
     // Which certificate or which fault it is.
-    ensures exact { GivesOr is_memory (λ c. c) result (reading schema.now bytes.now) }
+    ensures exact { GivesOr is_no_memory (λ c. c) result (reading schema.now bytes.now) }
     // What is read is what the bytes spell.
     ensures found { IfOk result (λ c. Stands schema.now bytes.now c) }
     // What the bytes spell is read or refused for what it says.
-    ensures only { (w : Written) → Spells bytes.now w → GivesOr is_memory (λ c. c) result (judged schema.now w) }
+    ensures only { (w : Written) → Spells bytes.now w → GivesOr is_no_memory (λ c. c) result (certificate_or_fault schema.now w) }
     // What a fault says of the bytes.
     ensures refused { IfErr result (λ fault. Means fault schema.now bytes.now) }
     ensures fits { IfOk result (λ c. IsTrue (fits schema.now c)) }

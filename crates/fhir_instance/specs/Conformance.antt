@@ -14,13 +14,13 @@ use Rattle.fhir_schema.specs.declared.node.NodeRef.{NodeRef}
 use Rattle.fhir_schema.specs.Slots.{Slot}
 use Rattle.fhir_schema.specs.Schemas.{SchemaValue, element_at, is_root_node, root, slots, types}
 use Rattle.fhir_schema.specs.Covers.{covers, type_at, type_root}
-use Rattle.fhir_instance.specs.Items.{Item, item, Kids, no_kids, kid, Place, Interpretation, type_of, json_of, has_kids}
+use Rattle.fhir_instance.specs.Items.{Item, item, Kids, no_kids, kid, Location, Interpretation, type_of, json_of, has_kids}
 use Rattle.fhir_instance.specs.Typing.{LexicalSets, Types, entry_of}
 
 -- where an item stands: the outermost item, and the steps from that
 pub record Around : Type 0 where
   pub outermost : Item
-  pub place : Place
+  pub location : Location
 
 -- a child as its parent's rules see it: its name, itself, and the nodes that it conforms to
 pub record Child : Type 0 where
@@ -35,8 +35,8 @@ abbrev pub least_of : Element → ℕ
 least_of e = option_map_or (λ n. n) e.min 0
 
 -- so many items lie within the element's bounds (ElementDefinition, min and max)
-abbrev pub count_fits : Element → ℕ → Bool
-count_fits e n = nat_le (least_of e) n && option_map_or (is_within n) e.max true
+abbrev pub is_count_within : Element → ℕ → Bool
+is_count_within e n = nat_le (least_of e) n && option_map_or (is_within n) e.max true
 
 -- ---- fixed values (ElementDefinition, fixed[x])
 
@@ -49,17 +49,17 @@ fixed_holds e x = option_map_or (λ p. is_fixed_to p.1 x) e.fixed true
 
 -- ---- children
 
-abbrev pub named : Text → List Child → List Child
-named name children = filter (λ c. bytes_eq name c.name) children
+abbrev pub children_of_name : Text → List Child → List Child
+children_of_name name children = filter (λ c. bytes_eq name c.name) children
 
 module _ (s : SchemaValue) where
   -- so many children as the node's element allows, each conforming to the node
   abbrev pub takes : NodeRef → List Child → Bool
   takes n mine =
-      option_map_or (λ e. count_fits e (length mine)) (element_at s n) true && list_all (λ c. c.conforms_to n) mine
+      option_map_or (λ e. is_count_within e (length mine)) (element_at s n) true && list_all (λ c. c.conforms_to n) mine
 
   abbrev pub slot_holds : NodeRef → List Child → Slot → Bool
-  slot_holds n children slot = takes (entry_of n slot) (named slot.name children)
+  slot_holds n children slot = takes (entry_of n slot) (children_of_name slot.name children)
 
   -- the children are as the node's slots ask
   abbrev pub kids_hold : NodeRef → List Child → Bool
@@ -101,7 +101,7 @@ module _ (s : SchemaValue) where
 abbrev pub below : Around → Text → List Text → Around
 below around name before = record {
   outermost = around.outermost;
-  place = around.place ++ record { name = name; index = count_by (bytes_eq name) before } ∷ [];
+  location = around.location ++ record { name = name; index = count_by (bytes_eq name) before } ∷ [];
 }
 
 abbrev mutual
@@ -119,7 +119,7 @@ abbrev mutual
 
 -- an item that stands in no other
 abbrev pub outermost : Item → Around
-outermost x = record { outermost = x; place = [] }
+outermost x = record { outermost = x; location = [] }
 
 -- A resource conforms to a profile: its item conforms to the profile's root.
 pub record Conforms (sets : LexicalSets) (s : SchemaValue) (meaning : Interpretation) (profile : Text) (t : Tree) : Type 0 where

@@ -38,9 +38,9 @@ pub record Step : Type 0 where
   pub index : ℕ
 
 -- the steps from the outermost item to an item in it
-abbrev pub Place : Type 0
-Place = List Step
+abbrev pub Location : Type 0
+Location = List Step
 
--- What the unread rules mean: whether the rule of a text holds at a place in an outermost item. Any test may be meant.
+-- What the unread rules mean: whether the rule of a text holds at a location in an outermost item. Any test may be meant.
 abbrev pub Interpretation : Type 0
-Interpretation = Text → Item → Place → Bool
+Interpretation = Text → Item → Location → Bool

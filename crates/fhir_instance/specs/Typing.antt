@@ -80,8 +80,8 @@ values_in v = v ∷ []
 
 module _ (s : SchemaValue) (root : NodeRef) (t : Tree) where
   -- the slot's property is absent, or holds what the slot's element may
-  abbrev pub slot_fits : LexicalSets → Slot → Bool
-  slot_fits sets slot =
+  abbrev pub property_is_as_typed : LexicalSets → Slot → Bool
+  property_is_as_typed sets slot =
       option_map_or (λ v. option_map_or (λ e. is_value_of sets e v) (element_at s (entry_of root slot)) false) (field slot.name t) true
 
   abbrev pub code_at : Slot → Text
@@ -101,5 +101,5 @@ pub record Types (sets : LexicalSets) (s : SchemaValue) (t : Tree) (x : Item) : 
   pub instantiable : IsTrue (is_instantiable s code)
   pub usable : type_root s code ≡ Some root
   pub properties : IsTrue (list_all (is_property (slots s root)) (property_names t))
-  pub values : IsTrue (list_all (slot_fits s root t sets) (elements_in (slots s root)))
+  pub values : IsTrue (list_all (property_is_as_typed s root t sets) (elements_in (slots s root)))
   pub items : x ≡ item code (Some t) (kids_in (flat_map (items_at s root t) (elements_in (slots s root))))

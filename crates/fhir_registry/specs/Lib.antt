@@ -2,5 +2,5 @@ pub mod Status
 pub mod Telling
 pub mod Replying
 pub mod Words
-pub mod Seen
+pub mod Views
 pub mod Ending

@@ -1,23 +1,12 @@
--- What the program prints: rules, pairs and faults.
+-- What the program prints of pairs and of folders that are no packages.
 use Rattle.std.specs.Prelude.{◌++◌, codes}
 use Rattle.fhir_json.specs.Tree.{Text}
 use Rattle.fhir_package.specs.Packing.{Refusal, not_json, clash}
 use Rattle.fhir_schema.specs.declared.node.NodeRef.{NodeRef}
 use Rattle.fhir_schema.specs.Schemas.{SchemaValue, url_at, id_of_node}
-use Rattle.fhir_certificate.specs.declared.fault.CertFault.{CertFault}
-use Rattle.fhir_certificate.specs.declared.fault.CertFault.TheVariants.{WrongFormat, UnknownNode, TooManyPairs, NoMemory}
 use Rattle.fhir_certificate.specs.declared.pair.Pair.{Pair}
 use Rattle.fhir_certificate.specs.declared.pair.Pair.TheVariants.{Item, Kids}
-use Rattle.fhir_cert_check.specs.Rules.{Word, root, type, fixed, children, slot, cardinality, entry}
-
-abbrev pub rule_text : Word → Text
-rule_text root = codes "root"
-rule_text type = codes "type"
-rule_text fixed = codes "fixed"
-rule_text children = codes "children"
-rule_text (slot name) = codes "slot " ++ name
-rule_text (cardinality name) = codes "cardinality " ++ name
-rule_text (entry name) = codes "entry " ++ name
+use Rattle.fhir_cert_check.specs.Rule.{RuleName, rule_text}
 
 -- a node is its definition's url, and its id
 abbrev pub node_text : SchemaValue → NodeRef → Text
@@ -36,20 +25,14 @@ base_of (Item p) = p.base
 base_of (Kids p) = p.base
 
 -- the pair that fails, and its rule
-abbrev pub no_text : SchemaValue → Pair → Word → Text
-no_text s pair word =
+abbrev pub no_text : SchemaValue → Pair → RuleName → Text
+no_text s pair rule =
     codes "no: " ++ pair_word pair ++ node_text s (derived_of pair) ++ codes " " ++ node_text s (base_of pair)
-    ++ codes ": " ++ rule_text word ++ codes "\n"
-
-abbrev pub cert_number : CertFault → Text
-cert_number WrongFormat = codes "C1 "
-cert_number UnknownNode = codes "C2 "
-cert_number TooManyPairs = codes "C3 "
-cert_number NoMemory = codes "C4 "
+    ++ codes ": " ++ rule_text rule ++ codes "\n"
 
 abbrev pub refusal_number : Refusal → Text
-refusal_number (not_json name) = codes "P2 "
-refusal_number (clash url) = codes "P3 "
+refusal_number (not_json name) = codes "P2"
+refusal_number (clash url) = codes "P3"
 
 abbrev pub refusal_subject : Refusal → Text
 refusal_subject (not_json name) = name

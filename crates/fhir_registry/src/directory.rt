@@ -2,7 +2,7 @@
 
 ghost use Rattle.std.specs.Prelude.{◌≡◌, IfOk, IfErr};
 ghost use Rattle.std.specs.IoError.{error_kind};
-ghost use Rattle.fhir_registry.specs.Seen.{failures_kept};
+ghost use Rattle.fhir_registry.specs.Views.{failures_kept};
 
 use fhir_json::NoMemory;
 use fhir_package::{Folder, FolderFault, MemoryFolder, StoredFile};
@@ -95,7 +95,7 @@ pub fn bytes_at<R: Files + AllocGlobal>(rt: &R, path: &str) -> io::Result<Option
 }
 
 impl Folder for DirFolder {
-    ghost use Rattle.fhir_registry.specs.Seen.{files_kept, failures_kept};
+    ghost use Rattle.fhir_registry.specs.Views.{files_kept, failures_kept};
 
     ghost files = { files_kept };
 

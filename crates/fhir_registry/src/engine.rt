@@ -5,7 +5,7 @@ ghost use Rattle.std.specs.Io.KnownBytes.{Appends};
 ghost use Rattle.fhir_json.specs.Tree.{Text};
 ghost use Rattle.fhir_registry.specs.Replying.{RequestValue, answer_to, Promise};
 ghost use Rattle.fhir_registry.specs.Ending.{HasEnded, is_fault};
-ghost use Rattle.fhir_registry.specs.Seen.{file_seen, request_seen};
+ghost use Rattle.fhir_registry.specs.Views.{bytes_seen, request_seen};
 ghost use Rattle.fhir_registry.specs.Words.{plain_request};
 
 use crate::answering::certify;
@@ -61,20 +61,20 @@ pub fn serve<F: Folder, W: Write, E: Write>(
     // Where the device didn't fail, the answer is the one that is stated.
     ensures told { F.failed_calls folder.new ≡ F.failed_calls folder.old
         → HasEnded result (W.contents out.old) (W.contents out.new)
-        (answer_to (request_seen request.entry) (F.files folder.old) (file_seen file.entry)) }
+        (answer_to (request_seen request.entry) (F.files folder.old) (bytes_seen file.entry)) }
     // A fault is answered as such, and nothing is written to standard output; of any other answer nothing is written to
     // standard error.
     ensures fault { F.failed_calls folder.new ≡ F.failed_calls folder.old → (result ≡ Status.NoMemory → ⊥)
-        → IsTrue (is_fault (answer_to (request_seen request.entry) (F.files folder.old) (file_seen file.entry)))
+        → IsTrue (is_fault (answer_to (request_seen request.entry) (F.files folder.old) (bytes_seen file.entry)))
         → (result ≡ Status.Fault) × (out.new ≡ out.old) }
     ensures answer { F.failed_calls folder.new ≡ F.failed_calls folder.old → (result ≡ Status.NoMemory → ⊥)
-        → is_fault (answer_to (request_seen request.entry) (F.files folder.old) (file_seen file.entry)) ≡ false
+        → is_fault (answer_to (request_seen request.entry) (F.files folder.old) (bytes_seen file.entry)) ≡ false
         → err.new ≡ err.old }
     // Where the device failed, the answer says so.
     ensures device { (F.failed_calls folder.new ≡ F.failed_calls folder.old → ⊥) → (result ≡ Status.NoMemory → ⊥)
         → (result ≡ Status.Fault) × (out.new ≡ out.old) }
     // What a yes promises.
-    ensures promised { result ≡ Status.Yes → Promise (F.files folder.old) (file_seen file.entry) }
+    ensures promised { result ≡ Status.Yes → Promise (F.files folder.old) (bytes_seen file.entry) }
     ensures files { F.files folder.new ≡ F.files folder.old }
 {
     let Request::Certify {
@@ -103,21 +103,21 @@ pub fn run<F: Folder, R: Read, W: Write, E: Write>(
     ensures plain { (request : RequestValue) → plain_request (map string_bytes words.now) ≡ Some request
         → F.failed_calls folder.new ≡ F.failed_calls folder.old
         → HasEnded result (W.contents out.old) (W.contents out.new)
-        (answer_to request (F.files folder.old) (file_seen file.entry)) }
+        (answer_to request (F.files folder.old) (bytes_seen file.entry)) }
     ensures told { F.failed_calls folder.new ≡ F.failed_calls folder.old → (result ≡ Status.Usage → ⊥)
         → (result ≡ Status.NoMemory → ⊥) → (request : RequestValue)
         × HasEnded result (W.contents out.old) (W.contents out.new)
-        (answer_to request (F.files folder.old) (file_seen file.entry)) }
+        (answer_to request (F.files folder.old) (bytes_seen file.entry)) }
     // A fault of what a plain request asks is answered as such, and nothing is written to standard output; and so where
     // the device failed.
     ensures fault { (request : RequestValue) → plain_request (map string_bytes words.now) ≡ Some request
         → F.failed_calls folder.new ≡ F.failed_calls folder.old → (result ≡ Status.NoMemory → ⊥)
-        → IsTrue (is_fault (answer_to request (F.files folder.old) (file_seen file.entry)))
+        → IsTrue (is_fault (answer_to request (F.files folder.old) (bytes_seen file.entry)))
         → (result ≡ Status.Fault) × (out.new ≡ out.old) }
     ensures device { (F.failed_calls folder.new ≡ F.failed_calls folder.old → ⊥) → (result ≡ Status.NoMemory → ⊥)
         → (result ≡ Status.Fault) × (out.new ≡ out.old) }
     // What a yes promises.
-    ensures promised { result ≡ Status.Yes → Promise (F.files folder.old) (file_seen file.entry) }
+    ensures promised { result ≡ Status.Yes → Promise (F.files folder.old) (bytes_seen file.entry) }
     ensures files { F.files folder.new ≡ F.files folder.old }
 {
     match request_of(alloc, words) {

@@ -77,6 +77,7 @@ pub(crate) fn fault_reply(alloc: Global, number: &str, subject: &str) -> Result<
 {
     let mut err = String::new(alloc);
     err.push_str(number)?;
+    err.push_str(" ")?;
     err.push_str(subject)?;
     err.push_str("\n")?;
     Ok(Reply {

@@ -6,7 +6,7 @@ ghost use Rattle.clap.specs.declared.error.kind.ErrorKind.TheVariants as kind;
 ghost use Rattle.fhir_registry.specs.declared.request.WordsFault.TheVariants as faults;
 ghost use Rattle.fhir_registry.specs.Replying.{RequestValue};
 ghost use Rattle.fhir_registry.specs.Words.{is_option, command_request, plain_request};
-ghost use Rattle.fhir_registry.specs.Seen.{request_seen};
+ghost use Rattle.fhir_registry.specs.Views.{request_seen};
 
 use clap::error::ErrorKind;
 use clap::{Arg, ArgMatches, Command};

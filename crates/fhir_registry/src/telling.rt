@@ -1,8 +1,9 @@
 //! What is printed of a certificate's answer.
 
-ghost use Rattle.std.specs.Prelude.{◌≡◌, ◌++◌, IfOk, Some, string_bytes};
-ghost use Rattle.fhir_cert_check.specs.Seen.{word_of, wrong_in};
-ghost use Rattle.fhir_registry.specs.Telling.{rule_text, node_text, pair_word, derived_of, base_of, no_text};
+ghost use Rattle.std.specs.Prelude.{◌≡◌, ◌++◌, IfOk, Some, codes, string_bytes};
+ghost use Rattle.fhir_cert_check.specs.Views.{rule_name, wrong_in};
+ghost use Rattle.fhir_cert_check.specs.Rule.{rule_text};
+ghost use Rattle.fhir_registry.specs.Telling.{node_text, pair_word, derived_of, base_of, no_text};
 ghost use Rattle.fhir_registry.specs.Replying.{yes_reply, wrong_reply};
 
 use crate::reply::{Reply, Status};
@@ -11,26 +12,22 @@ use fhir_certificate::Pair;
 use fhir_schema::{NodeRef, Schema};
 use std::alloc::{AllocError, Global};
 
-fn joined(alloc: Global, word: &str, name: &str) -> Result<String, AllocError>
-    ensures { IfOk result (λ text. string_bytes text ≡ word.now ++ name.now) }
+fn word_and_name(alloc: Global, word: &str, name: &str) -> Result<String, AllocError>
+    ensures { IfOk result (λ text. string_bytes text ≡ word.now ++ codes " " ++ name.now) }
 {
     let mut text = String::new(alloc);
     text.push_str(word)?;
+    text.push_str(" ")?;
     text.push_str(name)?;
     Ok(text)
 }
 
 fn rule_text(alloc: Global, rule: Rule<'_>) -> Result<String, AllocError>
-    ensures { IfOk result (λ text. string_bytes text ≡ rule_text (word_of rule.entry)) }
+    ensures { IfOk result (λ text. string_bytes text ≡ rule_text (rule_name rule.entry)) }
 {
-    match rule {
-        Rule::Root => String::from_str(alloc, "root"),
-        Rule::Types => String::from_str(alloc, "type"),
-        Rule::Fixed => String::from_str(alloc, "fixed"),
-        Rule::Children => String::from_str(alloc, "children"),
-        Rule::Slot(name) => joined(alloc, "slot ", name),
-        Rule::Cardinality(name) => joined(alloc, "cardinality ", name),
-        Rule::Entry(name) => joined(alloc, "entry ", name),
+    match rule.slot_name() {
+        Some(name) => word_and_name(alloc, rule.word(), name),
+        None => String::from_str(alloc, rule.word()),
     }
 }
 
@@ -73,7 +70,7 @@ fn base_of(pair: Pair) -> NodeRef
 }
 
 fn no_text(alloc: Global, schema: &Schema, pair: Pair, rule: Rule<'_>) -> Result<String, AllocError>
-    ensures { IfOk result (λ text. string_bytes text ≡ no_text schema.now pair (word_of rule.entry)) }
+    ensures { IfOk result (λ text. string_bytes text ≡ no_text schema.now pair (rule_name rule.entry)) }
 {
     let derived = node_text(alloc, schema, derived_of(pair))?;
     let base = node_text(alloc, schema, base_of(pair))?;
@@ -102,7 +99,7 @@ fn yes_reply(alloc: Global) -> Result<Reply, AllocError>
 }
 
 fn no_reply(alloc: Global, schema: &Schema, pair: Pair, rule: Rule<'_>) -> Result<Reply, AllocError>
-    ensures { IfOk result (λ r. r ≡ wrong_reply schema.now (Some (pair, word_of rule.entry))) }
+    ensures { IfOk result (λ r. r ≡ wrong_reply schema.now (Some (pair, rule_name rule.entry))) }
 {
     let out = no_text(alloc, schema, pair, rule)?;
     Ok(Reply {
@@ -112,8 +109,8 @@ fn no_reply(alloc: Global, schema: &Schema, pair: Pair, rule: Rule<'_>) -> Resul
     })
 }
 
-/// What is answered to a certificate that was checked.
-pub(crate) fn answer_reply(
+/// What is answered to a certificate that was checked: what is wrong with it, if anything.
+pub(crate) fn wrong_reply(
     alloc: Global,
     schema: &Schema,
     answer: Answer<'_>,

@@ -4,7 +4,7 @@
 ghost use Rattle.std.specs.Prelude.{◌≡◌, Some, map, string_bytes};
 ghost use Rattle.std.specs.Process.{exit_status};
 ghost use Rattle.fhir_registry.specs.Replying.{RequestValue, answer_to, Promise};
-ghost use Rattle.fhir_registry.specs.Seen.{file_seen};
+ghost use Rattle.fhir_registry.specs.Views.{bytes_seen};
 ghost use Rattle.fhir_registry.specs.Words.{plain_request};
 
 use fhir_package::{Folder, MemoryFolder};
@@ -36,10 +36,10 @@ fn answer<F: Folder, R: Read, W: Write, E: Write>(
     out: &mut W,
     err: &mut E,
 ) -> ExitCode
-    ensures promised { exit_status result ≡ 0 → Promise (F.files folder.old) (file_seen file.entry) }
+    ensures promised { exit_status result ≡ 0 → Promise (F.files folder.old) (bytes_seen file.entry) }
     ensures no { (request : RequestValue) → plain_request (map string_bytes words.now) ≡ Some request
         → F.failed_calls folder.new ≡ F.failed_calls folder.old → exit_status result ≡ 1
-        → (answer_to request (F.files folder.old) (file_seen file.entry)).status ≡ 1 }
+        → (answer_to request (F.files folder.old) (bytes_seen file.entry)).status ≡ 1 }
 {
     ExitCode::from(run(alloc, words, folder, file, input, out, err))
 }

@@ -7,7 +7,8 @@ use Rattle.fhir_cert_check.proofs.checking.first_failing.Goals as goal
 
 pub returns-clause-first : goal.returns-clause-first
 returns-clause-first c =
-    c.failing.ensures ∙ ap (λ pairs. failing pairs c.args.schema.now c.args.pair) (same_set c.in_ok-pairs.pairs c.args.certificate.now c.in_ok-pairs.ensures.same)
+    c.failing.ensures ∙ ap (λ pairs. failing pairs c.args.schema.now c.args.pair)
+    (same_set c.in_ok-pairs.pairs c.args.certificate.now c.in_ok-pairs.ensures.same)
 
 pub returns-clause-right : goal.returns-clause-right
 returns-clause-right c =

@@ -2,7 +2,7 @@ use Rattle.std.proofs.Common.{◌≡◌, drop, map}
 use Rattle.fhir_certificate.specs.declared.pair.Pair.TheVariants.{Kids}
 use Rattle.fhir_cert_check.specs.Rules.{failing}
 use Rattle.fhir_cert_check.specs.Checking.{first_in}
-use Rattle.fhir_cert_check.specs.Sets.{has_in}
+use Rattle.fhir_cert_check.specs.PairSet.{has_in}
 use Rattle.fhir_cert_check.proofs.checking.first_kids.Given as goal
 
 abbrev pub invariant-loop-pair : goal.invariant-loop-pair

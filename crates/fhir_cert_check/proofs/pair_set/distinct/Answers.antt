@@ -1,7 +1,7 @@
 use Rattle.std.proofs.Common.{sym, subst, take}
 use Rattle.std.proofs.lemmas.List.{take_more}
 use Rattle.fhir_certificate.specs.declared.pair.NodePair.{NodePair}
-use Rattle.fhir_cert_check.specs.Sets.{AreDistinct}
+use Rattle.fhir_cert_check.specs.PairSet.{AreDistinct}
 use Rattle.fhir_cert_check.proofs.pair_set.distinct.Goals as goal
 
 pub loop-pair-preserved : goal.loop-pair-preserved

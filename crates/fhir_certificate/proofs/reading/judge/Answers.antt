@@ -1,16 +1,16 @@
 use Rattle.std.proofs.lemmas.Bool.{not-true, not-false}
-use Rattle.fhir_certificate.specs.Seen.{written_with}
-use Rattle.fhir_certificate.proofs.Judging.{found_unknown, found_over, found_certificate}
+use Rattle.fhir_certificate.specs.Views.{written_with}
+use Rattle.fhir_certificate.proofs.Judging.{lines_unknown, lines_over, lines_certificate}
 use Rattle.fhir_certificate.proofs.reading.judge.Goals as goal
 
-pub returns-then-not-found : goal.returns-then-not-found
-returns-then-not-found c = λ s lines h. found_unknown s (written_with c.args.head lines) c.args.found h (not-true _ c.if-not-found.true)
+pub returns-then-not-so_far : goal.returns-then-not-so_far
+returns-then-not-so_far c = λ s lines h. lines_unknown s (written_with c.args.head lines) c.args.so_far h (not-true _ c.if-not-so_far.true)
 
-pub returns-then-found-gt-MAX_PAIRS : goal.returns-then-found-gt-MAX_PAIRS
-returns-then-found-gt-MAX_PAIRS c = λ s lines h.
-    found_over s (written_with c.args.head lines) c.args.found h (not-false _ c.if-not-found.false) c.if-found-gt-MAX_PAIRS.true
+pub returns-then-so_far-gt-MAX_PAIRS : goal.returns-then-so_far-gt-MAX_PAIRS
+returns-then-so_far-gt-MAX_PAIRS c = λ s lines h.
+    lines_over s (written_with c.args.head lines) c.args.so_far h (not-false _ c.if-not-so_far.false) c.if-so_far-gt-MAX_PAIRS.true
 
-pub returns-else-found-gt-MAX_PAIRS : goal.returns-else-found-gt-MAX_PAIRS
-returns-else-found-gt-MAX_PAIRS c = λ s lines h.
-    found_certificate s (written_with c.args.head lines) c.args.found h c.certificate_of.result
-    (not-false _ c.if-not-found.false) c.if-found-gt-MAX_PAIRS.false c.certificate_of.ensures
+pub returns-else-so_far-gt-MAX_PAIRS : goal.returns-else-so_far-gt-MAX_PAIRS
+returns-else-so_far-gt-MAX_PAIRS c = λ s lines h.
+    lines_certificate s (written_with c.args.head lines) c.args.so_far h c.certificate_with.result
+    (not-false _ c.if-not-so_far.false) c.if-so_far-gt-MAX_PAIRS.false c.certificate_with.ensures

@@ -2,7 +2,7 @@ use Rattle.std.proofs.Common.{◌≡◌, refl, sym, ap, ◌∙◌, IsTrue}
 use Rattle.fhir_schema.specs.Schemas.{SchemaValue}
 use Rattle.fhir_cert_check.specs.declared.answer.Answer.{Answer}
 use Rattle.fhir_cert_check.specs.declared.answer.Answer.TheVariants.{Yes, No}
-use Rattle.fhir_cert_check.specs.Seen.{is_yes, wrong_in}
+use Rattle.fhir_cert_check.specs.Views.{is_yes, wrong_in}
 use Rattle.fhir_registry.specs.Replying.{wrong_reply}
 use Rattle.fhir_registry.proofs.answering.bytes_reply.Goals as goal
 
@@ -10,9 +10,9 @@ is_right : (s : SchemaValue) (a : Answer) → (wrong_reply s (wrong_in a)).statu
 is_right s Yes e = refl
 is_right s (No pair rule) e = cc
 
-pub returns-in_ok-answer_reply-in-Ok-clause-promised :
-    goal.returns-in_ok-answer_reply-in-Ok-clause-promised
-returns-in_ok-answer_reply-in-Ok-clause-promised c zero =
-    let right = is_right c.args.schema.now c.in-Ok.answer (ap (λ r. r.status) (sym c.in_ok-answer_reply-in-Ok.ensures) ∙ zero) in
+pub returns-in_ok-wrong_reply-in-Ok-clause-promised :
+    goal.returns-in_ok-wrong_reply-in-Ok-clause-promised
+returns-in_ok-wrong_reply-in-Ok-clause-promised c zero =
+    let right = is_right c.args.schema.now c.in-Ok.answer (ap (λ r. r.status) (sym c.in_ok-wrong_reply-in-Ok.ensures) ∙ zero) in
     let spelled = c.in-Ok.ensures.yes.0 right in
     (spelled.1.0, spelled.1.1, c.in-Ok.ensures.includes right spelled.1.0 spelled.1.1)

@@ -3,10 +3,10 @@
 ghost use Rattle.std.specs.Prelude.{◌≡◌, ◌+◌, ◌++◌, ◌<◌, ◌≤◌, ◌^◌, ◌⊎◌, [], None, Some, option_map, IfOk, IfErr, OnOk};
 ghost use Rattle.fhir_certificate.specs.declared.fault.CertFault.TheVariants as faults;
 ghost use Rattle.fhir_certificate.specs.declared.pair.Pair.TheVariants.{Item, Kids};
-ghost use Rattle.fhir_certificate.specs.Meaning.{limit, node_of, pair_of};
+ghost use Rattle.fhir_certificate.specs.Judging.{limit, node_of, pair_of};
 ghost use Rattle.fhir_certificate.specs.Reading.{lines_of, pair_lines, pairs_at};
-ghost use Rattle.fhir_certificate.specs.Building.{pair_in, item_in, kids_in, Reads, LeadsTo};
-ghost use Rattle.fhir_certificate.specs.Seen.{name_seen, line_seen};
+ghost use Rattle.fhir_certificate.specs.Lines.{pair_in, item_in, kids_in, Reads, LeadsTo};
+ghost use Rattle.fhir_certificate.specs.Views.{name_seen, line_seen};
 
 use crate::fault::CertFault;
 use crate::format::{NameText, PairLine, next_pair};
@@ -17,9 +17,9 @@ use std::alloc::Global;
 /// How many pair lines a certificate may have.
 pub const MAX_PAIRS: usize = 1_048_576;
 
-/// What was found in the pair lines so far.
+/// What the pair lines say so far.
 #[derive(Drop)]
-pub(crate) struct Found {
+pub(crate) struct LinesRead {
     /// The pairs that speak of items, as long as all is known and within the limit.
     pub(crate) items: Vec<NodePair>,
     /// The pairs that speak of children, as long as all is known and within the limit.
@@ -80,7 +80,7 @@ fn put(items: &mut Vec<NodePair>, kids: &mut Vec<NodePair>, pair: Pair) -> Resul
     Ok(())
 }
 
-impl Found {
+impl LinesRead {
     // Keeps a pair, where it is within the limit.
     fn keep(&mut self, pair: Pair) -> Result<(), CertFault>
         ensures same { OnOk result (record self.new { items = self.old.items; kids = self.old.kids }
@@ -118,19 +118,19 @@ impl Found {
 }
 
 /// What the pair lines of a text say, where it is pair lines and then the last line; else it is `WrongFormat`.
-pub(crate) fn found_in(
+pub(crate) fn read_lines(
     alloc: Global,
     schema: &Schema,
     usable: bool,
     text: &str,
-) -> Result<Found, CertFault>
-    ensures found { IfOk result (λ found.
-        LeadsTo schema.now usable found [] (pair_lines (lines_of text.now))) }
+) -> Result<LinesRead, CertFault>
+    ensures leads { IfOk result (λ so_far.
+        LeadsTo schema.now usable so_far [] (pair_lines (lines_of text.now))) }
     ensures whole { OnOk result (pairs_at text.now ≡ Some (pair_lines (lines_of text.now))) }
     ensures refused { IfErr result (λ fault. (fault ≡ faults.NoMemory)
         ⊎ ((fault ≡ faults.WrongFormat) × (pairs_at text.now ≡ None))) }
 {
-    let mut found = Found {
+    let mut so_far = LinesRead {
         items: Vec::new(alloc),
         kids: Vec::new(alloc),
         count: 0,
@@ -138,11 +138,11 @@ pub(crate) fn found_in(
     };
     let mut rest = text;
     while let Some((line, behind)) = next_pair(rest) {
-        found.read_line(schema, line)?;
+        so_far.read_line(schema, line)?;
         rest = behind;
     }
     if rest == "end\n" {
-        Ok(found)
+        Ok(so_far)
     } else {
         Err(CertFault::WrongFormat)
     }

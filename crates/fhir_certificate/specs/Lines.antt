@@ -1,4 +1,4 @@
--- What is found in the pair lines of a certificate, one after the other (used by private contracts alone).
+-- What the pair lines of a certificate say, one after the other (used by private contracts alone).
 use Rattle.std.specs.Prelude.{◌≡◌, ◌≤◌, ◌+◌, ◌++◌, ◌&&◌, IsTrue, length, List, [], ◌∷◌, Bool, Option, is_some}
 use Rattle.std.specs.Option.{option_map, option_map_or}
 use Rattle.std.specs.List.{list_all, flat_map}
@@ -6,9 +6,9 @@ use Rattle.fhir_schema.specs.Schemas.{SchemaValue}
 use Rattle.fhir_certificate.specs.declared.pair.NodePair.{NodePair}
 use Rattle.fhir_certificate.specs.declared.pair.Pair.{Pair}
 use Rattle.fhir_certificate.specs.declared.pair.Pair.TheVariants.{Item, Kids}
-use Rattle.fhir_certificate.specs.declared.found.Found.{Found}
+use Rattle.fhir_certificate.specs.declared.lines.LinesRead.{LinesRead}
 use Rattle.fhir_certificate.specs.Format.{Line, item, kids}
-use Rattle.fhir_certificate.specs.Meaning.{limit, pair_of}
+use Rattle.fhir_certificate.specs.Judging.{limit, pair_of}
 
 -- the pair of a line, where its nodes are known
 abbrev pub pair_in : SchemaValue → Line → Option Pair
@@ -32,17 +32,17 @@ kids_in (Item pair) = []
 kids_in (Kids pair) = pair ∷ []
 
 -- one line more was read
-pub record Reads (s : SchemaValue) (line : Line) (old new : Found) : Type 0 where
+pub record Reads (s : SchemaValue) (line : Line) (old new : LinesRead) : Type 0 where
   pub count : new.count ≡ old.count + 1
   pub known : new.is_known ≡ (old.is_known && is_some (pair_in s line))
   pub items : IsTrue new.is_known → new.count ≤ limit → new.items.items ≡ old.items.items ++ flat_map item_in (pairs_of s (line ∷ []))
   pub kids : IsTrue new.is_known → new.count ≤ limit → new.kids.items ≡ old.kids.items ++ flat_map kids_in (pairs_of s (line ∷ []))
 
--- what was found in front and what stands in the lines behind make up the lines
-pub record LeadsTo (s : SchemaValue) (usable : Bool) (found : Found) (behind lines : List Line) : Type 0 where
-  pub count : found.count + length behind ≡ length lines
-  pub known : (found.is_known && are_known s behind) ≡ (usable && are_known s lines)
-  pub items : IsTrue found.is_known → found.count ≤ limit
-      → found.items.items ++ flat_map item_in (pairs_of s behind) ≡ flat_map item_in (pairs_of s lines)
-  pub kids : IsTrue found.is_known → found.count ≤ limit
-      → found.kids.items ++ flat_map kids_in (pairs_of s behind) ≡ flat_map kids_in (pairs_of s lines)
+-- what the lines in front say and what stands in the lines behind make up the lines
+pub record LeadsTo (s : SchemaValue) (usable : Bool) (so_far : LinesRead) (behind lines : List Line) : Type 0 where
+  pub count : so_far.count + length behind ≡ length lines
+  pub known : (so_far.is_known && are_known s behind) ≡ (usable && are_known s lines)
+  pub items : IsTrue so_far.is_known → so_far.count ≤ limit
+      → so_far.items.items ++ flat_map item_in (pairs_of s behind) ≡ flat_map item_in (pairs_of s lines)
+  pub kids : IsTrue so_far.is_known → so_far.count ≤ limit
+      → so_far.kids.items ++ flat_map kids_in (pairs_of s behind) ≡ flat_map kids_in (pairs_of s lines)

@@ -1,4 +1,4 @@
--- What contracts see of the parts of a text.
+-- What contracts see of the parts of a text (used by private contracts alone).
 use Rattle.std.specs.Prelude.{List, Option}
 use Rattle.std.specs.Borrow.{Bor}
 use Rattle.std.specs.Option.{option_map}

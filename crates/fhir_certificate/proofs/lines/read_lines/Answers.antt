@@ -1,7 +1,7 @@
 use Rattle.std.proofs.Common.{◌≡◌, [], sym, ◌∙◌, inr, rules}
 use Rattle.fhir_certificate.specs.Reading.{lines_of, pair_lines}
 use Rattle.fhir_certificate.proofs.Pairs.{pairs_told, end_is}
-use Rattle.fhir_certificate.proofs.found.found_in.Goals as goal
+use Rattle.fhir_certificate.proofs.lines.read_lines.Goals as goal
 
 pub returns-then-eq-clause-whole : goal.returns-then-eq-clause-whole
 returns-then-eq-clause-whole c =

@@ -3,15 +3,15 @@ use Rattle.std.specs.Prelude.{is_some}
 use denote.Text.{Utf8}
 use denote.Shadow.{shadow}
 use Rattle.fhir_certificate.specs.Reading.{lines_of, pair_lines, pairs_at}
-use Rattle.fhir_certificate.specs.Building.{LeadsTo}
-use Rattle.fhir_certificate.proofs.found.found_in.Given as goal
+use Rattle.fhir_certificate.specs.Lines.{LeadsTo}
+use Rattle.fhir_certificate.proofs.lines.read_lines.Given as goal
 
 abbrev pub invariant-loop-line : goal.invariant-loop-line
 invariant-loop-line l =
     shadow (Utf8 l.rest)
     × (is_some (pairs_at l.rest) ≡ is_some (pairs_at l.text))
-    × (l.found.count + length l.rest ≤ length l.text)
-    × LeadsTo l.schema l.usable l.found (pair_lines (lines_of l.rest)) (pair_lines (lines_of l.text))
+    × (l.so_far.count + length l.rest ≤ length l.text)
+    × LeadsTo l.schema l.usable l.so_far (pair_lines (lines_of l.rest)) (pair_lines (lines_of l.text))
 
 abbrev pub decreases-loop-line : goal.decreases-loop-line
 decreases-loop-line l = length l.rest

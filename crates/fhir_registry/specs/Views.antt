@@ -11,8 +11,8 @@ use Rattle.fhir_registry.specs.declared.request.Request.TheVariants.{Certify}
 use Rattle.fhir_registry.specs.Replying.{RequestValue, certify}
 
 -- the bytes of a file, or none where it can't be read
-abbrev pub file_seen : Option (Bor Text) → Option Text
-file_seen file = option_map (λ bytes. bytes.now) file
+abbrev pub bytes_seen : Option (Bor Text) → Option Text
+bytes_seen file = option_map (λ bytes. bytes.now) file
 
 abbrev pub request_seen : Request → RequestValue
 request_seen (Certify folder file) = certify folder.now file.now

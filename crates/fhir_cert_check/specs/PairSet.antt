@@ -6,7 +6,7 @@ use Rattle.fhir_certificate.specs.declared.pair.Pair.{Pair}
 use Rattle.fhir_certificate.specs.declared.pair.Pair.TheVariants.{Item, Kids}
 use Rattle.fhir_certificate.specs.Certificate.{CertificateValue}
 use Rattle.fhir_cert_check.specs.declared.pair_set.PairSet.{PairSet}
-use Rattle.fhir_cert_check.specs.Rules.{Word}
+use Rattle.fhir_cert_check.specs.Rule.{RuleName}
 use Rattle.fhir_cert_check.specs.Checking.{same_nodes, first_in}
 
 abbrev pub has_in : PairSet → Pair → Bool
@@ -20,7 +20,7 @@ AreSame ps qs = (p : NodePair) → list_any (same_nodes p) ps ≡ list_any (same
 -- whichever pairs fail, the first that does is the same in both lists
 abbrev pub FailAlike : List NodePair → List NodePair → Type 0
 FailAlike ps qs =
-    (wrap : NodePair → Pair) (failing : Pair → Option Word) → first_in failing (map wrap ps) ≡ first_in failing (map wrap qs)
+    (wrap : NodePair → Pair) (failing : Pair → Option RuleName) → first_in failing (map wrap ps) ≡ first_in failing (map wrap qs)
 
 -- a set and an order of the pairs of a list
 pub record AreDistinct (set order pairs : List NodePair) : Type 0 where

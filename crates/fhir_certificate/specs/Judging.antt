@@ -1,11 +1,11 @@
--- What a certificate's text means in a schema, and when it is refused.
-use Rattle.std.specs.Prelude.{◌≡◌, ◌≤◌, ◌<◌, ℕ, List, [], ◌∷◌, ◌&&◌, Bool, true, false, nat_le, Option, None, Some, is_some, Result, Ok, Err, if◌then◌else◌, length, IsTrue}
+-- Which certificate a text is in a schema, and when there is none.
+use Rattle.std.specs.Prelude.{◌≡◌, ◌≤◌, ℕ, List, [], ◌∷◌, ◌&&◌, Bool, nat_le, Option, None, Some, is_some, Result, Ok, Err, if◌then◌else◌, length}
 use Rattle.std.specs.Option.{option_map, option_map_or, option_and_then}
 use Rattle.fhir_json.specs.Tree.{Text}
 use Rattle.fhir_schema.specs.declared.node.NodeRef.{NodeRef}
 use Rattle.fhir_schema.specs.Schemas.{SchemaValue, root, node}
 use Rattle.fhir_certificate.specs.declared.fault.CertFault.{CertFault}
-use Rattle.fhir_certificate.specs.declared.fault.CertFault.TheVariants.{WrongFormat, UnknownNode, TooManyPairs, NoMemory}
+use Rattle.fhir_certificate.specs.declared.fault.CertFault.TheVariants.{UnknownNode, TooManyPairs}
 use Rattle.fhir_certificate.specs.declared.pair.NodePair.{NodePair}
 use Rattle.fhir_certificate.specs.Certificate.{CertificateValue}
 use Rattle.fhir_certificate.specs.Format.{Name, Line, item, kids, Written, Spells}
@@ -40,35 +40,21 @@ abbrev pub are_usable : SchemaValue → Written → Bool
 are_usable s w = is_some (root s w.derived) && is_some (root s w.base)
 
 -- the certificate that is written, where its definitions can be used and all nodes are known
-abbrev pub meaning : SchemaValue → Written → Option CertificateValue
-meaning s w =
+abbrev pub certificate_of : SchemaValue → Written → Option CertificateValue
+certificate_of s w =
     if are_usable s w then with_lines s w.lines (record { derived = w.derived; base = w.base; items = []; kids = [] })
     else None
 
 abbrev pub has_room : Written → Bool
 has_room w = nat_le (length w.lines) limit
 
--- ---- refusals
-
--- the fault that says that memory ran out
-abbrev pub is_memory : CertFault → Bool
-is_memory WrongFormat = false
-is_memory UnknownNode = false
-is_memory TooManyPairs = false
-is_memory NoMemory = true
+-- ---- what is answered
 
 -- the certificate that is written, or the first fault: of its nodes, and then of its size
-abbrev pub judged : SchemaValue → Written → Result CertificateValue CertFault
-judged s w =
-    option_map_or (λ c. if has_room w then Ok c else Err TooManyPairs) (meaning s w) (Err UnknownNode)
-
--- what a fault says of the bytes
-abbrev pub Means : CertFault → SchemaValue → Text → Type 0
-Means WrongFormat s bytes = (w : Written) → Spells bytes w → ⊥
-Means UnknownNode s bytes = (w : Written) × Spells bytes w × (meaning s w ≡ None)
-Means TooManyPairs s bytes = (w : Written) × Spells bytes w × IsTrue (is_some (meaning s w)) × (limit < length w.lines)
-Means NoMemory s bytes = Unit {0}
+abbrev pub certificate_or_fault : SchemaValue → Written → Result CertificateValue CertFault
+certificate_or_fault s w =
+    option_map_or (λ c. if has_room w then Ok c else Err TooManyPairs) (certificate_of s w) (Err UnknownNode)
 
 -- the bytes spell the certificate, within the limit
 abbrev pub Stands : SchemaValue → Text → CertificateValue → Type 0
-Stands s bytes c = (w : Written) × Spells bytes w × (meaning s w ≡ Some c) × (length w.lines ≤ limit)
+Stands s bytes c = (w : Written) × Spells bytes w × (certificate_of s w ≡ Some c) × (length w.lines ≤ limit)

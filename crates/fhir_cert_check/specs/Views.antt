@@ -1,0 +1,33 @@
+-- Rules and answers as contracts see them.
+use Rattle.std.specs.Prelude.{Bool, true, false, Option, None, Some, option_map}
+use Rattle.fhir_certificate.specs.declared.pair.Pair.{Pair}
+use Rattle.fhir_cert_check.specs.declared.rule.Rule.{Rule}
+use Rattle.fhir_cert_check.specs.declared.rule.Rule.TheVariants.{Root, TypeCode, Fixed, Children, Slot, Cardinality, Entry}
+use Rattle.fhir_cert_check.specs.declared.answer.Answer.{Answer}
+use Rattle.fhir_cert_check.specs.declared.answer.Answer.TheVariants.{Yes, No}
+use Rattle.fhir_cert_check.specs.Rule.{RuleName, root, type, fixed, children, slot, cardinality, entry}
+
+abbrev pub rule_name : Rule → RuleName
+rule_name Root = root
+rule_name TypeCode = type
+rule_name Fixed = fixed
+rule_name Children = children
+rule_name (Slot name) = slot name.now
+rule_name (Cardinality name) = cardinality name.now
+rule_name (Entry name) = entry name.now
+
+abbrev pub is_yes : Answer → Bool
+is_yes Yes = true
+is_yes (No pair rule) = false
+
+-- nothing is wrong, or that pair fails that rule
+abbrev pub wrong_in : Answer → Option (Pair × RuleName)
+wrong_in Yes = None
+wrong_in (No pair rule) = Some (pair, rule_name rule)
+
+-- a pair that was found, with the rule that it fails
+abbrev pub failing_seen : Option (Pair × Rule) → Option (Pair × RuleName)
+failing_seen failing = option_map (λ f. (f.0, rule_name f.1)) failing
+
+abbrev pub rule_seen : Option Rule → Option RuleName
+rule_seen rule = option_map rule_name rule
