@@ -111,7 +111,7 @@ fn bounds_told(alloc: Global, element: &ElementDef) -> Result<String, AllocError
 // Whether an element may be there 3 times, and 4 times.
 fn counts_allowed(alloc: Global, element: &ElementDef) -> Result<String, AllocError> {
     match element.max() {
-        Some(max) => format!(in alloc; "{} {}", is_within(3, max), is_within(4, max)),
+        Some(max) => format!(in alloc; "{} {}", max.allows(3), max.allows(4)),
         None => String::from_str(alloc, "no max"),
     }
 }

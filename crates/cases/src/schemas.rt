@@ -127,7 +127,7 @@ fn kid_told(
     if !schema.has(node) {
         return String::from_str(alloc, "unknown");
     }
-    match schema.kids(node, name) {
+    match schema.slot(node, name) {
         Some(slot) => slot_told(alloc, slot),
         None => String::from_str(alloc, "none"),
     }

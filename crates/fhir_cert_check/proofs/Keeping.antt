@@ -17,7 +17,7 @@ use Rattle.fhir_elements.specs.Codes.{is_within}
 use Rattle.fhir_elements.specs.Element.{Element}
 use Rattle.fhir_schema.specs.declared.node.NodeRef.{NodeRef}
 use Rattle.fhir_schema.specs.Slots.{Slot}
-use Rattle.fhir_schema.specs.Schemas.{SchemaValue, element_at, is_root_node, slots, kids, types}
+use Rattle.fhir_schema.specs.Schemas.{SchemaValue, element_at, is_root_node, slots, slot_named, types}
 use Rattle.fhir_schema.specs.Covers.{covers, type_at}
 use Rattle.fhir_instance.specs.Items.{Item, item, Kids, no_kids, kid, Interpretation, type_of, json_of}
 use Rattle.fhir_instance.specs.Items.{has_kids as has_children}
@@ -27,7 +27,7 @@ use Rattle.fhir_instance.specs.Conformance.{is_untyped, facets_hold, root_holds,
 use Rattle.fhir_instance.specs.Conformance.{own_type_holds, inner_holds, node_holds, below, conforms, children_of}
 use Rattle.fhir_certificate.specs.declared.pair.Pair.{Pair}
 use Rattle.fhir_certificate.specs.declared.pair.Pair.TheVariants.{Item as ItemPair, Kids as KidsPair}
-use Rattle.fhir_cert_check.specs.Lists.{all_hold}
+use Rattle.fhir_elements.specs.Tests.{all_hold}
 use Rattle.fhir_cert_check.specs.Rule.{RuleName}
 use Rattle.fhir_cert_check.specs.Rules.{entry_answers, types_answer, roots_answer, type_answers}
 use Rattle.fhir_cert_check.specs.Rules.{fixed_answers, max_answers, most_answers, bounds_answer, allows_none}
@@ -174,9 +174,9 @@ module _ (s : SchemaValue) (covers_on : (a b c : Text) → IsTrue (covers s a b)
 
     slot_step : (children : List Child) → EachKeeps children → (n m : NodeRef) (b : Slot) → IsTrue (kids_hold s n children)
         → IsTrue (all_hold (slot_rules pairs s n m b)) → IsTrue (slot_holds s m children b)
-    slot_step children keeps n m b holds = go (kids s n b.name) refl
+    slot_step children keeps n m b holds = go (slot_named s n b.name) refl
       where
-        go : (o : Option Slot) → kids s n b.name ≡ o → IsTrue (all_hold (own_slot_rules pairs s n m b o)) → IsTrue (slot_holds s m children b)
+        go : (o : Option Slot) → slot_named s n b.name ≡ o → IsTrue (all_hold (own_slot_rules pairs s n m b o)) → IsTrue (slot_holds s m children b)
         go None e rules = absurd (false≢true rules)
         go (Some a) e rules =
             let own = found_passes (λ slot. bytes_eq b.name slot.name) (slot_holds s n children) (slots s n) a e holds in

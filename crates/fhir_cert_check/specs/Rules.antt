@@ -10,23 +10,24 @@ use Rattle.fhir_matching.specs.Equality.{equal}
 use Rattle.fhir_elements.specs.declared.codes.Max.{Max}
 use Rattle.fhir_elements.specs.declared.codes.Max.TheVariants.{Unbounded, UpTo}
 use Rattle.fhir_elements.specs.Codes.{is_within}
-use Rattle.fhir_elements.specs.Parts.{Entry}
+use Rattle.fhir_elements.specs.Parts.{TypeEntry}
 use Rattle.fhir_elements.specs.Element.{Element}
 use Rattle.fhir_schema.specs.declared.node.NodeRef.{NodeRef}
 use Rattle.fhir_schema.specs.Slots.{Slot}
-use Rattle.fhir_schema.specs.Schemas.{SchemaValue, element_at, is_root_node, slots, kids, holder, types}
+use Rattle.fhir_schema.specs.Schemas.{SchemaValue, element_at, is_root_node, slots, slot_named, holder, types}
 use Rattle.fhir_schema.specs.Covers.{covers, type_at}
 use Rattle.fhir_instance.specs.Typing.{entry_of}
 use Rattle.fhir_instance.specs.Conformance.{least_of, is_untyped}
 use Rattle.fhir_certificate.specs.declared.pair.Pair.{Pair}
 use Rattle.fhir_certificate.specs.declared.pair.Pair.TheVariants.{Item, Kids}
 use Rattle.fhir_cert_check.specs.Rule.{RuleName, type, fixed, children, slot, cardinality, entry}
-use Rattle.fhir_cert_check.specs.Lists.{each_answers, first_of, all_hold}
+use Rattle.fhir_elements.specs.Tests.{first_of, all_hold}
+use Rattle.fhir_cert_check.specs.Lists.{each_answers}
 
 -- ---- items
 
 -- the item's type is one that the base node allows
-abbrev pub entry_answers : SchemaValue → Entry → Entry → Bool
+abbrev pub entry_answers : SchemaValue → TypeEntry → TypeEntry → Bool
 entry_answers s e f = covers s f.code e.code
 
 abbrev pub types_answer : SchemaValue → NodeRef → NodeRef → Bool
@@ -107,7 +108,7 @@ module _ (pairs : Pair → Bool) where
 
     -- what a slot of the base node asks of the derived one
     abbrev pub slot_rules : NodeRef → NodeRef → Slot → List (Bool × RuleName)
-    slot_rules n m b = own_slot_rules n m b (kids s n b.name)
+    slot_rules n m b = own_slot_rules n m b (slot_named s n b.name)
 
     abbrev pub kids_rules : NodeRef → NodeRef → List (Bool × RuleName)
     kids_rules n m = flat_map (slot_rules n m) (slots s m)

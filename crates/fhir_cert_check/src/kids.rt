@@ -5,7 +5,7 @@ ghost use Rattle.std.specs.Option.{option_copied};
 ghost use Rattle.std.specs.List.{flat_map};
 ghost use Rattle.fhir_instance.specs.Typing.{entry_of};
 ghost use Rattle.fhir_instance.specs.Conformance.{least_of};
-ghost use Rattle.fhir_cert_check.specs.Lists.{first_of};
+ghost use Rattle.fhir_elements.specs.Tests.{first_of};
 ghost use Rattle.fhir_cert_check.specs.Rule.{cardinality};
 ghost use Rattle.fhir_cert_check.specs.Rules.{max_answers, most_answers, bounds_answer, allows_none, is_forbidden};
 ghost use Rattle.fhir_cert_check.specs.Rules.{cardinality_answers, is_forbidden_at, has_item, entry_rules, slot_rules, kids_rules};
@@ -15,7 +15,7 @@ ghost use Rattle.fhir_cert_check.specs.PairSet.{has_in};
 use crate::pair_set::PairSet;
 use crate::rule::Rule;
 use fhir_certificate::{NodePair, Pair};
-use fhir_elements::{ElementDef, Max, is_within};
+use fhir_elements::{ElementDef, Max};
 use fhir_schema::{NodeRef, Schema, Slot};
 
 fn max_answers(own: Max, most: Max) -> bool
@@ -24,7 +24,7 @@ fn max_answers(own: Max, most: Max) -> bool
     match (own, most) {
         (Max::Unbounded, Max::Unbounded) => true,
         (Max::Unbounded, Max::UpTo(_)) => false,
-        (Max::UpTo(count), most) => is_within(count, most),
+        (Max::UpTo(count), most) => most.allows(count),
     }
 }
 
@@ -143,7 +143,7 @@ fn slot_failing<'s>(
 ) -> Option<Rule<'s>>
     ensures { option_map rule_name result ≡ first_of (slot_rules (has_in pairs.now) schema.now n m slot.now) }
 {
-    match schema.kids(n, slot.name()) {
+    match schema.slot(n, slot.name()) {
         Some(own) => own_slot_failing(
             schema,
             pairs,

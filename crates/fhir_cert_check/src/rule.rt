@@ -1,7 +1,7 @@
 //! The rules of a certificate's pairs.
 
 ghost use Rattle.std.specs.Prelude.{◌≡◌};
-ghost use Rattle.fhir_json.specs.View.{text_seen};
+ghost use Rattle.fhir_json.specs.Views.{text_seen};
 ghost use Rattle.fhir_cert_check.specs.Rule.{word_of, slot_name_of};
 ghost use Rattle.fhir_cert_check.specs.Views.{rule_name};
 

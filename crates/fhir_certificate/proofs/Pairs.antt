@@ -9,7 +9,8 @@ use Rattle.std.proofs.lemmas.Bool.{and_parts}
 use Rattle.std.proofs.lemmas.Slice.Eq.{bytes_eq-Decides}
 use Rattle.fhir_json.specs.Tree.{Text}
 use Rattle.fhir_certificate.specs.Format.{Line}
-use Rattle.fhir_certificate.specs.Reading.{longer, lines_of, is_empty, is_ended, line_of, pair_lines, is_end, pairs_in, pairs_at}
+use Rattle.fhir_json.specs.Bytes.{is_empty}
+use Rattle.fhir_certificate.specs.Reading.{longer, lines_of, is_ended, line_of, pair_lines, is_end, pairs_in, pairs_at}
 
 -- ---- a text is its lines
 

@@ -2,13 +2,8 @@
 -- parted by one tab.
 use Rattle.std.specs.Prelude.{◌≡◌, ℕ, List, [], ◌∷◌, ◌++◌, Bool, not, ◌==◌, ◌&&◌, IsUtf8, IsTrue, codes}
 use Rattle.std.specs.List.{list_all, flat_map}
+use Rattle.fhir_json.specs.Bytes.{tab, line_feed}
 use Rattle.fhir_json.specs.Tree.{Text}
-
-abbrev pub tab : ℕ
-tab = 9
-
-abbrev pub line_feed : ℕ
-line_feed = 10
 
 -- an element by the url of its definition and its id
 pub record Name : Type 0 where

@@ -7,7 +7,8 @@ use Rattle.fhir_schema.specs.Schemas.{SchemaValue}
 use Rattle.fhir_certificate.specs.declared.fault.CertFault.{CertFault}
 use Rattle.fhir_certificate.specs.declared.fault.CertFault.TheVariants.{WrongFormat}
 use Rattle.fhir_certificate.specs.Certificate.{CertificateValue}
-use Rattle.fhir_certificate.specs.Format.{tab, line_feed, Name, Line, item, kids, Written, is_field}
+use Rattle.fhir_json.specs.Bytes.{tab, line_feed, is_empty}
+use Rattle.fhir_certificate.specs.Format.{Name, Line, item, kids, Written, is_field}
 use Rattle.fhir_certificate.specs.Judging.{certificate_or_fault}
 
 -- ---- lines
@@ -26,10 +27,6 @@ longer b (line ∷ lines) = (b ∷ line) ∷ lines
 abbrev pub lines_of : Text → List Text
 lines_of [] = []
 lines_of (b ∷ bs) = if b == line_feed then [] ∷ lines_of bs else longer b (lines_of bs)
-
-abbrev pub is_empty : {X : Type 0} → List X → Bool
-is_empty [] = true
-is_empty (x ∷ xs) = false
 
 -- nothing stands behind the last line
 abbrev pub is_ended : Text → Bool

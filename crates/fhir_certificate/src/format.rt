@@ -1,8 +1,9 @@
 //! The text of a certificate.
 
 ghost use Rattle.std.specs.Prelude.{◌≡◌, ◌<◌, [], ◌∷◌, length, None, is_some, option_map, IfSome, MatchOption};
-ghost use Rattle.fhir_json.specs.View.{text_seen};
-ghost use Rattle.fhir_certificate.specs.Format.{tab, line_feed, is_field};
+ghost use Rattle.fhir_json.specs.Views.{text_seen};
+ghost use Rattle.fhir_json.specs.Bytes.{tab, line_feed};
+ghost use Rattle.fhir_certificate.specs.Format.{is_field};
 ghost use Rattle.fhir_certificate.specs.Reading.{cut_at, lines_of, is_ended, field_at, name_at, name_of, line_with};
 ghost use Rattle.fhir_certificate.specs.Reading.{line_of, pair_lines, pairs_at, behind_line, field_of, field_line, written_of};
 ghost use Rattle.fhir_certificate.specs.Views.{parts_seen, name_seen, line_seen, written_with};

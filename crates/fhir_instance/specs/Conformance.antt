@@ -8,7 +8,7 @@ use Rattle.fhir_json.specs.Tree.{Text, Tree}
 use Rattle.fhir_json.specs.Fields.{is_object}
 use Rattle.fhir_matching.specs.Equality.{equal}
 use Rattle.fhir_elements.specs.Codes.{is_within}
-use Rattle.fhir_elements.specs.Parts.{Entry}
+use Rattle.fhir_elements.specs.Parts.{TypeEntry}
 use Rattle.fhir_elements.specs.Element.{Element}
 use Rattle.fhir_schema.specs.declared.node.NodeRef.{NodeRef}
 use Rattle.fhir_schema.specs.Slots.{Slot}
@@ -79,7 +79,7 @@ module _ (s : SchemaValue) where
     abbrev pub root_holds : NodeRef → Bool
     root_holds n = covers s (type_at s n) (type_of x) && facets_hold n && kids_hold n children
 
-    abbrev pub entry_holds : Entry → Bool
+    abbrev pub entry_holds : TypeEntry → Bool
     entry_holds e = covers s e.code (type_of x)
 
     -- the item is of one of the node's types, where it names any

@@ -12,7 +12,7 @@ use Rattle.fhir_elements.specs.declared.codes.Max.TheVariants.{Unbounded, UpTo}
 use Rattle.fhir_elements.specs.Element.{Element}
 use Rattle.fhir_schema.specs.declared.node.NodeRef.{NodeRef}
 use Rattle.fhir_schema.specs.Slots.{Slot}
-use Rattle.fhir_schema.specs.Structure.{Structure}
+use Rattle.fhir_definition.specs.Definition.{Definition}
 use Rattle.fhir_schema.specs.Schemas.{SchemaValue, element_at, slots}
 use Rattle.fhir_schema.specs.Covers.{is_resource, type_of_code, type_root}
 use Rattle.fhir_instance.specs.Items.{Item, item, no_kids, kids_in}
@@ -23,12 +23,12 @@ LexicalSets = Text → Tree → Bool
 
 -- ---- the type of a resource
 
-abbrev pub is_concrete : Structure → Bool
+abbrev pub is_concrete : Definition → Bool
 is_concrete d = is_resource d && not d.abstract
 
 -- a resource may be of the type: it is loaded, a resource's, and not abstract
 abbrev pub is_instantiable : SchemaValue → Text → Bool
-is_instantiable s code = option_map_or is_concrete (type_of_code s.structures code) false
+is_instantiable s code = option_map_or is_concrete (type_of_code s.definitions code) false
 
 -- ---- its properties
 

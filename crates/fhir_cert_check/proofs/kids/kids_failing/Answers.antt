@@ -1,7 +1,7 @@
 use Rattle.std.proofs.Common.{◌≡◌, true, false, arith, ap, sym, ◌∙◌}
 use Rattle.std.specs.List.{flat_map}
 use Rattle.std.specs.Option.{is_some}
-use Rattle.fhir_cert_check.specs.Lists.{first_of}
+use Rattle.fhir_elements.specs.Tests.{first_of}
 use Rattle.fhir_cert_check.specs.Rules.{slot_rules}
 use Rattle.fhir_cert_check.specs.Views.{rule_name}
 use Rattle.fhir_cert_check.specs.PairSet.{has_in}

@@ -1,7 +1,7 @@
 use Rattle.std.proofs.Common.{◌≡◌, drop}
 use Rattle.std.specs.List.{flat_map}
 use Rattle.fhir_cert_check.specs.PairSet.{has_in}
-use Rattle.fhir_cert_check.specs.Lists.{first_of}
+use Rattle.fhir_elements.specs.Tests.{first_of}
 use Rattle.fhir_cert_check.specs.Rules.{slot_rules, kids_rules}
 use Rattle.fhir_cert_check.proofs.kids.kids_failing.Given as goal
 
