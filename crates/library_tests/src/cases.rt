@@ -77,7 +77,8 @@ enum Line<'l> {
 fn line_of(line: &str) -> Result<Line<'_>, Fault> {
     let (word, rest) = line.split_once(' ').unwrap_or((line, ""));
     match word {
-        "" | "//" if line != " " => Ok(Line::Nothing),
+        "" if line.is_empty() => Ok(Line::Nothing),
+        "//" => Ok(Line::Nothing),
         "#" if !rest.is_empty() => Ok(Line::Heading(rest)),
         "package" => Ok(Line::Package(rest)),
         "file" => Ok(Line::File(rest)),
