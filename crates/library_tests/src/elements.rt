@@ -3,7 +3,7 @@
 
 use fhir_elements::{
     ConstraintDef, DiscriminatorDef, ElementDef, ElementFault, Reason, TypeEntry, element_fault,
-    fields_of, is_within,
+    fields_of,
 };
 use fhir_json::{Json, Member, read};
 use fhir_names::{ElementId, front_of, name_of, slice_of, sliced_of};

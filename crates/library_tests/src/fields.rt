@@ -1,10 +1,6 @@
 //! Questions on the fields of the case's text, an object: `CALL NAME`; and `count_of TEXT`.
 
-use fhir_json::{
-    Json, allows_choice, allows_count, allows_flag, allows_items, allows_text, allows_texts,
-    as_flag, as_number, as_text, choice_in, count_in, count_of, field, flag_in, is_array,
-    is_object, items_in, read, text_at, text_in, text_or_empty,
-};
+use fhir_json::{Json, count_of, read};
 use std::alloc::{AllocError, Global};
 
 /// The answer of a call on the field of a name in a text's tree.
@@ -36,10 +32,10 @@ fn answer_of_tree(
         return Ok(Some(format!(in alloc; "{is_so}")?));
     }
     let told = match call {
-        "count_in" => format!(in alloc; "{:?}", count_in(json, name))?,
-        "items_in" => format!(in alloc; "{}", items_in(json, name).len())?,
-        "flag_in" => format!(in alloc; "{:?}", flag_in(json, name))?,
-        "as_flag" => format!(in alloc; "{:?}", field(json, name).and_then(|value| as_flag(value)))?,
+        "count_in" => format!(in alloc; "{:?}", json.count_in(name))?,
+        "items_in" => format!(in alloc; "{}", json.items_in(name).len())?,
+        "flag_in" => format!(in alloc; "{:?}", json.flag_in(name))?,
+        "as_flag" => format!(in alloc; "{:?}", json.field(name).and_then(|value| value.as_flag()))?,
         _ => return Ok(None),
     };
     Ok(Some(told))
@@ -48,11 +44,11 @@ fn answer_of_tree(
 // The answer of a call that gives a text, or none where it is no such call.
 fn text_told<'j>(json: &'j Json<'_>, call: &str, name: &str) -> Option<Option<&'j str>> {
     match call {
-        "text_in" => Some(text_in(json, name)),
-        "text_at" => Some(Some(text_at(json, name))),
-        "as_number" => Some(field(json, name).and_then(|value| as_number(value))),
-        "choice_in" => Some(choice_in(json, name).and_then(|form| as_text(&form.value))),
-        "last_text" => Some(items_in(json, name).last().map(|item| text_or_empty(item))),
+        "text_in" => Some(json.text_in(name)),
+        "text_at" => Some(Some(json.text_at(name))),
+        "as_number" => Some(json.field(name).and_then(|value| value.as_number())),
+        "choice_in" => Some(json.choice_in(name).and_then(|form| form.value.as_text())),
+        "last_text" => Some(json.items_in(name).last().map(|item| item.text_or_empty())),
         _ => None,
     }
 }
@@ -60,14 +56,14 @@ fn text_told<'j>(json: &'j Json<'_>, call: &str, name: &str) -> Option<Option<&'
 // The answer of a call that says yes or no, or none where it is no such call.
 fn is_so(json: &Json<'_>, call: &str, name: &str) -> Option<bool> {
     match call {
-        "is_object" => Some(is_object(json)),
-        "is_array" => Some(is_array(json)),
-        "allows_text" => Some(allows_text(json, name)),
-        "allows_count" => Some(allows_count(json, name)),
-        "allows_flag" => Some(allows_flag(json, name)),
-        "allows_items" => Some(allows_items(json, name)),
-        "allows_texts" => Some(allows_texts(json, name)),
-        "allows_choice" => Some(allows_choice(json, name)),
+        "is_object" => Some(json.is_object()),
+        "is_array" => Some(json.is_array()),
+        "allows_text" => Some(json.allows_text(name)),
+        "allows_count" => Some(json.allows_count(name)),
+        "allows_flag" => Some(json.allows_flag(name)),
+        "allows_items" => Some(json.allows_items(name)),
+        "allows_texts" => Some(json.allows_texts(name)),
+        "allows_choice" => Some(json.allows_choice(name)),
         _ => None,
     }
 }
