@@ -1,5 +1,6 @@
 -- Codes that are seen from the last type to the first.
-use Rattle.std.proofs.Common.{◌≡◌, ℕ, ◌+◌, ◌<◌, zero, suc, Bool, true, false, not, ◌&&◌, List, [], ◌∷◌, length, drop, get_or, refl, ap, sym, ◌∙◌, add-one, subst}
+use Rattle.std.proofs.Common.{◌≡◌, ℕ, ◌+◌, ◌<◌, zero, suc, Bool, true, false, not, ◌&&◌, List, [], ◌∷◌, length, drop, get_or, refl, ap, sym, ◌∙◌, add-one}
+use Rattle.std.proofs.Common.{subst}
 use Rattle.std.proofs.Math.Seq.{drop-cons}
 use Rattle.fhir_json.specs.declared.json.Json.{Json}
 use Rattle.fhir_json.specs.Tree.{Tree}

@@ -1,4 +1,14 @@
 //! The elements of definitions (FHIR R4, ElementDefinition).
+//!
+//! ```
+//! // How many items an element has at least, or why the tree is no element.
+//! fn least_of(alloc: Global, tree: &Json<'_>) -> Result<u32, ElementFault> {
+//!     let element = ElementDef::of(alloc, tree)?;
+//!     Ok(element.min().unwrap_or(0))
+//! }
+//! ```
+//!
+//! The contract to read first is that of [`ElementDef::of`].
 #![tactic(auto)]
 
 mod codes;

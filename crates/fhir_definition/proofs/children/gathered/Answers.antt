@@ -10,4 +10,5 @@ loop-place-init c = c.in_ok-all.ensures ∙ sym (gathered_none 0 (length c.args.
 pub loop-place-preserved : goal.loop-place-preserved
 loop-place-preserved c =
     let here : c.loop-place.place < length c.args.ups.now = omega arith in
-    gathered_turn (length c.args.ups.now) c.args.ups.now c.loop-place.place _ (lists_in c.loop-place.all.items) (lists_in c.put_at.new.all.items) here (length-take-le c.loop-place.place c.args.ups.now (omega arith)) c.loop-place.invariant c.in_ok-put_at.ensures
+    gathered_turn (length c.args.ups.now) c.args.ups.now c.loop-place.place _ (lists_in c.loop-place.all.items) (lists_in c.put_at.new.all.items) here
+    (length-take-le c.loop-place.place c.args.ups.now (omega arith)) c.loop-place.invariant c.in_ok-put_at.ensures
