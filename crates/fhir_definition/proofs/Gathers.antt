@@ -4,12 +4,12 @@ use Rattle.std.proofs.Common.{sym, ◌∙◌, Some, None, Option, arith}
 use Rattle.std.proofs.lemmas.Bool.Decides.{nat_tests}
 use Rattle.std.proofs.lemmas.List.{take_more, map-set}
 use Rattle.fhir_definition.specs.Snapshot.{is_at}
-use Rattle.fhir_definition.specs.Children.{under_from, gathered_from}
+use Rattle.fhir_definition.specs.Children.{under_from, under_each_from}
 use Rattle.std.specs.declared.alloc.Global.{Global}
 use Rattle.fhir_definition.specs.Gathering.{put_at}
 use Rattle.fhir_definition.specs.Views.{lists_in}
 
-pub gathered_none : (p n : ℕ) → gathered_from p n [] ≡ replicate n []
+pub gathered_none : (p n : ℕ) → under_each_from p n [] ≡ replicate n []
 gathered_none p zero = refl
 gathered_none p (suc n) = ap (λ l. [] ∷ l) (gathered_none (suc p) n)
 
@@ -44,14 +44,14 @@ differs_below p r h = grind (arith, nat_tests)
 is_same : (p r : ℕ) → r ≡ p → nat_eq p r ≡ true
 is_same p r h = grind (arith, nat_tests)
 
-gathered_past : (p n r : ℕ) (us : List (Option ℕ)) → r < p → gathered_from p n (us ++ Some r ∷ []) ≡ gathered_from p n us
+gathered_past : (p n r : ℕ) (us : List (Option ℕ)) → r < p → under_each_from p n (us ++ Some r ∷ []) ≡ under_each_from p n us
 gathered_past p zero r us h = refl
 gathered_past p (suc n) r us h =
     let more : r < suc p = omega arith in
     rw (under_other p 0 us (Some r) (differs p r h)) (ap (λ l. under_from p 0 us ∷ l) (gathered_past (suc p) n r us more))
 
 gathered_at : (p q n r i : ℕ) (us : List (Option ℕ)) → r ≡ p + q → length us ≡ i
-    → gathered_from p n (us ++ Some r ∷ []) ≡ put_at (Some q) i (gathered_from p n us)
+    → under_each_from p n (us ++ Some r ∷ []) ≡ put_at (Some q) i (under_each_from p n us)
 gathered_at p q zero r i us e h = refl
 gathered_at p zero (suc n) r i us e h =
     let here : r ≡ p = omega arith in
@@ -63,12 +63,12 @@ gathered_at p (suc q) (suc n) r i us e h =
     let next : r ≡ suc p + q = omega arith in
     rw (under_other p 0 us (Some r) (differs_below p r below)) (ap (λ l. under_from p 0 us ∷ l) (gathered_at (suc p) q n r i us next h))
 
-gathered_same : (p n : ℕ) (us : List (Option ℕ)) → gathered_from p n (us ++ None ∷ []) ≡ gathered_from p n us
+gathered_same : (p n : ℕ) (us : List (Option ℕ)) → under_each_from p n (us ++ None ∷ []) ≡ under_each_from p n us
 gathered_same p zero us = refl
 gathered_same p (suc n) us =
     rw (under_other p 0 us None refl) (ap (λ l. under_from p 0 us ∷ l) (gathered_same (suc p) n us))
 
-pub gathered_more : (n : ℕ) (us : List (Option ℕ)) (u : Option ℕ) (i : ℕ) → length us ≡ i → gathered_from 0 n (us ++ u ∷ []) ≡ put_at u i (gathered_from 0 n us)
+pub gathered_more : (n : ℕ) (us : List (Option ℕ)) (u : Option ℕ) (i : ℕ) → length us ≡ i → under_each_from 0 n (us ++ u ∷ []) ≡ put_at u i (under_each_from 0 n us)
 gathered_more n us None i h = gathered_same 0 n us
 gathered_more n us (Some q) i h =
     let e : q ≡ 0 + q = omega arith in
@@ -76,9 +76,9 @@ gathered_more n us (Some q) i h =
 
 -- one turn of the loop
 pub gathered_turn : (n : ℕ) (ups : List (Option ℕ)) (i : ℕ) (d : Option ℕ) (old new : List (List ℕ)) → i < length ups → length (take i ups) ≡ i
-    → old ≡ gathered_from 0 n (take i ups) → new ≡ put_at (get_or ups i d) i old → new ≡ gathered_from 0 n (take (i + 1) ups)
+    → old ≡ under_each_from 0 n (take i ups) → new ≡ put_at (get_or ups i d) i old → new ≡ under_each_from 0 n (take (i + 1) ups)
 gathered_turn n ups i d old new h len was now =
-    now ∙ ap (put_at (get_or ups i d) i) was ∙ sym (gathered_more n (take i ups) (get_or ups i d) i len) ∙ sym (ap (gathered_from 0 n) (take_more ups i d h))
+    now ∙ ap (put_at (get_or ups i d) i) was ∙ sym (gathered_more n (take i ups) (get_or ups i d) i len) ∙ sym (ap (under_each_from 0 n) (take_more ups i d h))
 
 -- ---- lists behind vectors
 

@@ -2,7 +2,7 @@ use Rattle.std.proofs.Common.{sym, ◌∙◌, ◌<◌, arith, length}
 use Rattle.std.proofs.lemmas.List.{length-take-le}
 use Rattle.fhir_definition.specs.Views.{lists_in}
 use Rattle.fhir_definition.proofs.Gathers.{gathered_none, gathered_turn}
-use Rattle.fhir_definition.proofs.children.gathered.Goals as goal
+use Rattle.fhir_definition.proofs.children.under_each.Goals as goal
 
 pub loop-place-init : goal.loop-place-init
 loop-place-init c = c.in_ok-all.ensures ∙ sym (gathered_none 0 (length c.args.ups.now))
