@@ -11,9 +11,9 @@ use Rattle.fhir_json.specs.Tree.{Text, Tree}
 use Rattle.fhir_json.specs.Tree.{Property}
 use Rattle.fhir_json.specs.Fields.{is_object}
 use Rattle.fhir_matching.specs.Equality.{equal}
-use Rattle.fhir_elements.specs.declared.codes.Max.{Max}
-use Rattle.fhir_elements.specs.declared.codes.Max.TheVariants.{Unbounded, UpTo}
-use Rattle.fhir_elements.specs.Codes.{is_within}
+use Rattle.fhir_elements.specs.declared.max.Max.{Max}
+use Rattle.fhir_elements.specs.declared.max.Max.TheVariants.{Unbounded, UpTo}
+use Rattle.fhir_elements.specs.Max.{is_within}
 use Rattle.fhir_elements.specs.Element.{Element}
 use Rattle.fhir_schema.specs.declared.node.NodeRef.{NodeRef}
 use Rattle.fhir_schema.specs.Slots.{Slot}

@@ -4,12 +4,14 @@ use Rattle.std.specs.Prelude.{length, Bool, true, false, not, ◌&&◌, ◌||◌
 use Rattle.std.specs.Option.{option_map_or, option_and_then}
 use Rattle.std.specs.List.{list_all, list_any, ends_with, starts_with}
 use Rattle.fhir_json.specs.Tree.{Text}
-use Rattle.fhir_elements.specs.declared.codes.Severity.{Severity}
-use Rattle.fhir_elements.specs.declared.codes.Severity.TheVariants as severities
-use Rattle.fhir_elements.specs.declared.codes.Strength.{Strength}
-use Rattle.fhir_elements.specs.declared.codes.Strength.TheVariants as strengths
+use Rattle.fhir_elements.specs.declared.constraint.Severity.{Severity}
+use Rattle.fhir_elements.specs.declared.constraint.Severity.TheVariants as severities
+use Rattle.fhir_elements.specs.declared.binding.Strength.{Strength}
+use Rattle.fhir_elements.specs.declared.binding.Strength.TheVariants as strengths
 use Rattle.fhir_names.specs.Parents.{front_of, name_of, slice_of}
-use Rattle.fhir_elements.specs.Parts.{TypeEntry, Constraint, Binding}
+use Rattle.fhir_elements.specs.TypeEntry.{TypeEntry}
+use Rattle.fhir_elements.specs.Constraint.{Constraint}
+use Rattle.fhir_elements.specs.Binding.{Binding}
 use Rattle.fhir_elements.specs.Element.{Element}
 use Rattle.fhir_definition.specs.Snapshot.{is_root}
 

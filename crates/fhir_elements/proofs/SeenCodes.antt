@@ -6,7 +6,7 @@ use Rattle.fhir_json.specs.declared.json.Json.{Json}
 use Rattle.fhir_json.specs.Tree.{Tree}
 use Rattle.fhir_json.specs.Views.{tree_of, trees_of}
 use Rattle.fhir_names.specs.Places.{Places}
-use Rattle.fhir_elements.specs.Parts.{has_code, codes_differ}
+use Rattle.fhir_elements.specs.TypeEntry.{has_code, codes_differ}
 use Rattle.fhir_elements.specs.CodesSeen.{HaveCodes}
 
 -- one more at the front

@@ -8,7 +8,7 @@ use Rattle.std.proofs.lemmas.List.{length-map}
 use Rattle.fhir_json.specs.Tree.{Text, Tree}
 use Rattle.fhir_elements.specs.declared.reason.Reason.{Reason}
 use Rattle.fhir_elements.specs.declared.reason.Reason.TheVariants.{UnusableType, NoTree, BaseCycle, NoSnapshot, SecondType, NotYet}
-use Rattle.fhir_elements.specs.Parts.{TypeEntry}
+use Rattle.fhir_elements.specs.TypeEntry.{TypeEntry}
 use Rattle.fhir_elements.specs.Element.{Element}
 use Rattle.fhir_elements.specs.Tests.{first_of, all_hold}
 use Rattle.fhir_definition.specs.Snapshot.{is_root, is_tree}

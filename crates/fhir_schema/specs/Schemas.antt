@@ -6,7 +6,7 @@ use Rattle.std.specs.Str.{bytes_eq}
 use Rattle.fhir_json.specs.Tree.{Text}
 use Rattle.fhir_package.specs.Definitions.{Definitions}
 use Rattle.fhir_elements.specs.declared.reason.Reason.{Reason}
-use Rattle.fhir_elements.specs.Parts.{TypeEntry}
+use Rattle.fhir_elements.specs.TypeEntry.{TypeEntry}
 use Rattle.fhir_elements.specs.Element.{Element}
 use Rattle.fhir_schema.specs.declared.node.NodeRef.{NodeRef}
 use Rattle.fhir_definition.specs.Snapshot.{id_place, is_at, root_place}

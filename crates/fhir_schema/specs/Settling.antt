@@ -10,7 +10,7 @@ use Rattle.fhir_names.specs.Canonicals.{CanonicalParts, read_canonical}
 use Rattle.fhir_package.specs.Canonical.{has_version}
 use Rattle.fhir_elements.specs.declared.reason.Reason.{Reason}
 use Rattle.fhir_elements.specs.declared.reason.Reason.TheVariants.{NotYet, UnusableType, NoTree, BaseCycle, NoSnapshot, SecondType}
-use Rattle.fhir_elements.specs.Parts.{TypeEntry}
+use Rattle.fhir_elements.specs.TypeEntry.{TypeEntry}
 use Rattle.fhir_elements.specs.Element.{Element}
 use Rattle.fhir_elements.specs.Tests.{first_of}
 use Rattle.fhir_definition.specs.Snapshot.{is_root, is_at, is_tree}

@@ -3,7 +3,7 @@ use Rattle.std.specs.List.{list_any}
 use Rattle.std.specs.Str.{bytes_eq}
 use Rattle.fhir_json.specs.Views.{trees_of}
 use Rattle.fhir_json.specs.Fields.{text_at}
-use Rattle.fhir_elements.proofs.parts.has_code.Given as goal
+use Rattle.fhir_elements.proofs.type_entry.has_code.Given as goal
 
 abbrev pub invariant-loop-item : goal.invariant-loop-item
 invariant-loop-item l =

@@ -1,7 +1,7 @@
 use Rattle.std.proofs.Common.{◌≡◌, length}
 use Rattle.fhir_json.specs.Views.{trees_of}
-use Rattle.fhir_elements.specs.Parts.{codes_differ}
-use Rattle.fhir_elements.proofs.parts.few_codes_differ.Given as goal
+use Rattle.fhir_elements.specs.TypeEntry.{codes_differ}
+use Rattle.fhir_elements.proofs.type_entry.few_codes_differ.Given as goal
 
 abbrev pub invariant-loop-left : goal.invariant-loop-left
 invariant-loop-left l = codes_differ (trees_of l.left) ≡ codes_differ (trees_of l.items)

@@ -1,16 +1,15 @@
-//! Types and constraints of an element, and texts read from fields.
+//! Type entries (FHIR R4, ElementDefinition, type).
 
-ghost use Rattle.std.specs.Prelude.{◌≡◌, ◌∷◌, List, map, not, IfOk, OnOk, string_bytes, codes};
-ghost use Rattle.std.specs.Option.{option_map};
 ghost use Rattle.std.specs.List.{list_all, list_any};
+ghost use Rattle.std.specs.Prelude.{◌≡◌, List, ◌∷◌, map, not, IfOk, OnOk, string_bytes, codes};
 ghost use Rattle.std.specs.Str.{bytes_eq};
-ghost use Rattle.fhir_json.specs.Tree.{Tree};
-ghost use Rattle.fhir_json.specs.Views.{tree_of, trees_of, text_seen};
-ghost use Rattle.fhir_json.specs.Fields.{text_in, text_at, texts_in};
-ghost use Rattle.fhir_elements.specs.Parts.{is_type_entry, type_entry_of, has_code, codes_differ, is_constraint, constraint_of};
 ghost use Rattle.fhir_elements.specs.CodesSeen.{HaveCodes};
+ghost use Rattle.fhir_elements.specs.TypeEntry.{is_type_entry, type_entry_of, has_code, codes_differ};
+ghost use Rattle.fhir_json.specs.Fields.{text_at};
+ghost use Rattle.fhir_json.specs.Tree.{Tree};
+ghost use Rattle.fhir_json.specs.Views.{tree_of, trees_of};
 
-use crate::codes::{Severity, allows_code, code_in};
+use crate::texts::{all_owned_in, owned_at};
 use fhir_json::Json;
 use fhir_names::Index;
 use std::alloc::{AllocError, Global};
@@ -26,7 +25,7 @@ pub struct TypeEntry {
 
 impl Model for TypeEntry {
     ghost use Rattle.std.specs.Prelude.{map, string_bytes};
-    ghost use Rattle.fhir_elements.specs.Parts.{TypeEntry as Shown};
+    ghost use Rattle.fhir_elements.specs.TypeEntry.{TypeEntry as Shown};
 
     ghost Value = { Shown };
 
@@ -58,94 +57,6 @@ impl TypeEntry {
     {
         &self.targets
     }
-}
-
-/// One of an element's constraints.
-#[derive(Debug, Drop)]
-pub struct ConstraintDef {
-    key: String,
-    severity: Option<Severity>,
-    expression: Option<String>,
-}
-
-impl Model for ConstraintDef {
-    ghost use Rattle.std.specs.Prelude.{string_bytes};
-    ghost use Rattle.std.specs.Option.{option_map};
-    ghost use Rattle.fhir_elements.specs.Parts.{Constraint};
-
-    ghost Value = { Constraint };
-
-    ghost view = { λ c. record {
-      key = string_bytes c.key;
-      severity = c.severity;
-      expression = option_map string_bytes c.expression;
-    } };
-}
-
-impl ConstraintDef {
-    /// The constraint's key.
-    pub fn key(&self) -> &str
-        ensures { result.now ≡ self.now.key }
-    {
-        self.key.as_str()
-    }
-
-    /// How grave it is that the constraint isn't true.
-    pub fn severity(&self) -> Option<Severity>
-        ensures { result ≡ self.now.severity }
-    {
-        self.severity
-    }
-
-    /// Its FHIRPath expression.
-    pub fn expression(&self) -> Option<&str>
-        ensures { text_seen result ≡ self.now.expression }
-    {
-        text_of(&self.expression)
-    }
-}
-
-/// The text, if there is one.
-pub(crate) fn text_of(text: &Option<String>) -> Option<&str>
-    ensures { text_seen result ≡ option_map string_bytes text.now }
-{
-    match text {
-        Some(text) => Some(text.as_str()),
-        None => None,
-    }
-}
-
-/// The text in a field, or the empty one.
-pub(crate) fn owned_at(alloc: Global, json: &Json<'_>, name: &str) -> Result<String, AllocError>
-    ensures { IfOk result (λ s. string_bytes s ≡ text_at name.now (tree_of json.now)) }
-{
-    String::from_str(alloc, json.text_at(name))
-}
-
-/// The text in a field.
-pub(crate) fn owned_in(
-    alloc: Global,
-    json: &Json<'_>,
-    name: &str,
-) -> Result<Option<String>, AllocError>
-    ensures { IfOk result (λ s. option_map string_bytes s ≡ text_in name.now (tree_of json.now)) }
-{
-    match json.text_in(name) {
-        Some(text) => Ok(Some(String::from_str(alloc, text)?)),
-        None => Ok(None),
-    }
-}
-
-fn all_owned_in(alloc: Global, json: &Json<'_>, name: &str) -> Result<Vec<String>, AllocError>
-    ensures { IfOk result (λ v. map string_bytes v.items ≡ texts_in name.now (tree_of json.now)) }
-{
-    let mut texts = Vec::new(alloc);
-    let items = json.items_in(name);
-    for item in items {
-        let text = String::from_str(alloc, item.text_or_empty())?;
-        texts.push(text)?;
-    }
-    Ok(texts)
 }
 
 fn is_type_entry(json: &Json<'_>) -> bool
@@ -259,50 +170,4 @@ pub(crate) fn codes_differ(alloc: Global, items: &[Json<'_>]) -> Result<bool, Al
     } else {
         many_codes_differ(alloc, items)
     }
-}
-
-fn is_constraint(json: &Json<'_>) -> bool
-    ensures { result ≡ is_constraint (tree_of json.now) }
-{
-    json.is_object()
-        && json.text_in("key").is_some()
-        && allows_code::<Severity>(json, "severity")
-        && json.allows_text("expression")
-}
-
-/// Whether each item is a constraint.
-pub(crate) fn are_constraints(items: &[Json<'_>]) -> bool
-    ensures { result ≡ list_all is_constraint (trees_of items.now) }
-{
-    for item in items {
-        if !is_constraint(item) {
-            return false;
-        }
-    }
-    true
-}
-
-fn constraint_of(alloc: Global, json: &Json<'_>) -> Result<ConstraintDef, AllocError>
-    ensures { IfOk result (λ c. c ≡ constraint_of (tree_of json.now)) }
-{
-    Ok(ConstraintDef {
-        key: owned_at(alloc, json, "key")?,
-        severity: code_in(json, "severity"),
-        expression: owned_in(alloc, json, "expression")?,
-    })
-}
-
-/// The constraints that items are.
-pub(crate) fn constraints_of(
-    alloc: Global,
-    items: &[Json<'_>],
-) -> Result<Vec<ConstraintDef>, AllocError>
-    ensures { IfOk result (λ v. v.items ≡ map constraint_of (trees_of items.now)) }
-{
-    let mut constraints = Vec::new(alloc);
-    for item in items {
-        let constraint = constraint_of(alloc, item)?;
-        constraints.push(constraint)?;
-    }
-    Ok(constraints)
 }

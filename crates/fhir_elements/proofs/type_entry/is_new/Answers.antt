@@ -1,6 +1,6 @@
 use Rattle.std.proofs.Common.{not, is_some, ap, ◌∙◌}
 use Rattle.fhir_names.specs.Places.{place_of}
-use Rattle.fhir_elements.proofs.parts.is_new.Goals as goal
+use Rattle.fhir_elements.proofs.type_entry.is_new.Goals as goal
 
 pub returns-clause-new : goal.returns-clause-new
 returns-clause-new c = λ ts h.
