@@ -68,7 +68,8 @@ gathered_same p zero us = refl
 gathered_same p (suc n) us =
     rw (under_other p 0 us None refl) (ap (λ l. under_from p 0 us ∷ l) (gathered_same (suc p) n us))
 
-pub gathered_more : (n : ℕ) (us : List (Option ℕ)) (u : Option ℕ) (i : ℕ) → length us ≡ i → under_each_from 0 n (us ++ u ∷ []) ≡ put_at u i (under_each_from 0 n us)
+pub gathered_more : (n : ℕ) (us : List (Option ℕ)) (u : Option ℕ) (i : ℕ) → length us ≡ i
+    → under_each_from 0 n (us ++ u ∷ []) ≡ put_at u i (under_each_from 0 n us)
 gathered_more n us None i h = gathered_same 0 n us
 gathered_more n us (Some q) i h =
     let e : q ≡ 0 + q = omega arith in
