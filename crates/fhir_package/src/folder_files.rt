@@ -42,7 +42,8 @@ impl Model for FolderFiles {
     ghost view = { λ f. folder_files f.files.items };
 }
 
-fn is_json_name(name: &str) -> bool
+/// Whether a name ends in `.json`.
+pub fn is_json_name(name: &str) -> bool
     ensures { result ≡ is_json_name name.now }
 {
     name.as_bytes().ends_with(b".json")

@@ -16,7 +16,7 @@ mod url_map;
 pub use canonical::has_version;
 pub use fault::LoadFault;
 pub use folder::{Folder, FolderFault};
-pub use folder_files::{FolderFile, FolderFiles};
+pub use folder_files::{FolderFile, FolderFiles, is_json_name};
 pub use kind::Kind;
 pub use laws::{bundles, ordered_names, packages, packing};
 pub use loading::{load, pack};
