@@ -9,7 +9,7 @@ use Rattle.std.proofs.lemmas.Slice.Eq.{bytes_eq-Decides}
 use Rattle.std.proofs.lemmas.Map.Keys.{IsDistinct-push}
 use Rattle.std.proofs.lemmas.Map.Made.{is_some-lookup}
 use Rattle.fhir_json.specs.Tree.{Text, Tree}
-use Rattle.fhir_package.specs.Definitions.{Entries}
+use Rattle.fhir_package.specs.Definitions.{ByUrl}
 
 -- ---- what a list contains
 
@@ -38,7 +38,7 @@ same_text x = (bytes_eq-Decides x x).1 refl
 none_some : (s : Tree) → (let r : Option Tree = None in r ≡ Some s) → ⊥
 none_some s e = cc
 
-pub lookup_kept : (u : Text) (s : Tree) (es fs : Entries) → lookup (bytes_eq u) es ≡ Some s → lookup (bytes_eq u) (es ++ fs) ≡ Some s
+pub lookup_kept : (u : Text) (s : Tree) (es fs : ByUrl) → lookup (bytes_eq u) es ≡ Some s → lookup (bytes_eq u) (es ++ fs) ≡ Some s
 lookup_kept u s [] fs h = absurd (none_some s h)
 lookup_kept u s (e ∷ es) fs h = by (bytes_eq u e.0) (lookup_kept u s es fs) h
   where
@@ -47,7 +47,7 @@ lookup_kept u s (e ∷ es) fs h = by (bytes_eq u e.0) (lookup_kept u s es fs) h
     by true rest h = h
     by false rest h = rest h
 
-pub lookup_new : (url : Text) (t : Tree) (es : Entries) → lookup (bytes_eq url) es ≡ None → lookup (bytes_eq url) (es ++ (url, t) ∷ []) ≡ Some t
+pub lookup_new : (url : Text) (t : Tree) (es : ByUrl) → lookup (bytes_eq url) es ≡ None → lookup (bytes_eq url) (es ++ (url, t) ∷ []) ≡ Some t
 lookup_new url t [] h = rw (same_text url) refl
 lookup_new url t (e ∷ es) h = by (bytes_eq url e.0) (lookup_new url t es) h
   where
@@ -59,7 +59,7 @@ lookup_new url t (e ∷ es) h = by (bytes_eq url e.0) (lookup_new url t es) h
 inside : (t s : Tree) → Some t ≡ Some s → t ≡ s
 inside t s e = cc
 
-pub lookup_behind : (u : Text) (s : Tree) (url : Text) (t : Tree) (es : Entries) → lookup (bytes_eq u) (es ++ (url, t) ∷ []) ≡ Some s
+pub lookup_behind : (u : Text) (s : Tree) (url : Text) (t : Tree) (es : ByUrl) → lookup (bytes_eq u) (es ++ (url, t) ∷ []) ≡ Some s
     → (lookup (bytes_eq u) es ≡ Some s) ⊎ ((url ≡ u) × (t ≡ s))
 lookup_behind u s url t [] h = by (bytes_eq u url) refl h
   where
@@ -76,11 +76,11 @@ lookup_behind u s url t (e ∷ es) h = by (bytes_eq u e.0) (lookup_behind u s ur
 
 -- ---- urls
 
-keys-behind : (url : Text) (t : Tree) (es : Entries) → keys_of (es ++ (url, t) ∷ []) ≡ keys_of es ++ url ∷ []
+keys-behind : (url : Text) (t : Tree) (es : ByUrl) → keys_of (es ++ (url, t) ∷ []) ≡ keys_of es ++ url ∷ []
 keys-behind url t [] = refl
 keys-behind url t (e ∷ es) = ap (λ (us : List Text). e.0 ∷ us) (keys-behind url t es)
 
-pub distinct_behind : (url : Text) (t : Tree) (es : Entries) → IsDistinct bytes_eq (keys_of es) → lookup (bytes_eq url) es ≡ None
+pub distinct_behind : (url : Text) (t : Tree) (es : ByUrl) → IsDistinct bytes_eq (keys_of es) → lookup (bytes_eq url) es ≡ None
     → IsDistinct bytes_eq (keys_of (es ++ (url, t) ∷ []))
 distinct_behind url t es h none =
     rw (keys-behind url t es) (IsDistinct-push nat_list_eq_equiv (keys_of es) url h (sym (is_some-lookup (bytes_eq url) es) ∙ ap is_some none))

@@ -12,11 +12,11 @@ use Rattle.fhir_package.specs.declared.kind.Kind.{Kind}
 use Rattle.fhir_package.specs.declared.kind.Kind.TheVariants.{StructureDefinition, ValueSet, CodeSystem}
 use Rattle.fhir_package.specs.Definitions.{Definitions, no_definitions, of_kind, at_url}
 use Rattle.fhir_package.specs.Folder.{Files}
-use Rattle.fhir_package.specs.Packing.{Refusal, clash, Definition, definitions_in, join_all, and_then, or_clash, take_tree, bytes_at, take_files, json_names, pack}
+use Rattle.fhir_package.specs.Packing.{Refusal, clash, Definition, definitions_in, join_all, and_then, or_clash, take_tree, bytes_at, json_names, pack}
 use Rattle.fhir_package.specs.Found.{IsInFolder, Clashes}
 use Rattle.fhir_package.proofs.Among.{Among, among-contained, contained-among, among-json_names, json_names-among}
 use Rattle.fhir_package.proofs.Entries.{none_distinct}
-use Rattle.fhir_package.proofs.Packs.{Agrees}
+use Rattle.fhir_package.proofs.Packs.{Agrees, take_named}
 use Rattle.fhir_package.proofs.Joins.{Stands, Grows, Ends, Differ, chain, unchanged, join_all_ends}
 
 -- the definition stands in one of these files
@@ -40,7 +40,7 @@ in_cases files n ns t is d i = elim i.listed [
     same e = subst (λ u. Contains (definitions_in u) d) (one i.tree (sym i.read ∙ ap (λ (m : Text). reading (bytes_at files m)) (sym e) ∙ is)) i.held
 
 module _ (In : Definition → Type 0) (files : Files) (same : (t : Tree) → equal t t ≡ true) where
-  take_ends : (ns : List Text) (p : Definitions) → ((d : Definition) → IsIn files ns d → In d) → Stands In p → Ends In (IsIn files ns) p (take_files files ns p)
+  take_ends : (ns : List Text) (p : Definitions) → ((d : Definition) → IsIn files ns d → In d) → Stands In p → Ends In (IsIn files ns) p (take_named files ns p)
   take_ends [] p i s = unchanged In (IsIn files []) p s (λ d c. absurd c.listed)
   take_ends (n ∷ ns) p i s = by (reading (bytes_at files n)) refl (λ q. take_ends ns q (λ d c. i d (later d c)))
     where
@@ -48,14 +48,14 @@ module _ (In : Definition → Type 0) (files : Files) (same : (t : Tree) → equ
       later d c = record { name = c.name; listed = inr c.listed; tree = c.tree; read = c.read; held = c.held }
 
       joins : (t : Tree) → reading (bytes_at files n) ≡ Ok t → (r : Result Definitions Text) → Ends In (Contains (definitions_in t)) p (or_clash r)
-          → ((q : Definitions) → Stands In q → Ends In (IsIn files ns) q (take_files files ns q))
-          → Ends In (IsIn files (n ∷ ns)) p (and_then (take_files files ns) (or_clash r))
-      joins t is (Ok q) h rest = chain In (Contains (definitions_in t)) (IsIn files ns) (IsIn files (n ∷ ns)) (in_cases files n ns t is) p q (take_files files ns q) h (rest q h.stands)
+          → ((q : Definitions) → Stands In q → Ends In (IsIn files ns) q (take_named files ns q))
+          → Ends In (IsIn files (n ∷ ns)) p (and_then (take_named files ns) (or_clash r))
+      joins t is (Ok q) h rest = chain In (Contains (definitions_in t)) (IsIn files ns) (IsIn files (n ∷ ns)) (in_cases files n ns t is) p q (take_named files ns q) h (rest q h.stands)
       joins t is (Err url) h rest = h
 
       by : (r : Result Tree JsonFault) → reading (bytes_at files n) ≡ r
-          → ((q : Definitions) → Stands In q → Ends In (IsIn files ns) q (take_files files ns q))
-          → Ends In (IsIn files (n ∷ ns)) p (and_then (take_files files ns) (take_tree n r p))
+          → ((q : Definitions) → Stands In q → Ends In (IsIn files ns) q (take_named files ns q))
+          → Ends In (IsIn files (n ∷ ns)) p (and_then (take_named files ns) (take_tree n r p))
       by (Ok t) is rest =
           joins t is (join_all (definitions_in t) p)
           (join_all_ends In same (definitions_in t) p (λ d c. i d (record { name = n; listed = inl refl; tree = t; read = is; held = c })) s) rest

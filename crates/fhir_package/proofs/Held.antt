@@ -1,5 +1,5 @@
 -- Definitions put into a package one after another.
-use Rattle.std.proofs.Common.{◌≡◌, ◌+◌, ◌<◌, length, get_or, ℕ, suc, true, false, List, [], ◌∷◌, ◌++◌, drop, Result, Ok, Err, refl, sym, ap, ◌∙◌, add-one, drop-cons}
+use Rattle.std.proofs.Common.{◌≡◌, ℕ, suc, true, false, List, [], ◌∷◌, ◌++◌, Result, Ok, Err, refl, ap, ◌∙◌}
 use Rattle.std.specs.Prelude.{codes}
 use Rattle.std.specs.List.{flat_map}
 use Rattle.std.specs.Option.{option_map_or}
@@ -10,7 +10,7 @@ use Rattle.fhir_json.specs.declared.json.Json.{Json}
 use Rattle.fhir_package.specs.declared.fault.LoadFault.{LoadFault}
 use Rattle.fhir_package.specs.declared.fault.LoadFault.TheVariants.{Unlisted, Unread, NotJson, Clash, NoMemory}
 use Rattle.fhir_package.specs.Definitions.{Definitions}
-use Rattle.fhir_package.specs.Packing.{Definition, Refusal, join, join_all, and_then, or_clash, put_all, held_within, in_entry, is_bundle, definition_of, bytes_at, take_file, take_files}
+use Rattle.fhir_package.specs.Packing.{Definition, Refusal, join, join_all, and_then, or_clash, put_all, held_within, in_entry, is_bundle, definition_of, take_file, take_files}
 use Rattle.fhir_package.specs.Folder.{Files}
 use Rattle.fhir_package.specs.Faults.{IsRefused}
 
@@ -73,27 +73,24 @@ held_entries n m t ts e is es = rw (e, es) (held_bundle m t is)
 pub held_other : (n m : ℕ) (t : Tree) → n ≡ suc m → is_bundle t ≡ false → held_within n t ≡ option_map_or (λ d. d ∷ []) (definition_of t) []
 held_other n m t e isnt = rw e (held_itself m t isnt)
 
--- ---- a list of entries, from a place on
+-- ---- a list of entries, of which the first is taken
 
-pub entries_from : (xs : List Json) (i : ℕ) (x : Json) → i < length xs → x ≡ get_or xs i x → trees_of (drop i xs) ≡ tree_of x ∷ trees_of (drop (i + 1) xs)
-entries_from xs i x l e = rw (add-one, drop-cons xs i x) (ap (λ (y : Json). tree_of y ∷ trees_of (drop (suc i) xs)) (sym e))
+pub entry_taken : (f : Tree → List Definition) (all : List Json) (x : Json) (rest : List Json) (whole : Result Definitions Refusal) (p q : Definitions)
+    → whole ≡ put_all (flat_map f (trees_of all)) p → all ≡ x ∷ rest → put_all (f (tree_of x)) p ≡ Ok q
+    → whole ≡ put_all (flat_map f (trees_of rest)) q
+entry_taken f all x rest whole p q is e h =
+    is ∙ ap (λ (xs : List Json). put_all (flat_map f (trees_of xs)) p) e ∙ entries_go_on f (tree_of x) (trees_of rest) p q h
 
-pub entry_taken : (f : Tree → List Definition) (xs : List Json) (i : ℕ) (x : Json) (whole : Result Definitions Refusal) (p q : Definitions)
-    → whole ≡ put_all (flat_map f (trees_of (drop i xs))) p → i < length xs → x ≡ get_or xs i x → put_all (f (tree_of x)) p ≡ Ok q
-    → whole ≡ put_all (flat_map f (trees_of (drop (i + 1) xs))) q
-entry_taken f xs i x whole p q is l e h =
-    is ∙ ap (λ (ts : List Tree). put_all (flat_map f ts) p) (entries_from xs i x l e) ∙ entries_go_on f (tree_of x) (trees_of (drop (i + 1) xs)) p q h
-
-pub entry_refused : (f : Tree → List Definition) (xs : List Json) (i : ℕ) (x : Json) (whole : Result Definitions Refusal) (p : Definitions) (fault : LoadFault)
-    → whole ≡ put_all (flat_map f (trees_of (drop i xs))) p → i < length xs → x ≡ get_or xs i x → IsRefused fault (put_all (f (tree_of x)) p)
+pub entry_refused : (f : Tree → List Definition) (all : List Json) (x : Json) (rest : List Json) (whole : Result Definitions Refusal) (p : Definitions)
+    (fault : LoadFault) → whole ≡ put_all (flat_map f (trees_of all)) p → all ≡ x ∷ rest → IsRefused fault (put_all (f (tree_of x)) p)
     → IsRefused fault whole
-entry_refused f xs i x whole p fault is l e h =
-    rw (is, entries_from xs i x l e) (entries_stop f (tree_of x) (trees_of (drop (i + 1) xs)) p fault h)
+entry_refused f all x rest whole p fault is e h =
+    rw (is ∙ ap (λ (xs : List Json). put_all (flat_map f (trees_of xs)) p) e) (entries_stop f (tree_of x) (trees_of rest) p fault h)
 
 -- ---- files
 
-pub file_taken : (files : Files) (n : Text) (ns : List Text) (p q : Definitions) → take_file n (bytes_at files n) p ≡ Ok q → take_files files (n ∷ ns) p ≡ take_files files ns q
-file_taken files n ns p q h = ap (and_then (take_files files ns)) h
+pub file_taken : (n : Text) (bytes : List ℕ) (fs : Files) (p q : Definitions) → take_file n bytes p ≡ Ok q → take_files ((n, bytes) ∷ fs) p ≡ take_files fs q
+file_taken n bytes fs p q h = ap (and_then (take_files fs)) h
 
-pub file_refused : (files : Files) (n : Text) (ns : List Text) (p : Definitions) (fault : LoadFault) → IsRefused fault (take_file n (bytes_at files n) p) → IsRefused fault (take_files files (n ∷ ns) p)
-file_refused files n ns p fault h = refused_then fault (take_file n (bytes_at files n) p) (take_files files ns) h
+pub file_refused : (n : Text) (bytes : List ℕ) (fs : Files) (p : Definitions) (fault : LoadFault) → IsRefused fault (take_file n bytes p) → IsRefused fault (take_files ((n, bytes) ∷ fs) p)
+file_refused n bytes fs p fault h = refused_then fault (take_file n bytes p) (take_files fs) h

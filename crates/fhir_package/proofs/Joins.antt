@@ -8,7 +8,7 @@ use Rattle.fhir_json.specs.Tree.{Text, Tree}
 use Rattle.fhir_matching.specs.Equality.{equal}
 use Rattle.fhir_package.specs.declared.kind.Kind.{Kind}
 use Rattle.fhir_package.specs.declared.kind.Kind.TheVariants.{StructureDefinition, ValueSet, CodeSystem}
-use Rattle.fhir_package.specs.Definitions.{Definitions, Entries, of_kind, with_kind, at_url}
+use Rattle.fhir_package.specs.Definitions.{Definitions, ByUrl, of_kind, with_kind, at_url}
 use Rattle.fhir_package.specs.Packing.{Refusal, not_json, clash, Definition, join, joined, join_all, and_then, or_clash}
 use Rattle.fhir_package.proofs.Entries.{contains_none, contains_cases, contains_first, contains_later, lookup_kept, lookup_new, lookup_behind, distinct_behind}
 
@@ -46,7 +46,7 @@ Ends In Held p (Err refusal) = Refuses In refusal
 -- ---- one kind
 
 -- what holds of the new entries of one kind and of the old ones of each
-with_kind_each : (P : Kind → Entries → Type 0) (k : Kind) (es : Entries) (p : Definitions) → P k es → ((kind : Kind) → P kind (of_kind kind p)) → (kind : Kind) → P kind (of_kind kind (with_kind k es p))
+with_kind_each : (P : Kind → ByUrl → Type 0) (k : Kind) (es : ByUrl) (p : Definitions) → P k es → ((kind : Kind) → P kind (of_kind kind p)) → (kind : Kind) → P kind (of_kind kind (with_kind k es p))
 with_kind_each P StructureDefinition es p h each StructureDefinition = h
 with_kind_each P StructureDefinition es p h each ValueSet = each ValueSet
 with_kind_each P StructureDefinition es p h each CodeSystem = each CodeSystem
@@ -57,7 +57,7 @@ with_kind_each P CodeSystem es p h each StructureDefinition = each StructureDefi
 with_kind_each P CodeSystem es p h each ValueSet = each ValueSet
 with_kind_each P CodeSystem es p h each CodeSystem = h
 
-with_kind_there : (k : Kind) (es : Entries) (p : Definitions) → of_kind k (with_kind k es p) ≡ es
+with_kind_there : (k : Kind) (es : ByUrl) (p : Definitions) → of_kind k (with_kind k es p) ≡ es
 with_kind_there StructureDefinition es p = refl
 with_kind_there ValueSet es p = refl
 with_kind_there CodeSystem es p = refl
@@ -78,7 +78,7 @@ module _ (In : Definition → Type 0) where
   unchanged Held p s shows = record { stands = s; keeps = λ kind url t e. e; shows = shows }
 
   -- what is asked of the entries of a kind after one definition
-  record Row (p : Definitions) (kind : Kind) (es : Entries) : Type 0 where
+  record Row (p : Definitions) (kind : Kind) (es : ByUrl) : Type 0 where
     only : (url : Text) (t : Tree) → lookup (bytes_eq url) es ≡ Some t → In (record { kind = kind; url = url; tree = t })
     distinct : IsDistinct bytes_eq (keys_of es)
     keeps : (url : Text) (t : Tree) → at_url kind url p ≡ Some t → lookup (bytes_eq url) es ≡ Some t
@@ -104,7 +104,7 @@ module _ (In : Definition → Type 0) where
     shows = λ e eq. subst (Shows q) eq (d.tree, there, same d.tree);
   }
     where
-      es : Entries
+      es : ByUrl
       es = of_kind d.kind p ++ (d.url, d.tree) ∷ []
 
       q : Definitions

@@ -1,5 +1,5 @@
 -- Lemmas on packages and folders.
-pub mod Stored
+pub mod MemoryFiles
 pub mod Seen
 pub mod Held
 pub mod Ordered
@@ -11,3 +11,6 @@ pub mod Files
 pub mod Sounds
 pub mod Rising
 pub mod Holding
+pub mod ByName
+pub mod Once
+pub mod Lists

@@ -14,10 +14,10 @@ use Rattle.fhir_json.specs.Reading.{reading}
 use Rattle.fhir_matching.specs.Equality.{equal}
 use Rattle.fhir_package.specs.declared.kind.Kind.{Kind}
 use Rattle.fhir_package.specs.declared.kind.Kind.TheVariants.{StructureDefinition, ValueSet, CodeSystem}
-use Rattle.fhir_package.specs.Definitions.{Definitions, Entries, no_definitions, of_kind, with_kind, at_url}
+use Rattle.fhir_package.specs.Definitions.{Definitions, ByUrl, no_definitions, of_kind, with_kind, at_url}
 use Rattle.fhir_package.specs.Folder.{Files}
-use Rattle.fhir_package.specs.Packing.{Refusal, Definition, kind_named, resource_type, is_bundle, definition_with, definition_of, held_within, in_entry, definitions_in, join, joined, join_all, and_then, or_clash, take_tree, bytes_at, take_files, json_names, pack}
-use Rattle.fhir_package.proofs.Packs.{Agrees}
+use Rattle.fhir_package.specs.Packing.{Refusal, Definition, kind_named, resource_type, is_bundle, definition_with, definition_of, held_within, in_entry, definitions_in, join, joined, join_all, and_then, or_clash, take_tree, bytes_at, json_names, pack}
+use Rattle.fhir_package.proofs.Packs.{Agrees, take_named}
 
 -- ---- a tree's parts
 
@@ -113,17 +113,17 @@ all_held_sound t h = held_sound 128 t h
 
 -- ---- what is put in
 
-abbrev EntriesSound : Entries → Type 0
+abbrev EntriesSound : ByUrl → Type 0
 EntriesSound es = AllByRecursion (λ e. IsSound e.1) es
 
 abbrev KindsSound : Definitions → Type 0
 KindsSound p = (kind : Kind) → EntriesSound (of_kind kind p)
 
-behind_sound : (es : Entries) (url : Text) (t : Tree) → EntriesSound es → IsSound t → EntriesSound (es ++ (url, t) ∷ [])
+behind_sound : (es : ByUrl) (url : Text) (t : Tree) → EntriesSound es → IsSound t → EntriesSound (es ++ (url, t) ∷ [])
 behind_sound [] url t h k = (k, tt)
 behind_sound (e ∷ es) url t h k = (h.0, behind_sound es url t h.1 k)
 
-with_kind_sound : (kind : Kind) (es : Entries) (p : Definitions) → EntriesSound es → KindsSound p → KindsSound (with_kind kind es p)
+with_kind_sound : (kind : Kind) (es : ByUrl) (p : Definitions) → EntriesSound es → KindsSound p → KindsSound (with_kind kind es p)
 with_kind_sound StructureDefinition es p h k StructureDefinition = h
 with_kind_sound StructureDefinition es p h k ValueSet = k ValueSet
 with_kind_sound StructureDefinition es p h k CodeSystem = k CodeSystem
@@ -157,15 +157,15 @@ join_all_sound (d ∷ ds) p h k = by (join d p) (join_sound d p h.0 k) (λ q. jo
     by (Ok q) k rest = rest q k
     by (Err url) k rest = tt
 
-files_sound : Agrees → (files : Files) (ns : List Text) (p : Definitions) → KindsSound p → SoundIfOk (take_files files ns p)
+files_sound : Agrees → (files : Files) (ns : List Text) (p : Definitions) → KindsSound p → SoundIfOk (take_named files ns p)
 files_sound agrees files [] p k = k
 files_sound agrees files (n ∷ ns) p k = by (reading (bytes_at files n)) refl (files_sound agrees files ns)
   where
-    joins : (r : Result Definitions Text) → SoundIfOk r → ((q : Definitions) → KindsSound q → SoundIfOk (take_files files ns q)) → SoundIfOk (and_then (take_files files ns) (or_clash r))
+    joins : (r : Result Definitions Text) → SoundIfOk r → ((q : Definitions) → KindsSound q → SoundIfOk (take_named files ns q)) → SoundIfOk (and_then (take_named files ns) (or_clash r))
     joins (Ok q) k rest = rest q k
     joins (Err url) k rest = tt
 
-    by : (r : Result Tree JsonFault) → reading (bytes_at files n) ≡ r → ((q : Definitions) → KindsSound q → SoundIfOk (take_files files ns q)) → SoundIfOk (and_then (take_files files ns) (take_tree n r p))
+    by : (r : Result Tree JsonFault) → reading (bytes_at files n) ≡ r → ((q : Definitions) → KindsSound q → SoundIfOk (take_named files ns q)) → SoundIfOk (and_then (take_named files ns) (take_tree n r p))
     by (Ok t) is rest = joins (join_all (definitions_in t) p) (join_all_sound (definitions_in t) p (all_held_sound t ((agrees (bytes_at files n) t).0 is).sound) k) rest
     by (Err fault) is rest = tt
 
@@ -174,7 +174,7 @@ none_sound StructureDefinition = tt
 none_sound ValueSet = tt
 none_sound CodeSystem = tt
 
-by_index : (es : Entries) → EntriesSound es → All (λ e. IsSound e.1) es
+by_index : (es : ByUrl) → EntriesSound es → All (λ e. IsSound e.1) es
 by_index [] h k d l = absurd (omega arith)
 by_index (e ∷ es) h zero d l = h.0
 by_index (e ∷ es) h (suc k) d l = by_index es h.1 k d (omega arith)

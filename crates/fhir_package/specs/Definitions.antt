@@ -8,23 +8,23 @@ use Rattle.fhir_package.specs.declared.kind.Kind.{Kind}
 use Rattle.fhir_package.specs.declared.kind.Kind.TheVariants.{StructureDefinition, ValueSet, CodeSystem}
 
 -- trees under their urls, each url once
-abbrev pub Entries : Type 0
-Entries = List (Text × Tree)
+abbrev pub ByUrl : Type 0
+ByUrl = List (Text × Tree)
 
 pub record Definitions : Type 0 where
-  pub structure_definitions : Entries
-  pub value_sets : Entries
-  pub code_systems : Entries
+  pub structure_definitions : ByUrl
+  pub value_sets : ByUrl
+  pub code_systems : ByUrl
 
 abbrev pub no_definitions : Definitions
 no_definitions = record { structure_definitions = []; value_sets = []; code_systems = [] }
 
-abbrev pub of_kind : Kind → Definitions → Entries
+abbrev pub of_kind : Kind → Definitions → ByUrl
 of_kind StructureDefinition p = p.structure_definitions
 of_kind ValueSet p = p.value_sets
 of_kind CodeSystem p = p.code_systems
 
-abbrev pub with_kind : Kind → Entries → Definitions → Definitions
+abbrev pub with_kind : Kind → ByUrl → Definitions → Definitions
 with_kind StructureDefinition es p = record p { structure_definitions = es }
 with_kind ValueSet es p = record p { value_sets = es }
 with_kind CodeSystem es p = record p { code_systems = es }

@@ -1,10 +1,35 @@
 -- What the answer of a loading says: the package that a folder is, or its refusal. A failure of the device and want of
 -- memory decide nothing.
-use Rattle.std.specs.Prelude.{◌≡◌, ℕ, Result, Ok, Err, string_bytes}
+use Rattle.std.specs.Prelude.{◌≡◌, ℕ, Result, Ok, Err, codes, string_bytes}
+use Rattle.fhir_json.specs.Tree.{Text}
 use Rattle.fhir_package.specs.declared.fault.LoadFault.{LoadFault}
 use Rattle.fhir_package.specs.declared.fault.LoadFault.TheVariants.{Unlisted, Unread, NotJson, Clash, NoMemory}
 use Rattle.fhir_package.specs.Definitions.{Definitions}
 use Rattle.fhir_package.specs.Packing.{Refusal, not_json, clash}
+
+-- ---- numbers
+
+abbrev pub refusal_number : Refusal → Text
+refusal_number (not_json name) = codes "P2"
+refusal_number (clash url) = codes "P3"
+
+-- the number that is printed
+abbrev pub load_number : LoadFault → Text
+load_number Unlisted = codes "P1"
+load_number (Unread name) = codes "P1"
+load_number (NotJson name) = refusal_number (not_json (string_bytes name))
+load_number (Clash url) = refusal_number (clash (string_bytes url))
+load_number NoMemory = codes "P4"
+
+-- ---- what is answered
+
+-- the device failed, or memory ran out: not one of the files is to blame
+abbrev pub IsOfDevice : LoadFault → Type 0
+IsOfDevice Unlisted = Unit {0}
+IsOfDevice (Unread name) = Unit {0}
+IsOfDevice (NotJson name) = ⊥
+IsOfDevice (Clash url) = ⊥
+IsOfDevice NoMemory = Unit {0}
 
 -- the fault is the answer's refusal, or decides nothing
 abbrev pub IsRefused : LoadFault → Result Definitions Refusal → Type 0

@@ -3,6 +3,7 @@ pub mod View
 pub mod Canonical
 pub mod Folder
 pub mod Memory
+pub mod FilesView
 pub mod Packing
 pub mod Found
 pub mod Faults

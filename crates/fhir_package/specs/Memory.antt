@@ -1,7 +1,7 @@
 -- What a folder over memory means: its files are those that are kept, and it has none where it gives no listing.
 use Rattle.std.specs.Prelude.{ℕ, List, [], map, Option, Some, None, Vec, string_bytes}
 use Rattle.std.specs.declared.alloc.Global.{Global}
-use Rattle.fhir_package.specs.declared.memory.StoredFile.{StoredFile}
+use Rattle.fhir_package.specs.declared.memory.MemoryFile.{MemoryFile}
 use Rattle.fhir_package.specs.Folder.{Files}
 
 -- a folder's files, and how many calls on it have failed
@@ -10,19 +10,19 @@ pub record FolderValue : Type 0 where
   pub failures : ℕ
 
 -- a file's bytes; where there are none no read of the file succeeds, so that any bytes serve
-abbrev pub kept_bytes : Option (Vec ℕ Global) → List ℕ
-kept_bytes None = []
-kept_bytes (Some bytes) = bytes.items
+abbrev pub given_bytes : Option (Vec ℕ Global) → List ℕ
+given_bytes None = []
+given_bytes (Some bytes) = bytes.items
 
-abbrev pub file_seen : StoredFile → List ℕ × List ℕ
-file_seen f = (string_bytes f.name, kept_bytes f.bytes)
+abbrev pub memory_file : MemoryFile → List ℕ × List ℕ
+memory_file f = (string_bytes f.name, given_bytes f.bytes)
 
-abbrev pub stored : List StoredFile → Files
-stored fs = map file_seen fs
+abbrev pub memory_files : List MemoryFile → Files
+memory_files fs = map memory_file fs
 
-abbrev pub listed : Option (Vec StoredFile Global) → Files
+abbrev pub listed : Option (Vec MemoryFile Global) → Files
 listed None = []
-listed (Some fs) = stored fs.items
+listed (Some fs) = memory_files fs.items
 
 abbrev pub files_of : FolderValue → Files
 files_of m = m.files

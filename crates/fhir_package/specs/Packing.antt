@@ -1,6 +1,6 @@
 -- The package that a folder of files is: its files in the order of their names' bytes, each one a tree, and of each
 -- tree the definitions that it holds.
-use Rattle.std.specs.Prelude.{ℕ, zero, suc, List, [], ◌∷◌, ◌++◌, filter, Bool, Option, None, Some, Result, Ok, Err, if◌then◌else◌, nat_eq, codes}
+use Rattle.std.specs.Prelude.{ℕ, zero, suc, List, [], ◌∷◌, ◌++◌, map, filter, Bool, Option, None, Some, Result, Ok, Err, if◌then◌else◌, nat_eq, codes}
 use Rattle.std.specs.Option.{option_map, option_map_or, option_and_then}
 use Rattle.std.specs.List.{flat_map, ends_with}
 use Rattle.std.specs.Map.{lookup, keys_of}
@@ -119,10 +119,19 @@ take_file name bytes p = take_tree name (reading bytes) p
 abbrev pub bytes_at : Files → Text → List ℕ
 bytes_at files name = option_map_or (λ bytes. bytes) (lookup (bytes_eq name) files) []
 
-abbrev pub take_files : Files → List Text → Definitions → Result Definitions Refusal
-take_files files [] p = Ok p
-take_files files (n ∷ ns) p = and_then (take_files files ns) (take_file n (bytes_at files n) p)
+-- the files whose names end in ".json", in the order of their names' bytes, each name once
+abbrev pub json_files : Files → Files
+json_files files = map (λ n. (n, bytes_at files n)) (json_names (keys_of files))
+
+-- the definitions of the files put in, of one file after the other
+abbrev pub take_files : Files → Definitions → Result Definitions Refusal
+take_files [] p = Ok p
+take_files (f ∷ fs) p = and_then (take_files fs) (take_file f.0 f.1 p)
+
+-- the package that these files are, or the first refusal
+abbrev pub pack_files : Files → Result Definitions Refusal
+pack_files files = take_files files no_definitions
 
 -- the package that a folder is, or the first refusal
 abbrev pub pack : Files → Result Definitions Refusal
-pack files = take_files files (json_names (keys_of files)) no_definitions
+pack files = pack_files (json_files files)

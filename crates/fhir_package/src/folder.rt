@@ -1,6 +1,6 @@
 //! What a folder is.
 
-ghost use Rattle.std.specs.Prelude.{◌≡◌, ◌+◌, ℕ, List, Some, map, string_bytes, IfOk, IfSome};
+ghost use Rattle.std.specs.Prelude.{◌≡◌, ◌+◌, ℕ, List, Some, map, string_bytes, IfOk};
 ghost use Rattle.std.specs.Map.{keys_of, lookup};
 ghost use Rattle.std.specs.Str.{bytes_eq};
 ghost use Rattle.fhir_package.specs.declared.folder.FolderFault.TheVariants as faults;
@@ -46,14 +46,6 @@ pub trait Folder {
         ensures names { IfOk result (λ v. map string_bytes v.items ≡ keys_of (files self.old)) }
         ensures files { files self.new ≡ files self.old }
         ensures counted { failed_calls self.new ≡ failed_calls self.old + failed result };
-
-    /// The bytes of a file, lent by a folder that has them in memory, so that they needn't be copied. None says nothing,
-    /// and counts as no failure: the file is then to be read.
-    fn lend(&self, _name: &str) -> Option<&[u8]>
-        ensures { IfSome result (λ bytes. lookup (bytes_eq _name.now) (files self.now) ≡ Some bytes.now) }
-    {
-        None
-    }
 
     /// The bytes of a file.
     fn read(&mut self, alloc: Global, name: &str) -> Result<Vec<u8>, FolderFault>

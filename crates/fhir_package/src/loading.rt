@@ -1,20 +1,21 @@
-//! From a folder to a package.
+//! From files to a package.
 
-ghost use Rattle.std.specs.Prelude.{◌≡◌, ◌+◌, map, string_bytes, IfOk, [], ◌∷◌};
+ghost use Rattle.std.specs.Prelude.{◌≡◌, ◌+◌, Err, string_bytes, [], ◌∷◌};
 ghost use Rattle.std.specs.List.{flat_map};
 ghost use Rattle.std.specs.Option.{option_map_or};
-ghost use Rattle.std.specs.Map.{keys_of};
 ghost use Rattle.fhir_json.specs.Views.{tree_of, trees_of};
-ghost use Rattle.fhir_package.specs.Packing.{kind_named, definition_of, is_bundle, is_json_name, held_within, definitions_in, in_entry, put_all, json_names, take_file, bytes_at, pack};
-ghost use Rattle.fhir_package.specs.Faults.{IsPacked, IsTaken, failed_loading};
+ghost use Rattle.fhir_package.specs.Packing.{not_json, kind_named, definition_with, definition_of, is_bundle, held_within, definitions_in, in_entry, put_all, take_file, take_files, pack_files, pack};
+ghost use Rattle.fhir_package.specs.FilesView.{folder_files};
+ghost use Rattle.fhir_package.specs.Faults.{IsRefused, IsPacked, IsTaken, failures_told, failed_loading};
 
 use crate::fault::LoadFault;
-use crate::folder::{Folder, FolderFault};
+use crate::folder::Folder;
+use crate::folder_files::{FolderFile, FolderFiles};
 use crate::kind::Kind;
 use crate::package::Package;
-use fhir_json::{Json, JsonFault, MAX_DEPTH, NoMemory, read};
+use crate::parts::{take_field, take_items};
+use fhir_json::{Json, JsonFault, MAX_DEPTH, read};
 use std::alloc::Global;
-use std::collections::BTreeSet;
 
 fn kind_named(name: &str) -> Option<Kind>
     ensures { result ≡ kind_named name.now }
@@ -27,19 +28,38 @@ fn kind_named(name: &str) -> Option<Kind>
     }
 }
 
-// Puts in the definition that a tree is, if it is one.
-fn take_definition(alloc: Global, json: &Json<'_>, into: &mut Package) -> Result<(), LoadFault>
+// Puts in a tree that is a definition of that kind, if it has a url.
+fn take_of_kind<'a>(
+    alloc: Global,
+    kind: Kind,
+    json: Json<'a>,
+    into: &mut Package<'a>,
+) -> Result<(), LoadFault>
     ensures taken { IsTaken result into.new
-        (put_all (option_map_or (λ d. d ∷ []) (definition_of (tree_of json.now)) []) into.old) }
+        (put_all (option_map_or (λ d. d ∷ []) (definition_with (tree_of json.entry) kind) []) into.old) }
     ensures blameless { failed_loading result ≡ 0 }
 {
-    let Some(kind) = kind_named(json.text_at("resourceType")) else {
-        return Ok(());
-    };
     let Some(url) = json.text_in("url") else {
         return Ok(());
     };
-    into.join(alloc, kind, url, json)
+    let url = String::from_str(alloc, url)?;
+    into.join(alloc, kind, url.as_str(), json)
+}
+
+// Puts in the definition that a tree is, if it is one.
+fn take_definition<'a>(
+    alloc: Global,
+    json: Json<'a>,
+    into: &mut Package<'a>,
+) -> Result<(), LoadFault>
+    ensures taken { IsTaken result into.new
+        (put_all (option_map_or (λ d. d ∷ []) (definition_of (tree_of json.entry)) []) into.old) }
+    ensures blameless { failed_loading result ≡ 0 }
+{
+    match kind_named(json.text_at("resourceType")) {
+        Some(kind) => take_of_kind(alloc, kind, json, into),
+        None => Ok(()),
+    }
 }
 
 fn is_bundle(json: &Json<'_>) -> bool
@@ -50,33 +70,33 @@ fn is_bundle(json: &Json<'_>) -> bool
 
 // Puts in the definitions that a tree holds within so many levels.
 #[cycle(held)]
-fn take_held(
+fn take_held<'a>(
     alloc: Global,
-    json: &Json<'_>,
+    json: Json<'a>,
     levels: usize,
-    into: &mut Package,
+    into: &mut Package<'a>,
 ) -> Result<(), LoadFault>
-    ensures taken { IsTaken result into.new (put_all (held_within levels (tree_of json.now)) into.old) }
+    ensures taken { IsTaken result into.new (put_all (held_within levels (tree_of json.entry)) into.old) }
     ensures blameless { failed_loading result ≡ 0 }
 {
     if levels == 0 {
         return Ok(());
     }
-    if is_bundle(json) {
-        return take_entries(alloc, json.items_in("entry"), levels - 1, into);
+    if is_bundle(&json) {
+        return take_entries(alloc, take_items(alloc, json, "entry"), levels - 1, into);
     }
     take_definition(alloc, json, into)
 }
 
 #[cycle(held)]
-fn take_entries(
+fn take_entries<'a>(
     alloc: Global,
-    entries: &[Json<'_>],
+    entries: Vec<Json<'a>>,
     levels: usize,
-    into: &mut Package,
+    into: &mut Package<'a>,
 ) -> Result<(), LoadFault>
     ensures taken { IsTaken result into.new
-        (put_all (flat_map (in_entry levels) (trees_of entries.now)) into.old) }
+        (put_all (flat_map (in_entry levels) (trees_of entries.entry.items)) into.old) }
     ensures blameless { failed_loading result ≡ 0 }
 {
     for entry in entries {
@@ -86,108 +106,103 @@ fn take_entries(
 }
 
 #[cycle(held)]
-fn take_entry(
+fn take_entry<'a>(
     alloc: Global,
-    entry: &Json<'_>,
+    entry: Json<'a>,
     levels: usize,
-    into: &mut Package,
+    into: &mut Package<'a>,
 ) -> Result<(), LoadFault>
-    ensures taken { IsTaken result into.new (put_all (in_entry levels (tree_of entry.now)) into.old) }
+    ensures taken { IsTaken result into.new (put_all (in_entry levels (tree_of entry.entry)) into.old) }
     ensures blameless { failed_loading result ≡ 0 }
 {
-    match entry.field("resource") {
+    match take_field(entry, "resource") {
         Some(resource) => take_held(alloc, resource, levels, into),
         None => Ok(()),
     }
 }
 
-fn take_tree(alloc: Global, json: &Json<'_>, into: &mut Package) -> Result<(), LoadFault>
-    ensures taken { IsTaken result into.new (put_all (definitions_in (tree_of json.now)) into.old) }
+fn take_tree<'a>(alloc: Global, json: Json<'a>, into: &mut Package<'a>) -> Result<(), LoadFault>
+    ensures taken { IsTaken result into.new (put_all (definitions_in (tree_of json.entry)) into.old) }
     ensures blameless { failed_loading result ≡ 0 }
 {
     take_held(alloc, json, MAX_DEPTH, into)
 }
 
-// Puts in the definitions of a file of that name with these bytes.
-fn take_bytes(
+fn not_json(alloc: Global, name: &str) -> LoadFault
+    ensures refusal { IsRefused result (Err (not_json name.now)) }
+    ensures blameless { failures_told result ≡ 0 }
+{
+    match String::from_str(alloc, name) {
+        Ok(name) => LoadFault::NotJson(name),
+        Err(_) => LoadFault::NoMemory,
+    }
+}
+
+// Puts in the definitions of a file.
+fn take_file<'a>(
     alloc: Global,
-    bytes: &[u8],
-    name: String,
-    into: &mut Package,
+    file: &'a FolderFile,
+    into: &mut Package<'a>,
 ) -> Result<(), LoadFault>
-    ensures taken { IsTaken result into.new (take_file (string_bytes name) bytes.now into.old) }
+    ensures taken { IsTaken result into.new (take_file (string_bytes file.now.name) file.now.bytes.items into.old) }
     ensures blameless { failed_loading result ≡ 0 }
 {
-    match read(alloc, bytes) {
-        Ok(json) => take_tree(alloc, &json, into),
+    match read(alloc, &file.bytes) {
+        Ok(json) => take_tree(alloc, json, into),
         Err(JsonFault::NoMemory) => Err(LoadFault::NoMemory),
-        Err(_) => Err(LoadFault::NotJson(name)),
+        Err(_) => Err(not_json(alloc, file.name.as_str())),
     }
 }
 
-// Puts in the definitions of one file.
-fn take_file<F: Folder>(
+// Puts in the definitions of files, of one after the other.
+fn take_files<'a>(
     alloc: Global,
-    folder: &mut F,
-    name: String,
-    into: &mut Package,
+    files: &'a [FolderFile],
+    into: &mut Package<'a>,
 ) -> Result<(), LoadFault>
-    ensures taken { IsTaken result into.new
-        (take_file (string_bytes name) (bytes_at (F.files folder.old) (string_bytes name)) into.old) }
-    ensures files { F.files folder.new ≡ F.files folder.old }
-    ensures counted { F.failed_calls folder.new ≡ F.failed_calls folder.old + failed_loading result }
+    ensures taken { IsTaken result into.new (take_files (folder_files files.now) into.old) }
+    ensures blameless { failed_loading result ≡ 0 }
 {
-    if let Some(bytes) = folder.lend(name.as_str()) {
-        return take_bytes(alloc, bytes, name, into);
+    for file in files {
+        take_file(alloc, file, into)?;
     }
-    match folder.read(alloc, name.as_str()) {
-        Ok(bytes) => take_bytes(alloc, &bytes, name, into),
-        Err(FolderFault::Device) => Err(LoadFault::Unread(name)),
-        Err(FolderFault::NoMemory) => Err(LoadFault::NoMemory),
-    }
+    Ok(())
 }
 
-fn is_json_name(name: &str) -> bool
-    ensures { result ≡ is_json_name name.now }
-{
-    name.as_bytes().ends_with(b".json")
-}
-
-// The names that end in `.json`, in the order of their bytes.
-fn json_names(alloc: Global, names: Vec<String>) -> Result<BTreeSet<String>, NoMemory>
-    ensures { IfOk result (λ s. map string_bytes s.keys ≡ json_names (map string_bytes names.items)) }
-{
-    let mut ordered = BTreeSet::new(alloc);
-    for name in names {
-        if is_json_name(name.as_str()) {
-            ordered.insert(name)?;
-        }
-    }
-    Ok(ordered)
-}
-
-/// The package that a folder is.
+/// The package that files are. Its texts borrow from their bytes.
 ///
-/// The files whose names end in `.json` are read in the order of their names' bytes. A StructureDefinition, ValueSet or
-/// CodeSystem with a text `url` is taken; a Bundle gives the `resource` of each `entry`; every other tree is passed over.
-/// Equal trees of one kind and url are one definition.
-///
-/// The refusals are those of `LoadFault`.
-pub fn load<F: Folder>(alloc: Global, folder: &mut F) -> Result<Package, LoadFault>
+/// A StructureDefinition, ValueSet or CodeSystem with a text `url` is taken; a Bundle gives the `resource` of each `entry`;
+/// every other tree is passed over. Equal trees of one kind and url are one definition.
+pub fn pack<'f>(alloc: Global, files: &'f FolderFiles) -> Result<Package<'f>, LoadFault>
+    // The package is that of the files, or the refusal is, unless memory ran out.
+    ensures packed { IsPacked result (pack_files files.now) }
+    ensures blameless { failed_loading result ≡ 0 }
+{
+    let mut package = Package::new(alloc);
+    take_files(alloc, files.files(), &mut package)?;
+    Ok(package)
+}
+
+// The package that files are, in memory of its own.
+fn load_files(alloc: Global, files: &FolderFiles) -> Result<Package<'static>, LoadFault>
+    ensures packed { IsPacked result (pack_files files.now) }
+    ensures blameless { failed_loading result ≡ 0 }
+{
+    let package = pack(alloc, files)?;
+    Ok(package.detach(alloc)?)
+}
+
+/// The package that a folder is, in memory of its own: that of its `FolderFiles`, as `pack` makes it. The refusals are those of
+/// `LoadFault`.
+pub fn load<F: Folder>(alloc: Global, folder: &mut F) -> Result<Package<'static>, LoadFault>
     // The package is the folder's, or the refusal is, unless the device failed or memory ran out.
     ensures packed { IsPacked result (pack (F.files folder.old)) }
     ensures files { F.files folder.new ≡ F.files folder.old }
     // The device is blamed exactly where it failed in this call, and then once.
     ensures counted { F.failed_calls folder.new ≡ F.failed_calls folder.old + failed_loading result }
 {
-    let names = match folder.list(alloc) {
-        Ok(names) => names,
-        Err(FolderFault::Device) => return Err(LoadFault::Unlisted),
-        Err(FolderFault::NoMemory) => return Err(LoadFault::NoMemory),
-    };
-    let mut package = Package::new(alloc);
-    for name in json_names(alloc, names)? {
-        take_file(alloc, folder, name, &mut package)?;
+    match FolderFiles::read(alloc, folder) {
+        Ok(files) => load_files(alloc, &files),
+        Err(fault) => Err(fault),
     }
-    Ok(package)
 }

@@ -7,7 +7,7 @@ ghost use Rattle.std.specs.Map.{keys_of, lookup};
 ghost use Rattle.std.specs.Str.{bytes_eq};
 ghost use Rattle.fhir_names.specs.Places.{Finds};
 ghost use Rattle.fhir_package.specs.Folder.{failures_in, failed};
-ghost use Rattle.fhir_package.specs.Memory.{kept_bytes, file_seen, stored, listed, files_of, failures_of};
+ghost use Rattle.fhir_package.specs.Memory.{given_bytes, memory_file, memory_files, listed, files_of, failures_of};
 
 use crate::folder::{Folder, FolderFault};
 use fhir_json::NoMemory;
@@ -15,9 +15,9 @@ use fhir_names::Index;
 use std::alloc::{AllocError, Global};
 use std::marker::Model;
 
-/// A file that is kept: its name, and its bytes, or none where the device fails to give them.
+/// A file of a folder over memory: its name, and its bytes, or none where the device fails to give them.
 #[derive(Debug, Drop)]
-pub struct StoredFile {
+pub struct MemoryFile {
     /// The file's name in its folder.
     pub name: String,
     /// Its bytes, if the device gives them.
@@ -27,7 +27,7 @@ pub struct StoredFile {
 /// A folder whose files are in memory, or whose listing the device fails to give.
 #[derive(Drop)]
 pub struct MemoryFolder {
-    files: Option<Vec<StoredFile>>,
+    files: Option<Vec<MemoryFile>>,
     names: Index,
     failures: u64,
 }
@@ -45,8 +45,8 @@ impl Model for MemoryFolder {
     ghost invariant = { λ m. Finds m.names (keys_of (listed m.files)) };
 }
 
-fn index_of(alloc: Global, files: &[StoredFile]) -> Result<Index, AllocError>
-    ensures { IfOk result (λ names. Finds names (keys_of (stored files.now))) }
+fn index_of(alloc: Global, files: &[MemoryFile]) -> Result<Index, AllocError>
+    ensures { IfOk result (λ names. Finds names (keys_of (memory_files files.now))) }
 {
     let mut names = Index::new(alloc);
     for (place, file) in files.iter().enumerate() {
@@ -57,8 +57,8 @@ fn index_of(alloc: Global, files: &[StoredFile]) -> Result<Index, AllocError>
 
 impl MemoryFolder {
     /// A folder of these files. Of files of one name the first is read. The one refusal is want of memory.
-    pub fn new(alloc: Global, files: Vec<StoredFile>) -> Result<MemoryFolder, NoMemory>
-        ensures files { IfOk result (λ folder. files_of folder ≡ stored files.items) }
+    pub fn new(alloc: Global, files: Vec<MemoryFile>) -> Result<MemoryFolder, NoMemory>
+        ensures files { IfOk result (λ folder. files_of folder ≡ memory_files files.items) }
         ensures failures { IfOk result (λ folder. failures_of folder ≡ 0) }
     {
         let names = index_of(alloc, &files)?;
@@ -82,16 +82,16 @@ impl MemoryFolder {
     }
 }
 
-fn file_at(files: &[StoredFile], place: usize) -> Option<&StoredFile>
-    ensures { option_map file_seen (option_copied result) ≡ slice_get (stored files.now) place }
+fn file_at(files: &[MemoryFile], place: usize) -> Option<&MemoryFile>
+    ensures { option_map memory_file (option_copied result) ≡ slice_get (memory_files files.now) place }
 {
     files.get(place)
 }
 
-fn file_of<'f>(files: &'f [StoredFile], names: &Index, name: &str) -> Option<&'f StoredFile>
-    requires { Finds names.now (keys_of (stored files.now)) }
-    ensures { option_map (λ f. kept_bytes f.bytes) (option_copied result)
-        ≡ lookup (bytes_eq name.now) (stored files.now) }
+fn file_of<'f>(files: &'f [MemoryFile], names: &Index, name: &str) -> Option<&'f MemoryFile>
+    requires { Finds names.now (keys_of (memory_files files.now)) }
+    ensures { option_map (λ f. given_bytes f.bytes) (option_copied result)
+        ≡ lookup (bytes_eq name.now) (memory_files files.now) }
 {
     match names.get(name) {
         Some(place) => file_at(files, place),
@@ -100,7 +100,7 @@ fn file_of<'f>(files: &'f [StoredFile], names: &Index, name: &str) -> Option<&'f
 }
 
 // The bytes of a name, where the device gives them.
-fn bytes_of<'f>(files: &'f Option<Vec<StoredFile>>, names: &Index, name: &str) -> Option<&'f [u8]>
+fn bytes_of<'f>(files: &'f Option<Vec<MemoryFile>>, names: &Index, name: &str) -> Option<&'f [u8]>
     requires { Finds names.now (keys_of (listed files.now)) }
     ensures { IfSome result (λ bytes. lookup (bytes_eq name.now) (listed files.now) ≡ Some bytes.now) }
 {
@@ -109,7 +109,7 @@ fn bytes_of<'f>(files: &'f Option<Vec<StoredFile>>, names: &Index, name: &str) -
     };
     match file_of(files, names, name) {
         Some(
-            StoredFile {
+            MemoryFile {
                 bytes: Some(bytes),
                 ..
             },
@@ -118,8 +118,8 @@ fn bytes_of<'f>(files: &'f Option<Vec<StoredFile>>, names: &Index, name: &str) -
     }
 }
 
-fn names_of(alloc: Global, files: &[StoredFile]) -> Result<Vec<String>, FolderFault>
-    ensures names { IfOk result (λ v. map string_bytes v.items ≡ keys_of (stored files.now)) }
+fn names_of(alloc: Global, files: &[MemoryFile]) -> Result<Vec<String>, FolderFault>
+    ensures names { IfOk result (λ v. map string_bytes v.items ≡ keys_of (memory_files files.now)) }
     ensures counted { failed result ≡ 0 }
 {
     let mut names = Vec::new(alloc);
@@ -155,10 +155,6 @@ impl Folder for MemoryFolder {
             Some(files) => names_of(alloc, files),
             None => Err(device_fault(&mut self.failures)),
         }
-    }
-
-    fn lend(&self, name: &str) -> Option<&[u8]> {
-        bytes_of(&self.files, &self.names, name)
     }
 
     fn read(&mut self, alloc: Global, name: &str) -> Result<Vec<u8>, FolderFault> {

@@ -5,6 +5,7 @@ ghost use Rattle.std.specs.Map.{keys_of, lookup};
 ghost use Rattle.std.specs.Option.{option_map};
 ghost use Rattle.std.specs.Str.{bytes_eq};
 ghost use Rattle.fhir_json.specs.Views.{tree_of, tree_seen};
+ghost use Rattle.fhir_json.specs.Memory.{Gives};
 ghost use Rattle.fhir_package.specs.Definitions.{no_definitions, of_kind, with_kind, at_url};
 ghost use Rattle.fhir_package.specs.Canonical.{at_version, named_by};
 ghost use Rattle.fhir_package.specs.Packing.{join, or_clash};
@@ -20,15 +21,16 @@ use fhir_names::Canonical;
 use std::alloc::Global;
 use std::marker::Model;
 
-/// The definitions of a package, of each kind in the order in which they were put in, under their urls.
+/// The definitions of a package, of each kind in the order in which they were put in, under their urls. Their texts may borrow
+/// from the bytes of the files that they were read from.
 #[derive(Drop)]
-pub struct Package {
-    structure_definitions: UrlMap,
-    value_sets: UrlMap,
-    code_systems: UrlMap,
+pub struct Package<'a> {
+    structure_definitions: UrlMap<'a>,
+    value_sets: UrlMap<'a>,
+    code_systems: UrlMap<'a>,
 }
 
-impl Model for Package {
+impl<'a> Model for Package<'a> {
     ghost use Rattle.fhir_package.specs.Definitions.{Definitions};
 
     ghost Value = { Definitions };
@@ -55,9 +57,9 @@ fn clash(alloc: Global, url: &str) -> LoadFault
     }
 }
 
-impl Package {
+impl<'a> Package<'a> {
     /// A package of no definitions, which allocates nothing.
-    pub fn new(alloc: Global) -> Package
+    pub fn new(alloc: Global) -> Package<'a>
         ensures { result ≡ no_definitions }
     {
         Package {
@@ -69,7 +71,7 @@ impl Package {
 
     /// The definition that a canonical names: that of its url, where it has no version or the one behind `|`. A text
     /// that is no canonical names none.
-    pub fn get<'p>(&'p self, kind: Kind, canonical: &str) -> Option<&'p Json<'static>>
+    pub fn get<'p>(&'p self, kind: Kind, canonical: &str) -> Option<&'p Json<'a>>
         ensures { tree_seen result ≡ named_by kind canonical.now self.now }
     {
         match Canonical::parse(canonical) {
@@ -78,7 +80,7 @@ impl Package {
         }
     }
 
-    fn at_version<'p>(&'p self, kind: Kind, canonical: &Canonical<'_>) -> Option<&'p Json<'static>>
+    fn at_version<'p>(&'p self, kind: Kind, canonical: &Canonical<'_>) -> Option<&'p Json<'a>>
         ensures { tree_seen result ≡ at_version kind self.now canonical.now }
     {
         let tree = self.at_url(kind, canonical.url())?;
@@ -88,7 +90,7 @@ impl Package {
         }
     }
 
-    fn of_kind(&self, kind: Kind) -> &UrlMap
+    fn of_kind(&self, kind: Kind) -> &UrlMap<'a>
         ensures { result.now ≡ of_kind kind self.now }
     {
         match kind {
@@ -99,7 +101,7 @@ impl Package {
     }
 
     /// The definition at a url.
-    pub fn at_url<'p>(&'p self, kind: Kind, url: &str) -> Option<&'p Json<'static>>
+    pub fn at_url<'p>(&'p self, kind: Kind, url: &str) -> Option<&'p Json<'a>>
         ensures { tree_seen result ≡ at_url kind url.now self.now }
     {
         self.of_kind(kind).get(url)
@@ -113,7 +115,7 @@ impl Package {
     }
 
     /// The url and the tree at a place.
-    pub fn at<'p>(&'p self, kind: Kind, place: usize) -> Option<(&'p str, &'p Json<'static>)>
+    pub fn at<'p>(&'p self, kind: Kind, place: usize) -> Option<(&'p str, &'p Json<'a>)>
         ensures { option_map (λ e. (e.0.now, tree_of e.1.now)) result
             ≡ slice_get (of_kind kind self.now) place }
     {
@@ -121,7 +123,7 @@ impl Package {
     }
 
     /// The urls of a kind, in order.
-    pub fn names(&self, kind: Kind) -> Names<'_>
+    pub fn names(&self, kind: Kind) -> Names<'_, 'a>
         ensures { result ≡ keys_of (of_kind kind self.now) }
     {
         Names {
@@ -130,13 +132,7 @@ impl Package {
     }
 
     // Puts a tree behind the others of its kind.
-    fn push(
-        &mut self,
-        alloc: Global,
-        kind: Kind,
-        url: &str,
-        tree: Json<'static>,
-    ) -> Result<(), NoMemory>
+    fn push(&mut self, alloc: Global, kind: Kind, url: &str, tree: Json<'a>) -> Result<(), NoMemory>
         ensures { OnOk result (self.new ≡ with_kind kind
             (of_kind kind self.old ++ (url.now, tree_of tree.entry) ∷ []) self.old) }
     {
@@ -147,19 +143,18 @@ impl Package {
         }
     }
 
-    // Puts a copy of a tree behind the others of its kind.
-    fn push_copy(
+    // The same, as a definition that was not there.
+    fn push_definition(
         &mut self,
         alloc: Global,
         kind: Kind,
         url: &str,
-        tree: &Json<'_>,
+        tree: Json<'a>,
     ) -> Result<(), LoadFault>
         ensures taken { IsTaken result self.new (Ok (with_kind kind
-            (of_kind kind self.old ++ (url.now, tree_of tree.now) ∷ []) self.old)) }
+            (of_kind kind self.old ++ (url.now, tree_of tree.entry) ∷ []) self.old)) }
         ensures blameless { failed_loading result ≡ 0 }
     {
-        let tree = tree.detach(alloc)?;
         Ok(self.push(alloc, kind, url, tree)?)
     }
 
@@ -169,16 +164,16 @@ impl Package {
         alloc: Global,
         kind: Kind,
         url: &str,
-        tree: &Json<'_>,
+        tree: Json<'a>,
     ) -> Result<(), LoadFault>
         ensures taken { IsTaken result self.new
-            (or_clash (join (record { kind = kind; url = url.now; tree = tree_of tree.now }) self.old)) }
+            (or_clash (join (record { kind = kind; url = url.now; tree = tree_of tree.entry }) self.old)) }
         ensures blameless { failed_loading result ≡ 0 }
     {
         match self.at_url(kind, url) {
-            None => self.push_copy(alloc, kind, url, tree),
+            None => self.push_definition(alloc, kind, url, tree),
             Some(there) => {
-                if json_eq_in(alloc, there, tree)? {
+                if json_eq_in(alloc, there, &tree)? {
                     Ok(())
                 } else {
                     Err(clash(alloc, url))
@@ -186,15 +181,26 @@ impl Package {
             }
         }
     }
+
+    /// The same package in memory of its own: it borrows from nothing.
+    pub fn detach(&self, alloc: Global) -> Result<Package<'static>, NoMemory>
+        ensures { Gives (λ p. p) result self.now }
+    {
+        Ok(Package {
+            structure_definitions: self.structure_definitions.detach(alloc)?,
+            value_sets: self.value_sets.detach(alloc)?,
+            code_systems: self.code_systems.detach(alloc)?,
+        })
+    }
 }
 
 /// The urls of a kind, in order.
 #[derive(Drop)]
-pub struct Names<'a> {
-    rest: &'a [UrlEntry],
+pub struct Names<'p, 'a> {
+    rest: &'p [UrlEntry<'a>],
 }
 
-impl<'a> Model for Names<'a> {
+impl<'p, 'a> Model for Names<'p, 'a> {
     ghost use Rattle.std.specs.Prelude.{ℕ, List};
     ghost use Rattle.std.specs.Map.{keys_of};
     ghost use Rattle.fhir_package.specs.View.{entries_seen};
@@ -204,16 +210,16 @@ impl<'a> Model for Names<'a> {
     ghost view = { λ n. keys_of (entries_seen n.rest.now) };
 }
 
-impl<'a> Iterator for Names<'a> {
+impl<'p, 'a> Iterator for Names<'p, 'a> {
     ghost use Rattle.std.specs.Iterator.{YieldsFirstRef, item_count};
 
-    type Item = &'a str;
+    type Item = &'p str;
 
     ghost next_gives = { YieldsFirstRef (λ n. n) };
 
     ghost remaining = { item_count (λ n. n) };
 
-    fn next(&mut self) -> Option<&'a str> {
+    fn next(&mut self) -> Option<&'p str> {
         let [first, rest @ ..] = self.rest else {
             return None;
         };

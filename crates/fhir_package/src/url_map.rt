@@ -5,6 +5,7 @@ ghost use Rattle.std.specs.Option.{option_map, option_copied};
 ghost use Rattle.std.specs.Map.{keys_of, lookup};
 ghost use Rattle.std.specs.Str.{bytes_eq};
 ghost use Rattle.fhir_json.specs.Views.{tree_of, tree_seen};
+ghost use Rattle.fhir_json.specs.Memory.{Gives};
 ghost use Rattle.fhir_package.specs.View.{entries_seen, entry_seen};
 
 use fhir_json::{Json, NoMemory};
@@ -14,22 +15,22 @@ use std::marker::Model;
 
 /// A tree and its url.
 #[derive(Drop)]
-pub(crate) struct UrlEntry {
+pub(crate) struct UrlEntry<'a> {
     pub(crate) url: String,
-    pub(crate) tree: Json<'static>,
+    pub(crate) tree: Json<'a>,
 }
 
 /// Trees under their urls, in the order in which they were put in.
 #[derive(Drop)]
-pub(crate) struct UrlMap {
-    entries: Vec<UrlEntry>,
+pub(crate) struct UrlMap<'a> {
+    entries: Vec<UrlEntry<'a>>,
     urls: Index,
 }
 
-impl Model for UrlMap {
-    ghost use Rattle.fhir_package.specs.Definitions.{Entries};
+impl<'a> Model for UrlMap<'a> {
+    ghost use Rattle.fhir_package.specs.Definitions.{ByUrl};
 
-    ghost Value = { Entries };
+    ghost Value = { ByUrl };
 
     ghost use Rattle.fhir_json.specs.Coding.{tree_code};
     ghost use Rattle.std.specs.Coded.{codes};
@@ -45,13 +46,13 @@ impl Model for UrlMap {
     ghost invariant = { λ m. Finds m.urls (keys_of (entries_seen m.entries.items)) };
 }
 
-fn entry_at(entries: &[UrlEntry], place: usize) -> Option<&UrlEntry>
+fn entry_at<'p, 'a>(entries: &'p [UrlEntry<'a>], place: usize) -> Option<&'p UrlEntry<'a>>
     ensures { option_map entry_seen (option_copied result) ≡ slice_get (entries_seen entries.now) place }
 {
     entries.get(place)
 }
 
-fn tree_at(entries: &[UrlEntry], place: usize) -> Option<&Json<'static>>
+fn tree_at<'p, 'a>(entries: &'p [UrlEntry<'a>], place: usize) -> Option<&'p Json<'a>>
     ensures { tree_seen result ≡ option_map (λ e. e.1) (slice_get (entries_seen entries.now) place) }
 {
     match entry_at(entries, place) {
@@ -60,9 +61,21 @@ fn tree_at(entries: &[UrlEntry], place: usize) -> Option<&Json<'static>>
     }
 }
 
-impl UrlMap {
+// The same trees under the same urls, in memory of their own.
+fn detach_entries(alloc: Global, entries: &[UrlEntry<'_>]) -> Result<UrlMap<'static>, NoMemory>
+    ensures { Gives (λ m. m) result (entries_seen entries.now) }
+{
+    let mut all = UrlMap::new(alloc);
+    for entry in entries {
+        let tree = entry.tree.detach(alloc)?;
+        all.push(alloc, entry.url.as_str(), tree)?;
+    }
+    Ok(all)
+}
+
+impl<'a> UrlMap<'a> {
     /// No trees, which allocates nothing.
-    pub(crate) fn new(alloc: Global) -> UrlMap
+    pub(crate) fn new(alloc: Global) -> UrlMap<'a>
         ensures { result ≡ [] }
     {
         UrlMap {
@@ -72,7 +85,7 @@ impl UrlMap {
     }
 
     /// The tree under a url.
-    pub(crate) fn get(&self, url: &str) -> Option<&Json<'static>>
+    pub(crate) fn get<'p>(&'p self, url: &str) -> Option<&'p Json<'a>>
         ensures { tree_seen result ≡ lookup (bytes_eq url.now) self.now }
     {
         match self.urls.get(url) {
@@ -82,7 +95,7 @@ impl UrlMap {
     }
 
     /// The url and the tree at a place.
-    pub(crate) fn at(&self, place: usize) -> Option<(&str, &Json<'static>)>
+    pub(crate) fn at(&self, place: usize) -> Option<(&str, &Json<'a>)>
         ensures { option_map (λ e. (e.0.now, tree_of e.1.now)) result ≡ slice_get self.now place }
     {
         let entry = entry_at(&self.entries, place)?;
@@ -97,19 +110,21 @@ impl UrlMap {
     }
 
     /// The urls with their trees, in order.
-    pub(crate) fn entries(&self) -> &[UrlEntry]
+    pub(crate) fn entries(&self) -> &[UrlEntry<'a>]
         ensures { entries_seen result.now ≡ self.now }
     {
         &self.entries
     }
 
+    /// The same in memory of its own.
+    pub(crate) fn detach(&self, alloc: Global) -> Result<UrlMap<'static>, NoMemory>
+        ensures { Gives (λ m. m) result self.now }
+    {
+        detach_entries(alloc, &self.entries)
+    }
+
     /// Puts a tree under a url behind the others. Where another is there, that one is still found.
-    pub(crate) fn push(
-        &mut self,
-        alloc: Global,
-        url: &str,
-        tree: Json<'static>,
-    ) -> Result<(), NoMemory>
+    pub(crate) fn push(&mut self, alloc: Global, url: &str, tree: Json<'a>) -> Result<(), NoMemory>
         ensures { OnOk result (self.new ≡ self.old ++ (url.now, tree_of tree.entry) ∷ []) }
     {
         let own_url = String::from_str(alloc, url)?;

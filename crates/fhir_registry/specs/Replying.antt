@@ -3,7 +3,9 @@ use Rattle.std.specs.Prelude.{◌≡◌, ℕ, List, [], ◌++◌, Option, None, 
 use Rattle.fhir_json.specs.Tree.{Text}
 use Rattle.fhir_package.specs.Definitions.{Definitions}
 use Rattle.fhir_package.specs.Folder.{Files}
-use Rattle.fhir_package.specs.Packing.{Refusal, pack}
+use Rattle.fhir_package.specs.declared.fault.LoadFault.{LoadFault}
+use Rattle.fhir_package.specs.Packing.{Refusal, pack_files}
+use Rattle.fhir_package.specs.Faults.{load_number, refusal_number}
 use Rattle.fhir_schema.specs.Schemas.{SchemaValue, schema_of}
 use Rattle.fhir_certificate.specs.declared.fault.CertFault.{CertFault}
 use Rattle.fhir_certificate.specs.declared.pair.Pair.{Pair}
@@ -13,7 +15,7 @@ use Rattle.fhir_certificate.specs.Reading.{reading}
 use Rattle.fhir_cert_check.specs.Rule.{RuleName}
 use Rattle.fhir_cert_check.specs.Checking.{answer_of}
 use Rattle.fhir_cert_check.specs.Inclusion.{Includes}
-use Rattle.fhir_registry.specs.Telling.{no_text, refusal_number, refusal_subject}
+use Rattle.fhir_registry.specs.Telling.{no_text, load_subject, refusal_subject}
 
 pub record ReplyValue : Type 0 where
   pub status : ℕ
@@ -24,9 +26,9 @@ pub record ReplyValue : Type 0 where
 abbrev pub fault_reply : Text → Text → ReplyValue
 fault_reply number subject = record { status = 3; out = []; err = number ++ codes " " ++ subject ++ codes "\n" }
 
--- the device didn't give a listing or a file of that name
-abbrev pub IsDeviceReply : ReplyValue → Type 0
-IsDeviceReply reply = (name : Text) × (reply ≡ fault_reply (codes "P1") name)
+-- the answer where a folder of that name gave no files
+abbrev pub load_fault_reply : Text → LoadFault → ReplyValue
+load_fault_reply folder fault = fault_reply (load_number fault) (load_subject folder fault)
 
 abbrev pub yes_reply : ReplyValue
 yes_reply = record { status = 0; out = codes "yes\n"; err = [] }
@@ -54,12 +56,10 @@ certify_reply name (Err refusal) certificate = fault_reply (refusal_number refus
 pub data RequestValue : Type 0 where
   certify : (folder file : List ℕ) → RequestValue
 
-abbrev pub reply_of : RequestValue → Result Definitions Refusal → Option Text → ReplyValue
-reply_of (certify folder file) p bytes = certify_reply file p bytes
-
--- the answer to a request, of a folder's files and the bytes of a certificate
-abbrev pub answer_to : RequestValue → Files → Option Text → ReplyValue
-answer_to request files bytes = reply_of request (pack files) bytes
+-- the answer to a request, of a folder's files or why there are none, and of the bytes of a certificate
+abbrev pub answer_to : RequestValue → Result Files LoadFault → Option Text → ReplyValue
+answer_to (certify folder file) (Ok files) bytes = certify_reply file (pack_files files) bytes
+answer_to (certify folder file) (Err fault) bytes = load_fault_reply folder fault
 
 -- the bytes spell a certificate, and each resource that conforms to its derived profile conforms to its base
 abbrev pub Promised : SchemaValue → Text → Type 0
@@ -69,6 +69,7 @@ Promised s bytes = (w : Written) × Spells bytes w × Includes s w.derived w.bas
 abbrev pub CertificatePromised : SchemaValue → Option Text → Type 0
 CertificatePromised s certificate = (bytes : Text) × (certificate ≡ Some bytes) × Promised s bytes
 
--- What status 0 of `certify` promises: the folder's files are a package, and the same of its schema.
-abbrev pub Promise : Files → Option Text → Type 0
-Promise files certificate = (p : Definitions) × (pack files ≡ Ok p) × CertificatePromised (schema_of p) certificate
+-- What status 0 of `certify` promises: the folder's files were read and are a package, and the same of its schema.
+abbrev pub Promise : Result Files LoadFault → Option Text → Type 0
+Promise (Ok files) certificate = (p : Definitions) × (pack_files files ≡ Ok p) × CertificatePromised (schema_of p) certificate
+Promise (Err fault) certificate = ⊥

@@ -1,6 +1,7 @@
 -- The numbers of the statuses.
 use Rattle.std.specs.Prelude.{ℕ}
 use Rattle.fhir_registry.specs.declared.reply.Status.{Status}
+use Rattle.fhir_registry.specs.declared.request.WordsFault.{WordsFault}
 use Rattle.fhir_registry.specs.declared.reply.Status.TheVariants.{Yes, No, Fault, Unwritten, Usage, NoMemory}
 
 abbrev pub code_of : Status → ℕ
@@ -10,3 +11,8 @@ code_of Fault = 3
 code_of Unwritten = 3
 code_of Usage = 4
 code_of NoMemory = 5
+
+-- the status where the words ask for nothing
+abbrev pub words_status : WordsFault → Status
+words_status WordsFault.Usage = Usage
+words_status WordsFault.NoMemory = NoMemory

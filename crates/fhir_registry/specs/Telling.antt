@@ -1,6 +1,8 @@
 -- What the program prints of pairs and of folders that are no packages.
-use Rattle.std.specs.Prelude.{◌++◌, codes}
+use Rattle.std.specs.Prelude.{◌++◌, codes, string_bytes}
 use Rattle.fhir_json.specs.Tree.{Text}
+use Rattle.fhir_package.specs.declared.fault.LoadFault.{LoadFault}
+use Rattle.fhir_package.specs.declared.fault.LoadFault.TheVariants.{Unlisted, Unread, NotJson, Clash, NoMemory}
 use Rattle.fhir_package.specs.Packing.{Refusal, not_json, clash}
 use Rattle.fhir_schema.specs.declared.node.NodeRef.{NodeRef}
 use Rattle.fhir_schema.specs.Schemas.{SchemaValue, url_at, id_of_node}
@@ -30,10 +32,14 @@ no_text s pair rule =
     codes "no: " ++ pair_word pair ++ node_text s (derived_of pair) ++ codes " " ++ node_text s (base_of pair)
     ++ codes ": " ++ rule_text rule ++ codes "\n"
 
-abbrev pub refusal_number : Refusal → Text
-refusal_number (not_json name) = codes "P2"
-refusal_number (clash url) = codes "P3"
-
 abbrev pub refusal_subject : Refusal → Text
 refusal_subject (not_json name) = name
 refusal_subject (clash url) = url
+
+-- what a fault is about, of a folder of that name
+abbrev pub load_subject : Text → LoadFault → Text
+load_subject folder Unlisted = folder
+load_subject folder (Unread name) = string_bytes name
+load_subject folder (NotJson name) = string_bytes name
+load_subject folder (Clash url) = string_bytes url
+load_subject folder NoMemory = folder

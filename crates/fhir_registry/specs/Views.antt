@@ -1,11 +1,8 @@
 -- What contracts see of the engine's arguments and answers.
-use Rattle.std.specs.Prelude.{ℕ, Option}
+use Rattle.std.specs.Prelude.{Option}
 use Rattle.std.specs.Borrow.{Bor}
 use Rattle.std.specs.Option.{option_map}
 use Rattle.fhir_json.specs.Tree.{Text}
-use Rattle.fhir_package.specs.Folder.{Files}
-use Rattle.fhir_package.specs.Memory.{files_of, failures_of}
-use Rattle.fhir_registry.specs.declared.directory.DirFolder.{DirFolder}
 use Rattle.fhir_registry.specs.declared.request.Request.{Request}
 use Rattle.fhir_registry.specs.declared.request.Request.TheVariants.{Certify}
 use Rattle.fhir_registry.specs.Replying.{RequestValue, certify}
@@ -16,10 +13,3 @@ bytes_seen file = option_map (λ bytes. bytes.now) file
 
 abbrev pub request_seen : Request → RequestValue
 request_seen (Certify folder file) = certify folder.now file.now
-
--- the files of a directory that was read, and how many calls on it have failed
-abbrev pub files_kept : DirFolder → Files
-files_kept d = files_of d.kept
-
-abbrev pub failures_kept : DirFolder → ℕ
-failures_kept d = failures_of d.kept

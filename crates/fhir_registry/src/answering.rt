@@ -1,15 +1,16 @@
 //! What is answered to a request, before anything is written.
 
-ghost use Rattle.std.specs.Prelude.{◌≡◌, IfOk, Result, Option};
+ghost use Rattle.std.specs.Prelude.{◌≡◌, IfOk, Result, Ok, Option};
 ghost use Rattle.fhir_json.specs.Tree.{Text};
 ghost use Rattle.fhir_json.specs.Memory.{Gives};
 ghost use Rattle.fhir_package.specs.Definitions.{Definitions};
-ghost use Rattle.fhir_package.specs.Packing.{Refusal, pack};
+ghost use Rattle.fhir_package.specs.Packing.{Refusal, pack_files};
 ghost use Rattle.fhir_package.specs.Faults.{IsRefused, failures_told};
 ghost use Rattle.fhir_schema.specs.Schemas.{schema_of};
 ghost use Rattle.fhir_cert_check.specs.Checking.{answer_of};
 ghost use Rattle.fhir_certificate.specs.Reading.{reading};
-ghost use Rattle.fhir_registry.specs.Replying.{answer_reply, certificate_reply, certify_reply, IsDeviceReply, Promised, CertificatePromised, Promise};
+ghost use Rattle.fhir_registry.specs.Replying.{answer_reply, certificate_reply, certify_reply, load_fault_reply, certify, answer_to, Promised, CertificatePromised, Promise};
+ghost use Rattle.fhir_registry.specs.Telling.{load_subject};
 ghost use Rattle.fhir_registry.specs.Views.{bytes_seen};
 
 use crate::reply::{Reply, fault_reply};
@@ -17,7 +18,7 @@ use crate::telling::wrong_reply;
 use fhir_cert_check::check_bytes;
 use fhir_certificate::CertFault;
 use fhir_json::NoMemory;
-use fhir_package::{Folder, LoadFault, Package, load};
+use fhir_package::{FolderFiles, LoadFault, Package, pack};
 use fhir_schema::Schema;
 use std::alloc::Global;
 
@@ -51,7 +52,7 @@ fn certificate_reply(
 fn package_reply(
     alloc: Global,
     name: &str,
-    loaded: &Package,
+    loaded: &Package<'_>,
     certificate: Option<&[u8]>,
 ) -> Result<Reply, NoMemory>
     ensures told { Gives (λ r. r) result (certificate_reply name.now (schema_of loaded.now) (bytes_seen certificate.entry)) }
@@ -61,38 +62,65 @@ fn package_reply(
     certificate_reply(alloc, name, &schema, certificate)
 }
 
-// What is answered where a folder of that name is no package.
-fn refusal_reply(alloc: Global, folder: &str, fault: &LoadFault) -> Result<Reply, NoMemory>
-    ensures told { (answer : Result Definitions Refusal) (name : Text) (certificate : Option Text)
-        → failures_told fault.now ≡ 0 → IsRefused fault.now answer → Gives (λ r. r) result (certify_reply name answer certificate) }
-    ensures device { IfOk result (λ r. failures_told fault.now ≡ 1 → IsDeviceReply r) }
-    ensures fault { IfOk result (λ r. r.status ≡ 3) }
+fn load_subject<'f>(folder: &'f str, fault: &'f LoadFault) -> &'f str
+    ensures { result.now ≡ load_subject folder.now fault.now }
 {
     match fault {
-        LoadFault::Unlisted => Ok(fault_reply(alloc, "P1", folder)?),
-        LoadFault::Unread(name) => Ok(fault_reply(alloc, "P1", name.as_str())?),
-        LoadFault::NotJson(name) => Ok(fault_reply(alloc, "P2", name.as_str())?),
-        LoadFault::Clash(url) => Ok(fault_reply(alloc, "P3", url.as_str())?),
-        LoadFault::NoMemory => Err(NoMemory),
+        LoadFault::Unlisted | LoadFault::NoMemory => folder,
+        LoadFault::Unread(name) | LoadFault::NotJson(name) => name.as_str(),
+        LoadFault::Clash(url) => url.as_str(),
     }
 }
 
-/// The answer to `certify`: of a folder and a certificate's file, of these names.
-pub fn certify<F: Folder>(
+fn load_fault_reply(alloc: Global, folder: &str, fault: &LoadFault) -> Result<Reply, NoMemory>
+    ensures told { Gives (λ r. r) result (load_fault_reply folder.now fault.now) }
+    ensures memory { IfOk result (λ r. fault.now ≡ LoadFault.NoMemory → ⊥) }
+{
+    if let LoadFault::NoMemory = fault {
+        return Err(NoMemory);
+    }
+    Ok(fault_reply(alloc, fault.number(), load_subject(folder, fault))?)
+}
+
+// What is answered where files are no package.
+fn refusal_reply(alloc: Global, fault: &LoadFault) -> Result<Reply, NoMemory>
+    ensures told { (answer : Result Definitions Refusal) (name : Text) (certificate : Option Text)
+        → failures_told fault.now ≡ 0 → IsRefused fault.now answer → Gives (λ r. r) result (certify_reply name answer certificate) }
+    ensures fault { IfOk result (λ r. r.status ≡ 3) }
+{
+    load_fault_reply(alloc, "", fault)
+}
+
+fn files_reply(
+    alloc: Global,
+    name: &str,
+    files: &FolderFiles,
+    certificate: Option<&[u8]>,
+) -> Result<Reply, NoMemory>
+    ensures told { Gives (λ r. r) result (certify_reply name.now (pack_files files.now) (bytes_seen certificate.entry)) }
+    ensures promised { IfOk result (λ r. r.status ≡ 0 → Promise (Ok files.now) (bytes_seen certificate.entry)) }
+{
+    match pack(alloc, files) {
+        Ok(package) => package_reply(alloc, name, &package, certificate),
+        Err(fault) => refusal_reply(alloc, &fault),
+    }
+}
+
+/// The answer to `certify`: of a folder and a certificate's file, of these names. The folder's files are these, or the fault
+/// says why there are none.
+pub fn certify(
     alloc: Global,
     folder_name: &str,
     certificate_name: &str,
-    folder: &mut F,
+    files: &Result<FolderFiles, LoadFault>,
     certificate: Option<&[u8]>,
 ) -> Result<Reply, NoMemory>
-    ensures told { F.failed_calls folder.new ≡ F.failed_calls folder.old
-        → Gives (λ r. r) result (certify_reply certificate_name.now (pack (F.files folder.old)) (bytes_seen certificate.entry)) }
-    ensures device { (F.failed_calls folder.new ≡ F.failed_calls folder.old → ⊥) → IfOk result IsDeviceReply }
-    ensures promised { IfOk result (λ r. r.status ≡ 0 → Promise (F.files folder.old) (bytes_seen certificate.entry)) }
-    ensures files { F.files folder.new ≡ F.files folder.old }
+    ensures told { Gives (λ r. r) result
+        (answer_to (certify folder_name.now certificate_name.now) files.now (bytes_seen certificate.entry)) }
+    ensures promised { IfOk result (λ r. r.status ≡ 0 → Promise files.now (bytes_seen certificate.entry)) }
 {
-    match load(alloc, folder) {
-        Ok(loaded) => package_reply(alloc, certificate_name, &loaded, certificate),
-        Err(fault) => refusal_reply(alloc, folder_name, &fault),
+    match files {
+        Ok(files) => files_reply(alloc, certificate_name, files, certificate),
+        Err(fault) => load_fault_reply(alloc, folder_name, fault),
     }
 }

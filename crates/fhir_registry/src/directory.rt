@@ -1,73 +1,88 @@
-//! A folder of a file system.
+//! Files of a file system.
 
-ghost use Rattle.std.specs.Prelude.{◌≡◌, IfOk, IfErr};
+ghost use Rattle.std.specs.Prelude.{◌≡◌, IfErr};
 ghost use Rattle.std.specs.IoError.{error_kind};
-ghost use Rattle.fhir_registry.specs.Views.{failures_kept};
+ghost use Rattle.fhir_package.specs.Faults.{IsOfDevice};
 
-use fhir_json::NoMemory;
-use fhir_package::{Folder, FolderFault, MemoryFolder, StoredFile};
+use fhir_package::{FolderFile, FolderFiles, LoadFault, is_json_name};
 use std::alloc::Global;
 use std::fs::DirEntry;
 use std::io::{ErrorKind, Read};
 use std::rt::Files;
 use std::{fs, io};
 
-/// The `.json` files of a directory, as they were when it was read: the names with the bytes of each, or with the fault
-/// that no bytes were given, or the fault that there was no listing.
+// What was found in a directory: the files that were read, and of those that weren't the first in the order of names.
 #[derive(Drop)]
-pub struct DirFolder {
-    kept: MemoryFolder,
+struct Found {
+    files: Vec<FolderFile>,
+    unread: Option<String>,
 }
 
-impl DirFolder {
-    /// Reads the files of the directory at a path whose names end in `.json`. The one refusal is want of memory; what the
-    /// device fails to give is kept as its fault.
-    pub fn open<R: Files + AllocGlobal + Clone + Drop>(
-        rt: &R,
-        path: &str,
-    ) -> Result<DirFolder, NoMemory>
-        ensures { IfOk result (λ d. failures_kept d ≡ 0) }
-    {
-        let kept = match files_at(rt, path) {
-            Ok(files) => MemoryFolder::new(rt.alloc(), files)?,
-            Err(error) if error.kind() == ErrorKind::OutOfMemory => return Err(NoMemory),
-            Err(_) => MemoryFolder::unlisted(rt.alloc()),
-        };
-        Ok(DirFolder { kept })
-    }
-}
-
-// The files of the directory at a path whose names end in `.json`. A file that the device doesn't give has no bytes; an
-// error is of the listing, or of memory. A file whose name isn't UTF-8 is passed over.
-fn files_at<R: Files + AllocGlobal + Clone + Drop>(
-    rt: &R,
-    path: &str,
-) -> io::Result<Vec<StoredFile>> {
-    let mut files = Vec::new(rt.alloc());
-    for entry in fs::read_dir(rt, path)? {
-        if let Some(file) = file_of(rt, entry)? {
-            files.push(file)?;
+impl Found {
+    fn add_unread(&mut self, name: String) {
+        match &self.unread {
+            Some(first) if first.as_str() <= name.as_str() => {}
+            _ => self.unread = Some(name),
         }
     }
-    Ok(files)
 }
 
-fn file_of<R: Files + AllocGlobal + Clone + Drop>(
+// Puts in what an entry of a directory is, if its name is UTF-8 and ends in `.json`. An error is of the listing, or of memory.
+fn take_entry<R: Files + AllocGlobal + Clone + Drop>(
     rt: &R,
     entry: io::Result<DirEntry<R, Global>>,
-) -> io::Result<Option<StoredFile>> {
+    found: &mut Found,
+) -> io::Result<()> {
     let entry = match entry {
         Ok(entry) => entry,
-        Err(error) if error.kind() == ErrorKind::InvalidFilename => return Ok(None),
+        Err(error) if error.kind() == ErrorKind::InvalidFilename => return Ok(()),
         Err(error) => return Err(error),
     };
-    let name = entry.file_name();
-    if !name.ends_with(".json") {
-        return Ok(None);
+    if !is_json_name(entry.file_name()) {
+        return Ok(());
     }
-    let bytes = bytes_at(rt, entry.path().as_str())?;
-    let name = String::from_str(rt.alloc(), name)?;
-    Ok(Some(StoredFile { name, bytes }))
+    let name = String::from_str(rt.alloc(), entry.file_name())?;
+    match bytes_at(rt, entry.path().as_str())? {
+        Some(bytes) => found.files.push(FolderFile { name, bytes })?,
+        None => found.add_unread(name),
+    }
+    Ok(())
+}
+
+fn found_at<R: Files + AllocGlobal + Clone + Drop>(rt: &R, path: &str) -> io::Result<Found> {
+    let mut found = Found {
+        files: Vec::new(rt.alloc()),
+        unread: None,
+    };
+    for entry in fs::read_dir(rt, path)? {
+        take_entry(rt, entry, &mut found)?;
+    }
+    Ok(found)
+}
+
+fn files_of(alloc: Global, found: Found) -> Result<FolderFiles, LoadFault>
+    ensures { IfErr result IsOfDevice }
+{
+    let Found { files, unread } = found;
+    match unread {
+        Some(name) => Err(LoadFault::Unread(name)),
+        None => Ok(FolderFiles::of(alloc, files)?),
+    }
+}
+
+/// The regular files of the directory at a path whose names end in `.json`. A file whose name isn't UTF-8 is passed over. Of
+/// files that the device doesn't give the fault names the first in the order of their names.
+pub fn files_at<R: Files + AllocGlobal + Clone + Drop>(
+    rt: &R,
+    path: &str,
+) -> Result<FolderFiles, LoadFault>
+    ensures { IfErr result IsOfDevice }
+{
+    match found_at(rt, path) {
+        Ok(found) => files_of(rt.alloc(), found),
+        Err(error) if error.kind() == ErrorKind::OutOfMemory => Err(LoadFault::NoMemory),
+        Err(_) => Err(LoadFault::Unlisted),
+    }
 }
 
 // The bytes of a regular file: neither a directory, nor a device or a pipe, whose end may never come.
@@ -91,29 +106,5 @@ pub fn bytes_at<R: Files + AllocGlobal>(rt: &R, path: &str) -> io::Result<Option
         Ok(bytes) => Ok(Some(bytes)),
         Err(error) if error.kind() == ErrorKind::OutOfMemory => Err(error),
         Err(_) => Ok(None),
-    }
-}
-
-impl Folder for DirFolder {
-    ghost use Rattle.fhir_registry.specs.Views.{files_kept, failures_kept};
-
-    ghost files = { files_kept };
-
-    ghost failed_calls = { failures_kept };
-
-    fn list(&mut self, alloc: Global) -> Result<Vec<String>, FolderFault> {
-        self.kept.list(alloc)
-    }
-
-    fn lend(&self, name: &str) -> Option<&[u8]> {
-        self.kept.lend(name)
-    }
-
-    fn read(&mut self, alloc: Global, name: &str) -> Result<Vec<u8>, FolderFault> {
-        self.kept.read(alloc, name)
-    }
-
-    fn failures(&self) -> u64 {
-        self.kept.failures()
     }
 }

@@ -1,4 +1,4 @@
-//! The engine of the program: from words, a folder and the bytes of a file to a status and what is written.
+//! The engine of the program: from words, the files of a folder and the bytes of a file to a status and what is written.
 #![tactic(auto)]
 
 mod answering;
@@ -9,7 +9,7 @@ mod request;
 mod telling;
 
 pub use answering::certify;
-pub use directory::{DirFolder, bytes_at};
-pub use engine::{run, serve};
+pub use directory::{bytes_at, files_at};
+pub use engine::{refuse, respond};
 pub use reply::{Reply, Status};
 pub use request::{Request, WordsFault, request_of};

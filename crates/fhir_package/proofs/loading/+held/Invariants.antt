@@ -1,4 +1,4 @@
-use Rattle.std.proofs.Common.{◌≡◌, ◌+◌, ◌*◌, drop}
+use Rattle.std.proofs.Common.{◌≡◌, ◌+◌, ◌*◌}
 use Rattle.std.specs.List.{flat_map}
 use Rattle.fhir_json.specs.Views.{trees_of}
 use Rattle.fhir_package.specs.Packing.{in_entry, put_all}
@@ -15,5 +15,5 @@ decreases-take_entries l = 3 * l.levels + 2
 
 abbrev pub invariant-take_entries-loop-entry : goal.invariant-take_entries-loop-entry
 invariant-take_entries-loop-entry l =
-    put_all (flat_map (in_entry l.levels) (trees_of l.entries)) l.fn.into
-    ≡ put_all (flat_map (in_entry l.levels) (trees_of (drop l.entry-index l.entries))) l.into
+    put_all (flat_map (in_entry l.levels) (trees_of l.fn.entries.items)) l.fn.into
+    ≡ put_all (flat_map (in_entry l.levels) (trees_of l.entry-iterator.rest.items)) l.into

@@ -6,5 +6,5 @@ use Rattle.fhir_package.proofs.package.Package.join.Goals as goal
 
 pub returns-in-None-clause-taken : goal.returns-in-None-clause-taken
 returns-in-None-clause-taken c =
-    let d : Definition = record { kind = c.args.kind; url = c.args.url.now; tree = tree_of c.args.tree.now } in
-    rw (join-new d c.args.self.now (sym c.in-None.ensures)) c.push_copy.ensures.taken
+    let d : Definition = record { kind = c.args.kind; url = c.args.url.now; tree = tree_of c.args.tree } in
+    rw (join-new d c.args.self.now (sym c.in-None.ensures)) c.push_definition.ensures.taken

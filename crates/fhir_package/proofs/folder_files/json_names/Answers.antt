@@ -4,7 +4,7 @@ use Rattle.std.specs.declared.alloc.Global.{Global}
 use Rattle.fhir_json.specs.Tree.{Text}
 use Rattle.fhir_package.specs.Packing.{is_json_name, ordered_with}
 use Rattle.fhir_package.proofs.Ordered.{names_taken, texts_of, texts-insert_key}
-use Rattle.fhir_package.proofs.loading.json_names.Goals as goal
+use Rattle.fhir_package.proofs.folder_files.json_names.Goals as goal
 
 pub loop-name-preserved-in_ok-insert : goal.loop-name-preserved-in_ok-insert
 loop-name-preserved-in_ok-insert c =
