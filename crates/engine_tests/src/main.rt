@@ -10,7 +10,8 @@
 //!   word makes standard output take nothing, and isn't the program's.
 #![tactic(auto)]
 
-use fhir_registry::{DirFolder, Request, Status, bytes_at, request_of, run};
+use fhir_package::{FolderFiles, LoadFault};
+use fhir_registry::{Request, Status, WordsFault, bytes_at, files_at, refuse, request_of, respond};
 use std::alloc::{AllocError, Global};
 use std::rt::Files;
 use std::{fs, io};
@@ -34,49 +35,38 @@ fn told<R: Files + AllocGlobal + Clone + Drop>(
 ) -> io::Result<String> {
     let alloc = rt.alloc();
     let words = words_of(alloc, command)?;
-    let (folder, file) = match request_of(alloc, &words) {
-        Ok(Request::Certify { folder, file }) => (folder, file),
-        Err(_) => ("", ""),
+    let request = match request_of(alloc, &words) {
+        Ok(request) => request,
+        Err(fault) => return Ok(refusal(alloc, fault)?),
     };
+    let Request::Certify { folder, file } = request;
+    let files = files_at(rt, folder);
     let file = bytes_at(rt, file)?;
-    let folder = DirFolder::open(rt, folder);
-    let folder = folder.map_err(|_| io::Error::from(io::ErrorKind::OutOfMemory))?;
-    answer(alloc, &words, folder, file.as_deref(), is_full)
+    Ok(answer(alloc, request, &files, file.as_deref(), is_full)?)
+}
+
+fn refusal(alloc: Global, fault: WordsFault) -> Result<String, AllocError> {
+    let mut err = Vec::new(alloc);
+    let status = refuse(fault, &mut err);
+    line_of(alloc, status, &[], &err)
 }
 
 // What the engine answers; to an output that takes nothing, if it is full.
 fn answer(
     alloc: Global,
-    words: &[String],
-    mut folder: DirFolder,
+    request: Request<'_>,
+    files: &Result<FolderFiles, LoadFault>,
     file: Option<&[u8]>,
     is_full: bool,
-) -> io::Result<String> {
+) -> Result<String, AllocError> {
     let (mut out, mut err) = (Vec::new(alloc), Vec::new(alloc));
     let mut full: &mut [u8] = &mut [];
-    let mut input: &[u8] = b"";
     let status = if is_full {
-        run(
-            alloc,
-            words,
-            &mut folder,
-            file,
-            &mut input,
-            &mut full,
-            &mut err,
-        )
+        respond(alloc, request, files, file, &mut full, &mut err)
     } else {
-        run(
-            alloc,
-            words,
-            &mut folder,
-            file,
-            &mut input,
-            &mut out,
-            &mut err,
-        )
+        respond(alloc, request, files, file, &mut out, &mut err)
     };
-    Ok(line_of(alloc, status, &out, &err)?)
+    line_of(alloc, status, &out, &err)
 }
 
 fn line_of(alloc: Global, status: Status, out: &[u8], err: &[u8]) -> Result<String, AllocError> {

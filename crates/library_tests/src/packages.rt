@@ -1,7 +1,7 @@
 //! Questions on folders and packages. The case's text is a folder: each line is a file, its name, a blank and its bytes, or
 //! `!` where the device fails to give them.
 
-use fhir_package::{Folder, Kind, LoadFault, MemoryFolder, Package, StoredFile, load};
+use fhir_package::{Folder, Kind, LoadFault, MemoryFile, MemoryFolder, Package, load};
 use std::alloc::{AllocError, Global};
 
 #[derive(Clone, Copy)]
@@ -62,7 +62,7 @@ fn answer_of_call(
 }
 
 // A file's name, a blank and its bytes, or `!` where the device fails to give them.
-fn file_of(alloc: Global, line: &str) -> Result<StoredFile, AllocError> {
+fn file_of(alloc: Global, line: &str) -> Result<MemoryFile, AllocError> {
     let (name, text) = line.split_once(' ').unwrap_or((line, ""));
     let bytes = if text == "!" {
         None
@@ -70,7 +70,7 @@ fn file_of(alloc: Global, line: &str) -> Result<StoredFile, AllocError> {
         Some(text.as_bytes().to_vec(alloc)?)
     };
     let name = String::from_str(alloc, name)?;
-    Ok(StoredFile { name, bytes })
+    Ok(MemoryFile { name, bytes })
 }
 
 fn folder_of_lines(alloc: Global, text: &[u8]) -> Result<MemoryFolder, AllocError> {
@@ -82,20 +82,20 @@ fn folder_of_lines(alloc: Global, text: &[u8]) -> Result<MemoryFolder, AllocErro
     MemoryFolder::new(alloc, files).map_err(|_| AllocError)
 }
 
-fn copy_of(alloc: Global, file: &StoredFile) -> Result<StoredFile, AllocError> {
+fn copy_of(alloc: Global, file: &MemoryFile) -> Result<MemoryFile, AllocError> {
     let bytes = match &file.bytes {
         Some(bytes) => Some(bytes.to_vec(alloc)?),
         None => None,
     };
     let name = String::from_str(alloc, file.name.as_str())?;
-    Ok(StoredFile { name, bytes })
+    Ok(MemoryFile { name, bytes })
 }
 
 /// What files are loaded as.
 pub(crate) fn package_of(
     alloc: Global,
-    files: &[StoredFile],
-) -> Result<Result<Package, LoadFault>, AllocError> {
+    files: &[MemoryFile],
+) -> Result<Result<Package<'static>, LoadFault>, AllocError> {
     let mut copies = Vec::new(alloc);
     for file in files {
         copies.push(copy_of(alloc, file)?)?;
@@ -154,7 +154,7 @@ fn read_all(alloc: Global, folder: &mut MemoryFolder, names: &str) -> Result<Str
     Ok(all)
 }
 
-fn put_names(text: &mut String, package: &Package, kind: Kind) -> Result<(), AllocError> {
+fn put_names(text: &mut String, package: &Package<'_>, kind: Kind) -> Result<(), AllocError> {
     for name in package.names(kind) {
         text.push(' ')?;
         text.push_str(name)?;
@@ -163,7 +163,7 @@ fn put_names(text: &mut String, package: &Package, kind: Kind) -> Result<(), All
 }
 
 // The urls of a package, kind by kind.
-fn names_of(alloc: Global, package: &Package) -> Result<String, AllocError> {
+fn names_of(alloc: Global, package: &Package<'_>) -> Result<String, AllocError> {
     let mut text = String::from_str(alloc, "S")?;
     put_names(&mut text, package, Kind::StructureDefinition)?;
     text.push_str(", V")?;
@@ -195,7 +195,7 @@ fn kind_of(name: &str) -> Kind {
 
 fn answer_of_package(
     alloc: Global,
-    package: &Package,
+    package: &Package<'_>,
     call: Call,
     argument: &str,
 ) -> Result<String, AllocError> {
@@ -211,7 +211,7 @@ fn answer_of_package(
 // The url and the name of the definition at a place.
 fn told_place(
     alloc: Global,
-    package: &Package,
+    package: &Package<'_>,
     kind: Kind,
     place: usize,
 ) -> Result<String, AllocError> {
@@ -222,7 +222,7 @@ fn told_place(
 }
 
 // The name of the definition at a url.
-fn name_at<'p>(package: &'p Package, kind: Kind, url: &str) -> &'p str {
+fn name_at<'p>(package: &'p Package<'_>, kind: Kind, url: &str) -> &'p str {
     match package.at_url(kind, url) {
         Some(tree) => tree.text_at("name"),
         None => "-",
@@ -230,7 +230,7 @@ fn name_at<'p>(package: &'p Package, kind: Kind, url: &str) -> &'p str {
 }
 
 // What is at each of three places of a kind and under two urls, and how many there are.
-fn places_of(alloc: Global, package: &Package, kind: Kind) -> Result<String, AllocError> {
+fn places_of(alloc: Global, package: &Package<'_>, kind: Kind) -> Result<String, AllocError> {
     let mut text = String::new(alloc);
     for place in 0..3 {
         text.push_str(told_place(alloc, package, kind, place)?.as_str())?;
