@@ -1,6 +1,6 @@
 //! Questions on folders and packages.
 
-use fhir_package::{Folder, Kind, LoadFault, MemoryFolder, Package, StoredFile, load};
+use fhir_package::{Folder, Kind, LoadFault, MemoryFile, MemoryFolder, Package, load};
 use std::alloc::{AllocError, Global};
 
 /// The answer of a call on a folder.
@@ -20,7 +20,7 @@ pub(crate) fn answer(
 }
 
 // A file's name, a blank and its bytes, or `!` where the device fails to give them.
-fn file_of(alloc: Global, text: &str) -> Result<StoredFile, AllocError> {
+fn file_of(alloc: Global, text: &str) -> Result<MemoryFile, AllocError> {
     let (name, text) = text.split_once(' ').unwrap_or((text, ""));
     let bytes = if text == "!" {
         None
@@ -28,7 +28,7 @@ fn file_of(alloc: Global, text: &str) -> Result<StoredFile, AllocError> {
         Some(text.as_bytes().to_vec(alloc)?)
     };
     let name = String::from_str(alloc, name)?;
-    Ok(StoredFile { name, bytes })
+    Ok(MemoryFile { name, bytes })
 }
 
 /// A folder of files with ` & ` between them.

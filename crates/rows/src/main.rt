@@ -4,8 +4,9 @@
 //! to an output that takes nothing.
 #![tactic(auto)]
 
-use fhir_registry::{DirFolder, Request, Status, bytes_at, request_of, run};
+use fhir_registry::{Request, Status, bytes_at, files_at, refuse, request_of, respond};
 use std::alloc::{AllocError, Global};
+use std::io::Write;
 use std::rt::Files;
 use std::{fs, io};
 
@@ -20,57 +21,35 @@ fn words_of(alloc: Global, row: &str) -> Result<Vec<String>, AllocError> {
     Ok(words)
 }
 
-// The status of a row, with what it writes.
+// The status of a row, with what it writes; to an output that takes nothing, if it is full.
 fn told<R: Files + AllocGlobal + Clone + Drop>(
     rt: &R,
     row: &str,
     is_full: bool,
 ) -> io::Result<String> {
     let alloc = rt.alloc();
-    let words = words_of(alloc, row)?;
-    let (folder, file) = match request_of(alloc, &words) {
-        Ok(Request::Certify { folder, file }) => (folder, file),
-        Err(_) => ("", ""),
-    };
-    let file = bytes_at(rt, file)?;
-    let folder = DirFolder::open(rt, folder);
-    let folder = folder.map_err(|_| io::Error::from(io::ErrorKind::OutOfMemory))?;
-    answer(alloc, &words, folder, file.as_deref(), is_full)
-}
-
-// What the engine answers; to an output that takes nothing, if it is full.
-fn answer(
-    alloc: Global,
-    words: &[String],
-    mut folder: DirFolder,
-    file: Option<&[u8]>,
-    is_full: bool,
-) -> io::Result<String> {
     let (mut out, mut err) = (Vec::new(alloc), Vec::new(alloc));
     let mut full: &mut [u8] = &mut [];
-    let mut input: &[u8] = b"";
-    let status = if is_full {
-        run(
-            alloc,
-            words,
-            &mut folder,
-            file,
-            &mut input,
-            &mut full,
-            &mut err,
-        )
-    } else {
-        run(
-            alloc,
-            words,
-            &mut folder,
-            file,
-            &mut input,
-            &mut out,
-            &mut err,
-        )
+    let words = words_of(alloc, row)?;
+    let status = match request_of(alloc, &words) {
+        Ok(request) if is_full => answer(rt, request, &mut full, &mut err)?,
+        Ok(request) => answer(rt, request, &mut out, &mut err)?,
+        Err(fault) => refuse(fault, &mut err),
     };
     Ok(line_of(alloc, status, &out, &err)?)
+}
+
+// What the engine answers.
+fn answer<R: Files + AllocGlobal + Clone + Drop, W: Write>(
+    rt: &R,
+    request: Request<'_>,
+    out: &mut W,
+    err: &mut Vec<u8>,
+) -> io::Result<Status> {
+    let Request::Certify { folder, file } = request;
+    let file = bytes_at(rt, file)?;
+    let files = files_at(rt, folder);
+    Ok(respond(rt.alloc(), request, &files, file.as_deref(), out, err))
 }
 
 fn line_of(alloc: Global, status: Status, out: &[u8], err: &[u8]) -> Result<String, AllocError> {
