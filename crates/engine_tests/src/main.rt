@@ -10,9 +10,9 @@
 //!   word makes standard output take nothing, and isn't the program's.
 #![tactic(auto)]
 
-use fhir_package::{FolderFiles, LoadFault};
-use fhir_registry::{Request, Status, WordsFault, bytes_at, files_at, refuse, request_of, respond};
+use fhir_registry::{Request, Status, bytes_at, files_at, refuse, request_of, respond};
 use std::alloc::{AllocError, Global};
+use std::io::Write;
 use std::rt::Files;
 use std::{fs, io};
 
@@ -27,46 +27,35 @@ fn words_of(alloc: Global, command: &str) -> Result<Vec<String>, AllocError> {
     Ok(words)
 }
 
-// The status of a command, with what it writes.
+// The status of a command, with what it writes; to an output that takes nothing, if it is full.
 fn told<R: Files + AllocGlobal + Clone + Drop>(
     rt: &R,
     command: &str,
     is_full: bool,
 ) -> io::Result<String> {
     let alloc = rt.alloc();
-    let words = words_of(alloc, command)?;
-    let request = match request_of(alloc, &words) {
-        Ok(request) => request,
-        Err(fault) => return Ok(refusal(alloc, fault)?),
-    };
-    let Request::Certify { folder, file } = request;
-    let files = files_at(rt, folder);
-    let file = bytes_at(rt, file)?;
-    Ok(answer(alloc, request, &files, file.as_deref(), is_full)?)
-}
-
-fn refusal(alloc: Global, fault: WordsFault) -> Result<String, AllocError> {
-    let mut err = Vec::new(alloc);
-    let status = refuse(fault, &mut err);
-    line_of(alloc, status, &[], &err)
-}
-
-// What the engine answers; to an output that takes nothing, if it is full.
-fn answer(
-    alloc: Global,
-    request: Request<'_>,
-    files: &Result<FolderFiles, LoadFault>,
-    file: Option<&[u8]>,
-    is_full: bool,
-) -> Result<String, AllocError> {
     let (mut out, mut err) = (Vec::new(alloc), Vec::new(alloc));
     let mut full: &mut [u8] = &mut [];
-    let status = if is_full {
-        respond(alloc, request, files, file, &mut full, &mut err)
-    } else {
-        respond(alloc, request, files, file, &mut out, &mut err)
+    let words = words_of(alloc, command)?;
+    let status = match request_of(alloc, &words) {
+        Ok(request) if is_full => answer(rt, request, &mut full, &mut err)?,
+        Ok(request) => answer(rt, request, &mut out, &mut err)?,
+        Err(fault) => refuse(fault, &mut err),
     };
-    line_of(alloc, status, &out, &err)
+    Ok(line_of(alloc, status, &out, &err)?)
+}
+
+// What the engine answers.
+fn answer<R: Files + AllocGlobal + Clone + Drop, W: Write>(
+    rt: &R,
+    request: Request<'_>,
+    out: &mut W,
+    err: &mut Vec<u8>,
+) -> io::Result<Status> {
+    let Request::Certify { folder, file } = request;
+    let file = bytes_at(rt, file)?;
+    let files = files_at(rt, folder);
+    Ok(respond(rt.alloc(), request, &files, file.as_deref(), out, err))
 }
 
 fn line_of(alloc: Global, status: Status, out: &[u8], err: &[u8]) -> Result<String, AllocError> {
