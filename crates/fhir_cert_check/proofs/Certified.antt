@@ -22,7 +22,8 @@ first_in-append f [] qs = refl
 first_in-append f (p ∷ ps) qs = go (f p) (first_in-append f ps qs)
   where
     go : (o : Option RuleName) → first_in f (ps ++ qs) ≡ option_or (first_in f ps) (first_in f qs)
-        → option_map_or (λ rule. Some (p, rule)) o (first_in f (ps ++ qs)) ≡ option_or (option_map_or (λ rule. Some (p, rule)) o (first_in f ps)) (first_in f qs)
+        → option_map_or (λ rule. Some (p, rule)) o (first_in f (ps ++ qs))
+        ≡ option_or (option_map_or (λ rule. Some (p, rule)) o (first_in f ps)) (first_in f qs)
     go None e = e
     go (Some rule) e = refl
 

@@ -11,16 +11,15 @@ use Rattle.fhir_json.specs.Tree.{Text, Tree}
 use Rattle.fhir_json.specs.Tree.{Property}
 use Rattle.fhir_json.specs.Fields.{is_object}
 use Rattle.fhir_matching.specs.Equality.{equal}
-use Rattle.fhir_elements.specs.declared.codes.Max.{Max}
-use Rattle.fhir_elements.specs.declared.codes.Max.TheVariants.{Unbounded, UpTo}
-use Rattle.fhir_elements.specs.Codes.{is_within}
+use Rattle.fhir_elements.specs.declared.max.Max.{Max}
+use Rattle.fhir_elements.specs.declared.max.Max.TheVariants.{Unbounded, UpTo}
+use Rattle.fhir_elements.specs.Max.{is_within}
 use Rattle.fhir_elements.specs.Element.{Element}
 use Rattle.fhir_schema.specs.declared.node.NodeRef.{NodeRef}
 use Rattle.fhir_schema.specs.Slots.{Slot}
 use Rattle.fhir_schema.specs.Schemas.{SchemaValue, element_at, is_root_node, slots, slot_named, types}
 use Rattle.fhir_schema.specs.Covers.{covers, type_at}
-use Rattle.fhir_instance.specs.Items.{Item, item, Kids, no_kids, kid, Interpretation, type_of, json_of}
-use Rattle.fhir_instance.specs.Items.{has_kids as has_children}
+use Rattle.fhir_instance.specs.Items.{Item, item, Kids, no_kids, kid, Interpretation, type_of, json_of, has_kids}
 use Rattle.fhir_instance.specs.Typing.{entry_of}
 use Rattle.fhir_instance.specs.Conformance.{Around, Child, least_of, is_count_within, is_fixed_to, fixed_holds, children_of_name, takes, slot_holds, kids_hold}
 use Rattle.fhir_instance.specs.Conformance.{is_untyped, facets_hold, root_holds, entry_holds, types_hold}
@@ -31,7 +30,7 @@ use Rattle.fhir_elements.specs.Tests.{all_hold}
 use Rattle.fhir_cert_check.specs.Rule.{RuleName}
 use Rattle.fhir_cert_check.specs.Rules.{entry_answers, types_answer, roots_answer, type_answers}
 use Rattle.fhir_cert_check.specs.Rules.{fixed_answers, max_answers, most_answers, bounds_answer, allows_none}
-use Rattle.fhir_cert_check.specs.Rules.{is_forbidden, cardinality_answers, is_forbidden_at, has_item, has_kids}
+use Rattle.fhir_cert_check.specs.Rules.{is_forbidden, cardinality_answers, is_forbidden_at, has_item_pair, has_kids_pair}
 use Rattle.fhir_cert_check.specs.Rules.{children_answer, entry_rules, own_slot_rules, slot_rules}
 use Rattle.fhir_cert_check.specs.Checking.{IsRight}
 use Rattle.fhir_cert_check.specs.Inclusion.{IncludesItems}
@@ -115,12 +114,12 @@ module _ (s : SchemaValue) (covers_on : (a b c : Text) → IsTrue (covers s a b)
   fixed_step : (x : Item) (p q : Tree) → IsTrue (equal q p) → IsTrue (is_fixed_to p x) → IsTrue (is_fixed_to q x)
   fixed_step x p q same = go (json_of x)
     where
-      go : (o : Option Tree) → IsTrue (option_map_or (λ json. equal p json && (is_object json || not (has_children x))) o false)
-          → IsTrue (option_map_or (λ json. equal q json && (is_object json || not (has_children x))) o false)
+      go : (o : Option Tree) → IsTrue (option_map_or (λ json. equal p json && (is_object json || not (has_kids x))) o false)
+          → IsTrue (option_map_or (λ json. equal q json && (is_object json || not (has_kids x))) o false)
       go None holds = holds
       go (Some json) holds =
-          let h = and_parts (equal p json) (is_object json || not (has_children x)) holds in
-          and_from (equal q json) (is_object json || not (has_children x)) (equal_on q p json same h.0) h.1
+          let h = and_parts (equal p json) (is_object json || not (has_kids x)) holds in
+          and_from (equal q json) (is_object json || not (has_kids x)) (equal_on q p json same h.0) h.1
 
   facets_step : (x : Item) (children : List Child) (n m : NodeRef) → IsTrue (fixed_answers s n m) → IsTrue (facets_hold s x children n)
       → IsTrue (facets_hold s x children m)
@@ -144,7 +143,7 @@ module _ (s : SchemaValue) (covers_on : (a b c : Text) → IsTrue (covers s a b)
   module _ (pairs : Pair → Bool) (right : IsRight s pairs) where
     -- a test of nodes that keeps to the pairs
     abbrev Keeps : (NodeRef → Bool) → Type 0
-    Keeps test = (n m : NodeRef) → IsTrue (has_item pairs n m) → IsTrue (test n) → IsTrue (test m)
+    Keeps test = (n m : NodeRef) → IsTrue (has_item_pair pairs n m) → IsTrue (test n) → IsTrue (test m)
 
     abbrev EachKeeps : List Child → Type 0
     EachKeeps children = AllByRecursion (λ c. Keeps c.conforms_to) children
@@ -154,11 +153,11 @@ module _ (s : SchemaValue) (covers_on : (a b c : Text) → IsTrue (covers s a b)
     entry_step name n m mine keeps = go (is_forbidden_at s n) refl
       where
         go : (b : Bool) → is_forbidden_at s n ≡ b
-            → IsTrue (all_hold (if b then [] else (has_item pairs n m, Rattle.fhir_cert_check.specs.Rule.entry name) ∷ [])) → IsTrue (count_holds n mine)
+            → IsTrue (all_hold (if b then [] else (has_item_pair pairs n m, Rattle.fhir_cert_check.specs.Rule.entry name) ∷ [])) → IsTrue (count_holds n mine)
             → IsTrue (list_all (λ c. c.conforms_to n) mine) → IsTrue (list_all (λ c. c.conforms_to m) mine)
         go true forbidden rules count each = rw (forbidden_step n mine forbidden count) refl
         go false allowed rules count each =
-            let pair = (and_parts (has_item pairs n m) true rules).0 in
+            let pair = (and_parts (has_item_pair pairs n m) true rules).0 in
             all_step (λ c. c.conforms_to n) (λ c. c.conforms_to m) mine
             (all_weaker (λ c. Keeps c.conforms_to) (λ c. IsTrue (c.conforms_to n) → IsTrue (c.conforms_to m)) (λ c keep. keep n m pair) mine keeps)
             each
@@ -185,7 +184,7 @@ module _ (s : SchemaValue) (covers_on : (a b c : Text) → IsTrue (covers s a b)
             rules
             (subst (λ name. IsTrue (takes s (entry_of n a) (children_of_name name children))) (sym (same_text b.name a.name own.0)) own.1)
 
-    kids_step : (children : List Child) → EachKeeps children → (n m : NodeRef) → IsTrue (has_kids pairs n m) → IsTrue (kids_hold s n children)
+    kids_step : (children : List Child) → EachKeeps children → (n m : NodeRef) → IsTrue (has_kids_pair pairs n m) → IsTrue (kids_hold s n children)
         → IsTrue (kids_hold s m children)
     kids_step children keeps n m pair holds =
         all_map (λ b. all_hold (slot_rules pairs s n m b)) (slot_holds s m children)
@@ -198,7 +197,8 @@ module _ (s : SchemaValue) (covers_on : (a b c : Text) → IsTrue (covers s a b)
           go (nat_eq (length (slots s m)) 0) refl (nat_eq (length (slots s n)) 0) answers
         where
           go : (b : Bool) → nat_eq (length (slots s m)) 0 ≡ b → (a : Bool)
-              → IsTrue (option_map_or (λ base. option_map_or (λ derived. has_kids pairs derived base) (cond a None (Some n)) false) (cond b None (Some m)) true)
+              → IsTrue (option_map_or (λ base. option_map_or (λ derived. has_kids_pair pairs derived base) (cond a None (Some n)) false)
+              (cond b None (Some m)) true)
               → IsTrue (kids_hold s m children)
           go true leaf a h = rw (none_of_length (slots s m) leaf) refl
           go false is true h = absurd (false≢true h)
@@ -267,5 +267,5 @@ module _ (s : SchemaValue) (covers_on : (a b c : Text) → IsTrue (covers s a b)
       each_keeps meaning around before no_kids = tt
       each_keeps meaning around before (kid name x kids) = (keeps meaning (below around name before) x, each_keeps meaning around (name ∷ before) kids)
 
-    pub includes : (n m : NodeRef) → IsTrue (has_item pairs n m) → IncludesItems s n m
+    pub includes : (n m : NodeRef) → IsTrue (has_item_pair pairs n m) → IncludesItems s n m
     includes n m pair meaning around x = keeps meaning around x n m pair

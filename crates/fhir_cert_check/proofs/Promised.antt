@@ -13,7 +13,7 @@ use Rattle.fhir_certificate.specs.Certificate.{CertificateValue}
 use Rattle.fhir_cert_check.specs.declared.answer.Answer.{Answer}
 use Rattle.fhir_cert_check.specs.declared.answer.Answer.TheVariants.{Yes, No}
 use Rattle.fhir_cert_check.specs.declared.pair_set.PairSet.{PairSet}
-use Rattle.fhir_cert_check.specs.Rules.{has_item}
+use Rattle.fhir_cert_check.specs.Rules.{has_item_pair}
 use Rattle.fhir_cert_check.specs.Checking.{is_among, roots_of, IsRight, IsCertificate, pairs_of, first_wrong, wrong_with}
 use Rattle.fhir_cert_check.specs.Inclusion.{IncludesItems, Includes}
 use Rattle.fhir_cert_check.specs.Views.{is_yes, wrong_in, rule_name}
@@ -53,7 +53,8 @@ roots_parts (Some n) (Some m) roots e =
     (ap (λ r. Some r.derived) same, ap (λ r. Some r.base) same)
 
 module _ (s : SchemaValue) (c : CertificateValue)
-    (includes : (pairs : Pair → Bool) → IsRight s pairs → (n m : NodeRef) → IsTrue (has_item pairs n m) → IncludesItems s n m) (cert : IsCertificate s c) where
+    (includes : (pairs : Pair → Bool) → IsRight s pairs → (n m : NodeRef) → IsTrue (has_item_pair pairs n m) → IncludesItems s n m)
+    (cert : IsCertificate s c) where
   parts : (root s c.derived ≡ Some cert.roots.derived) × (root s c.base ≡ Some cert.roots.base)
   parts = roots_parts (root s c.derived) (root s c.base) cert.roots cert.are_roots
 

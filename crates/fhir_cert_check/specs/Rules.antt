@@ -7,10 +7,10 @@ use Rattle.std.specs.List.{flat_map}
 use Rattle.fhir_json.specs.Tree.{Text}
 use Rattle.fhir_json.specs.Tree.{Property}
 use Rattle.fhir_matching.specs.Equality.{equal}
-use Rattle.fhir_elements.specs.declared.codes.Max.{Max}
-use Rattle.fhir_elements.specs.declared.codes.Max.TheVariants.{Unbounded, UpTo}
-use Rattle.fhir_elements.specs.Codes.{is_within}
-use Rattle.fhir_elements.specs.Parts.{TypeEntry}
+use Rattle.fhir_elements.specs.declared.max.Max.{Max}
+use Rattle.fhir_elements.specs.declared.max.Max.TheVariants.{Unbounded, UpTo}
+use Rattle.fhir_elements.specs.Max.{is_within}
+use Rattle.fhir_elements.specs.TypeEntry.{TypeEntry}
 use Rattle.fhir_elements.specs.Element.{Element}
 use Rattle.fhir_schema.specs.declared.node.NodeRef.{NodeRef}
 use Rattle.fhir_schema.specs.Slots.{Slot}
@@ -80,17 +80,17 @@ is_forbidden_at s n = option_map_or is_forbidden (element_at s n) false
 -- ---- the rules, in their order
 
 module _ (pairs : Pair → Bool) where
-  abbrev pub has_item : NodeRef → NodeRef → Bool
-  has_item n m = pairs (Item (record { derived = n; base = m }))
+  abbrev pub has_item_pair : NodeRef → NodeRef → Bool
+  has_item_pair n m = pairs (Item (record { derived = n; base = m }))
 
-  abbrev pub has_kids : NodeRef → NodeRef → Bool
-  has_kids n m = pairs (Kids (record { derived = n; base = m }))
+  abbrev pub has_kids_pair : NodeRef → NodeRef → Bool
+  has_kids_pair n m = pairs (Kids (record { derived = n; base = m }))
 
   module _ (s : SchemaValue) where
     -- the base node has no children, or there is a pair of the two nodes that have the children
     abbrev pub children_answer : NodeRef → NodeRef → Bool
     children_answer n m =
-        option_map_or (λ base. option_map_or (λ derived. has_kids derived base) (holder s n) false) (holder s m) true
+        option_map_or (λ base. option_map_or (λ derived. has_kids_pair derived base) (holder s n) false) (holder s m) true
 
     abbrev pub item_rules : NodeRef → NodeRef → List (Bool × RuleName)
     item_rules n m =
@@ -98,7 +98,7 @@ module _ (pairs : Pair → Bool) where
 
     -- where none may be, nothing more is asked
     abbrev pub entry_rules : Text → NodeRef → NodeRef → List (Bool × RuleName)
-    entry_rules name n m = if is_forbidden_at s n then [] else (has_item n m, entry name) ∷ []
+    entry_rules name n m = if is_forbidden_at s n then [] else (has_item_pair n m, entry name) ∷ []
 
     abbrev pub own_slot_rules : NodeRef → NodeRef → Slot → Option Slot → List (Bool × RuleName)
     own_slot_rules n m b None = (false, slot b.name) ∷ []

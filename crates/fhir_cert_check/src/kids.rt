@@ -8,7 +8,7 @@ ghost use Rattle.fhir_instance.specs.Conformance.{least_of};
 ghost use Rattle.fhir_elements.specs.Tests.{first_of};
 ghost use Rattle.fhir_cert_check.specs.Rule.{cardinality};
 ghost use Rattle.fhir_cert_check.specs.Rules.{max_answers, most_answers, bounds_answer, allows_none, is_forbidden};
-ghost use Rattle.fhir_cert_check.specs.Rules.{cardinality_answers, is_forbidden_at, has_item, entry_rules, slot_rules, kids_rules};
+ghost use Rattle.fhir_cert_check.specs.Rules.{cardinality_answers, is_forbidden_at, has_item_pair, entry_rules, slot_rules, kids_rules};
 ghost use Rattle.fhir_cert_check.specs.Views.{rule_name};
 ghost use Rattle.fhir_cert_check.specs.PairSet.{has_in};
 
@@ -83,8 +83,8 @@ fn is_forbidden_at(schema: &Schema, node: NodeRef) -> bool
     }
 }
 
-fn has_item(pairs: &PairSet, n: NodeRef, m: NodeRef) -> bool
-    ensures { result ≡ has_item (has_in pairs.now) n m }
+fn has_item_pair(pairs: &PairSet, n: NodeRef, m: NodeRef) -> bool
+    ensures { result ≡ has_item_pair (has_in pairs.now) n m }
 {
     pairs.has(Pair::Item(NodePair {
         derived: n,
@@ -110,7 +110,7 @@ fn entry_failing<'s>(
 ) -> Option<Rule<'s>>
     ensures { option_map rule_name result ≡ first_of (entry_rules (has_in pairs.now) schema.now name.now n m) }
 {
-    if is_forbidden_at(schema, n) || has_item(pairs, n, m) {
+    if is_forbidden_at(schema, n) || has_item_pair(pairs, n, m) {
         None
     } else {
         Some(Rule::Entry(name))

@@ -4,7 +4,7 @@ ghost use Rattle.std.specs.Prelude.{◌≡◌, Bool, IsTrue};
 ghost use Rattle.fhir_schema.specs.declared.node.NodeRef.{NodeRef};
 ghost use Rattle.fhir_schema.specs.Schemas.{SchemaValue};
 ghost use Rattle.fhir_certificate.specs.declared.pair.Pair.{Pair};
-ghost use Rattle.fhir_cert_check.specs.Rules.{has_item};
+ghost use Rattle.fhir_cert_check.specs.Rules.{has_item_pair};
 ghost use Rattle.fhir_cert_check.specs.Checking.{IsRight};
 ghost use Rattle.fhir_cert_check.specs.Inclusion.{IncludesItems};
 
@@ -15,7 +15,7 @@ use fhir_schema::covering_codes;
 /// to the base node, wherever it stands and whatever unread rules mean.
 pub fn inclusion()
     ensures { (s : SchemaValue) (pairs : Pair → Bool) → IsRight s pairs
-        → (n m : NodeRef) → IsTrue (has_item pairs n m) → IncludesItems s n m }
+        → (n m : NodeRef) → IsTrue (has_item_pair pairs n m) → IncludesItems s n m }
 {
     covering_codes();
     equivalence();

@@ -11,13 +11,13 @@ use thiserror::Error;
 #[derive(Clone, Copy, Debug, PartialEq, Eq, Error)]
 #[error("{}", self.number())]
 pub enum CertFault {
-    /// The bytes are not the text of a certificate.
+    /// `C1`: the bytes are not the text of a certificate.
     WrongFormat,
-    /// A definition is missing or can't be used, or an element is not its definition's.
+    /// `C2`: a definition is missing or can't be used, or an element is not its definition's.
     UnknownNode,
-    /// There are more than 1,048,576 pair lines.
+    /// `C3`: there are more than 1,048,576 pair lines.
     TooManyPairs,
-    /// A growth of memory was refused.
+    /// `C4`: a growth of memory was refused.
     NoMemory,
 }
 

@@ -9,18 +9,18 @@ under_from p i [] = []
 under_from p i (up ∷ ups) = if is_at p up then i ∷ under_from p (suc i) ups else under_from p (suc i) ups
 
 -- the same for each of n places from p on
-abbrev pub gathered_from : ℕ → ℕ → List (Option ℕ) → List (List ℕ)
-gathered_from p zero ups = []
-gathered_from p (suc n) ups = under_from p 0 ups ∷ gathered_from (suc p) n ups
+abbrev pub under_each_from : ℕ → ℕ → List (Option ℕ) → List (List ℕ)
+under_each_from p zero ups = []
+under_each_from p (suc n) ups = under_from p 0 ups ∷ under_each_from (suc p) n ups
 
-abbrev pub gathered : List (Option ℕ) → List (List ℕ)
-gathered ups = gathered_from 0 (length ups) ups
+abbrev pub under_each : List (Option ℕ) → List (List ℕ)
+under_each ups = under_each_from 0 (length ups) ups
 
 abbrev pub children_of : List Element → List (List ℕ)
-children_of es = gathered (map (child_place es) es)
+children_of es = under_each (map (child_place es) es)
 
 abbrev pub slices_of : List Element → List (List ℕ)
-slices_of es = gathered (map (slice_place es) es)
+slices_of es = under_each (map (slice_place es) es)
 
 -- the slices of the element at a place
 abbrev pub slices_at : List Element → ℕ → List ℕ

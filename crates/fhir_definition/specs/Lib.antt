@@ -7,3 +7,4 @@ pub mod Definition
 pub mod Views
 pub mod Gathering
 pub mod Worked
+pub mod Standing

@@ -1,5 +1,5 @@
 -- The tree that the ids of a snapshot's elements make (FHIR R4, ElementDefinition, id), by the places of the elements.
-use Rattle.std.specs.Prelude.{ℕ, suc, List, [], ◌∷◌, Bool, true, false, not, ◌&&◌, ◌==◌, nat_eq, Option, None, Some, is_some, if◌then◌else◌}
+use Rattle.std.specs.Prelude.{ℕ, suc, List, [], ◌∷◌, Bool, true, false, not, ◌&&◌, ◌==◌, nat_eq, Option, None, Some, is_some, is_none, if◌then◌else◌}
 use Rattle.std.specs.Option.{option_map_or, option_and_then}
 use Rattle.std.specs.List.{list_all, count_by, position}
 use Rattle.std.specs.Str.{bytes_eq}
@@ -31,7 +31,7 @@ abbrev pub up_of : Text → Option Text
 up_of id = if is_some (slice_of id) then sliced_of id else front_of id
 
 abbrev pub is_root : Element → Bool
-is_root e = not (is_some (up_of e.id))
+is_root e = is_none (up_of e.id)
 
 abbrev pub has_parent : List Element → Element → Bool
 has_parent es e = option_map_or (λ up. is_some (id_place es up)) (up_of e.id) true

@@ -1,15 +1,18 @@
 -- What is supported so far: flat definitions. Below the root their elements stand one level down, each of one type,
 -- and no element says more than how many there may be and what its value is fixed to.
-use Rattle.std.specs.Prelude.{length, Bool, true, false, not, ◌&&◌, ◌||◌, ◌==◌, nat_eq, is_some, codes}
+use Rattle.std.specs.Prelude.{length, Bool, true, false, not, ◌&&◌, ◌||◌, ◌==◌, nat_eq, is_some, is_none, codes}
 use Rattle.std.specs.Option.{option_map_or, option_and_then}
 use Rattle.std.specs.List.{list_all, list_any, ends_with, starts_with}
+use Rattle.fhir_json.specs.Bytes.{is_empty}
 use Rattle.fhir_json.specs.Tree.{Text}
-use Rattle.fhir_elements.specs.declared.codes.Severity.{Severity}
-use Rattle.fhir_elements.specs.declared.codes.Severity.TheVariants as severities
-use Rattle.fhir_elements.specs.declared.codes.Strength.{Strength}
-use Rattle.fhir_elements.specs.declared.codes.Strength.TheVariants as strengths
+use Rattle.fhir_elements.specs.declared.constraint.Severity.{Severity}
+use Rattle.fhir_elements.specs.declared.constraint.Severity.TheVariants as severities
+use Rattle.fhir_elements.specs.declared.binding.Strength.{Strength}
+use Rattle.fhir_elements.specs.declared.binding.Strength.TheVariants as strengths
 use Rattle.fhir_names.specs.Parents.{front_of, name_of, slice_of}
-use Rattle.fhir_elements.specs.Parts.{TypeEntry, Constraint, Binding}
+use Rattle.fhir_elements.specs.TypeEntry.{TypeEntry}
+use Rattle.fhir_elements.specs.Constraint.{Constraint}
+use Rattle.fhir_elements.specs.Binding.{Binding}
 use Rattle.fhir_elements.specs.Element.{Element}
 use Rattle.fhir_definition.specs.Snapshot.{is_root}
 
@@ -34,14 +37,14 @@ binds b = option_map_or is_required b.strength false && is_some b.value_set
 -- no value is asked for but by `fixed[x]`
 abbrev pub has_plain_value : Element → Bool
 has_plain_value e =
-    not (is_some e.pattern) && not (is_some e.min_value) && not (is_some e.max_value) && not (is_some e.max_length)
+    is_none e.pattern && is_none e.min_value && is_none e.max_value && is_none e.max_length
 
 abbrev pub has_plain_rules : Element → Bool
 has_plain_rules e =
     not (option_map_or binds e.binding false)
     && not (list_any must_hold e.constraints)
-    && not (is_some e.slicing)
-    && not (is_some e.content_reference)
+    && is_none e.slicing
+    && is_none e.content_reference
 
 -- neither a choice of types nor the name of a companion
 abbrev pub is_plain_name : Text → Bool
@@ -51,10 +54,10 @@ is_plain_name name =
 -- one level below the root, and no slice
 abbrev pub is_one_down : Text → Bool
 is_one_down id =
-    not (is_some (slice_of id)) && not (is_some (option_and_then front_of (front_of id))) && is_plain_name (name_of id)
+    is_none (slice_of id) && is_none (option_and_then front_of (front_of id)) && is_plain_name (name_of id)
 
 abbrev pub is_bare : TypeEntry → Bool
-is_bare entry = (length entry.profiles == 0) && (length entry.targets == 0)
+is_bare entry = is_empty entry.profiles && is_empty entry.targets
 
 abbrev pub is_plain_child : Element → Bool
 is_plain_child e = is_one_down e.id && (length e.types == 1) && list_all is_bare e.types

@@ -1,7 +1,7 @@
 //! Which elements stand under which.
 
 ghost use Rattle.std.specs.Prelude.{◌≡◌, [], replicate, IfOk, OnOk};
-ghost use Rattle.fhir_definition.specs.Children.{gathered, children_of, slices_of};
+ghost use Rattle.fhir_definition.specs.Children.{under_each, children_of, slices_of};
 ghost use Rattle.fhir_definition.specs.Gathering.{put_at};
 ghost use Rattle.fhir_definition.specs.Views.{lists_in};
 
@@ -31,8 +31,8 @@ fn put_at(all: &mut Vec<Vec<usize>>, at: Option<usize>, place: usize) -> Result<
 }
 
 // Each place under the one that it stands under: one pass, whatever stands where.
-fn gathered(alloc: Global, ups: &[Option<usize>]) -> Result<Vec<Vec<usize>>, AllocError>
-    ensures { IfOk result (λ v. lists_in v.items ≡ gathered ups.now) }
+fn under_each(alloc: Global, ups: &[Option<usize>]) -> Result<Vec<Vec<usize>>, AllocError>
+    ensures { IfOk result (λ v. lists_in v.items ≡ under_each ups.now) }
 {
     let mut all = empty_lists(alloc, ups.len())?;
     for (place, up) in ups.iter().enumerate() {
@@ -49,7 +49,7 @@ pub(crate) fn children_of(
     ensures { IfOk result (λ v. lists_in v.items ≡ children_of elements.now) }
 {
     let places = elements.child_places(alloc)?;
-    let children = gathered(alloc, &places)?;
+    let children = under_each(alloc, &places)?;
     Ok(children)
 }
 
@@ -61,6 +61,6 @@ pub(crate) fn slices_of(
     ensures { IfOk result (λ v. lists_in v.items ≡ slices_of elements.now) }
 {
     let places = elements.slice_places(alloc)?;
-    let slices = gathered(alloc, &places)?;
+    let slices = under_each(alloc, &places)?;
     Ok(slices)
 }

@@ -184,7 +184,7 @@ impl Definition {
     pub fn has_snapshot(&self) -> bool
         ensures { result ≡ has_snapshot self.now }
     {
-        self.elements().len() > 0
+        !self.elements().is_empty()
     }
 
     /// Whether its elements are a tree by their ids: each parent is there, and there is one root.

@@ -50,7 +50,7 @@ fn says_what_it_is(element: &ElementDef) -> bool
     ensures { result ≡ (is_root element.now || nat_lt 0 (length element.now.types)
         || is_some element.now.content_reference) }
 {
-    is_root(element) || element.types().len() > 0 || element.content_reference().is_some()
+    is_root(element) || !element.types().is_empty() || element.content_reference().is_some()
 }
 
 fn is_whole(element: &ElementDef) -> bool

@@ -18,9 +18,11 @@ mod elements;
 mod faults;
 mod head;
 mod kind;
+mod laws;
 mod snapshot;
 mod supported;
 
 pub use by_id::is_root;
 pub use definition::Definition;
 pub use kind::TypeKind;
+pub use laws::children_and_slices;

@@ -70,10 +70,10 @@ fn has_binding(element: &ElementDef) -> bool
 fn has_plain_value(element: &ElementDef) -> bool
     ensures { result ≡ has_plain_value element.now }
 {
-    !element.pattern().is_some()
-        && !element.min_value().is_some()
-        && !element.max_value().is_some()
-        && !element.max_length().is_some()
+    element.pattern().is_none()
+        && element.min_value().is_none()
+        && element.max_value().is_none()
+        && element.max_length().is_none()
 }
 
 fn has_plain_rules(element: &ElementDef) -> bool
@@ -81,8 +81,8 @@ fn has_plain_rules(element: &ElementDef) -> bool
 {
     !has_binding(element)
         && !has_judged(element.constraints())
-        && !element.slicing().is_some()
-        && !element.content_reference().is_some()
+        && element.slicing().is_none()
+        && element.content_reference().is_none()
 }
 
 fn is_plain_name(name: &str) -> bool
@@ -103,13 +103,13 @@ fn is_two_down(id: &str) -> bool
 fn is_one_down(id: &str) -> bool
     ensures { result ≡ is_one_down id.now }
 {
-    !slice_of(id).is_some() && !is_two_down(id) && is_plain_name(name_of(id))
+    slice_of(id).is_none() && !is_two_down(id) && is_plain_name(name_of(id))
 }
 
 fn is_bare(entry: &TypeEntry) -> bool
     ensures { result ≡ is_bare entry.now }
 {
-    entry.profiles().len() == 0 && entry.targets().len() == 0
+    entry.profiles().is_empty() && entry.targets().is_empty()
 }
 
 fn are_bare(entries: &[TypeEntry]) -> bool

@@ -1,2 +1,2 @@
-mod Integers
+mod WholeNumbers
 pub mod SeenCodes

@@ -1,11 +1,12 @@
 -- Codes that are seen from the last type to the first.
-use Rattle.std.proofs.Common.{◌≡◌, ℕ, ◌+◌, ◌<◌, zero, suc, Bool, true, false, not, ◌&&◌, List, [], ◌∷◌, length, drop, get_or, refl, ap, sym, ◌∙◌, add-one, subst}
+use Rattle.std.proofs.Common.{◌≡◌, ℕ, ◌+◌, ◌<◌, zero, suc, Bool, true, false, not, ◌&&◌, List, [], ◌∷◌, length, drop, get_or, refl, ap, sym, ◌∙◌, add-one}
+use Rattle.std.proofs.Common.{subst}
 use Rattle.std.proofs.Math.Seq.{drop-cons}
 use Rattle.fhir_json.specs.declared.json.Json.{Json}
 use Rattle.fhir_json.specs.Tree.{Tree}
 use Rattle.fhir_json.specs.Views.{tree_of, trees_of}
 use Rattle.fhir_names.specs.Places.{Places}
-use Rattle.fhir_elements.specs.Parts.{has_code, codes_differ}
+use Rattle.fhir_elements.specs.TypeEntry.{has_code, codes_differ}
 use Rattle.fhir_elements.specs.CodesSeen.{HaveCodes}
 
 -- one more at the front

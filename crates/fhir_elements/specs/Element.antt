@@ -4,16 +4,24 @@ use Rattle.std.specs.Prelude.{ℕ, ℤ, List, [], ◌∷◌, map, Bool, true, fa
 use Rattle.std.specs.Option.{option_map, option_map_or, option_and_then}
 use Rattle.std.specs.List.{list_all}
 use Rattle.fhir_json.specs.Tree.{Text, Tree, Property}
-use Rattle.fhir_json.specs.Fields.{field, is_object, text_in, text_at, count_in, items_in, choice_in, allows, allows_text, allows_count, allows_items, allows_choice}
+use Rattle.fhir_json.specs.Fields.{field, is_object, text_in, text_at, count_in, items_in, choice_in, allows, allows_text, allows_count, allows_items}
+use Rattle.fhir_json.specs.Fields.{allows_choice}
 use Rattle.fhir_names.specs.Ids.{read_id}
-use Rattle.fhir_elements.specs.declared.codes.Max.{Max}
+use Rattle.fhir_elements.specs.declared.max.Max.{Max}
 use Rattle.fhir_elements.specs.declared.reason.Reason.{Reason}
 use Rattle.fhir_elements.specs.declared.reason.Reason.TheVariants.{WrongField, MinOverMax, RepeatedType, WrongId}
 use Rattle.fhir_elements.specs.declared.fault.ElementFault.{ElementFault}
 use Rattle.fhir_elements.specs.declared.fault.ElementFault.TheVariants.{Unfit, NoMemory}
 use Rattle.fhir_elements.specs.Tests.{first_of}
-use Rattle.fhir_elements.specs.Codes.{code_in, allows_code, max_of, is_within, as_integer}
-use Rattle.fhir_elements.specs.Parts.{TypeEntry, Constraint, Binding, Slicing, is_type_entry, type_entry_of, codes_differ, is_constraint, constraint_of, is_binding, binding_of, is_slicing, slicing_of}
+use Rattle.fhir_elements.specs.Codes.{code_in, allows_code}
+use Rattle.fhir_elements.specs.Max.{max_of, is_within}
+use Rattle.fhir_elements.specs.Integers.{as_integer}
+use Rattle.fhir_elements.specs.TypeEntry.{TypeEntry, is_type_entry, type_entry_of, codes_differ}
+use Rattle.fhir_elements.specs.Constraint.{Constraint, is_constraint, constraint_of}
+use Rattle.fhir_elements.specs.Binding.{Binding}
+use Rattle.fhir_elements.specs.Slicing.{Slicing}
+use Rattle.fhir_elements.specs.Binding.{is_binding, binding_of}
+use Rattle.fhir_elements.specs.Slicing.{is_slicing, slicing_of}
 
 -- The fields of an element. A choice, as `fixed[x]`, is its whole name, as `fixedCode`, with its value.
 pub record Element : Type 0 where

@@ -1,5 +1,10 @@
 pub mod Tests
 pub mod Codes
-pub mod Parts
+pub mod Max
+pub mod Integers
+pub mod TypeEntry
+pub mod Constraint
+pub mod Binding
+pub mod Slicing
 pub mod Element
 pub mod CodesSeen

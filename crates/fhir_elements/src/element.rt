@@ -5,17 +5,22 @@ ghost use Rattle.std.specs.Option.{option_map};
 ghost use Rattle.fhir_json.specs.Views.{tree_of, property_of, text_seen, property_seen};
 ghost use Rattle.fhir_json.specs.Fields.{field, choice_in};
 ghost use Rattle.fhir_json.specs.Memory.{Gives, GivesOr};
-ghost use Rattle.fhir_elements.specs.Parts.{is_type_entry, is_constraint, is_binding, binding_of, is_slicing, slicing_of};
+ghost use Rattle.fhir_elements.specs.TypeEntry.{is_type_entry};
+ghost use Rattle.fhir_elements.specs.Constraint.{is_constraint};
+ghost use Rattle.fhir_elements.specs.Binding.{is_binding, binding_of};
+ghost use Rattle.fhir_elements.specs.Slicing.{is_slicing, slicing_of};
 ghost use Rattle.fhir_elements.specs.Element.{allows_part, allows_parts, has_right_texts, has_right_numbers, has_right_choices, has_right_parts, has_right_fields, has_right_bounds, has_readable_id, element_fault, fields_of, element_of, is_no_memory};
 
-use crate::codes::{Max, allows_code, allows_integer, code_in, integer_in};
+use crate::binding::{BindingDef, binding_of, is_binding};
+use crate::codes::{allows_code, code_in};
+use crate::constraint::{ConstraintDef, are_constraints, constraints_of};
 use crate::fault::ElementFault;
-use crate::parts::{
-    ConstraintDef, TypeEntry, are_constraints, are_type_entries, codes_differ, constraints_of,
-    owned_at, owned_in, text_of, type_entries_of,
-};
+use crate::integers::{allows_integer, integer_in};
+use crate::max::Max;
 use crate::reason::Reason;
-use crate::slicing::{BindingDef, SlicingDef, binding_of, is_binding, is_slicing, slicing_of};
+use crate::slicing::{SlicingDef, is_slicing, slicing_of};
+use crate::texts::{owned_at, owned_in, text_of};
+use crate::type_entry::{TypeEntry, are_type_entries, codes_differ, type_entries_of};
 use fhir_json::{Json, Member, NoMemory};
 use fhir_names::ElementId;
 use std::alloc::{AllocError, Global};

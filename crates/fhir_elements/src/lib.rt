@@ -1,16 +1,33 @@
 //! The elements of definitions (FHIR R4, ElementDefinition).
+//!
+//! ```
+//! // How many items an element has at least, or why the tree is no element.
+//! fn least_of(alloc: Global, tree: &Json<'_>) -> Result<u32, ElementFault> {
+//!     let element = ElementDef::of(alloc, tree)?;
+//!     Ok(element.min().unwrap_or(0))
+//! }
+//! ```
+//!
+//! The contract to read first is that of [`ElementDef::of`].
 #![tactic(auto)]
 
+mod binding;
 mod codes;
+mod constraint;
 mod element;
 mod fault;
-mod parts;
+mod integers;
+mod max;
 mod reason;
 mod slicing;
+mod texts;
+mod type_entry;
 
-pub use codes::{DiscriminatorType, Max, Severity, SlicingRules, Strength};
+pub use binding::{BindingDef, Strength};
+pub use constraint::{ConstraintDef, Severity};
 pub use element::{ElementDef, element_fault, fields_of};
 pub use fault::ElementFault;
-pub use parts::{ConstraintDef, TypeEntry};
+pub use max::Max;
 pub use reason::Reason;
-pub use slicing::{BindingDef, DiscriminatorDef, SlicingDef};
+pub use slicing::{DiscriminatorDef, DiscriminatorType, SlicingDef, SlicingRules};
+pub use type_entry::TypeEntry;

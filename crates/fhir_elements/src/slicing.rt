@@ -1,47 +1,67 @@
-//! The binding of an element, and how it is sliced.
+//! How an element is sliced (FHIR R4, ElementDefinition, slicing).
 
-ghost use Rattle.std.specs.Prelude.{◌≡◌, map, IfOk, string_bytes, codes};
-ghost use Rattle.std.specs.Option.{option_map};
 ghost use Rattle.std.specs.List.{list_all};
+ghost use Rattle.std.specs.Prelude.{◌≡◌, ◌<◌, Option, map, IfOk};
+ghost use Rattle.fhir_elements.specs.Slicing.{discriminator_type_of, slicing_rules_of, is_discriminator, discriminator_of, is_slicing, slicing_of};
 ghost use Rattle.fhir_json.specs.Views.{tree_of, trees_of, text_seen};
-ghost use Rattle.fhir_elements.specs.Parts.{is_binding, binding_of, is_discriminator, discriminator_of, is_slicing, slicing_of};
 
-use crate::codes::{DiscriminatorType, SlicingRules, Strength, allows_code, code_in};
-use crate::parts::{owned_in, text_of};
+use crate::codes::{Code, allows_code, code_in};
+use crate::texts::{owned_in, text_of};
 use fhir_json::Json;
 use std::alloc::{AllocError, Global};
 use std::marker::Model;
 
-/// To which codes an element is bound.
-#[derive(Debug, Drop)]
-pub struct BindingDef {
-    strength: Option<Strength>,
-    value_set: Option<String>,
+/// By what a discriminator tells slices apart.
+#[derive(Clone, Copy, Debug, PartialEq, Eq)]
+pub enum DiscriminatorType {
+    /// `value`: by the value that an element is fixed to, or its pattern.
+    Value,
+    /// `exists`: by whether an element is there.
+    Exists,
+    /// `pattern`: the same as `value`.
+    Pattern,
+    /// `type`: by the type of an element.
+    TypeCode,
+    /// `profile`: by the profile to which an element conforms.
+    Profile,
 }
 
-impl Model for BindingDef {
-    ghost use Rattle.std.specs.Prelude.{string_bytes};
-    ghost use Rattle.std.specs.Option.{option_map};
-    ghost use Rattle.fhir_elements.specs.Parts.{Binding};
-
-    ghost Value = { Binding };
-
-    ghost view = { λ b. record { strength = b.strength; value_set = option_map string_bytes b.value_set } };
+/// Whether there may be items outside all slices.
+#[derive(Clone, Copy, Debug, PartialEq, Eq)]
+pub enum SlicingRules {
+    /// There may be none.
+    Closed,
+    /// Items outside all slices may stand anywhere.
+    Open,
+    /// They may stand behind all others.
+    OpenAtEnd,
 }
 
-impl BindingDef {
-    /// How strictly it binds.
-    pub fn strength(&self) -> Option<Strength>
-        ensures { result ≡ self.now.strength }
-    {
-        self.strength
+impl Code for DiscriminatorType {
+    ghost reads = { discriminator_type_of };
+
+    fn of(text: &str) -> Option<DiscriminatorType> {
+        match text {
+            "value" => Some(DiscriminatorType::Value),
+            "exists" => Some(DiscriminatorType::Exists),
+            "pattern" => Some(DiscriminatorType::Pattern),
+            "type" => Some(DiscriminatorType::TypeCode),
+            "profile" => Some(DiscriminatorType::Profile),
+            _ => None,
+        }
     }
+}
 
-    /// The url of its value set.
-    pub fn value_set(&self) -> Option<&str>
-        ensures { text_seen result ≡ self.now.value_set }
-    {
-        text_of(&self.value_set)
+impl Code for SlicingRules {
+    ghost reads = { slicing_rules_of };
+
+    fn of(text: &str) -> Option<SlicingRules> {
+        match text {
+            "closed" => Some(SlicingRules::Closed),
+            "open" => Some(SlicingRules::Open),
+            "openAtEnd" => Some(SlicingRules::OpenAtEnd),
+            _ => None,
+        }
     }
 }
 
@@ -55,7 +75,7 @@ pub struct DiscriminatorDef {
 impl Model for DiscriminatorDef {
     ghost use Rattle.std.specs.Prelude.{string_bytes};
     ghost use Rattle.std.specs.Option.{option_map};
-    ghost use Rattle.fhir_elements.specs.Parts.{Discriminator};
+    ghost use Rattle.fhir_elements.specs.Slicing.{Discriminator};
 
     ghost Value = { Discriminator };
 
@@ -87,7 +107,7 @@ pub struct SlicingDef {
 }
 
 impl Model for SlicingDef {
-    ghost use Rattle.fhir_elements.specs.Parts.{Slicing};
+    ghost use Rattle.fhir_elements.specs.Slicing.{Slicing};
 
     ghost Value = { Slicing };
 
@@ -115,23 +135,6 @@ impl SlicingDef {
     {
         self.rules
     }
-}
-
-/// Whether a tree is a binding.
-pub(crate) fn is_binding(json: &Json<'_>) -> bool
-    ensures { result ≡ is_binding (tree_of json.now) }
-{
-    json.is_object() && allows_code::<Strength>(json, "strength") && json.allows_text("valueSet")
-}
-
-/// The binding that a tree is.
-pub(crate) fn binding_of(alloc: Global, json: &Json<'_>) -> Result<BindingDef, AllocError>
-    ensures { IfOk result (λ b. b ≡ binding_of (tree_of json.now)) }
-{
-    Ok(BindingDef {
-        strength: code_in(json, "strength"),
-        value_set: owned_in(alloc, json, "valueSet")?,
-    })
 }
 
 fn is_discriminator(json: &Json<'_>) -> bool

@@ -7,8 +7,8 @@ use Rattle.std.specs.Str.{bytes_eq}
 use Rattle.fhir_json.specs.Tree.{Text, Tree, no_items, object, array, list_of, names}
 use Rattle.fhir_json.specs.Tree.{item as one_item}
 use Rattle.fhir_json.specs.Fields.{field, text_in}
-use Rattle.fhir_elements.specs.declared.codes.Max.{Max}
-use Rattle.fhir_elements.specs.declared.codes.Max.TheVariants.{Unbounded, UpTo}
+use Rattle.fhir_elements.specs.declared.max.Max.{Max}
+use Rattle.fhir_elements.specs.declared.max.Max.TheVariants.{Unbounded, UpTo}
 use Rattle.fhir_elements.specs.Element.{Element}
 use Rattle.fhir_schema.specs.declared.node.NodeRef.{NodeRef}
 use Rattle.fhir_schema.specs.Slots.{Slot}

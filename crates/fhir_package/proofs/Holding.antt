@@ -6,7 +6,7 @@ use Rattle.std.specs.Option.{option_map_or}
 use Rattle.std.specs.Str.{bytes_eq}
 use Rattle.std.proofs.lemmas.Bool.{cases_Bool, leb-true, leb-false}
 use Rattle.fhir_json.specs.Tree.{Text, Tree, null, boolean, number, string, array, object, Items, no_items, item, Members, no_members, member, list_of}
-use Rattle.fhir_json.specs.Fields.{named, field, as_items, items_in}
+use Rattle.fhir_json.specs.Fields.{value_named, field, as_items, items_in}
 use Rattle.fhir_json.specs.Sound.{depth, items_depth, members_depth, larger, max_depth}
 use Rattle.fhir_package.specs.Packing.{Definition, is_bundle, held_within, in_entry, definitions_in}
 use Rattle.fhir_package.specs.Found.{itself, in_resource}
@@ -36,12 +36,12 @@ Within d (Some t) = depth t ≤ d
 abbrev AllWithin : ℕ → List Tree → Type 0
 AllWithin d ts = AllByRecursion (λ t. depth t ≤ d) ts
 
-named_within : (d : ℕ) (name : Text) (ms : Members) → members_depth ms ≤ d → Within d (named name ms)
+named_within : (d : ℕ) (name : Text) (ms : Members) → members_depth ms ≤ d → Within d (value_named name ms)
 named_within d name no_members h = tt
 named_within d name (member n t ms) h =
     by (bytes_eq name n) (first_within (depth t) (members_depth ms) d h) (named_within d name ms (second_within (depth t) (members_depth ms) d h))
   where
-    by : (b : Bool) → depth t ≤ d → Within d (named name ms) → Within d (cond b (Some t) (named name ms))
+    by : (b : Bool) → depth t ≤ d → Within d (value_named name ms) → Within d (cond b (Some t) (value_named name ms))
     by true first rest = first
     by false first rest = rest
 

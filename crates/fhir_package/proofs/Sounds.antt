@@ -8,7 +8,7 @@ use Rattle.std.specs.Map.{keys_of}
 use Rattle.std.proofs.lemmas.Bool.{and_parts}
 use Rattle.fhir_json.specs.declared.fault.JsonFault.{JsonFault}
 use Rattle.fhir_json.specs.Tree.{Text, Tree, null, boolean, number, string, array, object, Items, no_items, item, Members, no_members, member, list_of, names}
-use Rattle.fhir_json.specs.Fields.{named, field, as_items, items_in, text_in}
+use Rattle.fhir_json.specs.Fields.{value_named, field, as_items, items_in, text_in}
 use Rattle.fhir_json.specs.Sound.{IsSound, sound, items_sound, members_sound, differ}
 use Rattle.fhir_json.specs.Reading.{reading}
 use Rattle.fhir_matching.specs.Equality.{equal}
@@ -28,14 +28,14 @@ SoundIfAny (Some t) = IsSound t
 abbrev AreSound : List Tree → Type 0
 AreSound ts = AllByRecursion IsSound ts
 
-named_sound : (name : Text) (ms : Members) → members_sound ms ≡ true → SoundIfAny (named name ms)
+named_sound : (name : Text) (ms : Members) → members_sound ms ≡ true → SoundIfAny (value_named name ms)
 named_sound name no_members h = tt
 named_sound name (member n t ms) h =
     let front = and_parts (is_utf8 n && sound t) (members_sound ms) h in
     let first = and_parts (is_utf8 n) (sound t) front.0 in
     by (bytes_eq name n) first.1 (named_sound name ms front.1)
   where
-    by : (b : Bool) → IsSound t → SoundIfAny (named name ms) → SoundIfAny (cond b (Some t) (named name ms))
+    by : (b : Bool) → IsSound t → SoundIfAny (value_named name ms) → SoundIfAny (cond b (Some t) (value_named name ms))
     by true first rest = first
     by false first rest = rest
 

@@ -25,13 +25,15 @@ module _ (ds : List Definition) where
       ]
 
   -- what a place on the chain meets, the chain meets
-  meets_beyond : (middle goal n m : ℕ) (o : Option ℕ) → IsTrue (ends_within ds n o) → IsTrue (meets_within ds middle n o) → IsTrue (meets_within ds goal m (Some middle)) → IsTrue (meets_within ds goal n o)
+  meets_beyond : (middle goal n m : ℕ) (o : Option ℕ) → IsTrue (ends_within ds n o) → IsTrue (meets_within ds middle n o)
+      → IsTrue (meets_within ds goal m (Some middle)) → IsTrue (meets_within ds goal n o)
   meets_beyond middle goal n m None ends meets beyond = absurd (false≢true meets)
   meets_beyond middle goal zero m (Some p) ends meets beyond = absurd (false≢true meets)
   meets_beyond middle goal (suc n) m (Some p) ends meets beyond =
       elim (or_cases (nat_eq middle p) (meets_within ds middle n (base_of_place ds p)) meets) [
         | inl here ↦ meets_sooner goal (suc n) m (Some p) ends (subst (λ q. IsTrue (meets_within ds goal m (Some q))) (eqb-true middle p here) beyond)
-        | inr there ↦ or_right (nat_eq goal p) (meets_within ds goal n (base_of_place ds p)) (meets_beyond middle goal n m (base_of_place ds p) ends there beyond)
+        | inr there ↦ or_right (nat_eq goal p) (meets_within ds goal n (base_of_place ds p))
+            (meets_beyond middle goal n m (base_of_place ds p) ends there beyond)
       ]
 
   reaches_on : (start middle goal : ℕ) → IsTrue (reaches ds start middle) → IsTrue (reaches ds middle goal) → IsTrue (reaches ds start goal)

@@ -1,5 +1,6 @@
 -- Lists of tests: which of them fail, and which still do where one is harder to meet.
-use Rattle.std.proofs.Common.{◌≡◌, List, [], ◌∷◌, ◌++◌, Bool, true, false, Some, None, Option, refl, ap, sym, ◌∙◌, subst, inl, inr, IsTrue, ◌⊎◌, arith, if◌then◌else◌}
+use Rattle.std.proofs.Common.{◌≡◌, List, [], ◌∷◌, ◌++◌, Bool, true, false, Some, None, Option, refl, ap, sym, ◌∙◌, subst, inl, inr, IsTrue, ◌⊎◌, arith}
+use Rattle.std.proofs.Common.{if◌then◌else◌}
 use Rattle.std.specs.List.{Contains}
 use Rattle.std.proofs.lemmas.Bool.{and_parts, and_from}
 use Rattle.std.proofs.lemmas.Option.{none-some, same_Some}
@@ -66,7 +67,8 @@ module _ {R : Type 0} where
         elim (Contains-append_cases ((a, u) ∷ []) rest (false, r) h) [
           | inl first ↦ elim (Contains-push_cases [] (a, u) (false, r) first) [
             | inl nowhere ↦ absurd (omega (arith, nowhere.1))
-            | inr e ↦ Contains-append_left ((b, u) ∷ []) rest (false, r) (subst (λ y. Contains ((b, u) ∷ []) y) (alone r (a, u) (false, r) (b, u) refl refl refl more e) (Contains-push [] (b, u)))
+            | inr e ↦ Contains-append_left ((b, u) ∷ []) rest (false, r)
+                (subst (λ y. Contains ((b, u) ∷ []) y) (alone r (a, u) (false, r) (b, u) refl refl refl more e) (Contains-push [] (b, u)))
           ]
           | inr behind ↦ Contains-append_right ((b, u) ∷ []) rest (false, r) behind
         ]

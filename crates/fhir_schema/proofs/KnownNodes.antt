@@ -16,7 +16,8 @@ found_within : (n : ℕ) (es : List Element) (id : Text) (k : ℕ) → id_place_
 found_within n [] id k e = absurd (none-some k e)
 found_within n (x ∷ es) id k e = go (bytes_eq id x.id) e (λ h. found_within (suc n) es id k h)
   where
-    go : (b : Bool) → cond b (Some n) (id_place_from (suc n) es id) ≡ Some k → (id_place_from (suc n) es id ≡ Some k → k < suc n + length es) → k < n + length (x ∷ es)
+    go : (b : Bool) → cond b (Some n) (id_place_from (suc n) es id) ≡ Some k → (id_place_from (suc n) es id ≡ Some k → k < suc n + length es)
+        → k < n + length (x ∷ es)
     go true e behind = omega (arith, same_Some n k e)
     go false e behind = omega (arith, behind e)
 
@@ -24,7 +25,8 @@ module _ (s : SchemaValue) (id : Text) (n : NodeRef) where
   known_in : (place : ℕ) → node_with s id place ≡ Some n → IsTrue (has s n)
   known_in place = go (is_usable s place) refl (id_place (elements_at s place) id) refl
     where
-      go : (b : Bool) → is_usable s place ≡ b → (o : Option ℕ) → id_place (elements_at s place) id ≡ o → cond b (option_map (λ e. record { definition = place; element = e }) o) None ≡ Some n → IsTrue (has s n)
+      go : (b : Bool) → is_usable s place ≡ b → (o : Option ℕ) → id_place (elements_at s place) id ≡ o
+          → cond b (option_map (λ e. record { definition = place; element = e }) o) None ≡ Some n → IsTrue (has s n)
       go false usable o found e = absurd (none-some n e)
       go true usable None found e = absurd (none-some n e)
       go true usable (Some k) found e =

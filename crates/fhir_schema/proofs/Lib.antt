@@ -7,4 +7,3 @@ pub mod Covered
 pub mod KnownNodes
 pub mod Stepping
 pub mod Roots
-pub mod Firsts

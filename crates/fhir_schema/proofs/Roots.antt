@@ -10,7 +10,8 @@ module _ (s : SchemaValue) (n : NodeRef) where
   root_at : (place : ℕ) → root_in s place ≡ Some n → IsTrue (is_root_node s n)
   root_at place = go (is_usable s place) (root_element s place) refl
     where
-      go : (b : Bool) (o : Option ℕ) → root_element s place ≡ o → cond b (option_map (λ e. record { definition = place; element = e }) o) None ≡ Some n → IsTrue (is_root_node s n)
+      go : (b : Bool) (o : Option ℕ) → root_element s place ≡ o → cond b (option_map (λ e. record { definition = place; element = e }) o) None ≡ Some n
+          → IsTrue (is_root_node s n)
       go false o is e = absurd (none-some n e)
       go true None is e = absurd (none-some n e)
       go true (Some k) is e =

@@ -11,7 +11,8 @@ pub rounds_fixed : (ds : List Definition) (n : ℕ) (reasons : Reasons) → roun
 rounds_fixed ds zero reasons e = refl
 rounds_fixed ds (suc n) reasons e = ap (rounds ds n) e ∙ rounds_fixed ds n reasons e
 
-pub rounds_step : (ds : List Definition) (n k : ℕ) (reasons next s : Reasons) → k < n → next ≡ round ds reasons → rounds ds (n - k) reasons ≡ s → rounds ds (n - (k + 1)) next ≡ s
+pub rounds_step : (ds : List Definition) (n k : ℕ) (reasons next s : Reasons) → k < n → next ≡ round ds reasons → rounds ds (n - k) reasons ≡ s
+    → rounds ds (n - (k + 1)) next ≡ s
 rounds_step ds n k reasons next s h is e =
     let one : n - k ≡ suc (n - (k + 1)) = omega arith in
     ap (rounds ds (n - (k + 1))) is ∙ sym (ap (λ m. rounds ds m reasons) one) ∙ e
@@ -28,11 +29,16 @@ cons_at es i e h =
     let w : i < length es = slice_get_within es i e h in
     drop-cons es i e w ∙ ap (λ x. x ∷ drop (suc i) es) (get_or_from_slice_get es i e e h)
 
-pub definitions_step : (done : List Definition) (i : ℕ) (es : List (List ℕ × Tree)) (url : List ℕ) (t : Tree) (d : Definition) (s : List Definition) → slice_get es i ≡ Some (url, t) → d ≡ definition_of i url t → (done ++ definitions_from i (drop i es)) ≡ s → ((done ++ d ∷ []) ++ definitions_from (i + 1) (drop (i + 1) es)) ≡ s
+pub definitions_step : (done : List Definition) (i : ℕ) (es : List (List ℕ × Tree)) (url : List ℕ) (t : Tree) (d : Definition) (s : List Definition)
+    → slice_get es i ≡ Some (url, t) → d ≡ definition_of i url t → (done ++ definitions_from i (drop i es)) ≡ s
+    → ((done ++ d ∷ []) ++ definitions_from (i + 1) (drop (i + 1) es)) ≡ s
 definitions_step done i es url t d s at is e =
-    let opened : definitions_from i (drop i es) ≡ d ∷ definitions_from (suc i) (drop (suc i) es) = ap (definitions_from i) (cons_at es i (url, t) at) ∙ ap (λ x. x ∷ definitions_from (suc i) (drop (suc i) es)) (sym is) in
+    let opened : definitions_from i (drop i es) ≡ d ∷ definitions_from (suc i) (drop (suc i) es) =
+    ap (definitions_from i) (cons_at es i (url, t) at) ∙ ap (λ x. x ∷ definitions_from (suc i) (drop (suc i) es)) (sym is) in
     rw (add-one, append_assoc) (sym (ap (λ l. done ++ l) opened) ∙ e)
 
-pub definitions_more : (all done : List Definition) (i : ℕ) (es : List (List ℕ × Tree)) (url : List ℕ) (t : Tree) (d : Definition) (s : List Definition) → all ≡ done ++ d ∷ [] → slice_get es i ≡ Some (url, t) → d ≡ definition_of i url t → (done ++ definitions_from i (drop i es)) ≡ s → (all ++ definitions_from (i + 1) (drop (i + 1) es)) ≡ s
+pub definitions_more : (all done : List Definition) (i : ℕ) (es : List (List ℕ × Tree)) (url : List ℕ) (t : Tree) (d : Definition) (s : List Definition)
+    → all ≡ done ++ d ∷ [] → slice_get es i ≡ Some (url, t) → d ≡ definition_of i url t → (done ++ definitions_from i (drop i es)) ≡ s
+    → (all ++ definitions_from (i + 1) (drop (i + 1) es)) ≡ s
 definitions_more all done i es url t d s all_is at is e =
     ap (λ l. l ++ definitions_from (i + 1) (drop (i + 1) es)) all_is ∙ definitions_step done i es url t d s at is e

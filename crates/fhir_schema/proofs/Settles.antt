@@ -1,5 +1,6 @@
 -- The rounds come to rest: what they find is closed, and nothing closed is smaller.
-use Rattle.std.proofs.Common.{◌≡◌, ℕ, zero, suc, ◌<◌, ◌≤◌, ◌+◌, List, [], ◌∷◌, map, length, get_or, true, false, Bool, ◌&&◌, ◌||◌, not, nat_le, refl, ap, sym, ◌∙◌, Some, None, Option, is_some, is_none, IsTrue, arith}
+use Rattle.std.proofs.Common.{◌≡◌, ℕ, zero, suc, ◌<◌, ◌≤◌, ◌+◌, List, [], ◌∷◌, map, length, get_or, true, false, Bool, ◌&&◌, ◌||◌, not, nat_le, refl, ap, sym}
+use Rattle.std.proofs.Common.{◌∙◌, Some, None, Option, is_some, is_none, IsTrue, arith}
 use Rattle.std.specs.List.{slice_get, list_all, Contains}
 use Rattle.std.specs.Option.{option_map_or, option_or}
 use Rattle.std.proofs.lemmas.Bool.Decides.{nat_tests}
@@ -7,12 +8,13 @@ use Rattle.std.proofs.lemmas.List.{length-map}
 use Rattle.fhir_json.specs.Tree.{Text, Tree}
 use Rattle.fhir_elements.specs.declared.reason.Reason.{Reason}
 use Rattle.fhir_elements.specs.declared.reason.Reason.TheVariants.{UnusableType, NoTree, BaseCycle, NoSnapshot, SecondType, NotYet}
-use Rattle.fhir_elements.specs.Parts.{TypeEntry}
+use Rattle.fhir_elements.specs.TypeEntry.{TypeEntry}
 use Rattle.fhir_elements.specs.Element.{Element}
 use Rattle.fhir_elements.specs.Tests.{first_of, all_hold}
 use Rattle.fhir_definition.specs.Snapshot.{is_root, is_tree}
 use Rattle.fhir_definition.specs.Definition.{Definition, definition_of, definitions_from, has_snapshot}
-use Rattle.fhir_schema.specs.Settling.{Reasons, reason_at, is_usable_type, is_system, entry_is_usable, element_is_usable, types_are_usable, chain_ends, is_first_of_type, is_flat, fault_of, tests, reason_of, round, rounds, no_reasons, all_reasons, type_place}
+use Rattle.fhir_schema.specs.Settling.{Reasons, reason_at, is_usable_type, is_system, entry_is_usable, element_is_usable, types_are_usable, chain_ends}
+use Rattle.fhir_schema.specs.Settling.{is_first_of_type, is_flat, fault_of, tests, reason_of, round, rounds, no_reasons, all_reasons, type_place}
 use Rattle.fhir_schema.specs.Usability.{AllApply, IsClosed, IsWithin}
 use Rattle.fhir_schema.proofs.Rounds.{rounds_fixed}
 use Rattle.fhir_schema.proofs.Failing.{first_fails, none_fails, hold_none, hold_more, fails_more}
@@ -123,7 +125,8 @@ all_more p q m (x ∷ xs) e =
     and_both (q x) (list_all q xs) (m x parts.0) (all_more p q m xs parts.1)
 
 module _ (ds : List Definition) (reasons next : Reasons) (fewer : Fewer reasons next) where
-  place_more : (o : Option ℕ) → option_map_or (λ place. is_none (reason_at next place)) o false ≡ true → option_map_or (λ place. is_none (reason_at reasons place)) o false ≡ true
+  place_more : (o : Option ℕ) → option_map_or (λ place. is_none (reason_at next place)) o false ≡ true
+      → option_map_or (λ place. is_none (reason_at reasons place)) o false ≡ true
   unfolding Fewer
   place_more None e = e
   place_more (Some place) e = ap not (fewer place (not_false (is_some (reason_at next place)) e))
@@ -166,7 +169,8 @@ module _ (ds : List Definition) (is_placed : (i : ℕ) (d : Definition) → slic
   round_at reasons d h = round_at_from (reason_of ds reasons) ds d.place d h
 
   -- what is reasons has a definition
-  has_definition : (xs : List Definition) (reasons : Reasons) (i : ℕ) (r : Reason) → length reasons ≡ length xs → get_or reasons i None ≡ Some r → (d : Definition) × (slice_get xs i ≡ Some d)
+  has_definition : (xs : List Definition) (reasons : Reasons) (i : ℕ) (r : Reason) → length reasons ≡ length xs → get_or reasons i None ≡ Some r
+      → (d : Definition) × (slice_get xs i ≡ Some d)
   has_definition [] [] i r e h = cc
   has_definition [] (y ∷ ys) i r e h = absurd (omega arith)
   has_definition (x ∷ xs) [] i r e h = absurd (omega arith)
@@ -195,7 +199,9 @@ module _ (ds : List Definition) (is_placed : (i : ℕ) (d : Definition) → slic
       extends_same reasons (round ds reasons) (e ∙ sym long) (round_keeps reasons e) (omega arith)
   rests (suc n) reasons e h = go (nat_le (how_many (round ds reasons)) (how_many reasons)) refl (λ more. rests n (round ds reasons) (length_round reasons) more)
     where
-      go : (b : Bool) → nat_le (how_many (round ds reasons)) (how_many reasons) ≡ b → (length ds ≤ n + how_many (round ds reasons) → round ds (rounds ds n (round ds reasons)) ≡ rounds ds n (round ds reasons)) → round ds (rounds ds n (round ds reasons)) ≡ rounds ds n (round ds reasons)
+      go : (b : Bool) → nat_le (how_many (round ds reasons)) (how_many reasons) ≡ b
+          → (length ds ≤ n + how_many (round ds reasons) → round ds (rounds ds n (round ds reasons)) ≡ rounds ds n (round ds reasons))
+          → round ds (rounds ds n (round ds reasons)) ≡ rounds ds n (round ds reasons)
       go true is later =
           let fewer : how_many (round ds reasons) ≤ how_many reasons = grind (arith, nat_tests) in
           let same : round ds reasons ≡ reasons = extends_same reasons (round ds reasons) (e ∙ sym (length_round reasons)) (round_keeps reasons e) fewer in
@@ -273,7 +279,8 @@ module _ (ds : List Definition) (is_placed : (i : ℕ) (d : Definition) → slic
   unfolding Fewer
   round_within reasons other e shut h place some = go (reason_at (round ds reasons) place) refl (reason_at other place) refl
     where
-      go : (o : Option Reason) → reason_at (round ds reasons) place ≡ o → (x : Option Reason) → reason_at other place ≡ x → is_some (reason_at other place) ≡ true
+      go : (o : Option Reason) → reason_at (round ds reasons) place ≡ o → (x : Option Reason) → reason_at other place ≡ x
+          → is_some (reason_at other place) ≡ true
       go None is x at = let no : is_some (reason_at (round ds reasons) place) ≡ false = ap is_some is in cc
       go (Some r) is (Some y) at = ap is_some at
       go (Some r) is None at =
@@ -282,17 +289,20 @@ module _ (ds : List Definition) (is_placed : (i : ℕ) (d : Definition) → slic
           let p : d.place ≡ place = is_placed place d s.1 in
           let here : slice_get ds d.place ≡ Some d = ap (slice_get ds) p ∙ s.1 in
           let other_at : reason_at other d.place ≡ None = ap (reason_at other) p ∙ at in
-          let found_none : reason_at reasons d.place ≡ None = none_from (reason_at reasons d.place) (within_fewer reasons other h d.place (ap is_some other_at)) in
+          let found_none : reason_at reasons d.place ≡ None =
+          none_from (reason_at reasons d.place) (within_fewer reasons other h d.place (ap is_some other_at)) in
           let rest : first_of (tests ds reasons d) ≡ None =
           hold_none (tests ds reasons d) (tests_less ds reasons other (within_fewer reasons other h) d (shut d here other_at)) in
           let of_found : reason_of ds reasons d ≡ None = rw found_none rest in
           let r_is : reason_of ds reasons d ≡ Some r = sym (round_at reasons d here) ∙ ap (reason_at (round ds reasons)) p ∙ is in cc
 
-  rounds_within : (n : ℕ) (reasons other : Reasons) → length reasons ≡ length ds → IsClosed ds other → IsWithin reasons other → IsWithin (rounds ds n reasons) other
+  rounds_within : (n : ℕ) (reasons other : Reasons) → length reasons ≡ length ds → IsClosed ds other → IsWithin reasons other
+      → IsWithin (rounds ds n reasons) other
   rounds_within zero reasons other e shut h = h
   rounds_within (suc n) reasons other e shut h =
       rounds_within n (round ds reasons) other (length_round reasons) shut (round_within reasons other e shut h)
 
   pub least : (other : Reasons) → IsClosed ds other → IsWithin (all_reasons ds) other
   least other shut =
-      rounds_within (length ds) (no_reasons ds) other (length_none ds) shut (λ place some. (let no : is_some (reason_at (no_reasons ds) place) ≡ false = ap is_some (none_at ds place) in cc))
+      rounds_within (length ds) (no_reasons ds) other (length_none ds) shut
+      (λ place some. (let no : is_some (reason_at (no_reasons ds) place) ≡ false = ap is_some (none_at ds place) in cc))

@@ -1,5 +1,6 @@
 -- Chains of bases, by powers of a step.
-use Rattle.std.proofs.Common.{◌≡◌, ℕ, zero, suc, ◌+◌, ◌*◌, ◌/◌, ◌%◌, List, [], ◌∷◌, map, length, get_or, Option, None, Some, Bool, true, false, cond, not, is_some, refl, ap, ap₂, sym, ◌∙◌, arith}
+use Rattle.std.proofs.Common.{◌≡◌, ℕ, zero, suc, ◌+◌, ◌*◌, ◌/◌, ◌%◌, List, [], ◌∷◌, map, length, get_or, Option, None, Some, Bool, true, false, cond, not}
+use Rattle.std.proofs.Common.{is_some, refl, ap, ap₂, sym, ◌∙◌, arith}
 use Rattle.std.specs.Option.{option_and_then}
 use Rattle.std.specs.List.{slice_get}
 use Rattle.fhir_definition.specs.Definition.{Definition}
@@ -29,7 +30,8 @@ module _ (ds : List Definition) where
   listed f (e ∷ es) zero = refl
   listed f (e ∷ es) (suc p) = listed f es p
 
-  behind_base : (m : ℕ) (d : Option Definition) → option_and_then (λ e. base_after ds m (base_place ds e)) d ≡ base_after ds m (option_and_then (base_place ds) d)
+  behind_base : (m : ℕ) (d : Option Definition)
+      → option_and_then (λ e. base_after ds m (base_place ds e)) d ≡ base_after ds m (option_and_then (base_place ds) d)
   behind_base m None = sym (after-none m)
   behind_base m (Some d) = refl
 
@@ -38,23 +40,28 @@ module _ (ds : List Definition) where
   further m None = sym (after-none m)
   further m (Some p) = listed (λ d. base_after ds m (base_place ds d)) ds p ∙ behind_base m (slice_get ds p)
 
-  further-each : (a m : ℕ) (es : List Definition) → map (option_and_then (λ p. get_or (bases_after ds m) p None)) (map (λ d. base_after ds a (base_place ds d)) es) ≡ map (λ d. base_after ds (a + suc m) (base_place ds d)) es
+  further-each : (a m : ℕ) (es : List Definition)
+      → map (option_and_then (λ p. get_or (bases_after ds m) p None)) (map (λ d. base_after ds a (base_place ds d)) es)
+      ≡ map (λ d. base_after ds (a + suc m) (base_place ds d)) es
   further-each a m [] = refl
   further-each a m (e ∷ es) =
       ap₂ (λ (x : Option ℕ) (xs : List (Option ℕ)). x ∷ xs)
       (further m (base_after ds a (base_place ds e)) ∙ after-sum a (suc m) (base_place ds e))
       (further-each a m es)
 
-  pub followed-sum : (a m : ℕ) (places powers : List (Option ℕ)) → places ≡ bases_after ds a → powers ≡ bases_after ds m → map (option_and_then (λ p. get_or powers p None)) places ≡ bases_after ds (a + suc m)
+  pub followed-sum : (a m : ℕ) (places powers : List (Option ℕ)) → places ≡ bases_after ds a → powers ≡ bases_after ds m
+      → map (option_and_then (λ p. get_or powers p None)) places ≡ bases_after ds (a + suc m)
   followed-sum a m places powers places_are powers_are =
       ap₂ (λ (f : List (Option ℕ)) (xs : List (Option ℕ)). map (option_and_then (λ p. get_or f p None)) xs) powers_are places_are
       ∙ further-each a m ds
 
-  ends-each : (n : ℕ) (es : List Definition) → map (λ o. not (is_some o)) (map (λ d. base_after ds n (base_place ds d)) es) ≡ map (λ d. ends_within ds n (base_place ds d)) es
+  ends-each : (n : ℕ) (es : List Definition)
+      → map (λ o. not (is_some o)) (map (λ d. base_after ds n (base_place ds d)) es) ≡ map (λ d. ends_within ds n (base_place ds d)) es
   ends-each n [] = refl
   ends-each n (e ∷ es) = ap₂ (λ (x : Bool) (xs : List Bool). x ∷ xs) (ends-after n (base_place ds e)) (ends-each n es)
 
-  pub ended : (places : List (Option ℕ)) (ends : List Bool) → places ≡ bases_after ds (length ds) → ends ≡ map (λ o. not (is_some o)) places → ends ≡ map (chain_ends ds) ds
+  pub ended : (places : List (Option ℕ)) (ends : List Bool) → places ≡ bases_after ds (length ds) → ends ≡ map (λ o. not (is_some o)) places
+      → ends ≡ map (chain_ends ds) ds
   ended places ends places_are ends_are = ends_are ∙ ap (map (λ (o : Option ℕ). not (is_some o))) places_are ∙ ends-each (length ds) ds
 
 -- ---- how many steps are left
@@ -91,7 +98,8 @@ halved ds places powers more doubled left false h more_is doubled_is is_odd is_e
       count = omega (arith, h.count, ap (λ (n : ℕ). suc h.power * n) whole);
     }
 
-pub none_left : (ds : List Definition) (places powers : List (Option ℕ)) (left : ℕ) → AreAfter ds places powers left → left ≡ 0 → places ≡ bases_after ds (length ds)
+pub none_left : (ds : List Definition) (places powers : List (Option ℕ)) (left : ℕ) → AreAfter ds places powers left → left ≡ 0
+    → places ≡ bases_after ds (length ds)
 none_left ds places powers left h none =
     let all : h.taken ≡ length ds = omega (arith, h.count, ap (λ (n : ℕ). suc h.power * n) none) in
     h.places_are ∙ ap (bases_after ds) all

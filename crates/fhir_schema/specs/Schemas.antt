@@ -1,12 +1,12 @@
 -- The schema of a package: its definitions, which of them can be used, and the nodes of those.
-use Rattle.std.specs.Prelude.{ℕ, List, [], length, get_or, map, Bool, not, ◌&&◌, nat_lt, nat_eq, Option, None, Some, is_some, if◌then◌else◌}
+use Rattle.std.specs.Prelude.{ℕ, List, [], length, get_or, map, Bool, not, ◌&&◌, nat_lt, nat_eq, Option, None, Some, is_none, if◌then◌else◌}
 use Rattle.std.specs.Option.{option_map, option_map_or, option_and_then}
 use Rattle.std.specs.List.{slice_get, find}
 use Rattle.std.specs.Str.{bytes_eq}
 use Rattle.fhir_json.specs.Tree.{Text}
 use Rattle.fhir_package.specs.Definitions.{Definitions}
 use Rattle.fhir_elements.specs.declared.reason.Reason.{Reason}
-use Rattle.fhir_elements.specs.Parts.{TypeEntry}
+use Rattle.fhir_elements.specs.TypeEntry.{TypeEntry}
 use Rattle.fhir_elements.specs.Element.{Element}
 use Rattle.fhir_schema.specs.declared.node.NodeRef.{NodeRef}
 use Rattle.fhir_definition.specs.Snapshot.{id_place, is_at, root_place}
@@ -30,7 +30,7 @@ abbrev pub unusable : SchemaValue → Text → Option Reason
 unusable s url = option_and_then (reason_at s.reasons) (url_place s.definitions url)
 
 abbrev pub is_usable : SchemaValue → ℕ → Bool
-is_usable s place = not (is_some (reason_at s.reasons place))
+is_usable s place = is_none (reason_at s.reasons place)
 
 -- ---- nodes
 

@@ -1,5 +1,6 @@
 -- Which definitions can't be used, and why: judged in rounds, each against what the rounds before have found.
-use Rattle.std.specs.Prelude.{ℕ, zero, suc, List, [], ◌∷◌, ◌++◌, map, length, get_or, Bool, true, false, not, ◌&&◌, ◌||◌, Option, None, Some, is_none, if◌then◌else◌, codes, nat_eq}
+use Rattle.std.specs.Prelude.{ℕ, zero, suc, List, [], ◌∷◌, ◌++◌, map, length, get_or, Bool, true, false, not, ◌&&◌, ◌||◌, Option, None, Some, is_none}
+use Rattle.std.specs.Prelude.{if◌then◌else◌, codes, nat_eq}
 use Rattle.std.specs.Option.{option_map_or, option_and_then, option_or}
 use Rattle.std.specs.List.{list_all, slice_get, starts_with}
 use Rattle.std.specs.Result.{result_ok}
@@ -9,7 +10,7 @@ use Rattle.fhir_names.specs.Canonicals.{CanonicalParts, read_canonical}
 use Rattle.fhir_package.specs.Canonical.{has_version}
 use Rattle.fhir_elements.specs.declared.reason.Reason.{Reason}
 use Rattle.fhir_elements.specs.declared.reason.Reason.TheVariants.{NotYet, UnusableType, NoTree, BaseCycle, NoSnapshot, SecondType}
-use Rattle.fhir_elements.specs.Parts.{TypeEntry}
+use Rattle.fhir_elements.specs.TypeEntry.{TypeEntry}
 use Rattle.fhir_elements.specs.Element.{Element}
 use Rattle.fhir_elements.specs.Tests.{first_of}
 use Rattle.fhir_definition.specs.Snapshot.{is_root, is_at, is_tree}

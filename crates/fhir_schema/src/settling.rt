@@ -126,7 +126,7 @@ fn are_same(a: &[Option<Reason>], b: &[Option<Reason>]) -> bool
         left = xs;
         right = ys;
     }
-    right.len() == 0
+    right.is_empty()
 }
 
 /// Why each definition can't be used. The rounds end at the first that finds nothing.

@@ -8,5 +8,7 @@ loop-i-preserved c =
     let i = c.loop-i.i - 1 in
     record {
       within = omega arith;
-      finds = ids_before es c.loop-i.i i c.index-elements-i.result c.put_id.new.index (omega arith) (omega arith) c.index-elements-i.is (c.in_ok-put_id.ensures (drop c.loop-i.i es) (ids_next es c.loop-i.i i c.loop-i.index (omega arith) c.loop-i.invariant.finds));
+      finds =
+          ids_before es c.loop-i.i i c.index-elements-i.result c.put_id.new.index (omega arith) (omega arith) c.index-elements-i.is
+          (c.in_ok-put_id.ensures (drop c.loop-i.i es) (ids_next es c.loop-i.i i c.loop-i.index (omega arith) c.loop-i.invariant.finds));
     }

@@ -6,5 +6,6 @@ use Rattle.fhir_definition.proofs.children.put_at.Goals as goal
 
 pub returns-in_ok-push : goal.returns-in_ok-push
 returns-in_ok-push c =
-    put_there c.args.all.now.items c.in-Some.at c.args.place c.index_mut.result.now c.push.new.self (omega arith) c.index_mut.ensures.value c.in_ok-push.ensures.items
+    put_there c.args.all.now.items c.in-Some.at c.args.place c.index_mut.result.now c.push.new.self
+    (omega arith) c.index_mut.ensures.value c.in_ok-push.ensures.items
     ∙ ap (λ o. put_at o c.args.place (lists_in c.args.all.now.items)) (sym c.in-Some.is)

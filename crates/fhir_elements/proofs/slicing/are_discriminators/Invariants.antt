@@ -1,7 +1,7 @@
 use Rattle.std.proofs.Common.{◌≡◌, drop}
 use Rattle.std.specs.List.{list_all}
 use Rattle.fhir_json.specs.Views.{trees_of}
-use Rattle.fhir_elements.specs.Parts.{is_discriminator}
+use Rattle.fhir_elements.specs.Slicing.{is_discriminator}
 use Rattle.fhir_elements.proofs.slicing.are_discriminators.Given as goal
 
 abbrev pub invariant-loop-item : goal.invariant-loop-item

@@ -9,7 +9,8 @@ loop-steps-preserved c =
     let places = c.loop-steps.places.items in
     let steps = c.loop-steps.steps in
     let further = λ (f : List (Option ℕ)) (xs : List (Option ℕ)). map (option_and_then (λ p. get_or f p None)) xs in
-    halved c.args.table.now places c.loop-steps.power.items c.in_ok-places-2.places.items c.in_ok-power-2.power.items steps (nat_eq (steps % 2) 1) c.loop-steps.invariant
+    halved c.args.table.now places c.loop-steps.power.items c.in_ok-places-2.places.items c.in_ok-power-2.power.items steps
+    (nat_eq (steps % 2) 1) c.loop-steps.invariant
     (c.in_ok-places-2.ensures ∙ ap (λ (f : List (Option ℕ)). cond (nat_eq (steps % 2) 1) (further f places) places) c.deref.ensures.value)
     (c.in_ok-power-2.ensures ∙ ap₂ further c.deref-in-loop-steps-2.ensures.value c.deref-in-loop-steps.ensures.value)
     (λ e. grind (arith, nat_tests))

@@ -3,4 +3,5 @@ use Rattle.fhir_schema.proofs.table.put_url.Goals as goal
 
 pub returns : goal.returns
 returns c =
-    λ ds. put_url_at c.args.definition.now ds c.args.index.now c.put.new.self c.url.result.now c.place.result c.url.ensures c.place.ensures c.in_ok-put.ensures.put
+    λ ds. put_url_at c.args.definition.now ds c.args.index.now c.put.new.self c.url.result.now c.place.result c.url.ensures c.place.ensures
+    c.in_ok-put.ensures.put

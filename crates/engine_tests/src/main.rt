@@ -1,0 +1,192 @@
+//! Runs the engine on each command of `commands.txt`, prints each that is answered otherwise than the file says, and how many
+//! commands there are.
+//!
+//! The first word of a line says what it is; an empty line is nothing.
+//!
+//! - `// REMARK`: for the reader alone.
+//! - `# NAME`: here begins a case.
+//! - `? WORD .. = STATUS OUT ERR`: a command, with the status and the bytes of each output that must come, these two as Rust
+//!   writes texts. The words are those behind the program's name. A folder or a file is one of `data/`. `full` as the first
+//!   word makes standard output take nothing, and isn't the program's.
+#![tactic(auto)]
+
+use fhir_registry::{Request, Status, bytes_at, files_at, refuse, request_of, respond};
+use std::alloc::{AllocError, Global};
+use std::io::Write;
+use std::rt::Files;
+use std::{fs, io};
+
+fn words_of(alloc: Global, command: &str) -> Result<Vec<String>, AllocError> {
+    let mut words = Vec::new(alloc);
+    words.push(String::from_str(alloc, "fhirprof")?)?;
+    for word in command.split(' ') {
+        if !word.is_empty() {
+            words.push(String::from_str(alloc, word)?)?;
+        }
+    }
+    Ok(words)
+}
+
+// The status of a command, with what it writes; to an output that takes nothing, if it is full.
+fn told<R: Files + AllocGlobal + Clone + Drop>(
+    rt: &R,
+    command: &str,
+    is_full: bool,
+) -> io::Result<String> {
+    let alloc = rt.alloc();
+    let (mut out, mut err) = (Vec::new(alloc), Vec::new(alloc));
+    let mut full: &mut [u8] = &mut [];
+    let words = words_of(alloc, command)?;
+    let status = match request_of(alloc, &words) {
+        Ok(request) if is_full => answer(rt, request, &mut full, &mut err)?,
+        Ok(request) => answer(rt, request, &mut out, &mut err)?,
+        Err(fault) => refuse(fault, &mut err),
+    };
+    Ok(line_of(alloc, status, &out, &err)?)
+}
+
+// What the engine answers.
+fn answer<R: Files + AllocGlobal + Clone + Drop, W: Write>(
+    rt: &R,
+    request: Request<'_>,
+    out: &mut W,
+    err: &mut Vec<u8>,
+) -> io::Result<Status> {
+    let Request::Certify { folder, file } = request;
+    let file = bytes_at(rt, file)?;
+    let files = files_at(rt, folder);
+    Ok(respond(rt.alloc(), request, &files, file.as_deref(), out, err))
+}
+
+fn line_of(alloc: Global, status: Status, out: &[u8], err: &[u8]) -> Result<String, AllocError> {
+    let out = String::from_utf8_lossy(alloc, out)?;
+    let err = String::from_utf8_lossy(alloc, err)?;
+    format!(in alloc; "{} {:?} {:?}", status.code(), out.as_str(), err.as_str())
+}
+
+/// What becomes of a line.
+#[derive(Drop)]
+enum Outcome<'l> {
+    Nothing,
+    /// A case begins.
+    Heading(&'l str),
+    /// A command is answered as it says.
+    Right,
+    /// A command is answered otherwise.
+    Wrong(String),
+    /// The line is none of these.
+    Unknown,
+}
+
+fn judged<'l, R: Files + AllocGlobal + Clone + Drop>(
+    rt: &R,
+    line: &'l str,
+) -> io::Result<Outcome<'l>> {
+    if line.is_empty() || line.starts_with("// ") {
+        return Ok(Outcome::Nothing);
+    }
+    if let Some(name) = line.strip_prefix("# ") {
+        return Ok(Outcome::Heading(name));
+    }
+    let question = line
+        .strip_prefix("?")
+        .and_then(|line| line.rsplit_once(" = "));
+    let Some((command, expected)) = question else {
+        return Ok(Outcome::Unknown);
+    };
+    let answer = match command.strip_prefix(" full ") {
+        Some(command) => told(rt, command, true)?,
+        None => told(rt, command, false)?,
+    };
+    if answer.as_str() == expected {
+        Ok(Outcome::Right)
+    } else {
+        Ok(Outcome::Wrong(answer))
+    }
+}
+
+/// The case that is being read, and how many commands there were, and how many lines that aren't as they should be.
+#[derive(Drop)]
+struct Progress<'l> {
+    case: &'l str,
+    is_asked: bool,
+    questions: u64,
+    mismatches: u64,
+}
+
+impl<'l> Progress<'l> {
+    fn ask(&mut self) {
+        self.questions = self.questions.saturating_add(1);
+        self.is_asked = true;
+    }
+
+    fn mismatch<R: Print + AllocGlobal>(
+        &mut self,
+        rt: &R,
+        number: usize,
+        line: &str,
+        why: &str,
+    ) -> io::Result<()> {
+        self.mismatches = self.mismatches.saturating_add(1);
+        println!(rt;
+            "commands.txt, '{}', line {number}: {line}\n    {why}",
+            self.case
+        )
+    }
+
+    fn take<R: Print + AllocGlobal>(
+        &mut self,
+        rt: &R,
+        number: usize,
+        line: &'l str,
+        outcome: Outcome<'l>,
+    ) -> io::Result<()> {
+        if self.case.is_empty() && matches!(outcome, Outcome::Right | Outcome::Wrong(_)) {
+            return self.mismatch(rt, number, line, "the line stands in no case");
+        }
+        match outcome {
+            Outcome::Nothing => Ok(()),
+            Outcome::Unknown => self.mismatch(rt, number, line, "no line is so"),
+            Outcome::Right => {
+                self.ask();
+                Ok(())
+            }
+            Outcome::Wrong(answer) => {
+                self.ask();
+                let why = format!(in rt.alloc(); "it is answered: {answer}")?;
+                self.mismatch(rt, number, line, why.as_str())
+            }
+            Outcome::Heading(name) => {
+                if !self.is_asked && !self.case.is_empty() {
+                    self.mismatch(rt, number, line, "the case before it asks nothing")?;
+                }
+                self.is_asked = false;
+                self.case = name;
+                Ok(())
+            }
+        }
+    }
+}
+
+fn main(rt: HostRuntime) -> io::Result<()> {
+    let text = fs::read_to_string(&rt, "commands.txt")?;
+    let mut progress = Progress {
+        case: "",
+        is_asked: false,
+        questions: 0,
+        mismatches: 0,
+    };
+    let mut number = 0_usize;
+    for line in text.lines() {
+        number = number.saturating_add(1);
+        let outcome = judged(&rt, line)?;
+        progress.take(&rt, number, line, outcome)?;
+    }
+    if !progress.is_asked {
+        progress.mismatch(&rt, number, "", "the last case asks nothing")?;
+    }
+    println!(rt;
+        "commands: {} questions, {} mismatches",
+        progress.questions, progress.mismatches
+    )
+}

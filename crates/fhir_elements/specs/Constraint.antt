@@ -1,0 +1,32 @@
+-- The constraints of an element (FHIR R4, ElementDefinition, constraint).
+use Rattle.std.specs.Prelude.{Bool, ◌&&◌, Option, is_some, codes, None, Some, if◌then◌else◌}
+use Rattle.std.specs.Str.{bytes_eq}
+use Rattle.fhir_json.specs.Tree.{Text, Tree}
+use Rattle.fhir_json.specs.Fields.{is_object, text_in, text_at, allows_text}
+use Rattle.fhir_elements.specs.declared.constraint.Severity.{Severity}
+use Rattle.fhir_elements.specs.Codes.{code_in, allows_code}
+use Rattle.fhir_elements.specs.declared.constraint.Severity.TheVariants as severities
+
+abbrev pub severity_of : Text → Option Severity
+severity_of s =
+    if bytes_eq s (codes "error") then Some severities.Error
+    else (if bytes_eq s (codes "warning") then Some severities.Warning else None)
+
+pub record Constraint : Type 0 where
+  pub key : Text
+  pub severity : Option Severity
+  pub expression : Option Text
+
+abbrev pub is_constraint : Tree → Bool
+is_constraint t =
+    is_object t
+    && is_some (text_in (codes "key") t)
+    && allows_code severity_of (codes "severity") t
+    && allows_text (codes "expression") t
+
+abbrev pub constraint_of : Tree → Constraint
+constraint_of t = record {
+  key = text_at (codes "key") t;
+  severity = code_in severity_of (codes "severity") t;
+  expression = text_in (codes "expression") t;
+}

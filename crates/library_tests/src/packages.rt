@@ -1,0 +1,270 @@
+//! Questions on folders and packages. The case's text is a folder: each line is a file, its name, a blank and its bytes, or
+//! `!` where the device fails to give them.
+
+use fhir_package::{
+    Folder, FolderFile, FolderFiles, Kind, LoadFault, MemoryFile, MemoryFolder, Package, load, pack,
+};
+use std::alloc::{AllocError, Global};
+
+#[derive(Clone, Copy)]
+enum Call {
+    Load,
+    Pack,
+    List,
+    Read,
+    Get,
+    Places,
+    NoDefinitions,
+    Unlisted,
+    NoMemory,
+}
+
+fn call_of(name: &str) -> Option<Call> {
+    match name {
+        "load" => Some(Call::Load),
+        "pack" => Some(Call::Pack),
+        "list" => Some(Call::List),
+        "read" => Some(Call::Read),
+        "get" => Some(Call::Get),
+        "places" => Some(Call::Places),
+        "no_definitions" => Some(Call::NoDefinitions),
+        "unlisted" => Some(Call::Unlisted),
+        "no_memory" => Some(Call::NoMemory),
+        _ => None,
+    }
+}
+
+/// The answer of a call on a folder.
+pub(crate) fn answer(
+    alloc: Global,
+    text: &[u8],
+    call: &str,
+    argument: &str,
+) -> Result<Option<String>, AllocError> {
+    match call_of(call) {
+        Some(call) => Ok(Some(answer_of_call(alloc, text, call, argument)?)),
+        None => Ok(None),
+    }
+}
+
+fn answer_of_call(
+    alloc: Global,
+    text: &[u8],
+    call: Call,
+    argument: &str,
+) -> Result<String, AllocError> {
+    let mut folder = folder_of_lines(alloc, text)?;
+    match call {
+        Call::NoDefinitions => places_of(alloc, &Package::new(alloc), Kind::ValueSet),
+        Call::Unlisted => answer_of_unlisted(alloc),
+        Call::NoMemory => format!(in alloc; "{}", LoadFault::NoMemory),
+        Call::Pack => answer_of_pack(alloc, text),
+        Call::Get | Call::Places => answer_of_loaded(alloc, &mut folder, call, argument),
+        Call::Load | Call::List | Call::Read => {
+            answer_of_folder(alloc, &mut folder, call, argument)
+        }
+    }
+}
+
+// A file's name, a blank and its bytes, or `!` where the device fails to give them.
+fn file_of(alloc: Global, line: &str) -> Result<MemoryFile, AllocError> {
+    let (name, text) = line.split_once(' ').unwrap_or((line, ""));
+    let bytes = if text == "!" {
+        None
+    } else {
+        Some(text.as_bytes().to_vec(alloc)?)
+    };
+    let name = String::from_str(alloc, name)?;
+    Ok(MemoryFile { name, bytes })
+}
+
+fn folder_of_lines(alloc: Global, text: &[u8]) -> Result<MemoryFolder, AllocError> {
+    let text = String::from_utf8_lossy(alloc, text)?;
+    let mut files = Vec::new(alloc);
+    for line in text.lines() {
+        files.push(file_of(alloc, line)?)?;
+    }
+    MemoryFolder::new(alloc, files).map_err(|_| AllocError)
+}
+
+fn copy_of(alloc: Global, file: &MemoryFile) -> Result<MemoryFile, AllocError> {
+    let bytes = match &file.bytes {
+        Some(bytes) => Some(bytes.to_vec(alloc)?),
+        None => None,
+    };
+    let name = String::from_str(alloc, file.name.as_str())?;
+    Ok(MemoryFile { name, bytes })
+}
+
+/// What files are loaded as.
+pub(crate) fn package_of(
+    alloc: Global,
+    files: &[MemoryFile],
+) -> Result<Result<Package<'static>, LoadFault>, AllocError> {
+    let mut copies = Vec::new(alloc);
+    for file in files {
+        copies.push(copy_of(alloc, file)?)?;
+    }
+    let folder = MemoryFolder::new(alloc, copies);
+    let mut folder = folder.map_err(|_| AllocError)?;
+    Ok(load(alloc, &mut folder))
+}
+
+// The answer of a call on a folder, and behind it how often the device has failed.
+fn answer_of_folder(
+    alloc: Global,
+    folder: &mut MemoryFolder,
+    call: Call,
+    argument: &str,
+) -> Result<String, AllocError> {
+    let text = match call {
+        Call::List => listed(alloc, folder)?,
+        Call::Read => read_all(alloc, folder, argument)?,
+        _ => loaded(alloc, folder)?,
+    };
+    let failures = folder.failures();
+    format!(in alloc; "{text}; {failures}")
+}
+
+fn answer_of_unlisted(alloc: Global) -> Result<String, AllocError> {
+    let mut folder = MemoryFolder::unlisted(alloc);
+    let first = answer_of_folder(alloc, &mut folder, Call::Load, "")?;
+    let second = answer_of_folder(alloc, &mut folder, Call::Load, "")?;
+    let third = answer_of_folder(alloc, &mut folder, Call::List, "")?;
+    let fourth = answer_of_folder(alloc, &mut folder, Call::Read, "b")?;
+    format!(in alloc; "{first}, {second}, {third}, {fourth}")
+}
+
+// What a folder is loaded as: the urls, or the fault's text.
+fn loaded(alloc: Global, folder: &mut MemoryFolder) -> Result<String, AllocError> {
+    match load(alloc, folder) {
+        Ok(package) => names_of(alloc, &package),
+        Err(fault) => format!(in alloc; "{fault}"),
+    }
+}
+
+fn files_of_lines(alloc: Global, text: &[u8]) -> Result<FolderFiles, AllocError> {
+    let text = String::from_utf8_lossy(alloc, text)?;
+    let mut files = Vec::new(alloc);
+    for line in text.lines() {
+        let MemoryFile { name, bytes } = file_of(alloc, line)?;
+        if let Some(bytes) = bytes {
+            files.push(FolderFile { name, bytes })?;
+        }
+    }
+    FolderFiles::of(alloc, files).map_err(|_| AllocError)
+}
+
+// What files that were read otherwise are packed as: the urls, or the fault's text.
+fn answer_of_pack(alloc: Global, text: &[u8]) -> Result<String, AllocError> {
+    let files = files_of_lines(alloc, text)?;
+    match pack(alloc, &files) {
+        Ok(package) => names_of(alloc, &package),
+        Err(fault) => format!(in alloc; "{fault}"),
+    }
+}
+
+fn listed(alloc: Global, folder: &mut MemoryFolder) -> Result<String, AllocError> {
+    match folder.list(alloc) {
+        Ok(names) => format!(in alloc; "{names:?}"),
+        Err(fault) => format!(in alloc; "{fault:?}"),
+    }
+}
+
+fn read_all(alloc: Global, folder: &mut MemoryFolder, names: &str) -> Result<String, AllocError> {
+    let mut all = String::from_str(alloc, "read")?;
+    for name in names.split(' ') {
+        let told = format!(in alloc; " {:?}", folder.read(alloc, name))?;
+        all.push_str(told.as_str())?;
+    }
+    Ok(all)
+}
+
+fn put_names(text: &mut String, package: &Package, kind: Kind) -> Result<(), AllocError> {
+    for name in package.names(kind) {
+        text.push(' ')?;
+        text.push_str(name)?;
+    }
+    Ok(())
+}
+
+// The urls of a package, kind by kind.
+fn names_of(alloc: Global, package: &Package) -> Result<String, AllocError> {
+    let mut text = String::from_str(alloc, "S")?;
+    put_names(&mut text, package, Kind::StructureDefinition)?;
+    text.push_str(", V")?;
+    put_names(&mut text, package, Kind::ValueSet)?;
+    text.push_str(", C")?;
+    put_names(&mut text, package, Kind::CodeSystem)?;
+    Ok(text)
+}
+
+fn answer_of_loaded(
+    alloc: Global,
+    folder: &mut MemoryFolder,
+    call: Call,
+    argument: &str,
+) -> Result<String, AllocError> {
+    match load(alloc, folder) {
+        Ok(package) => answer_of_package(alloc, &package, call, argument),
+        Err(fault) => format!(in alloc; "{fault}"),
+    }
+}
+
+fn kind_of(name: &str) -> Kind {
+    match name {
+        "StructureDefinition" => Kind::StructureDefinition,
+        "ValueSet" => Kind::ValueSet,
+        _ => Kind::CodeSystem,
+    }
+}
+
+fn answer_of_package(
+    alloc: Global,
+    package: &Package,
+    call: Call,
+    argument: &str,
+) -> Result<String, AllocError> {
+    match call {
+        Call::Places => places_of(alloc, package, kind_of(argument)),
+        _ => match package.get(Kind::StructureDefinition, argument) {
+            Some(tree) => String::from_str(alloc, tree.text_at("url")),
+            None => String::from_str(alloc, "none"),
+        },
+    }
+}
+
+// The url and the name of the definition at a place.
+fn told_place(
+    alloc: Global,
+    package: &Package,
+    kind: Kind,
+    place: usize,
+) -> Result<String, AllocError> {
+    match package.at(kind, place) {
+        Some((url, tree)) => format!(in alloc; "{url}{}", tree.text_at("name")),
+        None => String::from_str(alloc, "-"),
+    }
+}
+
+// The name of the definition at a url.
+fn name_at<'p>(package: &'p Package, kind: Kind, url: &str) -> &'p str {
+    match package.at_url(kind, url) {
+        Some(tree) => tree.text_at("name"),
+        None => "-",
+    }
+}
+
+// What is at each of three places of a kind and under two urls, and how many there are.
+fn places_of(alloc: Global, package: &Package, kind: Kind) -> Result<String, AllocError> {
+    let mut text = String::new(alloc);
+    for place in 0..3 {
+        text.push_str(told_place(alloc, package, kind, place)?.as_str())?;
+        text.push(' ')?;
+    }
+    let (first, second) = (
+        name_at(package, kind, "at|1"),
+        name_at(package, kind, "other"),
+    );
+    format!(in alloc; "{text}{first} {second} {}", package.len(kind))
+}
