@@ -1,5 +1,6 @@
 -- Which names are the names of JSON files among others.
-use Rattle.std.proofs.Common.{Ordering, Less, Equal, Greater, ◌≡◌, ◌<◌, ℕ, zero, suc, Bool, true, false, cond, List, [], ◌∷◌, length, refl, sym, ap, ◌∙◌, ◌⊎◌, inl, inr, arith}
+use Rattle.std.proofs.Common.{Ordering, Less, Equal, Greater, ◌≡◌, ◌<◌, ℕ, zero, suc, Bool, true, false, cond, List, [], ◌∷◌, length, refl, sym, ap, ◌∙◌, ◌⊎◌}
+use Rattle.std.proofs.Common.{inl, inr, arith}
 use Rattle.std.specs.Prelude.{filter, Contains, slice_index_or}
 use Rattle.std.specs.Cmp.Lexicographic.{slice_cmp}
 use Rattle.std.specs.Ordering.{match_ordering, nat_cmp}
@@ -36,7 +37,8 @@ from_put : (xs : List Text) (k x : Text) → Among x (put xs k) → (k ≡ x) �
 from_put [] k x h = h
 from_put (y ∷ ys) k x h = by (slice_cmp nat_cmp k y) (from_put ys k x) h
   where
-    by : (o : Ordering) → (Among x (put ys k) → (k ≡ x) ⊎ Among x ys) → Among x (match_ordering o (k ∷ y ∷ ys) (y ∷ ys) (y ∷ put ys k)) → (k ≡ x) ⊎ Among x (y ∷ ys)
+    by : (o : Ordering) → (Among x (put ys k) → (k ≡ x) ⊎ Among x ys) → Among x (match_ordering o (k ∷ y ∷ ys) (y ∷ ys) (y ∷ put ys k))
+        → (k ≡ x) ⊎ Among x (y ∷ ys)
     by Less rest h = h
     by Equal rest h = inr h
     by Greater rest h = elim h [ inl e ↦ inr (inl e) | inr r ↦ elim (rest r) [ inl e ↦ inl e | inr s ↦ inr (inr s) ] ]
@@ -52,7 +54,8 @@ from_filter : (ns : List Text) (x : Text) → Among x (filter is_json_name ns) �
 from_filter [] x h = absurd h
 from_filter (n ∷ ns) x h = by (is_json_name n) refl (from_filter ns x) h
   where
-    by : (b : Bool) → is_json_name n ≡ b → (Among x (filter is_json_name ns) → Among x ns × (is_json_name x ≡ true)) → Among x (cond b (n ∷ filter is_json_name ns) (filter is_json_name ns)) → Among x (n ∷ ns) × (is_json_name x ≡ true)
+    by : (b : Bool) → is_json_name n ≡ b → (Among x (filter is_json_name ns) → Among x ns × (is_json_name x ≡ true))
+        → Among x (cond b (n ∷ filter is_json_name ns) (filter is_json_name ns)) → Among x (n ∷ ns) × (is_json_name x ≡ true)
     by true is rest h = elim h [ inl e ↦ (inl e, ap is_json_name (sym e) ∙ is) | inr r ↦ let s = rest r in (inr s.0, s.1) ]
     by false isnt rest h = let s = rest h in (inr s.0, s.1)
 

@@ -1,5 +1,6 @@
 -- Files that are kept by their names: what it is to put one in.
-use Rattle.std.proofs.Common.{Ordering, Less, Equal, Greater, ◌≡◌, ℕ, Bool, true, false, cond, List, [], ◌∷◌, Some, map, String, Vec, string_bytes, refl, sym, ap, ◌∙◌}
+use Rattle.std.proofs.Common.{Ordering, Less, Equal, Greater, ◌≡◌, ℕ, Bool, true, false, cond, List, [], ◌∷◌, Some, map, String, Vec, string_bytes, refl, sym}
+use Rattle.std.proofs.Common.{ap, ◌∙◌}
 use Rattle.std.specs.Prelude.{is_some, if◌then◌else◌}
 use Rattle.std.specs.declared.alloc.Global.{Global}
 use Rattle.std.specs.Map.{lookup}
@@ -26,7 +27,8 @@ files_in-insert k v (e ∷ es) =
     by (slice_cmp nat_cmp (string_bytes k) (string_bytes e.0)) rest
   where
     by : (o : Ordering)
-        → files_in (e ∷ insert_entry string_cmp es k v) ≡ (string_bytes e.0, e.1.items) ∷ insert_entry (slice_cmp nat_cmp) (files_in es) (string_bytes k) v.items
+        → files_in (e ∷ insert_entry string_cmp es k v)
+        ≡ (string_bytes e.0, e.1.items) ∷ insert_entry (slice_cmp nat_cmp) (files_in es) (string_bytes k) v.items
         → files_in (match_ordering o ((k, v) ∷ e ∷ es) ((e.0, v) ∷ es) (e ∷ insert_entry string_cmp es k v))
         ≡ match_ordering o ((string_bytes k, v.items) ∷ files_in (e ∷ es)) ((string_bytes e.0, v.items) ∷ files_in es)
         ((string_bytes e.0, e.1.items) ∷ insert_entry (slice_cmp nat_cmp) (files_in es) (string_bytes k) v.items)
@@ -45,7 +47,8 @@ has-files_in n (e ∷ es) =
     ∙ by (bytes_eq n (string_bytes e.0)) (has-files_in n es)
   where
     by : (b : Bool) → has n es ≡ is_some (lookup (bytes_eq n) (files_in es))
-        → is_some (cond b (Some e.1) (lookup (λ k. is_eq (slice_cmp nat_cmp n (string_bytes k))) es)) ≡ is_some (cond b (Some e.1.items) (lookup (bytes_eq n) (files_in es)))
+        → is_some (cond b (Some e.1) (lookup (λ k. is_eq (slice_cmp nat_cmp n (string_bytes k))) es))
+        ≡ is_some (cond b (Some e.1.items) (lookup (bytes_eq n) (files_in es)))
     by true rest = refl
     by false rest = rest
 

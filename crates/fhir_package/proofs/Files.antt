@@ -27,7 +27,8 @@ record IsIn (files : Files) (ns : List Text) (d : Definition) : Type 0 where
   read : reading (bytes_at files name) ≡ Ok tree
   held : Contains (definitions_in tree) d
 
-in_cases : (files : Files) (n : Text) (ns : List Text) (t : Tree) → reading (bytes_at files n) ≡ Ok t → (d : Definition) → IsIn files (n ∷ ns) d → Contains (definitions_in t) d ⊎ IsIn files ns d
+in_cases : (files : Files) (n : Text) (ns : List Text) (t : Tree) → reading (bytes_at files n) ≡ Ok t → (d : Definition) → IsIn files (n ∷ ns) d
+    → Contains (definitions_in t) d ⊎ IsIn files ns d
 in_cases files n ns t is d i = elim i.listed [
   | inl e ↦ inl (same e)
   | inr more ↦ inr (record { name = i.name; listed = more; tree = i.tree; read = i.read; held = i.held })
@@ -50,7 +51,9 @@ module _ (In : Definition → Type 0) (files : Files) (same : (t : Tree) → equ
       joins : (t : Tree) → reading (bytes_at files n) ≡ Ok t → (r : Result Definitions Text) → Ends In (Contains (definitions_in t)) p (or_clash r)
           → ((q : Definitions) → Stands In q → Ends In (IsIn files ns) q (take_named files ns q))
           → Ends In (IsIn files (n ∷ ns)) p (and_then (take_named files ns) (or_clash r))
-      joins t is (Ok q) h rest = chain In (Contains (definitions_in t)) (IsIn files ns) (IsIn files (n ∷ ns)) (in_cases files n ns t is) p q (take_named files ns q) h (rest q h.stands)
+      joins t is (Ok q) h rest =
+          chain In (Contains (definitions_in t)) (IsIn files ns) (IsIn files (n ∷ ns)) (in_cases files n ns t is) p q (take_named files ns q) h
+          (rest q h.stands)
       joins t is (Err url) h rest = h
 
       by : (r : Result Tree JsonFault) → reading (bytes_at files n) ≡ r
@@ -110,10 +113,12 @@ module _ (agrees : Agrees) (same : (t : Tree) → IsTrue (equal t t)) where
   grown : (files : Files) (p : Definitions) → pack files ≡ Ok p → Grows (IsInFolder files) (IsIn files (json_names (keys_of files))) no_definitions p
   grown files p e = subst (Packed files) e (packs files)
 
-  pub all_lem : (files : Files) (p : Definitions) (d : Definition) → pack files ≡ Ok p → IsInFolder files d → (t : Tree) × (at_url d.kind d.url p ≡ Some t) × IsTrue (equal t d.tree)
+  pub all_lem : (files : Files) (p : Definitions) (d : Definition) → pack files ≡ Ok p → IsInFolder files d
+      → (t : Tree) × (at_url d.kind d.url p ≡ Some t) × IsTrue (equal t d.tree)
   all_lem files p d e i = (grown files p e).shows d (to_files files d i)
 
-  pub only_lem : (files : Files) (p : Definitions) (kind : Kind) (url : Text) (t : Tree) → pack files ≡ Ok p → at_url kind url p ≡ Some t → IsInFolder files (record { kind = kind; url = url; tree = t })
+  pub only_lem : (files : Files) (p : Definitions) (kind : Kind) (url : Text) (t : Tree) → pack files ≡ Ok p → at_url kind url p ≡ Some t
+      → IsInFolder files (record { kind = kind; url = url; tree = t })
   only_lem files p kind url t e is = (grown files p e).stands.only kind url t is
 
   pub distinct_lem : (files : Files) (p : Definitions) (kind : Kind) → pack files ≡ Ok p → IsDistinct bytes_eq (keys_of (of_kind kind p))

@@ -1,5 +1,6 @@
 -- What a tree holds doesn't depend on the levels that are counted down, where they are as many as the tree's.
-use Rattle.std.proofs.Common.{◌≡◌, ℕ, zero, suc, ◌≤◌, Bool, true, false, cond, leb, List, [], ◌∷◌, ◌++◌, Option, None, Some, refl, sym, ap, ◌∙◌, inl, inr, arith}
+use Rattle.std.proofs.Common.{◌≡◌, ℕ, zero, suc, ◌≤◌, Bool, true, false, cond, leb, List, [], ◌∷◌, ◌++◌, Option, None, Some, refl, sym, ap, ◌∙◌, inl, inr}
+use Rattle.std.proofs.Common.{arith}
 use Rattle.std.specs.Prelude.{codes}
 use Rattle.std.specs.List.{AllByRecursion, flat_map}
 use Rattle.std.specs.Option.{option_map_or}
@@ -89,7 +90,8 @@ abbrev Same : ℕ → ℕ → Type 0
 Same n m = (t : Tree) → depth t ≤ n → depth t ≤ m → held_within n t ≡ held_within m t
 
 entry_same : (n m : ℕ) → Same n m → (e : Tree) → depth e ≤ n → depth e ≤ m → in_entry n e ≡ in_entry m e
-entry_same n m same e h k = by (field (codes "resource") e) (field_within n (codes "resource") e (omega arith)) (field_within m (codes "resource") e (omega arith))
+entry_same n m same e h k =
+    by (field (codes "resource") e) (field_within n (codes "resource") e (omega arith)) (field_within m (codes "resource") e (omega arith))
   where
     by : (r : Option Tree) → Within n r → Within m r → option_map_or (held_within n) r [] ≡ option_map_or (held_within m) r []
     by None h k = refl

@@ -46,7 +46,8 @@ Ends In Held p (Err refusal) = Refuses In refusal
 -- ---- one kind
 
 -- what holds of the new entries of one kind and of the old ones of each
-with_kind_each : (P : Kind → ByUrl → Type 0) (k : Kind) (es : ByUrl) (p : Definitions) → P k es → ((kind : Kind) → P kind (of_kind kind p)) → (kind : Kind) → P kind (of_kind kind (with_kind k es p))
+with_kind_each : (P : Kind → ByUrl → Type 0) (k : Kind) (es : ByUrl) (p : Definitions) → P k es → ((kind : Kind) → P kind (of_kind kind p)) → (kind : Kind)
+    → P kind (of_kind kind (with_kind k es p))
 with_kind_each P StructureDefinition es p h each StructureDefinition = h
 with_kind_each P StructureDefinition es p h each ValueSet = each ValueSet
 with_kind_each P StructureDefinition es p h each CodeSystem = each CodeSystem
@@ -66,7 +67,8 @@ with_kind_there CodeSystem es p = refl
 
 module _ (In : Definition → Type 0) where
   -- some put in, and then others
-  pub chain : (A B C : Definition → Type 0) → ((d : Definition) → C d → A d ⊎ B d) → (p q : Definitions) (r : Result Definitions Refusal) → Grows In A p q → Ends In B q r → Ends In C p r
+  pub chain : (A B C : Definition → Type 0) → ((d : Definition) → C d → A d ⊎ B d) → (p q : Definitions) (r : Result Definitions Refusal) → Grows In A p q
+      → Ends In B q r → Ends In C p r
   chain A B C parts p q (Ok s) g h = record {
     stands = h.stands;
     keeps = λ kind url t e. h.keeps kind url t (g.keeps kind url t e);
@@ -120,7 +122,8 @@ module _ (In : Definition → Type 0) where
   join_ends : ((t : Tree) → equal t t ≡ true) → (d : Definition) (p : Definitions) → In d → Stands In p → Ends In (λ e. d ≡ e) p (or_clash (join d p))
   join_ends same d p i s = by (at_url d.kind d.url p) refl
     where
-      compared : (t : Tree) → at_url d.kind d.url p ≡ Some t → (b : Bool) → equal t d.tree ≡ b → Ends In (λ e. d ≡ e) p (or_clash (if b then Ok p else Err d.url))
+      compared : (t : Tree) → at_url d.kind d.url p ≡ Some t → (b : Bool) → equal t d.tree ≡ b
+          → Ends In (λ e. d ≡ e) p (or_clash (if b then Ok p else Err d.url))
       compared t is true alike = unchanged (λ e. d ≡ e) p s (λ e eq. subst (Shows p) eq (t, is, alike))
       compared t is false unlike = record { kind = d.kind; first = t; second = d.tree; first_in = s.only d.kind d.url t is; second_in = i; unequal = unlike }
 
@@ -129,12 +132,14 @@ module _ (In : Definition → Type 0) where
       by (Some t) is = compared t is (equal t d.tree) refl
 
   -- and several, one after another
-  pub join_all_ends : ((t : Tree) → equal t t ≡ true) → (ds : List Definition) (p : Definitions) → ((d : Definition) → Contains ds d → In d) → Stands In p → Ends In (Contains ds) p (or_clash (join_all ds p))
+  pub join_all_ends : ((t : Tree) → equal t t ≡ true) → (ds : List Definition) (p : Definitions) → ((d : Definition) → Contains ds d → In d) → Stands In p
+      → Ends In (Contains ds) p (or_clash (join_all ds p))
   join_all_ends same [] p i s = unchanged (Contains []) p s (λ d c. absurd (contains_none d c))
   join_all_ends same (d ∷ ds) p i s =
       by (join d p) (join_ends same d p (i d (contains_first d ds d refl)) s) (λ q. join_all_ends same ds q (λ e c. i e (contains_later d ds e c)))
     where
-      by : (r : Result Definitions Text) → Ends In (λ e. d ≡ e) p (or_clash r) → ((q : Definitions) → Stands In q → Ends In (Contains ds) q (or_clash (join_all ds q)))
+      by : (r : Result Definitions Text) → Ends In (λ e. d ≡ e) p (or_clash r)
+          → ((q : Definitions) → Stands In q → Ends In (Contains ds) q (or_clash (join_all ds q)))
           → Ends In (Contains (d ∷ ds)) p (or_clash (and_then (join_all ds) r))
       by (Ok q) h rest = chain (λ e. d ≡ e) (Contains ds) (Contains (d ∷ ds)) (contains_cases d ds) p q (or_clash (join_all ds q)) h (rest q h.stands)
       by (Err url) h rest = h

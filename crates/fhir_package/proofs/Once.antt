@@ -1,5 +1,6 @@
 -- Files put in one after the other, of two of one name the first, are those of the folder.
-use Rattle.std.proofs.Common.{Ordering, Less, Equal, Greater, ◌≡◌, ℕ, Bool, true, false, cond, List, [], ◌∷◌, Option, None, Some, map, refl, sym, ap, subst, ◌∙◌, inl, inr}
+use Rattle.std.proofs.Common.{Ordering, Less, Equal, Greater, ◌≡◌, ℕ, Bool, true, false, cond, List, [], ◌∷◌, Option, None, Some, map, refl, sym, ap, subst}
+use Rattle.std.proofs.Common.{◌∙◌, inl, inr}
 use Rattle.std.specs.Prelude.{filter, is_some, if◌then◌else◌}
 use Rattle.std.specs.List.{AllByRecursion}
 use Rattle.std.specs.List.Sorted.{IsStrictlySortedBy}
@@ -36,14 +37,16 @@ unfolding IsStrictlySortedBy
 put_again [] k rising there = absurd there
 put_again (y ∷ ys) k rising there = elim there [
   | inl e ↦ by Equal (ap (by_bytes k) e ∙ itself k) refl
-  | inr more ↦ by Greater (nat_list_cmp_total.antisymm k y ∙ ap ordering_reverse (below ys rising.0 more)) (ap (λ (l : List Text). y ∷ l) (put_again ys k rising.1 more))
+  | inr more ↦ by Greater (nat_list_cmp_total.antisymm k y ∙ ap ordering_reverse (below ys rising.0 more))
+      (ap (λ (l : List Text). y ∷ l) (put_again ys k rising.1 more))
 ]
   where
     below : (zs : List Text) → AllByRecursion (λ z. by_bytes y z ≡ Less) zs → Among k zs → by_bytes y k ≡ Less
     below [] h there = absurd there
     below (z ∷ zs) h there = elim there [ inl e ↦ ap (by_bytes y) (sym e) ∙ h.0 | inr more ↦ below zs h.1 more ]
 
-    by : (o : Ordering) → by_bytes k y ≡ o → match_ordering o (k ∷ y ∷ ys) (y ∷ ys) (y ∷ insert_key by_bytes ys k) ≡ y ∷ ys → insert_key by_bytes (y ∷ ys) k ≡ y ∷ ys
+    by : (o : Ordering) → by_bytes k y ≡ o → match_ordering o (k ∷ y ∷ ys) (y ∷ ys) (y ∷ insert_key by_bytes ys k) ≡ y ∷ ys
+        → insert_key by_bytes (y ∷ ys) k ≡ y ∷ ys
     by o is e = rw is e
 
 keys-insert : (es : Files) (n : Text) (bytes : List ℕ) → keys_of (insert_entry by_bytes es n bytes) ≡ insert_key by_bytes (keys_of es) n
@@ -67,7 +70,8 @@ lookup-insert q n bytes (e ∷ es) = by (by_bytes n e.0) refl (lookup-insert q n
     found : Files → Option (List ℕ)
     found fs = lookup (bytes_eq q) fs
 
-    swap : (a b : Bool) (x y : List ℕ) (r s : Option (List ℕ)) → (a ≡ true → b ≡ true → ⊥) → s ≡ cond b (Some y) r → cond a (Some x) s ≡ cond b (Some y) (cond a (Some x) r)
+    swap : (a b : Bool) (x y : List ℕ) (r s : Option (List ℕ)) → (a ≡ true → b ≡ true → ⊥) → s ≡ cond b (Some y) r
+        → cond a (Some x) s ≡ cond b (Some y) (cond a (Some x) r)
     swap true true x y r s apart e = absurd (apart refl refl)
     swap true false x y r s apart e = refl
     swap false true x y r s apart e = e
@@ -83,12 +87,14 @@ lookup-insert q n bytes (e ∷ es) = by (by_bytes n e.0) refl (lookup-insert q n
         differ : Equal ≡ Greater → ⊥
         differ h = cc
 
-    by : (o : Ordering) → by_bytes n e.0 ≡ o → lookup (bytes_eq q) (insert_entry by_bytes es n bytes) ≡ cond (bytes_eq q n) (Some bytes) (lookup (bytes_eq q) es)
+    by : (o : Ordering) → by_bytes n e.0 ≡ o
+        → lookup (bytes_eq q) (insert_entry by_bytes es n bytes) ≡ cond (bytes_eq q n) (Some bytes) (lookup (bytes_eq q) es)
         → lookup (bytes_eq q) (match_ordering o ((n, bytes) ∷ e ∷ es) ((e.0, bytes) ∷ es) (e ∷ insert_entry by_bytes es n bytes))
         ≡ cond (bytes_eq q n) (Some bytes) (lookup (bytes_eq q) (e ∷ es))
     by Less is rest = refl
     by Equal is rest = rw (exact_bytes n e.0 is) (over (bytes_eq q e.0) e.1 bytes (lookup (bytes_eq q) es))
-    by Greater is rest = swap (bytes_eq q e.0) (bytes_eq q n) e.1 bytes (lookup (bytes_eq q) es) (lookup (bytes_eq q) (insert_entry by_bytes es n bytes)) (apart is) rest
+    by Greater is rest =
+        swap (bytes_eq q e.0) (bytes_eq q n) e.1 bytes (lookup (bytes_eq q) es) (lookup (bytes_eq q) (insert_entry by_bytes es n bytes)) (apart is) rest
 
 none_some : (b : List ℕ) → (let r : Option (List ℕ) = None in r ≡ Some b) → ⊥
 none_some b e = cc
@@ -100,7 +106,8 @@ among_keys : (es : Files) (q : Text) (bytes : List ℕ) → lookup (bytes_eq q) 
 among_keys [] q bytes e = absurd (none_some bytes e)
 among_keys (f ∷ fs) q bytes e = by (bytes_eq q f.0) refl (among_keys fs q bytes) e
   where
-    by : (b : Bool) → bytes_eq q f.0 ≡ b → (lookup (bytes_eq q) fs ≡ Some bytes → Among q (keys_of fs)) → cond b (Some f.1) (lookup (bytes_eq q) fs) ≡ Some bytes → Among q (f.0 ∷ keys_of fs)
+    by : (b : Bool) → bytes_eq q f.0 ≡ b → (lookup (bytes_eq q) fs ≡ Some bytes → Among q (keys_of fs))
+        → cond b (Some f.1) (lookup (bytes_eq q) fs) ≡ Some bytes → Among q (f.0 ∷ keys_of fs)
     by true is rest e = inl (sym ((bytes_eq-Decides q f.0).0 is))
     by false isnt rest e = inr (rest e)
 
@@ -118,7 +125,8 @@ holds_none whole es rest none all = rw (none, all) (record { names = refl; bytes
 taken : (whole es rest : Files) (n : Text) (b : List ℕ) → is_json_name n ≡ true → Holds whole es ((n, b) ∷ rest) → Holds whole (put_first es n b) rest
 taken whole es rest n b is h = by (lookup (bytes_eq n) es) refl
   where
-    first : (r : Option (List ℕ)) → lookup (bytes_eq n) es ≡ r → (q : Text) → (t : Bool) → bytes_eq q n ≡ t → lookup (bytes_eq q) es ≡ cond t r (lookup (bytes_eq q) es)
+    first : (r : Option (List ℕ)) → lookup (bytes_eq n) es ≡ r → (q : Text) → (t : Bool) → bytes_eq q n ≡ t
+        → lookup (bytes_eq q) es ≡ cond t r (lookup (bytes_eq q) es)
     first r e q true same = ap (λ (m : Text). lookup (bytes_eq m) es) ((bytes_eq-Decides q n).0 same) ∙ e
     first r e q false other = refl
 

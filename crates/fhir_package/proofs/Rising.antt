@@ -36,7 +36,8 @@ unfolding IsStrictlySortedBy
 rises_put [] k h = (tt, tt)
 rises_put (y ∷ ys) k h = by (by_bytes k y) refl (rises_put ys k h.1)
   where
-    by : (o : Ordering) → by_bytes k y ≡ o → IsStrictlySortedBy by_bytes (put ys k) → IsStrictlySortedBy by_bytes (match_ordering o (k ∷ y ∷ ys) (y ∷ ys) (y ∷ put ys k))
+    by : (o : Ordering) → by_bytes k y ≡ o → IsStrictlySortedBy by_bytes (put ys k)
+        → IsStrictlySortedBy by_bytes (match_ordering o (k ∷ y ∷ ys) (y ∷ ys) (y ∷ put ys k))
     by Less is rest = ((is, all_above k y ys is h.0), h)
     by Equal is rest = h
     by Greater is rest = (all_put (λ z. by_bytes y z ≡ Less) ys k h.0 (nat_list_cmp_total.antisymm y k ∙ ap ordering_reverse is), rest)

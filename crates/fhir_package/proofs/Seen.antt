@@ -14,7 +14,8 @@ position-shift : (t : List ℕ → Bool) (i : ℕ) (xs : List (List ℕ)) → po
 position-shift t i [] = refl
 position-shift t i (x ∷ xs) =
     let rest = position-shift t (i + 1) xs in
-    elim (t x) as (λ b. cond b (Some (i + 1)) (position_from t (i + 1 + 1) xs) ≡ option_map (λ p. p + 1) (cond b (Some i) (position_from t (i + 1) xs))) [ true ↦ refl | false ↦ rest ]
+    elim (t x) as (λ b. cond b (Some (i + 1)) (position_from t (i + 1 + 1) xs) ≡ option_map (λ p. p + 1) (cond b (Some i) (position_from t (i + 1) xs)))
+    [ true ↦ refl | false ↦ rest ]
 
 module _ {V : Type 0} where
   -- the value at a place
@@ -31,11 +32,14 @@ module _ {V : Type 0} where
   value-first t (e ∷ es) =
       let rest : value_at (e ∷ es) (position_from t (0 + 1) (keys_of es)) ≡ lookup t es =
       ap (value_at (e ∷ es)) (position-shift t 0 (keys_of es)) ∙ value_behind e es (position_from t 0 (keys_of es)) ∙ value-first t es in
-      elim (t e.0) as (λ b. value_at (e ∷ es) (cond b (Some 0) (position_from t (0 + 1) (keys_of es))) ≡ cond b (Some e.1) (lookup t es)) [ true ↦ refl | false ↦ rest ]
+      elim (t e.0) as (λ b. value_at (e ∷ es) (cond b (Some 0) (position_from t (0 + 1) (keys_of es))) ≡ cond b (Some e.1) (lookup t es))
+      [ true ↦ refl | false ↦ rest ]
 
 -- so a name is looked up by its place
-pub found : {V : Type 0} (places : Places) (es : List (List ℕ × V)) (name : List ℕ) (r : Option ℕ) → Finds places (keys_of es) → r ≡ place_of places name → value_at es r ≡ lookup (bytes_eq name) es
+pub found : {V : Type 0} (places : Places) (es : List (List ℕ × V)) (name : List ℕ) (r : Option ℕ) → Finds places (keys_of es) → r ≡ place_of places name
+    → value_at es r ≡ lookup (bytes_eq name) es
 found places es name r h e = ap (value_at es) (e ∙ h name) ∙ value-first (bytes_eq name) es
 
-pub join-new : (d : Definition) (p : Definitions) → at_url d.kind d.url p ≡ None → or_clash (join d p) ≡ Ok (with_kind d.kind (of_kind d.kind p ++ (d.url, d.tree) ∷ []) p)
+pub join-new : (d : Definition) (p : Definitions) → at_url d.kind d.url p ≡ None
+    → or_clash (join d p) ≡ Ok (with_kind d.kind (of_kind d.kind p ++ (d.url, d.tree) ∷ []) p)
 join-new d p none = ap (λ (t : Option Tree). or_clash (joined t d p)) none

@@ -16,7 +16,8 @@ use Rattle.fhir_package.specs.declared.kind.Kind.{Kind}
 use Rattle.fhir_package.specs.declared.kind.Kind.TheVariants.{StructureDefinition, ValueSet, CodeSystem}
 use Rattle.fhir_package.specs.Definitions.{Definitions, ByUrl, no_definitions, of_kind, with_kind, at_url}
 use Rattle.fhir_package.specs.Folder.{Files}
-use Rattle.fhir_package.specs.Packing.{Refusal, Definition, kind_named, resource_type, is_bundle, definition_with, definition_of, held_within, in_entry, definitions_in, join, joined, join_all, and_then, or_clash, take_tree, bytes_at, json_names, pack}
+use Rattle.fhir_package.specs.Packing.{Refusal, Definition, kind_named, resource_type, is_bundle, definition_with, definition_of, held_within, in_entry}
+use Rattle.fhir_package.specs.Packing.{definitions_in, join, joined, join_all, and_then, or_clash, take_tree, bytes_at, json_names, pack}
 use Rattle.fhir_package.proofs.Packs.{Agrees, take_named}
 
 -- ---- a tree's parts
@@ -82,7 +83,8 @@ each_holds f (t ∷ ts) holds h = both_hold (f t) (flat_map f ts) (holds t h.0) 
 itself_holds : (t : Tree) → IsSound t → HoldSound (option_map_or (λ d. d ∷ []) (definition_of t) [])
 itself_holds t h = by (kind_named (resource_type t))
   where
-    with_url : (kind : Kind) (url : Option Text) → HoldSound (option_map_or (λ d. d ∷ []) (option_map (λ url. let d : Definition = record { kind = kind; url = url; tree = t } in d) url) [])
+    with_url : (kind : Kind) (url : Option Text)
+        → HoldSound (option_map_or (λ d. d ∷ []) (option_map (λ url. let d : Definition = record { kind = kind; url = url; tree = t } in d) url) [])
     with_url kind None = tt
     with_url kind (Some url) = (h, tt)
 
@@ -101,9 +103,11 @@ held_sound : (n : ℕ) (t : Tree) → IsSound t → HoldSound (held_within n t)
 unfolding held_within
 held_sound zero t h = tt
 held_sound (suc n) t h =
-    by (is_bundle t) (each_holds (in_entry n) (items_in (codes "entry") t) (entry_holds n (held_sound n)) (items_in_sound (codes "entry") t h)) (itself_holds t h)
+    by (is_bundle t) (each_holds (in_entry n) (items_in (codes "entry") t) (entry_holds n (held_sound n)) (items_in_sound (codes "entry") t h))
+    (itself_holds t h)
   where
-    by : (b : Bool) → HoldSound (flat_map (in_entry n) (items_in (codes "entry") t)) → HoldSound (option_map_or (λ d. d ∷ []) (definition_of t) []) → HoldSound (cond b (flat_map (in_entry n) (items_in (codes "entry") t)) (option_map_or (λ d. d ∷ []) (definition_of t) []))
+    by : (b : Bool) → HoldSound (flat_map (in_entry n) (items_in (codes "entry") t)) → HoldSound (option_map_or (λ d. d ∷ []) (definition_of t) [])
+        → HoldSound (cond b (flat_map (in_entry n) (items_in (codes "entry") t)) (option_map_or (λ d. d ∷ []) (definition_of t) []))
     by true entries itself = entries
     by false entries itself = itself
 
@@ -161,12 +165,15 @@ files_sound : Agrees → (files : Files) (ns : List Text) (p : Definitions) → 
 files_sound agrees files [] p k = k
 files_sound agrees files (n ∷ ns) p k = by (reading (bytes_at files n)) refl (files_sound agrees files ns)
   where
-    joins : (r : Result Definitions Text) → SoundIfOk r → ((q : Definitions) → KindsSound q → SoundIfOk (take_named files ns q)) → SoundIfOk (and_then (take_named files ns) (or_clash r))
+    joins : (r : Result Definitions Text) → SoundIfOk r → ((q : Definitions) → KindsSound q → SoundIfOk (take_named files ns q))
+        → SoundIfOk (and_then (take_named files ns) (or_clash r))
     joins (Ok q) k rest = rest q k
     joins (Err url) k rest = tt
 
-    by : (r : Result Tree JsonFault) → reading (bytes_at files n) ≡ r → ((q : Definitions) → KindsSound q → SoundIfOk (take_named files ns q)) → SoundIfOk (and_then (take_named files ns) (take_tree n r p))
-    by (Ok t) is rest = joins (join_all (definitions_in t) p) (join_all_sound (definitions_in t) p (all_held_sound t ((agrees (bytes_at files n) t).0 is).sound) k) rest
+    by : (r : Result Tree JsonFault) → reading (bytes_at files n) ≡ r → ((q : Definitions) → KindsSound q → SoundIfOk (take_named files ns q))
+        → SoundIfOk (and_then (take_named files ns) (take_tree n r p))
+    by (Ok t) is rest =
+        joins (join_all (definitions_in t) p) (join_all_sound (definitions_in t) p (all_held_sound t ((agrees (bytes_at files n) t).0 is).sound) k) rest
     by (Err fault) is rest = tt
 
 none_sound : KindsSound no_definitions

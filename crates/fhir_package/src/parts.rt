@@ -2,13 +2,13 @@
 
 ghost use Rattle.std.specs.Prelude.{◌≡◌, map, option_map};
 ghost use Rattle.fhir_json.specs.Views.{tree_of, trees_of, items_view, members_view};
-ghost use Rattle.fhir_json.specs.Fields.{named, field, as_items, items_in};
+ghost use Rattle.fhir_json.specs.Fields.{value_named, field, as_items, items_in};
 
 use fhir_json::{Json, Member};
 use std::alloc::Global;
 
 fn take_named<'a>(members: Vec<Member<'a>>, name: &str) -> Option<Json<'a>>
-    ensures { option_map tree_of result ≡ named name.now (members_view members.entry.items) }
+    ensures { option_map tree_of result ≡ value_named name.now (members_view members.entry.items) }
 {
     for member in members {
         if name == member.name.as_str() {

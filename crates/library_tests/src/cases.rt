@@ -15,7 +15,7 @@
 //! In a line that begins with `|` or `?` signs stand for what can't be seen; `spelling` says which.
 
 use crate::spelling::{spell, spelled};
-use fhir_package::StoredFile;
+use fhir_package::MemoryFile;
 use std::alloc::{AllocError, AllocFailed, Global};
 use std::rt::Files;
 use std::{fs, io};
@@ -124,7 +124,7 @@ pub(crate) struct Case<'l> {
     alloc: Global,
     name: &'l str,
     is_asked: bool,
-    files: Vec<StoredFile>,
+    files: Vec<MemoryFile>,
     text: Vec<u8>,
     block: Block,
 }
@@ -151,7 +151,7 @@ impl<'l> Case<'l> {
     }
 
     /// The files of the package.
-    pub(crate) fn files(&self) -> &[StoredFile] {
+    pub(crate) fn files(&self) -> &[MemoryFile] {
         &self.files
     }
 
@@ -211,7 +211,7 @@ impl<'l> Case<'l> {
                 files.push(file)?;
             }
         }
-        files.push(StoredFile {
+        files.push(MemoryFile {
             name: String::from_str(self.alloc, name)?,
             bytes: Some(Vec::new(self.alloc)),
         })?;
@@ -226,7 +226,7 @@ impl<'l> Case<'l> {
         match block {
             Block::File => {
                 if let Some(
-                    StoredFile {
+                    MemoryFile {
                         bytes: Some(bytes),
                         ..
                     },
@@ -263,11 +263,11 @@ fn put_line(alloc: Global, bytes: &mut Vec<u8>, piece: &str) -> Result<(), Fault
 fn files_in<R: Files + AllocGlobal + Clone + Drop>(
     rt: &R,
     folder: &str,
-) -> Result<Vec<StoredFile>, Fault> {
+) -> Result<Vec<MemoryFile>, Fault> {
     let mut files = Vec::new(rt.alloc());
     for entry in fs::read_dir(rt, folder)? {
         let entry = entry?;
-        files.push(StoredFile {
+        files.push(MemoryFile {
             name: String::from_str(rt.alloc(), entry.file_name())?,
             bytes: Some(fs::read(rt, entry.path().as_str())?),
         })?;

@@ -3,7 +3,7 @@
 use crate::packages::package_of;
 use fhir_cert_check::{Answer, Rule, check, check_bytes, first_failing};
 use fhir_certificate::{Certificate, NodePair, Pair, fits, read};
-use fhir_package::{Package, StoredFile};
+use fhir_package::{MemoryFile, Package};
 use fhir_schema::{NodeRef, Schema};
 use std::alloc::{AllocError, Global};
 
@@ -34,7 +34,7 @@ fn call_of(name: &str) -> Option<Call> {
 /// The answer of a call on a certificate over the schema of a package; of `without` for a pair.
 pub(crate) fn answer(
     alloc: Global,
-    files: &[StoredFile],
+    files: &[MemoryFile],
     bytes: &[u8],
     call: &str,
     pair: &str,
@@ -50,7 +50,7 @@ pub(crate) fn answer(
 
 fn answer_of_package(
     alloc: Global,
-    package: &Package,
+    package: &Package<'_>,
     bytes: &[u8],
     call: Call,
     pair: &str,

@@ -180,7 +180,7 @@ fn read_all(alloc: Global, folder: &mut MemoryFolder, names: &str) -> Result<Str
     Ok(all)
 }
 
-fn put_names(text: &mut String, package: &Package, kind: Kind) -> Result<(), AllocError> {
+fn put_names(text: &mut String, package: &Package<'_>, kind: Kind) -> Result<(), AllocError> {
     for name in package.names(kind) {
         text.push(' ')?;
         text.push_str(name)?;
@@ -189,7 +189,7 @@ fn put_names(text: &mut String, package: &Package, kind: Kind) -> Result<(), All
 }
 
 // The urls of a package, kind by kind.
-fn names_of(alloc: Global, package: &Package) -> Result<String, AllocError> {
+fn names_of(alloc: Global, package: &Package<'_>) -> Result<String, AllocError> {
     let mut text = String::from_str(alloc, "S")?;
     put_names(&mut text, package, Kind::StructureDefinition)?;
     text.push_str(", V")?;
@@ -221,7 +221,7 @@ fn kind_of(name: &str) -> Kind {
 
 fn answer_of_package(
     alloc: Global,
-    package: &Package,
+    package: &Package<'_>,
     call: Call,
     argument: &str,
 ) -> Result<String, AllocError> {
@@ -237,7 +237,7 @@ fn answer_of_package(
 // The url and the name of the definition at a place.
 fn told_place(
     alloc: Global,
-    package: &Package,
+    package: &Package<'_>,
     kind: Kind,
     place: usize,
 ) -> Result<String, AllocError> {
@@ -248,7 +248,7 @@ fn told_place(
 }
 
 // The name of the definition at a url.
-fn name_at<'p>(package: &'p Package, kind: Kind, url: &str) -> &'p str {
+fn name_at<'p>(package: &'p Package<'_>, kind: Kind, url: &str) -> &'p str {
     match package.at_url(kind, url) {
         Some(tree) => tree.text_at("name"),
         None => "-",
@@ -256,7 +256,7 @@ fn name_at<'p>(package: &'p Package, kind: Kind, url: &str) -> &'p str {
 }
 
 // What is at each of three places of a kind and under two urls, and how many there are.
-fn places_of(alloc: Global, package: &Package, kind: Kind) -> Result<String, AllocError> {
+fn places_of(alloc: Global, package: &Package<'_>, kind: Kind) -> Result<String, AllocError> {
     let mut text = String::new(alloc);
     for place in 0..3 {
         text.push_str(told_place(alloc, package, kind, place)?.as_str())?;

@@ -3,7 +3,7 @@
 
 use crate::packages::package_of;
 use fhir_elements::TypeEntry;
-use fhir_package::{Package, StoredFile};
+use fhir_package::{MemoryFile, Package};
 use fhir_schema::{NodeRef, Schema, Slot};
 use std::alloc::{AllocError, Global};
 
@@ -13,7 +13,7 @@ const PROFILE: &str = "http://example.org/flat/one";
 /// The answer of a call on the schema of a package.
 pub(crate) fn answer(
     alloc: Global,
-    files: &[StoredFile],
+    files: &[MemoryFile],
     call: &str,
     argument: &str,
 ) -> Result<Option<String>, AllocError> {
@@ -25,7 +25,7 @@ pub(crate) fn answer(
 
 fn answer_of_package(
     alloc: Global,
-    package: &Package,
+    package: &Package<'_>,
     call: &str,
     argument: &str,
 ) -> Result<Option<String>, AllocError> {
