@@ -1,4 +1,16 @@
 //! Packages: the definitions of a folder of FHIR R4 files.
+//!
+//! ```
+//! // How many profiles and types the files have, or why they are no package.
+//! fn count_of(alloc: Global, files: Vec<FolderFile>) -> Result<usize, LoadFault> {
+//!     let files = FolderFiles::of(alloc, files)?;
+//!     let package = pack(alloc, &files)?; // its texts borrow from the files' bytes
+//!     Ok(package.len(Kind::StructureDefinition))
+//! }
+//! ```
+//!
+//! The contract to read first is that of [`pack`]. Which package files are stands in `specs/Packing.antt` (`pack_files`);
+//! the laws [`packages`] and [`packing`] say what that means for the files.
 #![tactic(auto)]
 
 mod canonical;

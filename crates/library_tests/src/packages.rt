@@ -1,12 +1,15 @@
 //! Questions on folders and packages. The case's text is a folder: each line is a file, its name, a blank and its bytes, or
 //! `!` where the device fails to give them.
 
-use fhir_package::{Folder, Kind, LoadFault, MemoryFile, MemoryFolder, Package, load};
+use fhir_package::{
+    Folder, FolderFile, FolderFiles, Kind, LoadFault, MemoryFile, MemoryFolder, Package, load, pack,
+};
 use std::alloc::{AllocError, Global};
 
 #[derive(Clone, Copy)]
 enum Call {
     Load,
+    Pack,
     List,
     Read,
     Get,
@@ -19,6 +22,7 @@ enum Call {
 fn call_of(name: &str) -> Option<Call> {
     match name {
         "load" => Some(Call::Load),
+        "pack" => Some(Call::Pack),
         "list" => Some(Call::List),
         "read" => Some(Call::Read),
         "get" => Some(Call::Get),
@@ -54,6 +58,7 @@ fn answer_of_call(
         Call::NoDefinitions => places_of(alloc, &Package::new(alloc), Kind::ValueSet),
         Call::Unlisted => answer_of_unlisted(alloc),
         Call::NoMemory => format!(in alloc; "{}", LoadFault::NoMemory),
+        Call::Pack => answer_of_pack(alloc, text),
         Call::Get | Call::Places => answer_of_loaded(alloc, &mut folder, call, argument),
         Call::Load | Call::List | Call::Read => {
             answer_of_folder(alloc, &mut folder, call, argument)
@@ -133,6 +138,27 @@ fn answer_of_unlisted(alloc: Global) -> Result<String, AllocError> {
 // What a folder is loaded as: the urls, or the fault's text.
 fn loaded(alloc: Global, folder: &mut MemoryFolder) -> Result<String, AllocError> {
     match load(alloc, folder) {
+        Ok(package) => names_of(alloc, &package),
+        Err(fault) => format!(in alloc; "{fault}"),
+    }
+}
+
+fn files_of_lines(alloc: Global, text: &[u8]) -> Result<FolderFiles, AllocError> {
+    let text = String::from_utf8_lossy(alloc, text)?;
+    let mut files = Vec::new(alloc);
+    for line in text.lines() {
+        let MemoryFile { name, bytes } = file_of(alloc, line)?;
+        if let Some(bytes) = bytes {
+            files.push(FolderFile { name, bytes })?;
+        }
+    }
+    FolderFiles::of(alloc, files).map_err(|_| AllocError)
+}
+
+// What files that were read otherwise are packed as: the urls, or the fault's text.
+fn answer_of_pack(alloc: Global, text: &[u8]) -> Result<String, AllocError> {
+    let files = files_of_lines(alloc, text)?;
+    match pack(alloc, &files) {
         Ok(package) => names_of(alloc, &package),
         Err(fault) => format!(in alloc; "{fault}"),
     }
