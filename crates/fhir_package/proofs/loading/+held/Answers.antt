@@ -26,10 +26,12 @@ take_entries-returns-in_err-take_entry-clause-taken t c =
     let first : c.loop-entry.entry-iterator.rest.items ≡ c.in-Some.entry ∷ c.next.new.self.rest.items = search rules in
     rw (e.1, e.2)
     (entry_refused
-    (in_entry c.args.levels) c.loop-entry.entry-iterator.rest.items c.in-Some.entry c.next.new.self.rest.items _ c.loop-entry.into c.in_err-take_entry.field-0.0 c.loop-entry.invariant first c.in_err-take_entry.ensures.taken)
+    (in_entry c.args.levels) c.loop-entry.entry-iterator.rest.items c.in-Some.entry c.next.new.self.rest.items _ c.loop-entry.into
+    c.in_err-take_entry.field-0.0 c.loop-entry.invariant first c.in_err-take_entry.ensures.taken)
 
 pub take_entries-loop-entry-preserved : goal.take_entries-loop-entry-preserved
 take_entries-loop-entry-preserved t c =
     let first : c.loop-entry.entry-iterator.rest.items ≡ c.in-Some.entry ∷ c.next.new.self.rest.items = search rules in
     entry_taken
-    (in_entry c.args.levels) c.loop-entry.entry-iterator.rest.items c.in-Some.entry c.next.new.self.rest.items _ c.loop-entry.into c.take_entry.new.into c.loop-entry.invariant first c.in_ok-take_entry.ensures.taken
+    (in_entry c.args.levels) c.loop-entry.entry-iterator.rest.items c.in-Some.entry c.next.new.self.rest.items _ c.loop-entry.into
+    c.take_entry.new.into c.loop-entry.invariant first c.in_ok-take_entry.ensures.taken
