@@ -1,9 +1,14 @@
 //! Checking certificates: where one is right, each resource that conforms to its derived profile conforms to its base.
 //!
 //! ```
-//! match check_bytes(alloc, &schema, bytes)? {
-//!     Answer::Yes => println!(rt; "yes")?,
-//!     Answer::No(_, rule) => println!(rt; "no: {rule}")?, // the first rule that the first wrong pair fails
+//! /// Whether bytes are a right certificate, or why they are none.
+//! pub fn is_right(alloc: Global, schema: &Schema, bytes: &[u8]) -> Result<bool, CertFault>
+//!     ensures { IfOk result (λ yes. IsTrue yes ↔ SpellsCertificate schema.now bytes.now) }
+//! {
+//!     match check_bytes(alloc, schema, bytes)? {
+//!         Answer::Yes => Ok(true),
+//!         Answer::No(_, _) => Ok(false),
+//!     }
 //! }
 //! ```
 //!

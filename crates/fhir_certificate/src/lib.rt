@@ -4,9 +4,10 @@
 //! `fhir_cert_check` says.
 //!
 //! ```
-//! match read(alloc, &schema, bytes) {
-//!     Ok(certificate) => use_it(&certificate),
-//!     Err(fault) => println!(rt; "{fault}")?, // its number: C1, C2, C3 or C4
+//! /// How many pairs of items a certificate has, or why the bytes are none.
+//! pub fn items_in(alloc: Global, schema: &Schema, bytes: &[u8]) -> Result<usize, CertFault> {
+//!     let certificate = fhir_certificate::read(alloc, schema, bytes)?;
+//!     Ok(certificate.items.len())
 //! }
 //! ```
 //!

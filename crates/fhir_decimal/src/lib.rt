@@ -1,9 +1,12 @@
 //! Decimals of FHIR (R4, Data Types, decimal), as their texts, and the order of their values.
 //!
 //! ```
-//! if let (Some(left), Some(right)) = (Decimal::of("0.010"), Decimal::of("1e-2")) {
-//!     left.eq_value(&right) // true
-//!     left.cmp(&right)      // Ordering::Equal, and in no more time where an exponent is `1e999999999`
+//! /// Whether two texts are decimals of one value, as `0.010` and `1e-2` are.
+//! pub fn have_one_value(left: &str, right: &str) -> bool {
+//!     match (Decimal::of(left), Decimal::of(right)) {
+//!         (Some(left), Some(right)) => left.eq_value(&right),
+//!         _ => false,
+//!     }
 //! }
 //! ```
 //!

@@ -1,8 +1,8 @@
 //! StructureDefinitions by themselves: what each says, and what is wrong with it whatever the others are.
 //!
 //! ```
-//! // The url under which a tree stands in a package, and the place of its root.
-//! fn root_of(alloc: Global, url: &str, tree: &Json<'_>) -> Result<Option<usize>, NoMemory> {
+//! /// The place of the root among the elements of the definition that a tree is.
+//! pub fn root_of(alloc: Global, url: &str, tree: &Json<'_>) -> Result<Option<usize>, NoMemory> {
 //!     let definition = Definition::of(alloc, 0, url, tree)?;
 //!     Ok(definition.root())
 //! }

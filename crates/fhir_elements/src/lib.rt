@@ -1,8 +1,8 @@
 //! The elements of definitions (FHIR R4, ElementDefinition).
 //!
 //! ```
-//! // How many items an element has at least, or why the tree is no element.
-//! fn least_of(alloc: Global, tree: &Json<'_>) -> Result<u32, ElementFault> {
+//! /// How many items an element has at least, or why the tree is no element.
+//! pub fn least_of(alloc: Global, tree: &Json<'_>) -> Result<u32, ElementFault> {
 //!     let element = ElementDef::of(alloc, tree)?;
 //!     Ok(element.min().unwrap_or(0))
 //! }

@@ -1,11 +1,9 @@
 //! When two JSON values are equal, and when one fits another.
 //!
 //! ```
-//! if let (Ok(left), Ok(right)) = (read(alloc, b"{\"a\":1,\"b\":[2]}"), read(alloc, b"{\"b\":[2],\"a\":1}")) {
-//!     json_eq(&left, &right) // true: the names of an object have no order
-//! }
-//! if let (Ok(value), Ok(pattern)) = (read(alloc, b"{\"a\":1,\"b\":2}"), read(alloc, b"{\"a\":1}")) {
-//!     matches(&value, &pattern) // true: the value may have further members
+//! /// Whether a JSON value equals another, in whatever order the members stand, or has at least what the other has.
+//! pub fn is_or_has(value: &Json<'_>, other: &Json<'_>) -> bool {
+//!     json_eq(value, other) || matches(value, other)
 //! }
 //! ```
 //!

@@ -2,15 +2,12 @@
 //! references; and an index of names.
 //!
 //! ```
-//! if let Ok(id) = ElementId::parse("Patient.name:official.given") {
-//!     for segment in id.segments() {
-//!         // `Patient`; `name`, whose slice is `official`; `given`
+//! /// The id in front of an element's last segment, as `Patient.name` is of `Patient.name.given`; none where a text is no id.
+//! pub fn parent_of(id: &str) -> Option<&str> {
+//!     match ElementId::parse(id) {
+//!         Ok(_) => front_of(id),
+//!         Err(_) => None,
 //!     }
-//! }
-//! front_of("Patient.name:official.given") // Some("Patient.name:official")
-//! relative_target("Patient/23")           // Some(("Patient", "23"))
-//! if let Ok(canonical) = Canonical::parse("http://hl7.org/fhir/StructureDefinition/Patient|4.0.1") {
-//!     canonical.version()                 // Some("4.0.1")
 //! }
 //! ```
 //!

@@ -1,10 +1,10 @@
 //! Packages: the definitions of a folder of FHIR R4 files.
 //!
 //! ```
-//! // How many profiles and types the files have, or why they are no package.
-//! fn count_of(alloc: Global, files: Vec<FolderFile>) -> Result<usize, LoadFault> {
+//! /// How many profiles and types the files have, or why they are no package.
+//! pub fn count_of(alloc: Global, files: Vec<FolderFile>) -> Result<usize, LoadFault> {
 //!     let files = FolderFiles::of(alloc, files)?;
-//!     let package = pack(alloc, &files)?; // its texts borrow from the files' bytes
+//!     let package = pack(alloc, &files)?;
 //!     Ok(package.len(Kind::StructureDefinition))
 //! }
 //! ```

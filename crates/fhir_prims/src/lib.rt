@@ -1,11 +1,12 @@
 //! The primitive types of FHIR (R4, Data Types), the JSON values that each allows, and the order of dates and times.
 //!
 //! ```
-//! if let (Some(date), Ok(json)) = (PrimType::of("date"), read(alloc, b"\"2024-02-30\"")) {
-//!     lexical(date, &json) // false: no such day
-//! }
-//! if let (Some(left), Some(right)) = (Moment::of("2024-02"), Moment::of("2024-03-01")) {
-//!     cmp_moment(&left, &right) // Some(Ordering::Less)
+//! /// Whether a JSON value is one of the primitive type of a code, as `"2024-02-29"` is of `date`.
+//! pub fn is_value_of(code: &str, value: &Json<'_>) -> bool {
+//!     match PrimType::of(code) {
+//!         Some(prim) => lexical(prim, value),
+//!         None => false,
+//!     }
 //! }
 //! ```
 //!

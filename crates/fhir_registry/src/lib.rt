@@ -1,13 +1,22 @@
 //! The engine of the program: from words, the files of a folder and the bytes of a file to a status and what is written.
 //!
 //! ```
-//! match request_of(alloc, &words) {
-//!     Ok(request) => {
-//!         let Request::Certify { folder, file } = request;
-//!         let (files, file) = (files_at(rt, folder), bytes_at(rt, file)?);
-//!         respond(alloc, request, &files, file.as_deref(), &mut out, &mut err)
-//!     }
-//!     Err(fault) => refuse(fault, &mut err),
+//! /// Does what words ask, and gives the status.
+//! pub fn status_of<R: Files + AllocGlobal + Clone + Drop, W: Write, E: Write>(
+//!     rt: &R,
+//!     words: &[String],
+//!     out: &mut W,
+//!     err: &mut E,
+//! ) -> io::Result<Status> {
+//!     let alloc = rt.alloc();
+//!     let request = match request_of(alloc, words) {
+//!         Ok(request) => request,
+//!         Err(fault) => return Ok(refuse(fault, err)),
+//!     };
+//!     let Request::Certify { folder, file } = request;
+//!     let files = files_at(rt, folder);
+//!     let file = bytes_at(rt, file)?;
+//!     Ok(respond(alloc, request, &files, file.as_deref(), out, err))
 //! }
 //! ```
 //!

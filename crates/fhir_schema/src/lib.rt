@@ -1,11 +1,11 @@
 //! The schema of a package: which definitions can be used, their nodes, and what stands below each.
 //!
 //! ```
-//! // The slots of a profile's root, where the profile can be used.
-//! fn root_slots<'s>(schema: &'s Schema, profile: &str) -> &'s [Slot] {
+//! /// The slots of a profile's root, where the profile can be used.
+//! pub fn root_slots<'s>(schema: &'s Schema, profile: &str) -> &'s [Slot] {
 //!     match schema.root(profile) {
 //!         Some(root) => schema.slots(root),
-//!         None => &[],
+//!         None => Default::default(),
 //!     }
 //! }
 //! ```
