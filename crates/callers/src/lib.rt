@@ -2,8 +2,33 @@
 //! against each other.
 #![tactic(auto)]
 
-ghost use Rattle.std.specs.Prelude.{◌↔◌, IsTrue, IfOk};
+ghost use Rattle.std.specs.Prelude.{◌≡◌, ◌↔◌, ◌||◌, [], length, false, None, Ok, is_ok, Option, Result, if◌then◌else◌, IsTrue, IfOk, codes, string_bytes, option_map};
+ghost use Rattle.std.specs.Option.{option_map_or};
+ghost use Rattle.fhir_json.specs.Tree.{Text, Tree};
+ghost use Rattle.fhir_json.specs.Views.{tree_of};
+ghost use Rattle.fhir_json.specs.Fields.{text_in};
+ghost use Rattle.fhir_json.specs.Grammar.{Reads};
+ghost use Rattle.fhir_json.specs.Memory.{Gives};
+ghost use Rattle.fhir_decimal.specs.Text.{Parts, IsDecimal};
+ghost use Rattle.fhir_decimal.specs.Value.{value_of, is_same_value};
+ghost use Rattle.fhir_names.specs.Ids.{read_id};
+ghost use Rattle.fhir_names.specs.Parents.{front_of};
+ghost use Rattle.fhir_prims.specs.Values.{prim_of, lexical};
+ghost use Rattle.fhir_matching.specs.Equality.{equal};
+ghost use Rattle.fhir_matching.specs.Fitting.{fits};
+ghost use Rattle.fhir_package.specs.Definitions.{Definitions};
+ghost use Rattle.fhir_package.specs.FilesView.{folder_files};
+ghost use Rattle.fhir_package.specs.Folder.{Files};
+ghost use Rattle.fhir_package.specs.declared.fault.LoadFault.{LoadFault};
+ghost use Rattle.fhir_package.specs.Packing.{pack};
+ghost use Rattle.fhir_elements.specs.Element.{Element, element_of};
+ghost use Rattle.fhir_definition.specs.Definition.{definition_of};
+ghost use Rattle.fhir_definition.specs.Snapshot.{root_place};
+ghost use Rattle.fhir_schema.specs.Schemas.{root, slots};
+ghost use Rattle.fhir_certificate.specs.Certificate.{CertificateValue};
+ghost use Rattle.fhir_certificate.specs.Judging.{Stands};
 ghost use Rattle.fhir_cert_check.specs.Checking.{SpellsCertificate};
+ghost use Rattle.fhir_registry.specs.Replying.{Promise};
 
 use fhir_cert_check::{Answer, check_bytes};
 use fhir_certificate::CertFault;
@@ -23,7 +48,9 @@ use std::io::Write;
 use std::rt::Files;
 
 /// The text of the field `url` of a JSON object, or why the bytes are no text of JSON.
-pub fn url_of(alloc: Global, bytes: &[u8]) -> Result<Option<String>, JsonFault> {
+pub fn url_of(alloc: Global, bytes: &[u8]) -> Result<Option<String>, JsonFault>
+    ensures { IfOk result (λ url. (t : Tree) × Reads bytes.now t × (option_map string_bytes url ≡ text_in (codes "url") t)) }
+{
     let tree = fhir_json::read(alloc, bytes)?;
     match tree.text_in("url") {
         Some(url) => Ok(Some(String::from_str(alloc, url)?)),
@@ -32,7 +59,10 @@ pub fn url_of(alloc: Global, bytes: &[u8]) -> Result<Option<String>, JsonFault> 
 }
 
 /// Whether two texts are decimals of one value, as `0.010` and `1e-2` are.
-pub fn have_one_value(left: &str, right: &str) -> bool {
+pub fn have_one_value(left: &str, right: &str) -> bool
+    ensures { IsTrue result → (p : Parts) × (q : Parts) × IsDecimal left.now p × IsDecimal right.now q
+        × IsTrue (is_same_value (value_of p) (value_of q)) }
+{
     match (Decimal::of(left), Decimal::of(right)) {
         (Some(left), Some(right)) => left.eq_value(&right),
         _ => false,
@@ -40,7 +70,9 @@ pub fn have_one_value(left: &str, right: &str) -> bool {
 }
 
 /// The id in front of an element's last segment, as `Patient.name` is of `Patient.name.given`; none where a text is no id.
-pub fn parent_of(id: &str) -> Option<&str> {
+pub fn parent_of(id: &str) -> Option<&str>
+    ensures { option_map (λ r. r.now) result ≡ (if is_ok (read_id id.now) then front_of id.now else None) }
+{
     match ElementId::parse(id) {
         Ok(_) => front_of(id),
         Err(_) => None,
@@ -48,7 +80,9 @@ pub fn parent_of(id: &str) -> Option<&str> {
 }
 
 /// Whether a JSON value is one of the primitive type of a code, as `"2024-02-29"` is of `date`.
-pub fn is_value_of(code: &str, value: &Json<'_>) -> bool {
+pub fn is_value_of(code: &str, value: &Json<'_>) -> bool
+    ensures { result ≡ option_map_or (λ prim. lexical prim (tree_of value.now)) (prim_of code.now) false }
+{
     match PrimType::of(code) {
         Some(prim) => lexical(prim, value),
         None => false,
@@ -56,31 +90,44 @@ pub fn is_value_of(code: &str, value: &Json<'_>) -> bool {
 }
 
 /// Whether a JSON value equals another, in whatever order the members stand, or has at least what the other has.
-pub fn is_or_has(value: &Json<'_>, other: &Json<'_>) -> bool {
+pub fn is_or_has(value: &Json<'_>, other: &Json<'_>) -> bool
+    ensures { result ≡ (equal (tree_of value.now) (tree_of other.now) || fits (tree_of value.now) (tree_of other.now)) }
+{
     json_eq(value, other) || matches(value, other)
 }
 
 /// How many profiles and types the files have, or why they are no package.
-pub fn count_of(alloc: Global, files: Vec<FolderFile>) -> Result<usize, LoadFault> {
+pub fn count_of(alloc: Global, files: Vec<FolderFile>) -> Result<usize, LoadFault>
+    ensures { IfOk result (λ n. (p : Definitions) × (pack (folder_files files.items) ≡ Ok p) × (n ≡ length p.structure_definitions)) }
+{
     let files = FolderFiles::of(alloc, files)?;
     let package = pack(alloc, &files)?;
     Ok(package.len(Kind::StructureDefinition))
 }
 
 /// How many items an element has at least, or why the tree is no element.
-pub fn least_of(alloc: Global, tree: &Json<'_>) -> Result<u32, ElementFault> {
+pub fn least_of(alloc: Global, tree: &Json<'_>) -> Result<u32, ElementFault>
+    ensures { IfOk result (λ n. (e : Element) × (element_of (tree_of tree.now) ≡ Ok e) × (n ≡ option_map_or (λ min. min) e.min 0)) }
+{
     let element = ElementDef::of(alloc, tree)?;
-    Ok(element.min().unwrap_or(0))
+    match element.min() {
+        Some(min) => Ok(min),
+        None => Ok(0),
+    }
 }
 
 /// The place of the root among the elements of the definition that a tree is.
-pub fn root_of(alloc: Global, url: &str, tree: &Json<'_>) -> Result<Option<usize>, NoMemory> {
+pub fn root_of(alloc: Global, url: &str, tree: &Json<'_>) -> Result<Option<usize>, NoMemory>
+    ensures { Gives (λ root. root) result (root_place (definition_of 0 url.now (tree_of tree.now)).elements) }
+{
     let definition = Definition::of(alloc, 0, url, tree)?;
     Ok(definition.root())
 }
 
 /// The slots of a profile's root, where the profile can be used.
-pub fn root_slots<'s>(schema: &'s Schema, profile: &str) -> &'s [Slot] {
+pub fn root_slots<'s>(schema: &'s Schema, profile: &str) -> &'s [Slot]
+    ensures { result.now ≡ option_map_or (slots schema.now) (root schema.now profile.now) [] }
+{
     match schema.root(profile) {
         Some(root) => schema.slots(root),
         None => Default::default(),
@@ -88,7 +135,9 @@ pub fn root_slots<'s>(schema: &'s Schema, profile: &str) -> &'s [Slot] {
 }
 
 /// How many pairs of items a certificate has, or why the bytes are none.
-pub fn items_in(alloc: Global, schema: &Schema, bytes: &[u8]) -> Result<usize, CertFault> {
+pub fn items_in(alloc: Global, schema: &Schema, bytes: &[u8]) -> Result<usize, CertFault>
+    ensures { IfOk result (λ n. (c : CertificateValue) × Stands schema.now bytes.now c × (n ≡ length c.items)) }
+{
     let certificate = fhir_certificate::read(alloc, schema, bytes)?;
     Ok(certificate.items.len())
 }
@@ -109,7 +158,10 @@ pub fn status_of<R: Files + AllocGlobal + Clone + Drop, W: Write, E: Write>(
     words: &[String],
     out: &mut W,
     err: &mut E,
-) -> io::Result<Status> {
+) -> io::Result<Status>
+    ensures { IfOk result (λ status. status ≡ Status.Yes
+        → (files : Result Files LoadFault) × (certificate : Option Text) × Promise files certificate) }
+{
     let alloc = rt.alloc();
     let request = match request_of(alloc, words) {
         Ok(request) => request,

@@ -5,7 +5,9 @@
 //!
 //! ```
 //! /// How many pairs of items a certificate has, or why the bytes are none.
-//! pub fn items_in(alloc: Global, schema: &Schema, bytes: &[u8]) -> Result<usize, CertFault> {
+//! pub fn items_in(alloc: Global, schema: &Schema, bytes: &[u8]) -> Result<usize, CertFault>
+//!     ensures { IfOk result (λ n. (c : CertificateValue) × Stands schema.now bytes.now c × (n ≡ length c.items)) }
+//! {
 //!     let certificate = fhir_certificate::read(alloc, schema, bytes)?;
 //!     Ok(certificate.items.len())
 //! }

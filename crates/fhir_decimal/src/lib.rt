@@ -2,7 +2,10 @@
 //!
 //! ```
 //! /// Whether two texts are decimals of one value, as `0.010` and `1e-2` are.
-//! pub fn have_one_value(left: &str, right: &str) -> bool {
+//! pub fn have_one_value(left: &str, right: &str) -> bool
+//!     ensures { IsTrue result → (p : Parts) × (q : Parts) × IsDecimal left.now p × IsDecimal right.now q
+//!         × IsTrue (is_same_value (value_of p) (value_of q)) }
+//! {
 //!     match (Decimal::of(left), Decimal::of(right)) {
 //!         (Some(left), Some(right)) => left.eq_value(&right),
 //!         _ => false,

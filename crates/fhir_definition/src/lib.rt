@@ -2,7 +2,9 @@
 //!
 //! ```
 //! /// The place of the root among the elements of the definition that a tree is.
-//! pub fn root_of(alloc: Global, url: &str, tree: &Json<'_>) -> Result<Option<usize>, NoMemory> {
+//! pub fn root_of(alloc: Global, url: &str, tree: &Json<'_>) -> Result<Option<usize>, NoMemory>
+//!     ensures { Gives (λ root. root) result (root_place (definition_of 0 url.now (tree_of tree.now)).elements) }
+//! {
 //!     let definition = Definition::of(alloc, 0, url, tree)?;
 //!     Ok(definition.root())
 //! }

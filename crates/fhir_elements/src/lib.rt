@@ -2,9 +2,14 @@
 //!
 //! ```
 //! /// How many items an element has at least, or why the tree is no element.
-//! pub fn least_of(alloc: Global, tree: &Json<'_>) -> Result<u32, ElementFault> {
+//! pub fn least_of(alloc: Global, tree: &Json<'_>) -> Result<u32, ElementFault>
+//!     ensures { IfOk result (λ n. (e : Element) × (element_of (tree_of tree.now) ≡ Ok e) × (n ≡ option_map_or (λ min. min) e.min 0)) }
+//! {
 //!     let element = ElementDef::of(alloc, tree)?;
-//!     Ok(element.min().unwrap_or(0))
+//!     match element.min() {
+//!         Some(min) => Ok(min),
+//!         None => Ok(0),
+//!     }
 //! }
 //! ```
 //!

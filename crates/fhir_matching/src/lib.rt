@@ -2,7 +2,9 @@
 //!
 //! ```
 //! /// Whether a JSON value equals another, in whatever order the members stand, or has at least what the other has.
-//! pub fn is_or_has(value: &Json<'_>, other: &Json<'_>) -> bool {
+//! pub fn is_or_has(value: &Json<'_>, other: &Json<'_>) -> bool
+//!     ensures { result ≡ (equal (tree_of value.now) (tree_of other.now) || fits (tree_of value.now) (tree_of other.now)) }
+//! {
 //!     json_eq(value, other) || matches(value, other)
 //! }
 //! ```

@@ -3,7 +3,9 @@
 //!
 //! ```
 //! /// The id in front of an element's last segment, as `Patient.name` is of `Patient.name.given`; none where a text is no id.
-//! pub fn parent_of(id: &str) -> Option<&str> {
+//! pub fn parent_of(id: &str) -> Option<&str>
+//!     ensures { option_map (λ r. r.now) result ≡ (if is_ok (read_id id.now) then front_of id.now else None) }
+//! {
 //!     match ElementId::parse(id) {
 //!         Ok(_) => front_of(id),
 //!         Err(_) => None,

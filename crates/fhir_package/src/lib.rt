@@ -2,7 +2,9 @@
 //!
 //! ```
 //! /// How many profiles and types the files have, or why they are no package.
-//! pub fn count_of(alloc: Global, files: Vec<FolderFile>) -> Result<usize, LoadFault> {
+//! pub fn count_of(alloc: Global, files: Vec<FolderFile>) -> Result<usize, LoadFault>
+//!     ensures { IfOk result (λ n. (p : Definitions) × (pack (folder_files files.items) ≡ Ok p) × (n ≡ length p.structure_definitions)) }
+//! {
 //!     let files = FolderFiles::of(alloc, files)?;
 //!     let package = pack(alloc, &files)?;
 //!     Ok(package.len(Kind::StructureDefinition))

@@ -2,7 +2,9 @@
 //!
 //! ```
 //! /// Whether a JSON value is one of the primitive type of a code, as `"2024-02-29"` is of `date`.
-//! pub fn is_value_of(code: &str, value: &Json<'_>) -> bool {
+//! pub fn is_value_of(code: &str, value: &Json<'_>) -> bool
+//!     ensures { result ≡ option_map_or (λ prim. lexical prim (tree_of value.now)) (prim_of code.now) false }
+//! {
 //!     match PrimType::of(code) {
 //!         Some(prim) => lexical(prim, value),
 //!         None => false,

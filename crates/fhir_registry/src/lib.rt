@@ -7,7 +7,10 @@
 //!     words: &[String],
 //!     out: &mut W,
 //!     err: &mut E,
-//! ) -> io::Result<Status> {
+//! ) -> io::Result<Status>
+//!     ensures { IfOk result (λ status. status ≡ Status.Yes
+//!         → (files : Result Files LoadFault) × (certificate : Option Text) × Promise files certificate) }
+//! {
 //!     let alloc = rt.alloc();
 //!     let request = match request_of(alloc, words) {
 //!         Ok(request) => request,

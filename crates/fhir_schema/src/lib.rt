@@ -2,7 +2,9 @@
 //!
 //! ```
 //! /// The slots of a profile's root, where the profile can be used.
-//! pub fn root_slots<'s>(schema: &'s Schema, profile: &str) -> &'s [Slot] {
+//! pub fn root_slots<'s>(schema: &'s Schema, profile: &str) -> &'s [Slot]
+//!     ensures { result.now ≡ option_map_or (slots schema.now) (root schema.now profile.now) [] }
+//! {
 //!     match schema.root(profile) {
 //!         Some(root) => schema.slots(root),
 //!         None => Default::default(),
