@@ -13,7 +13,7 @@ use Rattle.fhir_definition.specs.declared.kind.TypeKind.{TypeKind}
 use Rattle.fhir_definition.specs.Kind.{is_primitive_kind}
 use Rattle.fhir_definition.specs.Head.{kind_in, is_type_definition, has_right_head}
 use Rattle.fhir_definition.specs.Snapshot.{ids_differ, is_root}
-use Rattle.fhir_definition.specs.Supported.{is_plain_element}
+use Rattle.fhir_definition.specs.Supported.{is_plain_element, is_shallow_element}
 
 pub record Definition : Type 0 where
   -- where it stands in the package's order
@@ -107,6 +107,10 @@ has_snapshot d = nat_lt 0 (length d.elements)
 abbrev pub is_primitive : Definition → Bool
 is_primitive d = option_map_or is_primitive_kind d.kind false
 
--- its elements are supported so far; those of a primitive type are a root alone
+-- its elements are supported so far
 abbrev pub is_plain : Definition → Bool
-is_plain d = list_all is_plain_element d.elements && (not (is_primitive d) || (length d.elements == 1))
+is_plain d = list_all is_plain_element d.elements
+
+-- its elements stand one level below the root; those of a primitive type are a root alone
+abbrev pub is_shallow : Definition → Bool
+is_shallow d = list_all is_shallow_element d.elements && (not (is_primitive d) || (length d.elements == 1))

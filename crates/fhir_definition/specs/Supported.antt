@@ -1,5 +1,5 @@
--- What is supported so far: flat definitions. Below the root their elements stand one level down, each of one type,
--- and no element says more than how many there may be and what its value is fixed to.
+-- What is supported so far of a definition by itself: its elements say how many there may be, what they are fixed to and
+-- of which types they are, and no more. And which definitions are flat: their elements stand one level below the root.
 use Rattle.std.specs.Prelude.{length, Bool, true, false, not, ◌&&◌, ◌||◌, ◌==◌, nat_eq, is_some, is_none, codes}
 use Rattle.std.specs.Option.{option_map_or, option_and_then}
 use Rattle.std.specs.List.{list_all, list_any, ends_with, starts_with}
@@ -46,21 +46,26 @@ has_plain_rules e =
     && is_none e.slicing
     && is_none e.content_reference
 
+abbrev pub is_bare : TypeEntry → Bool
+is_bare entry = is_empty entry.profiles && is_empty entry.targets
+
+-- no slice, and of types without profiles and targets
+abbrev pub is_plain_child : Element → Bool
+is_plain_child e = is_none (slice_of e.id) && list_all is_bare e.types
+
+abbrev pub is_plain_element : Element → Bool
+is_plain_element e = has_plain_value e && has_plain_rules e && (is_root e || is_plain_child e)
+
+-- ---- flat definitions
+
 -- neither a choice of types nor the name of a companion
 abbrev pub is_plain_name : Text → Bool
 is_plain_name name =
     not (ends_with nat_eq name (codes "[x]")) && not (starts_with nat_eq name (codes "_"))
 
--- one level below the root, and no slice
 abbrev pub is_one_down : Text → Bool
-is_one_down id =
-    is_none (slice_of id) && is_none (option_and_then front_of (front_of id)) && is_plain_name (name_of id)
+is_one_down id = is_none (option_and_then front_of (front_of id)) && is_plain_name (name_of id)
 
-abbrev pub is_bare : TypeEntry → Bool
-is_bare entry = is_empty entry.profiles && is_empty entry.targets
-
-abbrev pub is_plain_child : Element → Bool
-is_plain_child e = is_one_down e.id && (length e.types == 1) && list_all is_bare e.types
-
-abbrev pub is_plain_element : Element → Bool
-is_plain_element e = has_plain_value e && has_plain_rules e && (is_root e || is_plain_child e)
+-- a root, or one level below it and of one type
+abbrev pub is_shallow_element : Element → Bool
+is_shallow_element e = is_root e || (is_one_down e.id && (length e.types == 1))

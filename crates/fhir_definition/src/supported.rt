@@ -1,10 +1,10 @@
-//! What is supported so far: flat definitions.
+//! What is supported so far of a definition by itself, and which definitions are flat.
 
 ghost use Rattle.std.specs.Prelude.{◌≡◌, false, is_some};
 ghost use Rattle.std.specs.Option.{option_map_or, option_and_then};
 ghost use Rattle.std.specs.List.{list_all, list_any};
 ghost use Rattle.fhir_names.specs.Parents.{front_of};
-ghost use Rattle.fhir_definition.specs.Supported.{is_error, is_required, must_hold, binds, has_plain_value, has_plain_rules, is_plain_name, is_one_down, is_bare, is_plain_child, is_plain_element};
+ghost use Rattle.fhir_definition.specs.Supported.{is_error, is_required, must_hold, binds, has_plain_value, has_plain_rules, is_bare, is_plain_child, is_plain_element, is_plain_name, is_one_down, is_shallow_element};
 
 use crate::by_id::is_root;
 use fhir_elements::{BindingDef, ConstraintDef, ElementDef, Severity, Strength, TypeEntry};
@@ -103,7 +103,20 @@ fn is_two_down(id: &str) -> bool
 fn is_one_down(id: &str) -> bool
     ensures { result ≡ is_one_down id.now }
 {
-    slice_of(id).is_none() && !is_two_down(id) && is_plain_name(name_of(id))
+    !is_two_down(id) && is_plain_name(name_of(id))
+}
+
+fn is_shallow_element(element: &ElementDef) -> bool
+    ensures { result ≡ is_shallow_element element.now }
+{
+    is_root(element) || (is_one_down(element.id()) && element.types().len() == 1)
+}
+
+/// Whether each element is a root, or one level below it and of one type.
+pub(crate) fn are_shallow(elements: &[ElementDef]) -> bool
+    ensures { result ≡ list_all is_shallow_element elements.now }
+{
+    elements.iter().all(|element| is_shallow_element(element))
 }
 
 fn is_bare(entry: &TypeEntry) -> bool
@@ -121,7 +134,7 @@ fn are_bare(entries: &[TypeEntry]) -> bool
 fn is_plain_child(element: &ElementDef) -> bool
     ensures { result ≡ is_plain_child element.now }
 {
-    is_one_down(element.id()) && element.types().len() == 1 && are_bare(element.types())
+    slice_of(element.id()).is_none() && are_bare(element.types())
 }
 
 fn is_plain_element(element: &ElementDef) -> bool

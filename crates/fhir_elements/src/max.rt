@@ -1,7 +1,7 @@
 //! How many there may be at most (FHIR R4, ElementDefinition, max).
 
 ghost use Rattle.std.specs.Prelude.{◌≡◌, ◌<◌, Option};
-ghost use Rattle.fhir_elements.specs.Max.{max_of, is_within};
+ghost use Rattle.fhir_elements.specs.Max.{max_of, is_within, allows_several};
 
 use crate::codes::Code;
 use fhir_json::count_of;
@@ -23,6 +23,16 @@ impl Max {
         match self {
             Max::Unbounded => true,
             Max::UpTo(most) => count <= most,
+        }
+    }
+
+    /// Whether more than one may be there.
+    pub fn allows_several(self) -> bool
+        ensures { result ≡ allows_several self }
+    {
+        match self {
+            Max::Unbounded => true,
+            Max::UpTo(most) => most > 1,
         }
     }
 }

@@ -1,25 +1,15 @@
 -- Which type codes cover which: a code covers itself, and one of a resource covers the types that derive from it (FHIR
 -- R4, Resource: an element of type `Resource` holds any resource).
 use Rattle.std.specs.Prelude.{ℕ, zero, suc, List, [], length, Bool, true, false, ◌&&◌, ◌||◌, nat_eq, Option, None, Some}
-use Rattle.std.specs.Option.{option_map_or, option_and_then}
+use Rattle.std.specs.Option.{option_map_or}
 use Rattle.std.specs.List.{slice_get}
 use Rattle.std.specs.Str.{bytes_eq}
 use Rattle.fhir_json.specs.Tree.{Text}
-use Rattle.fhir_definition.specs.Kind.{is_resource_kind}
 use Rattle.fhir_schema.specs.declared.node.NodeRef.{NodeRef}
 use Rattle.fhir_definition.specs.Definition.{Definition}
-use Rattle.fhir_schema.specs.Settling.{type_place, base_of_place, ends_within}
-use Rattle.fhir_schema.specs.Schemas.{SchemaValue, root_in}
-
-abbrev pub is_resource : Definition → Bool
-is_resource d = option_map_or is_resource_kind d.kind false
-
--- the definition of a type
-abbrev pub type_of_code : List Definition → Text → Option Definition
-type_of_code ds code = option_and_then (slice_get ds) (type_place ds code)
-
-abbrev pub names_resource : List Definition → Text → Bool
-names_resource ds code = option_map_or is_resource (type_of_code ds code) false
+use Rattle.fhir_schema.specs.Types.{type_place, names_resource}
+use Rattle.fhir_schema.specs.Settling.{base_of_place, ends_within}
+use Rattle.fhir_schema.specs.Schemas.{SchemaValue}
 
 -- the chain of bases from a place comes by another within so many places
 abbrev pub meets_within : List Definition → ℕ → ℕ → Option ℕ → Bool
@@ -46,7 +36,3 @@ covers s code other = covers_in s.definitions code other
 -- the type that a node's definition defines or constrains
 abbrev pub type_at : SchemaValue → NodeRef → Text
 type_at s n = option_map_or (λ d. d.type) (slice_get s.definitions n.definition) []
-
--- the root of the definition of a type
-abbrev pub type_root : SchemaValue → Text → Option NodeRef
-type_root s code = option_and_then (root_in s) (type_place s.definitions code)

@@ -1,4 +1,7 @@
+pub mod Types
 pub mod Slots
+pub mod Forms
+pub mod FormTables
 pub mod Settling
 pub mod Usability
 pub mod Schemas

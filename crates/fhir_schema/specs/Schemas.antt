@@ -1,7 +1,7 @@
 -- The schema of a package: its definitions, which of them can be used, and the nodes of those.
-use Rattle.std.specs.Prelude.{ℕ, List, [], length, get_or, map, Bool, not, ◌&&◌, nat_lt, nat_eq, Option, None, Some, is_none, if◌then◌else◌}
+use Rattle.std.specs.Prelude.{ℕ, List, [], length, get_or, map, Bool, false, not, ◌&&◌, ◌||◌, nat_lt, nat_eq, Option, None, Some, is_none, if◌then◌else◌}
 use Rattle.std.specs.Option.{option_map, option_map_or, option_and_then}
-use Rattle.std.specs.List.{slice_get, find}
+use Rattle.std.specs.List.{slice_get, find, list_all}
 use Rattle.std.specs.Str.{bytes_eq}
 use Rattle.fhir_json.specs.Tree.{Text}
 use Rattle.fhir_package.specs.Definitions.{Definitions}
@@ -9,9 +9,12 @@ use Rattle.fhir_elements.specs.declared.reason.Reason.{Reason}
 use Rattle.fhir_elements.specs.TypeEntry.{TypeEntry}
 use Rattle.fhir_elements.specs.Element.{Element}
 use Rattle.fhir_schema.specs.declared.node.NodeRef.{NodeRef}
-use Rattle.fhir_definition.specs.Snapshot.{id_place, is_at, root_place}
-use Rattle.fhir_definition.specs.Definition.{Definition, definitions_from}
-use Rattle.fhir_schema.specs.Slots.{Slot, id_at, slots_of}
+use Rattle.fhir_definition.specs.Snapshot.{id_place, is_at, is_root, root_place}
+use Rattle.fhir_definition.specs.Definition.{Definition, definitions_from, is_shallow}
+use Rattle.fhir_schema.specs.Types.{type_place, is_resource, type_of_code}
+use Rattle.fhir_schema.specs.Slots.{Slot, id_at, slots_of, entry_is_primitive}
+use Rattle.fhir_schema.specs.Forms.{Form, forms_of, property_of}
+use Rattle.fhir_schema.specs.declared.form.Property.{Property}
 use Rattle.fhir_schema.specs.Settling.{Reasons, all_reasons, url_place, reason_at}
 
 pub record SchemaValue : Type 0 where
@@ -81,10 +84,14 @@ node s url id = option_and_then (node_with s id) (url_place s.definitions url)
 
 -- the slots of each element of each definition
 abbrev pub all_slots : List Definition → List (List (List Slot))
-all_slots ds = map (λ d. slots_of d.elements) ds
+all_slots ds = map (slots_of ds) ds
 
 abbrev pub slots : SchemaValue → NodeRef → List Slot
 slots s n = get_or (get_or (all_slots s.definitions) n.definition []) n.element []
+
+-- the node of a slot's element
+abbrev pub entry_of : NodeRef → Slot → NodeRef
+entry_of n slot = record { definition = n.definition; element = slot.entry }
 
 -- the slot of a name
 abbrev pub slot_named : SchemaValue → NodeRef → Text → Option Slot
@@ -97,3 +104,41 @@ holder s n = if nat_eq (length (slots s n)) 0 then None else Some n
 -- the node's type entries; a root has none, and those that are written there are passed over
 abbrev pub types : SchemaValue → NodeRef → List TypeEntry
 types s n = if is_root_node s n then [] else option_map_or (λ e. e.types) (element_at s n) []
+
+-- ---- how the children of an item at a node are spelled in JSON
+
+abbrev pub all_forms : List Definition → List (List (List Form))
+all_forms ds = map (forms_of ds) ds
+
+abbrev pub forms : SchemaValue → NodeRef → List Form
+forms s n = get_or (get_or (all_forms s.definitions) n.definition []) n.element []
+
+-- what the name of a property means at a node
+abbrev pub property : SchemaValue → NodeRef → Text → Option Property
+property s n name = property_of (forms s n) name
+
+-- the root of the definition of a type, if that can be used
+abbrev pub type_root : SchemaValue → Text → Option NodeRef
+type_root s code = option_and_then (root_in s) (type_place s.definitions code)
+
+abbrev pub is_concrete : Definition → Bool
+is_concrete d = is_resource d && not d.abstract
+
+-- the root of the type of a resource, if a resource may be of it: it can be used, and isn't abstract
+abbrev pub resource_root : SchemaValue → Text → Option NodeRef
+resource_root s code =
+    if option_map_or is_concrete (type_of_code s.definitions code) false then type_root s code else None
+
+-- ---- flat definitions, of which alone certificates are read so far
+
+abbrev pub element_is_flat : List Definition → Element → Bool
+element_is_flat ds e = is_root e || list_all (entry_is_primitive ds) e.types
+
+-- its elements stand one level below the root, each of one type, which is primitive
+abbrev pub is_flat : List Definition → Definition → Bool
+is_flat ds d = is_shallow d && list_all (element_is_flat ds) d.elements
+
+-- the definition at a url is flat
+abbrev pub is_flat_at : SchemaValue → Text → Bool
+is_flat_at s url =
+    option_map_or (is_flat s.definitions) (option_and_then (slice_get s.definitions) (url_place s.definitions url)) false

@@ -1,8 +1,7 @@
 -- Which definitions can't be used, and why: judged in rounds, each against what the rounds before have found.
-use Rattle.std.specs.Prelude.{ℕ, zero, suc, List, [], ◌∷◌, ◌++◌, map, length, get_or, Bool, true, false, not, ◌&&◌, ◌||◌, Option, None, Some, is_none}
-use Rattle.std.specs.Prelude.{if◌then◌else◌, codes, nat_eq}
+use Rattle.std.specs.Prelude.{ℕ, zero, suc, List, [], ◌∷◌, ◌++◌, map, length, get_or, Bool, true, false, not, ◌&&◌, ◌||◌, Option, None, Some, is_none, if◌then◌else◌}
 use Rattle.std.specs.Option.{option_map_or, option_and_then, option_or}
-use Rattle.std.specs.List.{list_all, slice_get, starts_with}
+use Rattle.std.specs.List.{list_all, slice_get}
 use Rattle.std.specs.Result.{result_ok}
 use Rattle.std.specs.Str.{bytes_eq}
 use Rattle.fhir_json.specs.Tree.{Text}
@@ -14,14 +13,11 @@ use Rattle.fhir_elements.specs.TypeEntry.{TypeEntry}
 use Rattle.fhir_elements.specs.Element.{Element}
 use Rattle.fhir_elements.specs.Tests.{first_of}
 use Rattle.fhir_definition.specs.Snapshot.{is_root, is_at, is_tree}
-use Rattle.fhir_definition.specs.Definition.{Definition, has_snapshot, is_primitive, is_plain}
+use Rattle.fhir_definition.specs.Definition.{Definition, has_snapshot, is_plain}
+use Rattle.fhir_schema.specs.Types.{type_place, names_resource, is_system}
+use Rattle.fhir_schema.specs.Forms.{spells_apart}
 
--- ---- which definition a type code, a url or a canonical names
-
--- the first type definition of that type
-abbrev pub type_place : List Definition → Text → Option ℕ
-type_place [] code = None
-type_place (d ∷ ds) code = if d.is_type && bytes_eq code d.type then Some d.place else type_place ds code
+-- ---- which definition a url or a canonical names
 
 abbrev pub url_place : List Definition → Text → Option ℕ
 url_place [] url = None
@@ -55,10 +51,6 @@ reason_at reasons place = get_or reasons place None
 abbrev pub is_usable_type : List Definition → Reasons → Text → Bool
 is_usable_type ds reasons code = option_map_or (λ place. is_none (reason_at reasons place)) (type_place ds code) false
 
--- the codes of FHIRPath's own types
-abbrev pub is_system : Text → Bool
-is_system code = starts_with nat_eq code (codes "http://hl7.org/fhirpath/System.")
-
 abbrev pub entry_is_usable : List Definition → Reasons → TypeEntry → Bool
 entry_is_usable ds reasons entry = is_system entry.code || is_usable_type ds reasons entry.code
 
@@ -89,15 +81,16 @@ chain_ends ds d = ends_within ds (length ds) (base_place ds d)
 abbrev pub is_first_of_type : List Definition → Definition → Bool
 is_first_of_type ds d = not d.is_type || is_at d.place (type_place ds d.type)
 
--- each type entry is of a primitive type
-abbrev pub names_primitive : List Definition → TypeEntry → Bool
-names_primitive ds entry = option_map_or is_primitive (option_and_then (slice_get ds) (type_place ds entry.code)) false
+-- no type entry is of a resource
+abbrev pub names_no_resource : List Definition → TypeEntry → Bool
+names_no_resource ds entry = not (names_resource ds entry.code)
 
-abbrev pub element_is_flat : List Definition → Element → Bool
-element_is_flat ds e = is_root e || list_all (names_primitive ds) e.types
+abbrev pub element_is_supported : List Definition → Element → Bool
+element_is_supported ds e = is_root e || list_all (names_no_resource ds) e.types
 
-abbrev pub is_flat : List Definition → Definition → Bool
-is_flat ds d = is_plain d && list_all (element_is_flat ds) d.elements
+-- what it says is supported so far
+abbrev pub is_supported : List Definition → Definition → Bool
+is_supported ds d = is_plain d && list_all (element_is_supported ds) d.elements
 
 -- ---- which reason is answered
 
@@ -105,18 +98,24 @@ is_flat ds d = is_plain d && list_all (element_is_flat ds) d.elements
 abbrev pub fault_of : Definition → List (Bool × Reason)
 fault_of d = option_map_or (λ fault. (false, fault) ∷ []) d.fault []
 
--- What a definition has to meet, each with the reason that applies where it doesn't. So far as `reasons` say which others
--- can't be used.
-abbrev pub tests : List Definition → Reasons → Definition → List (Bool × Reason)
-tests ds reasons d =
-    fault_of d
-    ++ (types_are_usable ds reasons d, UnusableType)
-    ∷ (not (has_snapshot d) || is_tree d.elements, NoTree)
+-- the elements of its snapshot are a tree, and no two forms of a node's children spell one property
+abbrev pub is_well_formed : List Definition → Definition → Bool
+is_well_formed ds d = is_tree d.elements && spells_apart ds d
+
+-- what a definition has to meet whichever others can't be used, but for its own fault
+abbrev pub lasting_tests : List Definition → Definition → List (Bool × Reason)
+lasting_tests ds d =
+    (not (has_snapshot d) || is_well_formed ds d, NoTree)
     ∷ (chain_ends ds d, BaseCycle)
     ∷ (has_snapshot d, NoSnapshot)
     ∷ (is_first_of_type ds d, SecondType)
-    ∷ (is_flat ds d, NotYet)
+    ∷ (is_supported ds d, NotYet)
     ∷ []
+
+-- What a definition has to meet, each with the reason that applies where it doesn't. So far as `reasons` say which others
+-- can't be used.
+abbrev pub tests : List Definition → Reasons → Definition → List (Bool × Reason)
+tests ds reasons d = fault_of d ++ (types_are_usable ds reasons d, UnusableType) ∷ lasting_tests ds d
 
 -- ---- the rounds
 

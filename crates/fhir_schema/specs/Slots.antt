@@ -1,11 +1,16 @@
 -- Slots: the names that the children of an item may have at a node (FHIR R4, ElementDefinition, slicing for the slices).
-use Rattle.std.specs.Prelude.{ℕ, List, [], map}
-use Rattle.std.specs.Option.{option_map_or}
-use Rattle.std.specs.List.{slice_get}
+use Rattle.std.specs.Prelude.{ℕ, List, [], map, filter, length, get_or, Bool, true, false, not, ◌&&◌, ◌==◌, nat_lt, Option, if◌then◌else◌, codes}
+use Rattle.std.specs.Option.{option_map_or, option_and_then}
+use Rattle.std.specs.List.{slice_get, list_all}
+use Rattle.std.specs.Str.{bytes_eq}
 use Rattle.fhir_json.specs.Tree.{Text}
-use Rattle.fhir_names.specs.Parents.{name_of, slice_of}
+use Rattle.fhir_names.specs.Parents.{front_of, name_of, slice_of}
+use Rattle.fhir_elements.specs.TypeEntry.{TypeEntry}
 use Rattle.fhir_elements.specs.Element.{Element}
+use Rattle.fhir_definition.specs.Snapshot.{id_place, is_root}
 use Rattle.fhir_definition.specs.Children.{children_of, slices_at}
+use Rattle.fhir_definition.specs.Definition.{Definition}
+use Rattle.fhir_schema.specs.Types.{names_primitive}
 
 pub record Slice : Type 0 where
   pub name : Text
@@ -33,6 +38,36 @@ slot_at es place = record {
   slices = map (slice_at es) (slices_at es place);
 }
 
--- the slots of each element
-abbrev pub slots_of : List Element → List (List Slot)
-slots_of es = map (map (slot_at es)) (children_of es)
+-- ---- the value of a primitive, which is no child of it (FHIR R4, JSON: it stands in the element's own property)
+
+abbrev pub entry_is_primitive : List Definition → TypeEntry → Bool
+entry_is_primitive ds entry = names_primitive ds entry.code
+
+-- its items are of one primitive type: that of its definition, if it is the root, and else that of its one entry
+abbrev pub is_primitive_element : List Definition → Definition → Element → Bool
+is_primitive_element ds d e =
+    if is_root e then names_primitive ds d.type else (length e.types == 1) && list_all (entry_is_primitive ds) e.types
+
+-- the element above the one at a place, by its id
+abbrev pub parent_at : List Element → ℕ → Option Element
+parent_at es place = option_and_then (λ up. option_and_then (slice_get es) (id_place es up)) (front_of (id_at es place))
+
+abbrev pub is_value_of_primitive : List Definition → Definition → ℕ → Bool
+is_value_of_primitive ds d place =
+    bytes_eq (name_of (id_at d.elements place)) (codes "value")
+    && option_map_or (is_primitive_element ds d) (parent_at d.elements place) false
+
+-- ---- the slots of each element
+
+abbrev pub is_slot : List Definition → Definition → ℕ → Bool
+is_slot ds d place = not (is_value_of_primitive ds d place)
+
+abbrev pub slots_under : List Definition → Definition → List ℕ → List Slot
+slots_under ds d places = map (slot_at d.elements) (filter (is_slot ds d) places)
+
+abbrev pub slots_of : List Definition → Definition → List (List Slot)
+slots_of ds d = map (slots_under ds d) (children_of d.elements)
+
+-- those of the element at a place
+abbrev pub slots_in : List Definition → Definition → ℕ → List Slot
+slots_in ds d place = get_or (slots_of ds d) place []

@@ -1,34 +1,13 @@
 //! Which type codes cover which.
 
 ghost use Rattle.std.specs.Prelude.{◌≡◌, ℕ};
-ghost use Rattle.std.specs.Option.{option_copied, option_map_or};
-ghost use Rattle.fhir_schema.specs.Settling.{type_place};
-ghost use Rattle.fhir_schema.specs.Covers.{is_resource, type_of_code, names_resource, meets_within, reaches, reaches_type, covers_in};
+ghost use Rattle.std.specs.Option.{option_map_or};
+ghost use Rattle.fhir_schema.specs.Types.{type_place};
+ghost use Rattle.fhir_schema.specs.Covers.{meets_within, reaches, reaches_type, covers_in};
 
+use crate::kinds::names_resource;
 use crate::table::Table;
 use crate::types::{base_of_place, ends_within};
-use fhir_definition::Definition;
-
-fn is_resource(definition: &Definition) -> bool
-    ensures { result ≡ is_resource definition.now }
-{
-    definition.kind().is_some_and(|kind| kind.is_resource())
-}
-
-fn type_of_code<'t>(table: &'t Table, code: &str) -> Option<&'t Definition>
-    ensures { option_copied result ≡ type_of_code table.now code.now }
-{
-    table.definition(table.type_place(code)?)
-}
-
-fn names_resource(table: &Table, code: &str) -> bool
-    ensures { result ≡ names_resource table.now code.now }
-{
-    match type_of_code(table, code) {
-        Some(definition) => is_resource(definition),
-        None => false,
-    }
-}
 
 fn meets_within(table: &Table, goal: usize, places: usize, start: usize) -> bool
     ensures { result ≡ meets_within table.now goal places (Some start) }

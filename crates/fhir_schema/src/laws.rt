@@ -8,8 +8,9 @@ ghost use Rattle.fhir_schema.specs.Settling.{Reasons};
 ghost use Rattle.fhir_schema.specs.Usability.{AllApply, IsClosed, IsWithin};
 ghost use Rattle.fhir_json.specs.Tree.{Text};
 ghost use Rattle.fhir_schema.specs.declared.node.NodeRef.{NodeRef};
-ghost use Rattle.fhir_schema.specs.Schemas.{SchemaValue, schema_of, has, node, root, is_root_node};
-ghost use Rattle.fhir_schema.specs.Covers.{names_resource, covers, type_root};
+ghost use Rattle.fhir_schema.specs.Schemas.{SchemaValue, schema_of, has, node, root, is_root_node, type_root};
+ghost use Rattle.fhir_schema.specs.Types.{names_resource};
+ghost use Rattle.fhir_schema.specs.Covers.{covers};
 
 /// The definitions that can't be used are the least closed set: no reason applies to any other, each of them has one
 /// that applies, and no smaller set is closed.

@@ -17,9 +17,16 @@
 
 mod chains;
 mod covering;
+mod flat;
+mod form;
+mod form_table;
+mod forms;
+mod kinds;
 mod laws;
 mod node;
+mod node_forms;
 mod nodes;
+mod property_name;
 mod schema;
 mod settling;
 mod slot_list;
@@ -27,6 +34,7 @@ mod slots;
 mod table;
 mod types;
 
+pub use form::{Content, Form, Property};
 pub use laws::{covering_codes, least_closed, named_nodes, roots_are_roots};
 pub use node::NodeRef;
 pub use schema::Schema;

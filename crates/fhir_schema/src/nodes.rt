@@ -35,9 +35,19 @@ impl Nodes {
     {
         let mut slots = Vec::new(alloc);
         for definition in table.definitions() {
-            slots.push(slots_of(alloc, definition)?)?;
+            slots.push(slots_of(alloc, table, definition)?)?;
         }
         Ok(Nodes { slots })
+    }
+
+    /// The slots of each element of the definition at a place.
+    pub(crate) fn lists(&self, place: usize) -> &[SlotList]
+        ensures { result.now ≡ get_or self.now place [] }
+    {
+        match self.slots.get(place) {
+            Some(lists) => lists,
+            None => Default::default(),
+        }
     }
 
     fn list(&self, node: NodeRef) -> Option<&SlotList>

@@ -1,13 +1,20 @@
 //! The schema of a package.
 
-ghost use Rattle.std.specs.Prelude.{◌≡◌};
-ghost use Rattle.std.specs.Option.{option_copied};
+ghost use Rattle.std.specs.Prelude.{◌≡◌, false, IsTrue};
+ghost use Rattle.std.specs.Option.{option_copied, option_map_or};
+ghost use Rattle.std.specs.List.{slice_get};
 ghost use Rattle.fhir_json.specs.Memory.{Gives};
-ghost use Rattle.fhir_schema.specs.Schemas.{schema_of, unusable, is_usable, elements_at, has, element_at, url_at, id_of_node, is_root_node, node_in, root_element, root, node_with, node, slots, slot_named, holder, types};
-ghost use Rattle.fhir_schema.specs.Covers.{type_at, type_root, covers};
+ghost use Rattle.fhir_schema.specs.Schemas.{schema_of, unusable, is_usable, elements_at, has, element_at, url_at, id_of_node, is_root_node, node_in, root_element, root, node_with, node, slots, slot_named, holder, types, forms, property, type_root, resource_root, is_concrete, is_flat, is_flat_at};
+ghost use Rattle.fhir_schema.specs.Types.{type_of_code};
+ghost use Rattle.fhir_schema.specs.Forms.{are_apart};
+ghost use Rattle.fhir_schema.specs.Covers.{type_at, covers};
 
 use crate::covering::covers;
+use crate::flat::is_flat;
+use crate::form::{Form, Property};
+use crate::kinds::{is_resource, type_of_code};
 use crate::node::NodeRef;
+use crate::node_forms::NodeForms;
 use crate::nodes::Nodes;
 use crate::settling::all_reasons;
 use crate::slots::Slot;
@@ -25,6 +32,7 @@ pub struct Schema {
     table: Table,
     reasons: Vec<Option<Reason>>,
     nodes: Nodes,
+    forms: NodeForms,
 }
 
 impl Model for Schema {
@@ -38,11 +46,11 @@ impl Model for Schema {
     ghost coded = { Prim.hlevel (codes, tree_code) };
 
     ghost use Rattle.std.specs.Prelude.{◌≡◌};
-    ghost use Rattle.fhir_schema.specs.Schemas.{all_slots};
+    ghost use Rattle.fhir_schema.specs.Schemas.{all_slots, all_forms};
 
     ghost view = { λ s. record { definitions = s.table; reasons = s.reasons.items } };
 
-    ghost invariant = { λ s. s.nodes ≡ all_slots s.table };
+    ghost invariant = { λ s. (s.nodes ≡ all_slots s.table) × (s.forms.forms ≡ all_forms s.table) };
 }
 
 impl Schema {
@@ -52,12 +60,14 @@ impl Schema {
         ensures { Gives (λ s. s) result (schema_of from.now) }
     {
         let table = Table::of(alloc, from)?;
-        let reasons = all_reasons(alloc, &table)?;
         let nodes = Nodes::of(alloc, &table)?;
+        let forms = NodeForms::of(alloc, &table, &nodes)?;
+        let reasons = all_reasons(alloc, &table, forms.are_apart())?;
         Ok(Schema {
             table,
             reasons,
             nodes,
+            forms,
         })
     }
 
@@ -246,6 +256,69 @@ impl Schema {
         match self.table.type_place(code) {
             Some(place) => self.node_in(place, self.root_element(place)),
             None => None,
+        }
+    }
+
+    fn is_concrete(&self, code: &str) -> bool
+        ensures { result ≡ option_map_or is_concrete (type_of_code self.now.definitions code.now) false }
+    {
+        match type_of_code(&self.table, code) {
+            Some(definition) => is_resource(definition) && !definition.is_abstract(),
+            None => false,
+        }
+    }
+
+    /// The root of the type of a resource, if a resource may be of it: its definition can be used, and isn't abstract.
+    pub fn resource_root(&self, code: &str) -> Option<NodeRef>
+        ensures { result ≡ resource_root self.now code.now }
+    {
+        if self.is_concrete(code) {
+            self.type_root(code)
+        } else {
+            None
+        }
+    }
+
+    /// The forms of a node's children in JSON, one for each type of each slot, in the definition's order (FHIR R4, JSON
+    /// representation of resources). A node of a profile has none, since type definitions alone say how a resource is
+    /// spelled.
+    pub fn forms(&self, node: NodeRef) -> &[Form]
+        ensures { result.now ≡ forms self.now node }
+    {
+        self.forms.forms(node)
+    }
+
+    /// What the name of a property means at a node: the form that it belongs to, and whether it is that one's companion.
+    pub fn property(&self, node: NodeRef, name: &str) -> Option<Property>
+        ensures { result ≡ property self.now node name.now }
+    {
+        self.forms.property(node, name)
+    }
+
+    /// No two forms of a node's children spell one property. It does nothing.
+    pub fn forms_are_apart(&self, node: NodeRef)
+        ensures { IsTrue (are_apart (forms self.now node)) }
+    {
+        self.forms.forms_are_apart(node)
+    }
+
+    /// Whether the definition at a url is flat: its elements stand one level below the root, each of one type, which is
+    /// primitive.
+    pub fn is_flat(&self, url: &str) -> bool
+        ensures { result ≡ is_flat_at self.now url.now }
+    {
+        match self.table.url_place(url) {
+            Some(place) => self.is_flat_at_place(place),
+            None => false,
+        }
+    }
+
+    fn is_flat_at_place(&self, place: usize) -> bool
+        ensures { result ≡ option_map_or (is_flat self.now.definitions) (slice_get self.now.definitions place) false }
+    {
+        match self.table.definition(place) {
+            Some(definition) => is_flat(&self.table, definition),
+            None => false,
         }
     }
 

@@ -6,7 +6,7 @@ ghost use Rattle.fhir_schema.specs.Settling.{chain_ends, tests, reason_of, round
 
 use crate::chains::chains_end;
 use crate::table::Table;
-use crate::types::{is_first_of_type, is_flat, reason_at, types_are_usable};
+use crate::types::{is_first_of_type, is_supported, reason_at, types_are_usable};
 use fhir_definition::Definition;
 use fhir_elements::Reason;
 use std::alloc::{AllocError, Global};
@@ -17,6 +17,7 @@ fn reason_of(
     reasons: &[Option<Reason>],
     definition: &Definition,
     is_ending: bool,
+    is_apart: bool,
 ) -> Option<Reason>
     requires { is_ending ≡ chain_ends table.now definition.now }
     ensures { result ≡ reason_of table.now reasons.now definition.now }

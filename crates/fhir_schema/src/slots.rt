@@ -1,12 +1,17 @@
 //! The slots of the elements.
 
 ghost use Rattle.std.specs.Prelude.{◌≡◌, map, IfOk};
-ghost use Rattle.fhir_schema.specs.Slots.{id_at, slice_at, slot_at, slots_of};
+ghost use Rattle.fhir_schema.specs.Slots.{id_at, slice_at, slot_at, entry_is_primitive, is_primitive_element, parent_at, is_slot, slots_under, slots_of};
+ghost use Rattle.std.specs.Prelude.{false};
+ghost use Rattle.std.specs.Option.{option_copied, option_map_or};
+ghost use Rattle.std.specs.List.{list_all};
 
+use crate::kinds::names_primitive;
 use crate::slot_list::SlotList;
-use fhir_definition::Definition;
-use fhir_elements::ElementDef;
-use fhir_names::{name_of, slice_of};
+use crate::table::Table;
+use fhir_definition::{Definition, is_root};
+use fhir_elements::{ElementDef, TypeEntry};
+use fhir_names::{front_of, name_of, slice_of};
 use std::alloc::{AllocError, Global};
 use std::marker::Model;
 
@@ -126,27 +131,82 @@ fn slot_at(alloc: Global, definition: &Definition, place: usize) -> Result<Slot,
     })
 }
 
-fn slots_at(
+fn entry_is_primitive(table: &Table, entry: &TypeEntry) -> bool
+    ensures { result ≡ entry_is_primitive table.now entry.now }
+{
+    names_primitive(table, entry.code())
+}
+
+/// Whether each entry is of a primitive type.
+pub(crate) fn are_primitive(table: &Table, entries: &[TypeEntry]) -> bool
+    ensures { result ≡ list_all (entry_is_primitive table.now) entries.now }
+{
+    entries
+        .iter()
+        .all(|entry| entry_is_primitive(table, entry))
+}
+
+fn is_primitive_element(table: &Table, definition: &Definition, element: &ElementDef) -> bool
+    ensures { result ≡ is_primitive_element table.now definition.now element.now }
+{
+    if is_root(element) {
+        return names_primitive(table, definition.type_code());
+    }
+    element.types().len() == 1 && are_primitive(table, element.types())
+}
+
+// The element above the one at a place.
+fn parent_at(definition: &Definition, place: usize) -> Option<&ElementDef>
+    ensures { option_copied result ≡ parent_at definition.now.elements place }
+{
+    let up = front_of(id_at(definition.elements(), place))?;
+    definition.elements().get(definition.id_place(up)?)
+}
+
+fn stands_under_primitive(table: &Table, definition: &Definition, place: usize) -> bool
+    ensures { result ≡ option_map_or (is_primitive_element table.now definition.now) (parent_at definition.now.elements place) false }
+{
+    match parent_at(definition, place) {
+        Some(parent) => is_primitive_element(table, definition, parent),
+        None => false,
+    }
+}
+
+fn is_slot(table: &Table, definition: &Definition, place: usize) -> bool
+    ensures { result ≡ is_slot table.now definition.now place }
+{
+    let is_value = name_of(id_at(definition.elements(), place)) == "value";
+    !(is_value && stands_under_primitive(table, definition, place))
+}
+
+fn slots_under(
     alloc: Global,
+    table: &Table,
     definition: &Definition,
     places: &[usize],
 ) -> Result<SlotList, AllocError>
-    ensures { IfOk result (λ l. l ≡ map (slot_at definition.now.elements) places.now) }
+    ensures { IfOk result (λ l. l ≡ slots_under table.now definition.now places.now) }
 {
-    let mut slots = Vec::with_capacity(alloc, places.len())?;
+    let mut slots = Vec::new(alloc);
     for place in places {
-        slots.push(slot_at(alloc, definition, *place)?)?;
+        if is_slot(table, definition, *place) {
+            slots.push(slot_at(alloc, definition, *place)?)?;
+        }
     }
     SlotList::of(alloc, slots)
 }
 
 /// The slots of each element of a definition.
-pub(crate) fn slots_of(alloc: Global, definition: &Definition) -> Result<Vec<SlotList>, AllocError>
-    ensures { IfOk result (λ v. v.items ≡ slots_of definition.now.elements) }
+pub(crate) fn slots_of(
+    alloc: Global,
+    table: &Table,
+    definition: &Definition,
+) -> Result<Vec<SlotList>, AllocError>
+    ensures { IfOk result (λ v. v.items ≡ slots_of table.now definition.now) }
 {
     let mut all = Vec::new(alloc);
     for places in definition.children() {
-        all.push(slots_at(alloc, definition, places)?)?;
+        all.push(slots_under(alloc, table, definition, places)?)?;
     }
     Ok(all)
 }

@@ -3,8 +3,9 @@
 ghost use Rattle.std.specs.Prelude.{◌≡◌};
 ghost use Rattle.std.specs.Option.{option_map_or, option_and_then};
 ghost use Rattle.std.specs.List.{list_all, slice_get};
-ghost use Rattle.fhir_schema.specs.Settling.{is_versioned, where_versioned, version_place, canonical_place, reason_at, is_usable_type, is_system, entry_is_usable, element_is_usable, types_are_usable, base_place, base_of_place, ends_within, is_first_of_type, names_primitive, element_is_flat, is_flat};
+ghost use Rattle.fhir_schema.specs.Settling.{is_versioned, where_versioned, version_place, canonical_place, reason_at, is_usable_type, entry_is_usable, element_is_usable, types_are_usable, base_place, base_of_place, ends_within, is_first_of_type, names_no_resource, element_is_supported, is_supported};
 
+use crate::kinds::{is_system, names_resource};
 use crate::table::Table;
 use fhir_definition::{Definition, is_root};
 use fhir_elements::{ElementDef, Reason, TypeEntry};
@@ -58,13 +59,6 @@ fn is_usable_type(table: &Table, reasons: &[Option<Reason>], code: &str) -> bool
         Some(place) => reason_at(reasons, place).is_none(),
         None => false,
     }
-}
-
-fn is_system(code: &str) -> bool
-    ensures { result ≡ is_system code.now }
-{
-    code.as_bytes()
-        .starts_with(b"http://hl7.org/fhirpath/System.")
 }
 
 fn entry_is_usable(table: &Table, reasons: &[Option<Reason>], entry: &TypeEntry) -> bool
@@ -163,49 +157,43 @@ pub(crate) fn is_first_of_type(table: &Table, definition: &Definition) -> bool
     }
 }
 
-fn names_primitive(table: &Table, entry: &TypeEntry) -> bool
-    ensures { result ≡ names_primitive table.now entry.now }
+fn names_no_resource(table: &Table, entry: &TypeEntry) -> bool
+    ensures { result ≡ names_no_resource table.now entry.now }
 {
-    let Some(place) = table.type_place(entry.code()) else {
-        return false;
-    };
-    match table.definition(place) {
-        Some(definition) => definition.is_primitive(),
-        None => false,
-    }
+    !names_resource(table, entry.code())
 }
 
-fn name_primitives(table: &Table, entries: &[TypeEntry]) -> bool
-    ensures { result ≡ list_all (names_primitive table.now) entries.now }
+fn name_no_resources(table: &Table, entries: &[TypeEntry]) -> bool
+    ensures { result ≡ list_all (names_no_resource table.now) entries.now }
 {
     for entry in entries {
-        if !names_primitive(table, entry) {
+        if !names_no_resource(table, entry) {
             return false;
         }
     }
     true
 }
 
-fn element_is_flat(table: &Table, element: &ElementDef) -> bool
-    ensures { result ≡ element_is_flat table.now element.now }
+fn element_is_supported(table: &Table, element: &ElementDef) -> bool
+    ensures { result ≡ element_is_supported table.now element.now }
 {
-    is_root(element) || name_primitives(table, element.types())
+    is_root(element) || name_no_resources(table, element.types())
 }
 
-fn elements_are_flat(table: &Table, elements: &[ElementDef]) -> bool
-    ensures { result ≡ list_all (element_is_flat table.now) elements.now }
+fn elements_are_supported(table: &Table, elements: &[ElementDef]) -> bool
+    ensures { result ≡ list_all (element_is_supported table.now) elements.now }
 {
     for element in elements {
-        if !element_is_flat(table, element) {
+        if !element_is_supported(table, element) {
             return false;
         }
     }
     true
 }
 
-/// Whether it is supported so far.
-pub(crate) fn is_flat(table: &Table, definition: &Definition) -> bool
-    ensures { result ≡ is_flat table.now definition.now }
+/// Whether what it says is supported so far.
+pub(crate) fn is_supported(table: &Table, definition: &Definition) -> bool
+    ensures { result ≡ is_supported table.now definition.now }
 {
-    definition.is_plain() && elements_are_flat(table, definition.elements())
+    definition.is_plain() && elements_are_supported(table, definition.elements())
 }

@@ -1,0 +1,127 @@
+//! The forms of one element's children, found by the names of their properties.
+
+ghost use Rattle.std.specs.Prelude.{◌≡◌, IfOk, IsTrue, Some, None, if◌then◌else◌};
+ghost use Rattle.fhir_schema.specs.Forms.{are_apart, property_of};
+
+use crate::form::{Form, Property};
+use fhir_names::Index;
+use std::alloc::{AllocError, Global};
+use std::marker::Model;
+
+// What each name means, in the order in which the forms spell them.
+#[derive(Drop)]
+struct Names {
+    meanings: Vec<Property>,
+    places: Index,
+}
+
+impl Names {
+    // Adds a name, if it is new.
+    fn add(&mut self, alloc: Global, name: &str, meaning: Property) -> Result<bool, AllocError> {
+        if self.places.get(name).is_some() {
+            return Ok(false);
+        }
+        self.places.add(alloc, name, self.meanings.len())?;
+        self.meanings.push(meaning)?;
+        Ok(true)
+    }
+
+    fn add_companion(&mut self, alloc: Global, form: &Form, place: usize) -> Result<bool, AllocError> {
+        if !form.content().is_primitive() {
+            return Ok(true);
+        }
+        let mut name = String::from_str(alloc, "_")?;
+        name.push_str(form.property())?;
+        self.add(
+            alloc,
+            name.as_str(),
+            Property {
+                form: place,
+                is_companion: true,
+            },
+        )
+    }
+
+    // Adds the names that a form spells, if they are new.
+    fn add_form(&mut self, alloc: Global, form: &Form, place: usize) -> Result<bool, AllocError> {
+        let meaning = Property {
+            form: place,
+            is_companion: false,
+        };
+        if !self.add(alloc, form.property(), meaning)? {
+            return Ok(false);
+        }
+        self.add_companion(alloc, form, place)
+    }
+}
+
+/// The forms of one element's children, no two of which spell one property.
+#[derive(Drop)]
+pub(crate) struct FormTable {
+    forms: Vec<Form>,
+    names: Names,
+}
+
+impl Model for FormTable {
+    ghost use Rattle.std.specs.Prelude.{List};
+    ghost use Rattle.fhir_schema.specs.Forms.{Form as Shown};
+    ghost use Rattle.fhir_schema.specs.FormTables.{IsTable};
+
+    ghost Value = { List Shown };
+
+    ghost view = { λ t. t.forms.items };
+
+    ghost invariant = { λ t. IsTable t.names.meanings.items t.names.places t.forms.items };
+}
+
+impl FormTable {
+    /// The table of some forms, if no two of them spell one property.
+    pub(crate) fn of(alloc: Global, forms: Vec<Form>) -> Result<Option<FormTable>, AllocError>
+        ensures { IfOk result (λ o. o ≡ (if are_apart forms.items then Some forms.items else None)) }
+    {
+        let mut names = Names {
+            meanings: Vec::new(alloc),
+            places: Index::new(alloc),
+        };
+        for (place, form) in forms.iter().enumerate() {
+            if !names.add_form(alloc, form, place)? {
+                return Ok(None);
+            }
+        }
+        Ok(Some(FormTable { forms, names }))
+    }
+
+    /// No forms.
+    pub(crate) fn empty(alloc: Global) -> FormTable
+        ensures { result ≡ [] }
+    {
+        FormTable {
+            forms: Vec::new(alloc),
+            names: Names {
+                meanings: Vec::new(alloc),
+                places: Index::new(alloc),
+            },
+        }
+    }
+
+    /// The forms, in the order of the definition.
+    pub(crate) fn forms(&self) -> &[Form]
+        ensures { result.now ≡ self.now }
+    {
+        &self.forms
+    }
+
+    /// What the name of a property means.
+    pub(crate) fn property(&self, name: &str) -> Option<Property>
+        ensures { result ≡ property_of self.now name.now }
+    {
+        self.names.meanings.get(self.names.places.get(name)?).copied()
+    }
+
+    /// No two of the forms spell one property.
+    pub(crate) fn are_apart(&self)
+        ensures { IsTrue (are_apart self.now) }
+    {
+        let _forms = &self.forms;
+    }
+}

@@ -1,0 +1,80 @@
+//! Which definition a type code names, and of what kind its type is.
+
+ghost use Rattle.std.specs.Prelude.{◌≡◌};
+ghost use Rattle.std.specs.Option.{option_copied};
+ghost use Rattle.fhir_schema.specs.Types.{type_of_code, root_of_code, is_resource, names_resource, names_primitive, primitive_of, is_system};
+
+use crate::node::NodeRef;
+use crate::table::Table;
+use fhir_definition::Definition;
+use fhir_prims::PrimType;
+
+/// The definition of a type.
+pub(crate) fn type_of_code<'t>(table: &'t Table, code: &str) -> Option<&'t Definition>
+    ensures { option_copied result ≡ type_of_code table.now code.now }
+{
+    table.definition(table.type_place(code)?)
+}
+
+fn root_of(definition: &Definition) -> Option<NodeRef> {
+    match definition.root() {
+        Some(element) => Some(NodeRef {
+            definition: definition.place(),
+            element,
+        }),
+        None => None,
+    }
+}
+
+/// The root of the definition of a type.
+pub(crate) fn root_of_code(table: &Table, code: &str) -> Option<NodeRef>
+    ensures { result ≡ root_of_code table.now code.now }
+{
+    root_of(type_of_code(table, code)?)
+}
+
+/// Whether it is of a resource.
+pub(crate) fn is_resource(definition: &Definition) -> bool
+    ensures { result ≡ is_resource definition.now }
+{
+    definition.kind().is_some_and(|kind| kind.is_resource())
+}
+
+/// Whether a code names the type of a resource.
+pub(crate) fn names_resource(table: &Table, code: &str) -> bool
+    ensures { result ≡ names_resource table.now code.now }
+{
+    match type_of_code(table, code) {
+        Some(definition) => is_resource(definition),
+        None => false,
+    }
+}
+
+/// Whether a code names a primitive type.
+pub(crate) fn names_primitive(table: &Table, code: &str) -> bool
+    ensures { result ≡ names_primitive table.now code.now }
+{
+    match type_of_code(table, code) {
+        Some(definition) => definition.is_primitive(),
+        None => false,
+    }
+}
+
+/// The primitive type that a code names.
+pub(crate) fn primitive_of(table: &Table, code: &str) -> Option<PrimType>
+    ensures { result ≡ primitive_of table.now code.now }
+{
+    if names_primitive(table, code) {
+        PrimType::of(code)
+    } else {
+        None
+    }
+}
+
+/// Whether a code is that of one of FHIRPath's own types.
+pub(crate) fn is_system(code: &str) -> bool
+    ensures { result ≡ is_system code.now }
+{
+    code.as_bytes()
+        .starts_with(b"http://hl7.org/fhirpath/System.")
+}

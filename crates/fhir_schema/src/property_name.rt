@@ -1,0 +1,28 @@
+//! The names of properties.
+
+ghost use Rattle.std.specs.Prelude.{◌≡◌, string_bytes, IfOk};
+ghost use Rattle.fhir_schema.specs.Forms.{is_choice, property_name};
+
+use std::alloc::{AllocError, Global};
+
+fn is_choice(name: &str) -> bool
+    ensures { result ≡ is_choice name.now }
+{
+    name.as_bytes().ends_with(b"[x]")
+}
+
+/// The name of the property in which an element of a type stands: `value[x]` of type `string` stands in `valueString`.
+pub(crate) fn property_name(alloc: Global, name: &str, code: &str) -> Result<String, AllocError>
+    ensures { IfOk result (λ s. string_bytes s ≡ property_name name.now code.now) }
+{
+    if !is_choice(name) {
+        return String::from_str(alloc, name);
+    }
+    let mut property = String::from_str(alloc, &name[..name.len() - 3])?;
+    let mut rest = code.chars();
+    if let Some(first) = rest.next() {
+        property.push(first.to_ascii_uppercase())?;
+        property.push_str(rest.as_str())?;
+    }
+    Ok(property)
+}
