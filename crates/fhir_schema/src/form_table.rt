@@ -1,6 +1,6 @@
 //! The forms of one element's children, found by the names of their properties.
 
-ghost use Rattle.std.specs.Prelude.{◌≡◌, IfOk, IsTrue, Some, None, if◌then◌else◌};
+ghost use Rattle.std.specs.Prelude.{◌≡◌, [], IfOk, IsTrue, Some, None, if◌then◌else◌};
 ghost use Rattle.fhir_schema.specs.Forms.{are_apart, property_of};
 
 use crate::form::{Form, Property};

@@ -1,7 +1,8 @@
 //! The forms of the children of each node, worked out when a schema is built.
 
 ghost use Rattle.std.specs.Prelude.{◌≡◌, [], get_or, map, IfOk, IsTrue};
-ghost use Rattle.fhir_schema.specs.Forms.{are_apart, spells_apart, property_of};
+ghost use Rattle.fhir_schema.specs.Forms.{are_apart, spells_apart, property_of, forms_of};
+ghost use Rattle.fhir_schema.specs.Slots.{slots_of};
 ghost use Rattle.fhir_schema.specs.Schemas.{all_slots, all_forms};
 
 use crate::form::{Form, Property};

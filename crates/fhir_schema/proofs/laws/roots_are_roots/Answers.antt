@@ -1,4 +1,5 @@
-use Rattle.fhir_schema.specs.Settling.{url_place, type_place}
+use Rattle.fhir_schema.specs.Types.{type_place}
+use Rattle.fhir_schema.specs.Settling.{url_place}
 use Rattle.fhir_schema.proofs.Roots.{found}
 use Rattle.fhir_schema.proofs.laws.roots_are_roots.Goals as goal
 

@@ -1,7 +1,0 @@
-use Rattle.std.proofs.Common.{◌≡◌, drop}
-use Rattle.std.specs.List.{list_all}
-use Rattle.fhir_schema.specs.Settling.{names_primitive}
-use Rattle.fhir_schema.proofs.types.name_primitives.Given as goal
-
-abbrev pub invariant-loop-entry : goal.invariant-loop-entry
-invariant-loop-entry l = list_all (names_primitive l.table) (drop l.entry-index l.entries) ≡ list_all (names_primitive l.table) l.entries
