@@ -1,6 +1,6 @@
 //! The forms of elements.
 
-ghost use Rattle.std.specs.Prelude.{◌≡◌, ◌++◌, IfOk, OnOk};
+ghost use Rattle.std.specs.Prelude.{◌≡◌, ◌++◌, [], get_or, length, nat_lt, IfOk, OnOk};
 ghost use Rattle.fhir_schema.specs.Forms.{repeats, typing_node, content_of, form_of, forms_with, slot_forms, forms_under};
 ghost use Rattle.fhir_schema.specs.Slots.{slots_of};
 
@@ -29,7 +29,9 @@ fn repeats(element: &ElementDef) -> bool
     element.max().is_some_and(|most| most.allows_several())
 }
 
+// Whether the element at a place has slots.
 fn has_slots(slots: &[SlotList], place: usize) -> bool
+    ensures { result ≡ nat_lt 0 (length (get_or slots.now place [])) }
 {
     match slots.get(place) {
         Some(list) => !list.slots().is_empty(),

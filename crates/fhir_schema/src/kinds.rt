@@ -1,7 +1,8 @@
 //! Which definition a type code names, and of what kind its type is.
 
 ghost use Rattle.std.specs.Prelude.{◌≡◌};
-ghost use Rattle.std.specs.Option.{option_copied};
+ghost use Rattle.std.specs.Option.{option_copied, option_map};
+ghost use Rattle.fhir_definition.specs.Snapshot.{root_place};
 ghost use Rattle.fhir_schema.specs.Types.{type_of_code, root_of_code, is_resource, names_resource, names_primitive, primitive_of, is_system};
 
 use crate::node::NodeRef;
@@ -16,7 +17,10 @@ pub(crate) fn type_of_code<'t>(table: &'t Table, code: &str) -> Option<&'t Defin
     table.definition(table.type_place(code)?)
 }
 
-fn root_of(definition: &Definition) -> Option<NodeRef> {
+// The root of a definition.
+fn root_of(definition: &Definition) -> Option<NodeRef>
+    ensures { result ≡ option_map (λ e. record { definition = definition.now.place; element = e }) (root_place definition.now.elements) }
+{
     match definition.root() {
         Some(element) => Some(NodeRef {
             definition: definition.place(),

@@ -1,6 +1,5 @@
-use Rattle.std.proofs.Common.{arith, sym, ◌∙◌, ap, take, length}
+use Rattle.std.proofs.Common.{arith}
 use Rattle.fhir_schema.specs.Slots.{slots_of}
-use Rattle.fhir_schema.specs.Schemas.{all_slots}
 use Rattle.fhir_schema.proofs.Resolved.{one_more}
 use Rattle.fhir_schema.proofs.nodes.Nodes.of.Goals as goal
 
