@@ -7,3 +7,4 @@ pub mod Covered
 pub mod KnownNodes
 pub mod Stepping
 pub mod Roots
+pub mod Capitals

@@ -15,14 +15,6 @@ use fhir_definition::Definition;
 use fhir_elements::{ElementDef, TypeEntry};
 use std::alloc::{AllocError, Global};
 
-/// A definition with the slots of each of its elements.
-#[derive(Clone, Copy)]
-pub(crate) struct Slotted<'t> {
-    pub(crate) table: &'t Table,
-    pub(crate) definition: &'t Definition,
-    pub(crate) slots: &'t [SlotList],
-}
-
 fn repeats(element: &ElementDef) -> bool
     ensures { result ≡ repeats element.now }
 {
@@ -103,6 +95,26 @@ fn form_of(
     })
 }
 
+// The forms of a slot of an element, behind others.
+fn push_forms_with(
+    alloc: Global,
+    table: &Table,
+    definition: &Definition,
+    slots: &[SlotList],
+    slot: &Slot,
+    element: &ElementDef,
+    forms: &mut Vec<Form>,
+) -> Result<(), AllocError>
+    requires { slots.now ≡ slots_of table.now definition.now }
+    ensures { OnOk result (forms.new.items ≡ forms.old.items ++ forms_with table.now definition.now slot.now element.now) }
+{
+    for entry in element.types() {
+        let code = entry.code();
+        forms.push(form_of(alloc, table, definition, slots, slot, element, code)?)?;
+    }
+    Ok(())
+}
+
 // The forms of a slot, behind others.
 fn push_forms(
     alloc: Global,
@@ -115,21 +127,12 @@ fn push_forms(
     requires { slots.now ≡ slots_of table.now definition.now }
     ensures { OnOk result (forms.new.items ≡ forms.old.items ++ slot_forms table.now definition.now slot.now) }
 {
-    let Some(element) = definition.elements().get(slot.entry()) else {
-        return Ok(());
-    };
-    for entry in element.types() {
-        forms.push(form_of(
-            alloc,
-            table,
-            definition,
-            slots,
-            slot,
-            element,
-            entry.code(),
-        )?)?;
+    match definition.elements().get(slot.entry()) {
+        Some(element) => {
+            push_forms_with(alloc, table, definition, slots, slot, element, forms)
+        }
+        None => Ok(()),
     }
-    Ok(())
 }
 
 /// The forms of the children of an element of a definition, whose slots these are.

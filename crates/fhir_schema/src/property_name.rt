@@ -1,7 +1,7 @@
 //! The names of properties.
 
-ghost use Rattle.std.specs.Prelude.{◌≡◌, string_bytes, IfOk};
-ghost use Rattle.fhir_schema.specs.Forms.{is_choice, property_name};
+ghost use Rattle.std.specs.Prelude.{◌≡◌, ◌++◌, string_bytes, IfOk, OnOk};
+ghost use Rattle.fhir_schema.specs.Forms.{is_choice, capitalised, property_name};
 
 use std::alloc::{AllocError, Global};
 
@@ -9,6 +9,18 @@ fn is_choice(name: &str) -> bool
     ensures { result ≡ is_choice name.now }
 {
     name.as_bytes().ends_with(b"[x]")
+}
+
+// Adds a code with its first letter in upper case.
+fn push_capitalised(text: &mut String, code: &str) -> Result<(), AllocError>
+    ensures { OnOk result (string_bytes text.new ≡ string_bytes text.old ++ capitalised code.now) }
+{
+    let mut rest = code.chars();
+    if let Some(first) = rest.next() {
+        text.push(first.to_ascii_uppercase())?;
+        text.push_str(rest.as_str())?;
+    }
+    Ok(())
 }
 
 /// The name of the property in which an element of a type stands: `value[x]` of type `string` stands in `valueString`.
@@ -19,10 +31,6 @@ pub(crate) fn property_name(alloc: Global, name: &str, code: &str) -> Result<Str
         return String::from_str(alloc, name);
     }
     let mut property = String::from_str(alloc, &name[..name.len() - 3])?;
-    let mut rest = code.chars();
-    if let Some(first) = rest.next() {
-        property.push(first.to_ascii_uppercase())?;
-        property.push_str(rest.as_str())?;
-    }
+    push_capitalised(&mut property, code)?;
     Ok(property)
 }
