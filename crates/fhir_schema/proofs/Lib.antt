@@ -8,3 +8,5 @@ pub mod KnownNodes
 pub mod Stepping
 pub mod Roots
 pub mod Capitals
+pub mod Spelled
+pub mod Meaning

@@ -1,7 +1,10 @@
 //! The forms of one element's children, found by the names of their properties.
 
-ghost use Rattle.std.specs.Prelude.{◌≡◌, [], IfOk, IsTrue, Some, None, if◌then◌else◌};
-ghost use Rattle.fhir_schema.specs.Forms.{are_apart, property_of};
+ghost use Rattle.std.specs.Prelude.{◌≡◌, ◌++◌, ◌∷◌, [], List, false, string_bytes, IfOk, IsTrue, Some, None, if◌then◌else◌};
+ghost use Rattle.std.specs.Option.{MatchOption};
+ghost use Rattle.std.specs.List.{slice_get};
+ghost use Rattle.fhir_schema.specs.Forms.{are_apart, companion_name, property_of, spellings_of};
+ghost use Rattle.fhir_schema.specs.FormTables.{Meant, Keeps, KeepsIf, companions_of, IsTable};
 
 use crate::form::{Form, Property};
 use fhir_names::Index;
@@ -16,8 +19,20 @@ struct Names {
 }
 
 impl Names {
+    fn new(alloc: Global) -> Names
+        ensures { Keeps result.meanings.items result.places [] }
+    {
+        Names {
+            meanings: Vec::new(alloc),
+            places: Index::new(alloc),
+        }
+    }
+
     // Adds a name, if it is new.
-    fn add(&mut self, alloc: Global, name: &str, meaning: Property) -> Result<bool, AllocError> {
+    fn add(&mut self, alloc: Global, name: &str, meaning: Property) -> Result<bool, AllocError>
+        ensures { IfOk result (λ is_new. (xs : List Meant) → Keeps self.old.meanings.items self.old.places xs
+            → KeepsIf is_new self.new.meanings.items self.new.places (xs ++ (name.now, meaning) ∷ [])) }
+    {
         if self.places.get(name).is_some() {
             return Ok(false);
         }
@@ -26,24 +41,26 @@ impl Names {
         Ok(true)
     }
 
-    fn add_companion(&mut self, alloc: Global, form: &Form, place: usize) -> Result<bool, AllocError> {
+    fn add_companion(&mut self, alloc: Global, form: &Form, place: usize) -> Result<bool, AllocError>
+        ensures { IfOk result (λ is_new. (xs : List Meant) → Keeps self.old.meanings.items self.old.places xs
+            → KeepsIf is_new self.new.meanings.items self.new.places (xs ++ companions_of place form.now)) }
+    {
         if !form.content().is_primitive() {
             return Ok(true);
         }
-        let mut name = String::from_str(alloc, "_")?;
-        name.push_str(form.property())?;
-        self.add(
-            alloc,
-            name.as_str(),
-            Property {
-                form: place,
-                is_companion: true,
-            },
-        )
+        let name = companion_name(alloc, form)?;
+        let meaning = Property {
+            form: place,
+            is_companion: true,
+        };
+        self.add(alloc, name.as_str(), meaning)
     }
 
     // Adds the names that a form spells, if they are new.
-    fn add_form(&mut self, alloc: Global, form: &Form, place: usize) -> Result<bool, AllocError> {
+    fn add_form(&mut self, alloc: Global, form: &Form, place: usize) -> Result<bool, AllocError>
+        ensures { IfOk result (λ is_new. (xs : List Meant) → Keeps self.old.meanings.items self.old.places xs
+            → KeepsIf is_new self.new.meanings.items self.new.places (xs ++ spellings_of place form.now)) }
+    {
         let meaning = Property {
             form: place,
             is_companion: false,
@@ -53,6 +70,33 @@ impl Names {
         }
         self.add_companion(alloc, form, place)
     }
+}
+
+fn companion_name(alloc: Global, form: &Form) -> Result<String, AllocError>
+    ensures { IfOk result (λ s. string_bytes s ≡ companion_name form.now) }
+{
+    let mut name = String::from_str(alloc, "_")?;
+    name.push_str(form.property())?;
+    Ok(name)
+}
+
+// The names that some forms spell, if no two are the same.
+fn names_of(alloc: Global, forms: &[Form]) -> Result<Option<Names>, AllocError>
+    ensures { IfOk result (λ o. MatchOption o (are_apart forms.now ≡ false) (λ n. IsTable n.meanings.items n.places forms.now)) }
+{
+    let mut names = Names::new(alloc);
+    for (place, form) in forms.iter().enumerate() {
+        if !names.add_form(alloc, form, place)? {
+            return Ok(None);
+        }
+    }
+    Ok(Some(names))
+}
+
+fn meaning_at(meanings: &[Property], place: usize) -> Option<Property>
+    ensures { result ≡ slice_get meanings.now place }
+{
+    meanings.get(place).copied()
 }
 
 /// The forms of one element's children, no two of which spell one property.
@@ -79,16 +123,10 @@ impl FormTable {
     pub(crate) fn of(alloc: Global, forms: Vec<Form>) -> Result<Option<FormTable>, AllocError>
         ensures { IfOk result (λ o. o ≡ (if are_apart forms.items then Some forms.items else None)) }
     {
-        let mut names = Names {
-            meanings: Vec::new(alloc),
-            places: Index::new(alloc),
-        };
-        for (place, form) in forms.iter().enumerate() {
-            if !names.add_form(alloc, form, place)? {
-                return Ok(None);
-            }
+        match names_of(alloc, &forms)? {
+            Some(names) => Ok(Some(FormTable { forms, names })),
+            None => Ok(None),
         }
-        Ok(Some(FormTable { forms, names }))
     }
 
     /// No forms.
@@ -97,10 +135,7 @@ impl FormTable {
     {
         FormTable {
             forms: Vec::new(alloc),
-            names: Names {
-                meanings: Vec::new(alloc),
-                places: Index::new(alloc),
-            },
+            names: Names::new(alloc),
         }
     }
 
@@ -115,7 +150,10 @@ impl FormTable {
     pub(crate) fn property(&self, name: &str) -> Option<Property>
         ensures { result ≡ property_of self.now name.now }
     {
-        self.names.meanings.get(self.names.places.get(name)?).copied()
+        match self.names.places.get(name) {
+            Some(place) => meaning_at(&self.names.meanings, place),
+            None => None,
+        }
     }
 
     /// No two of the forms spell one property.

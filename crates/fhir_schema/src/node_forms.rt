@@ -1,7 +1,9 @@
 //! The forms of the children of each node, worked out when a schema is built.
 
 ghost use Rattle.std.specs.Prelude.{◌≡◌, [], get_or, map, IfOk, IsTrue};
-ghost use Rattle.fhir_schema.specs.Forms.{are_apart, spells_apart, property_of, forms_of};
+ghost use Rattle.std.specs.Option.{option_map_or};
+ghost use Rattle.std.specs.List.{list_all};
+ghost use Rattle.fhir_schema.specs.Forms.{are_apart, if_apart, forms_under, spells_apart, property_of, forms_of};
 ghost use Rattle.fhir_schema.specs.Slots.{slots_of};
 ghost use Rattle.fhir_schema.specs.Schemas.{all_slots, all_forms};
 
@@ -23,6 +25,39 @@ struct DefinitionForms {
     are_apart: bool,
 }
 
+// The table of some forms, and whether no two of them spell one property; where two do, that of none.
+fn table_of(alloc: Global, forms: Vec<Form>) -> Result<(FormTable, bool), AllocError>
+    ensures table { IfOk result (λ r. r.0 ≡ if_apart forms.items) }
+    ensures apart { IfOk result (λ r. r.1 ≡ are_apart forms.items) }
+{
+    match FormTable::of(alloc, forms)? {
+        Some(table) => Ok((table, true)),
+        None => Ok((FormTable::empty(alloc), false)),
+    }
+}
+
+fn type_forms(
+    alloc: Global,
+    table: &Table,
+    definition: &Definition,
+    slots: &[SlotList],
+) -> Result<DefinitionForms, AllocError>
+    requires { slots.now ≡ slots_of table.now definition.now }
+    ensures forms { IfOk result (λ f. f.tables.items ≡ map (λ s. if_apart (forms_under table.now definition.now s)) slots.now) }
+    ensures apart { IfOk result (λ f. f.are_apart ≡ list_all (λ s. are_apart (forms_under table.now definition.now s)) slots.now) }
+{
+    let mut tables = Vec::new(alloc);
+    let mut are_apart = true;
+    for list in slots {
+        let forms = forms_under(alloc, table, definition, slots, list.slots())?;
+        let (forms, is_apart) = table_of(alloc, forms)?;
+        tables.push(forms)?;
+        are_apart &= is_apart;
+    }
+    Ok(DefinitionForms { tables, are_apart })
+}
+
+// A profile has no forms.
 fn forms_of(
     alloc: Global,
     table: &Table,
@@ -33,21 +68,14 @@ fn forms_of(
     ensures forms { IfOk result (λ f. f.tables.items ≡ forms_of table.now definition.now) }
     ensures apart { IfOk result (λ f. f.are_apart ≡ spells_apart table.now definition.now) }
 {
-    let mut tables = Vec::new(alloc);
-    let mut are_apart = true;
     if definition.is_type() {
-        for list in slots {
-            let forms = forms_under(alloc, table, definition, slots, list.slots())?;
-            match FormTable::of(alloc, forms)? {
-                Some(forms) => tables.push(forms)?,
-                None => {
-                    tables.push(FormTable::empty(alloc))?;
-                    are_apart = false;
-                }
-            }
-        }
+        type_forms(alloc, table, definition, slots)
+    } else {
+        Ok(DefinitionForms {
+            tables: Vec::new(alloc),
+            are_apart: true,
+        })
     }
-    Ok(DefinitionForms { tables, are_apart })
 }
 
 /// The forms of the children of each element of each type definition. Of each definition it is known whether no two forms of
@@ -85,6 +113,7 @@ impl NodeForms {
     }
 
     fn table(&self, node: NodeRef) -> Option<&FormTable>
+        ensures { option_map_or (λ t. t.now) result [] ≡ get_or (get_or self.now.forms node.definition []) node.element [] }
     {
         self.tables.get(node.definition)?.get(node.element)
     }
@@ -103,7 +132,10 @@ impl NodeForms {
     pub(crate) fn property(&self, node: NodeRef, name: &str) -> Option<Property>
         ensures { result ≡ property_of (get_or (get_or self.now.forms node.definition []) node.element []) name.now }
     {
-        self.table(node)?.property(name)
+        match self.table(node) {
+            Some(table) => table.property(name),
+            None => None,
+        }
     }
 
     /// No two forms of a node's children spell one property.
