@@ -4,7 +4,6 @@ use Rattle.std.specs.Char.{encode_utf8, to_ascii_uppercase}
 use Rattle.std.proofs.lemmas.Bool.{cases_lt}
 use Rattle.std.proofs.lemmas.Bool.Decides.{nat_tests}
 use Rattle.std.proofs.lemmas.Str.{encode_ascii, char_from_byte}
-
 use Rattle.fhir_json.specs.Tree.{Text}
 use Rattle.fhir_schema.specs.Forms.{capital, capitalised}
 

@@ -41,7 +41,12 @@ impl Names {
         Ok(true)
     }
 
-    fn add_companion(&mut self, alloc: Global, form: &Form, place: usize) -> Result<bool, AllocError>
+    fn add_companion(
+        &mut self,
+        alloc: Global,
+        form: &Form,
+        place: usize,
+    ) -> Result<bool, AllocError>
         ensures { IfOk result (λ is_new. (xs : List Meant) → Keeps self.old.meanings.items self.old.places xs
             → KeepsIf is_new self.new.meanings.items self.new.places (xs ++ companions_of place form.now)) }
     {

@@ -1,6 +1,8 @@
 //! The forms of elements.
 
 ghost use Rattle.std.specs.Prelude.{◌≡◌, ◌++◌, [], get_or, length, nat_lt, IfOk, OnOk};
+ghost use Rattle.std.specs.Option.{option_copied};
+ghost use Rattle.std.specs.List.{slice_get};
 ghost use Rattle.fhir_schema.specs.Forms.{repeats, typing_node, content_of, form_of, forms_with, slot_forms, forms_under};
 ghost use Rattle.fhir_schema.specs.Slots.{slots_of};
 
@@ -115,6 +117,12 @@ fn push_forms_with(
     Ok(())
 }
 
+fn element_at(definition: &Definition, place: usize) -> Option<&ElementDef>
+    ensures { option_copied result ≡ slice_get definition.now.elements place }
+{
+    definition.elements().get(place)
+}
+
 // The forms of a slot, behind others.
 fn push_forms(
     alloc: Global,
@@ -127,10 +135,8 @@ fn push_forms(
     requires { slots.now ≡ slots_of table.now definition.now }
     ensures { OnOk result (forms.new.items ≡ forms.old.items ++ slot_forms table.now definition.now slot.now) }
 {
-    match definition.elements().get(slot.entry()) {
-        Some(element) => {
-            push_forms_with(alloc, table, definition, slots, slot, element, forms)
-        }
+    match element_at(definition, slot.entry()) {
+        Some(element) => { push_forms_with(alloc, table, definition, slots, slot, element, forms) }
         None => Ok(()),
     }
 }

@@ -141,9 +141,7 @@ fn entry_is_primitive(table: &Table, entry: &TypeEntry) -> bool
 pub(crate) fn are_primitive(table: &Table, entries: &[TypeEntry]) -> bool
     ensures { result ≡ list_all (entry_is_primitive table.now) entries.now }
 {
-    entries
-        .iter()
-        .all(|entry| entry_is_primitive(table, entry))
+    entries.iter().all(|entry| entry_is_primitive(table, entry))
 }
 
 fn is_primitive_element(table: &Table, definition: &Definition, element: &ElementDef) -> bool
