@@ -10,3 +10,4 @@ pub mod Roots
 pub mod Capitals
 pub mod Spelled
 pub mod Meaning
+pub mod OneMeaning

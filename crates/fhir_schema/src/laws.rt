@@ -1,14 +1,16 @@
 //! Laws: what the definitions say of one another.
 
-ghost use Rattle.std.specs.Prelude.{◌≡◌, ℕ, false, Some, IsTrue};
-ghost use Rattle.std.specs.List.{slice_get};
+ghost use Rattle.std.specs.Prelude.{◌≡◌, ◌↔◌, ◌<◌, ℕ, List, length, false, Some, is_some, IsTrue};
+ghost use Rattle.std.specs.List.{slice_get, Contains, list_any};
 ghost use Rattle.fhir_package.specs.Definitions.{Definitions};
 ghost use Rattle.fhir_definition.specs.Definition.{Definition};
 ghost use Rattle.fhir_schema.specs.Settling.{Reasons};
 ghost use Rattle.fhir_schema.specs.Usability.{AllApply, IsClosed, IsWithin};
 ghost use Rattle.fhir_json.specs.Tree.{Text};
 ghost use Rattle.fhir_schema.specs.declared.node.NodeRef.{NodeRef};
-ghost use Rattle.fhir_schema.specs.Schemas.{SchemaValue, schema_of, has, node, root, is_root_node, type_root};
+ghost use Rattle.fhir_schema.specs.Schemas.{SchemaValue, schema_of, has, node, root, is_root_node, type_root, forms};
+ghost use Rattle.fhir_schema.specs.declared.form.Property.{Property};
+ghost use Rattle.fhir_schema.specs.Forms.{Form, are_apart, spells, spellings, property_of};
 ghost use Rattle.fhir_schema.specs.Types.{names_resource};
 ghost use Rattle.fhir_schema.specs.Covers.{covers};
 
@@ -40,4 +42,19 @@ pub fn named_nodes()
 pub fn roots_are_roots()
     ensures of_url { (s : SchemaValue) (url : Text) (n : NodeRef) → root s url ≡ Some n → IsTrue (is_root_node s n) }
     ensures of_type { (s : SchemaValue) (code : Text) (n : NodeRef) → type_root s code ≡ Some n → IsTrue (is_root_node s n) }
+{}
+
+/// Each property has one name and each name one meaning: no two forms of a node's children spell one property; a name that
+/// is spelled means one thing, which is what is found under it; a name is found exactly where a form spells it; and the form
+/// that it is found to belong to spells it.
+pub fn one_meaning()
+    ensures apart { (p : Definitions) (n : NodeRef) → IsTrue (are_apart (forms (schema_of p) n)) }
+    ensures one { (fs : List Form) (name : Text) (a b : Property) → IsTrue (are_apart fs) → Contains (spellings fs) (name, a)
+        → Contains (spellings fs) (name, b) → a ≡ b }
+    ensures exact { (fs : List Form) (name : Text) (a : Property) → IsTrue (are_apart fs)
+        → (property_of fs name ≡ Some a ↔ Contains (spellings fs) (name, a)) }
+    ensures spelled { (fs : List Form) (name : Text) → is_some (property_of fs name) ≡ list_any (λ f. spells f name) fs }
+    ensures within { (fs : List Form) (name : Text) (a : Property) → property_of fs name ≡ Some a → a.form < length fs }
+    ensures speller { (fs : List Form) (name : Text) (a : Property) (f : Form) → property_of fs name ≡ Some a
+        → slice_get fs a.form ≡ Some f → IsTrue (spells f name) }
 {}

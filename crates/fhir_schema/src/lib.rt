@@ -35,7 +35,7 @@ mod table;
 mod types;
 
 pub use form::{Content, Form, Property};
-pub use laws::{covering_codes, least_closed, named_nodes, roots_are_roots};
+pub use laws::{covering_codes, least_closed, named_nodes, one_meaning, roots_are_roots};
 pub use node::NodeRef;
 pub use schema::Schema;
 pub use slots::{Slice, Slot};
