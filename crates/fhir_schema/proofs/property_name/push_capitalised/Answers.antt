@@ -1,7 +1,6 @@
 use Rattle.std.proofs.Common.{◌≡◌, ◌++◌, string_bytes, ap, ◌∙◌, arith}
 use Rattle.std.specs.Char.{encode_utf8, to_ascii_uppercase}
 use Rattle.std.proofs.lemmas.List.{append_assoc}
-use Rattle.fhir_schema.specs.Forms.{capitalised}
 use Rattle.fhir_schema.proofs.Capitals.{upper_first}
 use Rattle.fhir_schema.proofs.property_name.push_capitalised.Goals as goal
 

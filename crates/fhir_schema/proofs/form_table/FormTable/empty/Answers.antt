@@ -1,4 +1,4 @@
-use Rattle.std.proofs.Common.{[], sym, subst}
+use Rattle.std.proofs.Common.{sym, subst}
 use Rattle.fhir_schema.specs.FormTables.{IsTable}
 use Rattle.fhir_schema.proofs.form_table.FormTable.empty.Goals as goal
 
