@@ -80,7 +80,8 @@ found fs name p h spelled = lookup-from_Contains text_equivalence name p (spelli
 pub is_spelled : (fs : List Form) (name : Text) (p : Property) → property_of fs name ≡ Some p → Contains (spellings fs) (name, p)
 is_spelled fs name p e = Contains-from_lookup same_text name p (spellings fs) e
 
-pub one : (fs : List Form) (name : Text) (p q : Property) → IsTrue (are_apart fs) → Contains (spellings fs) (name, p) → Contains (spellings fs) (name, q) → p ≡ q
+pub one : (fs : List Form) (name : Text) (p q : Property) → IsTrue (are_apart fs) → Contains (spellings fs) (name, p)
+    → Contains (spellings fs) (name, q) → p ≡ q
 one fs name p q h first second = same_Some p q (sym (found fs name p h first) ∙ found fs name q h second)
 
 -- ---- what is found is what a form spells

@@ -94,7 +94,8 @@ module _ (fs : List Form) (i : ℕ) (f : Form) (within : i < length fs) (is : f 
       ap spellings (take_more fs i f within ∙ ap (λ g. take i fs ++ g ∷ []) (sym is)) ∙ spelled_behind 0 (take i fs) (f ∷ [])
       ∙ ap (λ k. spellings (take i fs) ++ (spellings_of k f ++ [])) n ∙ ap (λ l. spellings (take i fs) ++ l) (append-nil (spellings_of i f))
 
-  pub step : (ms : List Property) (places : Places) → Keeps ms places (spellings (take i fs) ++ spellings_of i f) → Keeps ms places (spellings (take (i + 1) fs))
+  pub step : (ms : List Property) (places : Places) → Keeps ms places (spellings (take i fs) ++ spellings_of i f)
+      → Keeps ms places (spellings (take (i + 1) fs))
   step ms places h = subst (Keeps ms places) (sym spelled_more) h
 
   pub not_apart : differ (names_in (spellings (take i fs) ++ spellings_of i f)) ≡ false → are_apart fs ≡ false

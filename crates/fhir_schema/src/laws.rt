@@ -33,12 +33,12 @@ pub fn covering_codes()
     ensures transitive { (s : SchemaValue) (a b c : Text) → IsTrue (covers s a b) → IsTrue (covers s b c) → IsTrue (covers s a c) }
 {}
 
-/// A node that is reasons by its url and id is one of the schema's.
+/// A node that is found by its url and id is one of the schema's.
 pub fn named_nodes()
     ensures { (s : SchemaValue) (url id : Text) (n : NodeRef) → node s url id ≡ Some n → IsTrue (has s n) }
 {}
 
-/// The root of a definition that is reasons by its url, or by the type that it defines, is a root.
+/// The root of a definition that is found by its url, or by the type that it defines, is a root.
 pub fn roots_are_roots()
     ensures of_url { (s : SchemaValue) (url : Text) (n : NodeRef) → root s url ≡ Some n → IsTrue (is_root_node s n) }
     ensures of_type { (s : SchemaValue) (code : Text) (n : NodeRef) → type_root s code ≡ Some n → IsTrue (is_root_node s n) }

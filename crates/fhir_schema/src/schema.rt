@@ -54,7 +54,7 @@ impl Model for Schema {
 }
 
 impl Schema {
-    /// The schema of a package. It takes time near linear in the package's size, but for the rounds in which it is reasons
+    /// The schema of a package. It takes time near linear in the package's size, but for the rounds in which it is found
     /// which definitions can't be used: one more than there are definitions between a fault and what rests on it.
     pub fn build(alloc: Global, from: &Package) -> Result<Schema, NoMemory>
         ensures { Gives (λ s. s) result (schema_of from.now) }

@@ -1,4 +1,4 @@
-//! The slots of an element, reasons by their names.
+//! The slots of an element, found by their names.
 
 ghost use Rattle.std.specs.Prelude.{◌≡◌, map, IfOk};
 ghost use Rattle.std.specs.Option.{option_copied};

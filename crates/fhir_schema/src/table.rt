@@ -1,4 +1,4 @@
-//! The definitions of a package, reasons by their urls and their types.
+//! The definitions of a package, found by their urls and their types.
 
 ghost use Rattle.std.specs.Prelude.{◌≡◌, ◌∷◌, List, IfOk, OnOk};
 ghost use Rattle.std.specs.Option.{option_copied};

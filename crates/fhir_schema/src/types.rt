@@ -42,7 +42,7 @@ pub(crate) fn canonical_place(table: &Table, canonical: &str) -> Option<usize>
     }
 }
 
-/// What has been reasons of the definition at a place.
+/// What has been found of the definition at a place.
 pub(crate) fn reason_at(reasons: &[Option<Reason>], place: usize) -> Option<Reason>
     ensures { result ≡ reason_at reasons.now place }
 {
