@@ -1,8 +1,8 @@
 -- When an item conforms to a node, and a resource to a profile (FHIR R4, Profiling and ElementDefinition). An item is
 -- folded into its test of nodes: what a node asks of the children is asked of their tests.
-use Rattle.std.specs.Prelude.{◌≡◌, ℕ, List, [], ◌∷◌, ◌++◌, length, filter, Bool, true, false, not, ◌&&◌, ◌||◌, nat_le, nat_eq, Some, IsTrue, if◌then◌else◌}
+use Rattle.std.specs.Prelude.{◌≡◌, ℕ, suc, List, [], ◌∷◌, ◌++◌, length, filter, Bool, true, false, not, ◌&&◌, ◌||◌, nat_le, nat_eq, Some, IsTrue, if◌then◌else◌}
 use Rattle.std.specs.Option.{option_map_or}
-use Rattle.std.specs.List.{list_all, list_any, count_by}
+use Rattle.std.specs.List.{list_all, list_any}
 use Rattle.std.specs.Str.{bytes_eq}
 use Rattle.fhir_json.specs.Tree.{Text, Tree}
 use Rattle.fhir_json.specs.Fields.{is_object}
@@ -12,15 +12,15 @@ use Rattle.fhir_elements.specs.TypeEntry.{TypeEntry}
 use Rattle.fhir_elements.specs.Element.{Element}
 use Rattle.fhir_schema.specs.declared.node.NodeRef.{NodeRef}
 use Rattle.fhir_schema.specs.Slots.{Slot}
-use Rattle.fhir_schema.specs.Schemas.{SchemaValue, element_at, is_root_node, root, slots, types}
-use Rattle.fhir_schema.specs.Covers.{covers, type_at, type_root}
-use Rattle.fhir_instance.specs.Items.{Item, item, Kids, no_kids, kid, Location, Interpretation, type_of, json_of, has_kids}
-use Rattle.fhir_instance.specs.Typing.{LexicalSets, Types, entry_of}
+use Rattle.fhir_schema.specs.Schemas.{SchemaValue, element_at, is_root_node, root, slots, entry_of, types, type_root}
+use Rattle.fhir_schema.specs.Covers.{covers, type_at}
+use Rattle.fhir_instance.specs.Items.{Item, item, Kids, no_kids, kid, Place, Interpretation, type_of, json_of, has_kids}
+use Rattle.fhir_instance.specs.Typing.{Types}
 
--- where an item stands: the outermost item, and the steps from that
+-- where an item stands: the outermost item, and the place in that
 pub record Around : Type 0 where
   pub outermost : Item
-  pub location : Location
+  pub place : Place
 
 -- a child as its parent's rules see it: its name, itself, and the nodes that it conforms to
 pub record Child : Type 0 where
@@ -97,34 +97,32 @@ module _ (s : SchemaValue) where
     abbrev pub node_holds : NodeRef → Bool
     node_holds n = if is_root_node s n then root_holds n else inner_holds n
 
--- where the child of a name stands, behind children of these names
-abbrev pub below : Around → Text → List Text → Around
-below around name before = record {
-  outermost = around.outermost;
-  location = around.location ++ record { name = name; index = count_by (bytes_eq name) before } ∷ [];
-}
+-- where the child at a position among all children stands
+abbrev pub below : Around → ℕ → Around
+below around position = record { outermost = around.outermost; place = around.place ++ position ∷ [] }
 
 abbrev mutual
   -- the item, which stands there, conforms to the node; what unread rules mean is not asked yet, since a definition that
   -- has any isn't supported so far
   pub conforms : SchemaValue → Interpretation → Around → Item → NodeRef → Bool
   conforms s meaning around (item type json kids) =
-      node_holds s (item type json kids) (children_of s meaning around [] kids)
+      node_holds s (item type json kids) (children_of s meaning around 0 kids)
 
-  pub children_of : SchemaValue → Interpretation → Around → List Text → Kids → List Child
-  children_of s meaning around before no_kids = []
-  children_of s meaning around before (kid name x kids) =
-      record { name = name; itself = x; conforms_to = conforms s meaning (below around name before) x }
-      ∷ children_of s meaning around (name ∷ before) kids
+  -- the children, whose positions begin at a number
+  pub children_of : SchemaValue → Interpretation → Around → ℕ → Kids → List Child
+  children_of s meaning around position no_kids = []
+  children_of s meaning around position (kid name x kids) =
+      record { name = name; itself = x; conforms_to = conforms s meaning (below around position) x }
+      ∷ children_of s meaning around (suc position) kids
 
 -- an item that stands in no other
 abbrev pub outermost : Item → Around
-outermost x = record { outermost = x; location = [] }
+outermost x = record { outermost = x; place = [] }
 
 -- A resource conforms to a profile: its item conforms to the profile's root.
-pub record Conforms (sets : LexicalSets) (s : SchemaValue) (meaning : Interpretation) (profile : Text) (t : Tree) : Type 0 where
+pub record Conforms (s : SchemaValue) (meaning : Interpretation) (profile : Text) (t : Tree) : Type 0 where
   pub node : NodeRef
   pub itself : Item
   pub usable : root s profile ≡ Some node
-  pub typed : Types sets s t itself
+  pub typed : Types s t itself
   pub holds : IsTrue (conforms s meaning (outermost itself) itself node)

@@ -1,29 +1,28 @@
 -- A package of one resource with a few elements, and two profiles of it: what conforms, and what doesn't.
-use Rattle.std.specs.Prelude.{[], ◌∷◌, true, codes}
+use Rattle.std.specs.Prelude.{[], ◌∷◌, codes}
 use Rattle.fhir_json.specs.Tree.{Text, Tree, string, number, array, object, no_items, item, Members, no_members, member}
 use Rattle.fhir_package.specs.Definitions.{Definitions}
 use Rattle.fhir_schema.specs.Schemas.{SchemaValue, schema_of}
-use Rattle.fhir_instance.specs.Typing.{LexicalSets}
 
 -- an element of so many items
 abbrev pub element : Text → Text → Text → Members → Tree
 element id min max more =
     object (member (codes "id") (string id) (member (codes "min") (number min) (member (codes "max") (string max) more)))
 
--- its one type is `string`
-abbrev pub of_string : Members
-of_string = member (codes "type") (array (item (object (member (codes "code") (string (codes "string")) no_members)) no_items)) no_members
+-- its one type is `code`
+abbrev pub of_code : Members
+of_code = member (codes "type") (array (item (object (member (codes "code") (string (codes "code")) no_members)) no_items)) no_members
 
 -- a StructureDefinition with a snapshot
 abbrev pub definition : Text → Text → Members → Tree
 definition kind type more =
     object (member (codes "kind") (string kind) (member (codes "type") (string type) more))
 
-abbrev pub string_type : Tree
-string_type =
-    definition (codes "primitive-type") (codes "string")
+abbrev pub code_type : Tree
+code_type =
+    definition (codes "primitive-type") (codes "code")
     (member (codes "snapshot") (object (member (codes "element")
-    (array (item (element (codes "string") (codes "0") (codes "*") no_members) no_items))
+    (array (item (element (codes "code") (codes "0") (codes "*") no_members) no_items))
     no_members)) no_members)
 
 -- a resource of so many notes and resource types at least, and one of each at most
@@ -31,8 +30,8 @@ abbrev pub snapshot_of_things : Text → Text → Members
 snapshot_of_things notes types =
     member (codes "snapshot") (object (member (codes "element") (array
     (item (element (codes "Thing") (codes "0") (codes "*") no_members)
-    (item (element (codes "Thing.note") notes (codes "1") of_string)
-    (item (element (codes "Thing.resourceType") types (codes "1") of_string)
+    (item (element (codes "Thing.note") notes (codes "1") of_code)
+    (item (element (codes "Thing.resourceType") types (codes "1") of_code)
     no_items)))) no_members)) no_members
 
 abbrev pub thing_type : Tree
@@ -49,7 +48,7 @@ thing_profile notes types =
 abbrev pub definitions : Definitions
 definitions = record {
   structure_definitions =
-      (codes "urn:string", string_type)
+      (codes "urn:code", code_type)
       ∷ (codes "urn:Thing", thing_type)
       ∷ (codes "urn:noted", thing_profile (codes "1") (codes "0"))
       ∷ (codes "urn:named", thing_profile (codes "0") (codes "1"))
@@ -72,7 +71,3 @@ noted = thing (member (codes "note") (string (codes "x")) no_members)
 
 abbrev pub unknown : Tree
 unknown = thing (member (codes "other") (string (codes "x")) no_members)
-
--- any value is one of any primitive type
-abbrev pub all_texts : LexicalSets
-all_texts code value = true

@@ -26,21 +26,20 @@ abbrev pub has_kids : Item → Bool
 has_kids (item type json no_kids) = false
 has_kids (item type json (kid name x kids)) = true
 
-abbrev pub kids_in : List (Text × Item) → Kids
+-- an item under the name of its element
+abbrev pub Named : Type 0
+Named = Text × Item
+
+abbrev pub kids_in : List Named → Kids
 kids_in [] = no_kids
 kids_in (k ∷ ks) = kid k.0 k.1 (kids_in ks)
 
 -- ---- where an item stands in a resource
 
--- an element's name, and which of its items is meant, counted from 0
-pub record Step : Type 0 where
-  pub name : Text
-  pub index : ℕ
+-- the steps from the outermost item to an item in it: at each the position of the child among all of its parent's
+abbrev pub Place : Type 0
+Place = List ℕ
 
--- the steps from the outermost item to an item in it
-abbrev pub Location : Type 0
-Location = List Step
-
--- What the unread rules mean: whether the rule of a text holds at a location in an outermost item. Any test may be meant.
+-- What the unread rules mean: whether the rule of a text holds at a place in an outermost item. Any test may be meant.
 abbrev pub Interpretation : Type 0
-Interpretation = Text → Item → Location → Bool
+Interpretation = Text → Item → Place → Bool

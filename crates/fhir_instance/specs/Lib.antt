@@ -1,4 +1,5 @@
 pub mod Items
 pub mod Typing
+pub mod Accounting
 pub mod Conformance
 pub mod Example

@@ -4,13 +4,13 @@ ghost use Rattle.std.specs.Prelude.{◌≡◌, codes};
 ghost use Rattle.fhir_json.specs.Tree.{Tree};
 ghost use Rattle.fhir_schema.specs.Schemas.{SchemaValue};
 ghost use Rattle.fhir_instance.specs.Items.{Item, Interpretation};
-ghost use Rattle.fhir_instance.specs.Typing.{LexicalSets, Types};
+ghost use Rattle.fhir_instance.specs.Typing.{Types};
 ghost use Rattle.fhir_instance.specs.Conformance.{Conforms};
-ghost use Rattle.fhir_instance.specs.Example.{schema, bare, noted, unknown, all_texts};
+ghost use Rattle.fhir_instance.specs.Example.{schema, bare, noted, unknown};
 
 /// A tree has at most one item.
 pub fn one_item()
-    ensures { (sets : LexicalSets) (s : SchemaValue) (t : Tree) (x y : Item) → Types sets s t x → Types sets s t y → x ≡ y }
+    ensures { (s : SchemaValue) (t : Tree) (x y : Item) → Types s t x → Types s t y → x ≡ y }
 {}
 
 /// The definitions at work, on a resource that may have a note, and profiles of it. One with a note conforms to a profile
@@ -18,9 +18,9 @@ pub fn one_item()
 /// property that the type doesn't have doesn't conform to the type's definition. `resourceType` is no element: a resource
 /// doesn't conform to a profile that asks for such an element.
 pub fn example()
-    ensures noted { (meaning : Interpretation) → Conforms all_texts schema meaning (codes "urn:noted") noted }
-    ensures own { (meaning : Interpretation) → Conforms all_texts schema meaning (codes "urn:Thing") bare }
-    ensures bare { (sets : LexicalSets) (meaning : Interpretation) → ¬ Conforms sets schema meaning (codes "urn:noted") bare }
-    ensures named { (sets : LexicalSets) (meaning : Interpretation) → ¬ Conforms sets schema meaning (codes "urn:named") bare }
-    ensures unknown { (sets : LexicalSets) (meaning : Interpretation) → ¬ Conforms sets schema meaning (codes "urn:Thing") unknown }
+    ensures noted { (meaning : Interpretation) → Conforms schema meaning (codes "urn:noted") noted }
+    ensures own { (meaning : Interpretation) → Conforms schema meaning (codes "urn:Thing") bare }
+    ensures bare { (meaning : Interpretation) → ¬ Conforms schema meaning (codes "urn:noted") bare }
+    ensures named { (meaning : Interpretation) → ¬ Conforms schema meaning (codes "urn:named") bare }
+    ensures unknown { (meaning : Interpretation) → ¬ Conforms schema meaning (codes "urn:Thing") unknown }
 {}

@@ -11,6 +11,7 @@
 //! Read the contract of `example` first: it shows the definitions at work on one small package.
 #![tactic(auto)]
 
+mod frame;
 mod laws;
 
 pub use laws::{example, one_item};

@@ -7,21 +7,11 @@ use Rattle.fhir_instance.proofs.laws.example.Goals as goal
 
 pub returns-clause-noted : goal.returns-clause-noted
 returns-clause-noted c meaning =
-    let x = item (codes "Thing") (Some noted) (kid (codes "note") (item (codes "string") (Some (string (codes "x"))) no_kids) no_kids) in
     record {
       node = record { definition = 2; element = 0 };
-      itself = x;
+      itself = item (codes "Thing") (Some noted) (kid (codes "note") (item (codes "code") (Some (string (codes "x"))) no_kids) no_kids);
       usable = refl;
-      typed = record {
-        code = codes "Thing";
-        root = record { definition = 1; element = 0 };
-        named = refl;
-        instantiable = refl;
-        usable = refl;
-        properties = refl;
-        values = refl;
-        items = refl;
-      };
+      typed = refl;
       holds = refl;
     }
 
@@ -30,15 +20,6 @@ returns-clause-own c meaning = record {
   node = record { definition = 1; element = 0 };
   itself = item (codes "Thing") (Some bare) no_kids;
   usable = refl;
-  typed = record {
-    code = codes "Thing";
-    root = record { definition = 1; element = 0 };
-    named = refl;
-    instantiable = refl;
-    usable = refl;
-    properties = refl;
-    values = refl;
-    items = refl;
-  };
+  typed = refl;
   holds = refl;
 }
