@@ -1,5 +1,5 @@
 -- What the pairs of a right certificate say holds at each item.
-use Rattle.std.proofs.Common.{◌≡◌, ℕ, Bool, true, false, List, [], ◌∷◌, Option, Some, None, refl, sym}
+use Rattle.std.proofs.Common.{◌≡◌, ℕ, suc, Bool, true, false, List, [], ◌∷◌, Option, Some, None, refl, sym}
 use Rattle.std.proofs.Common.{subst, ◌∙◌, inl, inr, arith, ◌&&◌, ◌||◌, IsTrue, not, nat_eq, nat_le, length, cond}
 use Rattle.std.specs.Prelude.{if◌then◌else◌}
 use Rattle.std.specs.List.{list_all, list_any, AllByRecursion}
@@ -17,10 +17,9 @@ use Rattle.fhir_elements.specs.Max.{is_within}
 use Rattle.fhir_elements.specs.Element.{Element}
 use Rattle.fhir_schema.specs.declared.node.NodeRef.{NodeRef}
 use Rattle.fhir_schema.specs.Slots.{Slot}
-use Rattle.fhir_schema.specs.Schemas.{SchemaValue, element_at, is_root_node, slots, slot_named, types}
+use Rattle.fhir_schema.specs.Schemas.{SchemaValue, element_at, is_root_node, slots, slot_named, entry_of, types}
 use Rattle.fhir_schema.specs.Covers.{covers, type_at}
 use Rattle.fhir_instance.specs.Items.{Item, item, Kids, no_kids, kid, Interpretation, type_of, json_of, has_kids}
-use Rattle.fhir_instance.specs.Typing.{entry_of}
 use Rattle.fhir_instance.specs.Conformance.{Around, Child, least_of, is_count_within, is_fixed_to, fixed_holds, children_of_name, takes, slot_holds, kids_hold}
 use Rattle.fhir_instance.specs.Conformance.{is_untyped, facets_hold, root_holds, entry_holds, types_hold}
 use Rattle.fhir_instance.specs.Conformance.{own_type_holds, inner_holds, node_holds, below, conforms, children_of}
@@ -261,11 +260,11 @@ module _ (s : SchemaValue) (covers_on : (a b c : Text) → IsTrue (covers s a b)
 
     mutual
       keeps : (meaning : Interpretation) (around : Around) (x : Item) → Keeps (conforms s meaning around x)
-      keeps meaning around (item type json kids) = node_step (item type json kids) (children_of s meaning around [] kids) (each_keeps meaning around [] kids)
+      keeps meaning around (item type json kids) = node_step (item type json kids) (children_of s meaning around 0 kids) (each_keeps meaning around 0 kids)
 
-      each_keeps : (meaning : Interpretation) (around : Around) (before : List Text) (kids : Kids) → EachKeeps (children_of s meaning around before kids)
-      each_keeps meaning around before no_kids = tt
-      each_keeps meaning around before (kid name x kids) = (keeps meaning (below around name before) x, each_keeps meaning around (name ∷ before) kids)
+      each_keeps : (meaning : Interpretation) (around : Around) (position : ℕ) (kids : Kids) → EachKeeps (children_of s meaning around position kids)
+      each_keeps meaning around position no_kids = tt
+      each_keeps meaning around position (kid name x kids) = (keeps meaning (below around position) x, each_keeps meaning around (suc position) kids)
 
     pub includes : (n m : NodeRef) → IsTrue (has_item_pair pairs n m) → IncludesItems s n m
     includes n m pair meaning around x = keeps meaning around x n m pair

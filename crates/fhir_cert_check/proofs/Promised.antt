@@ -67,7 +67,7 @@ module _ (s : SchemaValue) (c : CertificateValue)
       (subst (λ k. IncludesItems s cert.roots.derived k) (same_Some cert.roots.base m (sym parts.1 ∙ is_m)) of_roots)
 
   pub promised : Includes s c.derived c.base
-  promised sets meaning t conforming = record {
+  promised meaning t conforming = record {
     node = cert.roots.base;
     itself = conforming.itself;
     usable = parts.1;

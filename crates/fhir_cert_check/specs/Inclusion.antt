@@ -4,7 +4,6 @@ use Rattle.fhir_json.specs.Tree.{Text, Tree}
 use Rattle.fhir_schema.specs.declared.node.NodeRef.{NodeRef}
 use Rattle.fhir_schema.specs.Schemas.{SchemaValue}
 use Rattle.fhir_instance.specs.Items.{Item, Interpretation}
-use Rattle.fhir_instance.specs.Typing.{LexicalSets}
 use Rattle.fhir_instance.specs.Conformance.{Around, conforms, Conforms}
 
 -- each item, wherever it stands and whatever unread rules mean, that conforms to the first node conforms to the second
@@ -16,5 +15,4 @@ IncludesItems s n m =
 -- each resource that conforms to the derived profile conforms to the base, whatever unread rules mean
 abbrev pub Includes : SchemaValue → Text → Text → Type 0
 Includes s derived base =
-    (sets : LexicalSets) (meaning : Interpretation) (t : Tree)
-    → Conforms sets s meaning derived t → Conforms sets s meaning base t
+    (meaning : Interpretation) (t : Tree) → Conforms s meaning derived t → Conforms s meaning base t

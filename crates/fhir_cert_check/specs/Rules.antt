@@ -14,9 +14,8 @@ use Rattle.fhir_elements.specs.TypeEntry.{TypeEntry}
 use Rattle.fhir_elements.specs.Element.{Element}
 use Rattle.fhir_schema.specs.declared.node.NodeRef.{NodeRef}
 use Rattle.fhir_schema.specs.Slots.{Slot}
-use Rattle.fhir_schema.specs.Schemas.{SchemaValue, element_at, is_root_node, slots, slot_named, holder, types}
+use Rattle.fhir_schema.specs.Schemas.{SchemaValue, element_at, entry_of, is_root_node, slots, slot_named, holder, types}
 use Rattle.fhir_schema.specs.Covers.{covers, type_at}
-use Rattle.fhir_instance.specs.Typing.{entry_of}
 use Rattle.fhir_instance.specs.Conformance.{least_of, is_untyped}
 use Rattle.fhir_certificate.specs.declared.pair.Pair.{Pair}
 use Rattle.fhir_certificate.specs.declared.pair.Pair.TheVariants.{Item, Kids}

@@ -3,7 +3,7 @@
 ghost use Rattle.std.specs.Prelude.{◌≡◌, ◌∷◌, option_map};
 ghost use Rattle.std.specs.Option.{option_copied};
 ghost use Rattle.std.specs.List.{flat_map};
-ghost use Rattle.fhir_instance.specs.Typing.{entry_of};
+ghost use Rattle.fhir_schema.specs.Schemas.{entry_of};
 ghost use Rattle.fhir_instance.specs.Conformance.{least_of};
 ghost use Rattle.fhir_elements.specs.Tests.{first_of};
 ghost use Rattle.fhir_cert_check.specs.Rule.{cardinality};

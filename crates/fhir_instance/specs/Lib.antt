@@ -3,3 +3,4 @@ pub mod Typing
 pub mod Accounting
 pub mod Conformance
 pub mod Example
+pub mod TypingExample

@@ -11,7 +11,9 @@
 //! Read the contract of `example` first: it shows the definitions at work on one small package.
 #![tactic(auto)]
 
+mod examples;
 mod frame;
 mod laws;
 
+pub use examples::typing_example;
 pub use laws::{example, one_item};
