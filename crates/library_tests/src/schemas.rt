@@ -143,11 +143,10 @@ fn node_at(schema: &Schema, named: &str) -> Option<NodeRef> {
 
 // The forms of a node's children, with a blank between each two.
 fn forms_at(alloc: Global, schema: &Schema, named: &str) -> Result<String, AllocError> {
-    let mut text = String::new(alloc);
     let Some(node) = node_at(schema, named) else {
-        text.push_str("none")?;
-        return Ok(text);
+        return String::from_str(alloc, "none");
     };
+    let mut text = String::new(alloc);
     for form in schema.forms(node) {
         if !text.is_empty() {
             text.push(' ')?;
