@@ -78,7 +78,7 @@ fn answer_of_tree(alloc: Global, json: &Json<'_>, call: Call) -> Result<String, 
     }
 }
 
-fn written(alloc: Global, json: &Json<'_>) -> Result<String, AllocError> {
+pub(crate) fn written(alloc: Global, json: &Json<'_>) -> Result<String, AllocError> {
     match write(alloc, json) {
         Ok(bytes) => Ok(String::from_utf8_lossy(alloc, &bytes)?),
         Err(fault) => format!(in alloc; "{fault}"),

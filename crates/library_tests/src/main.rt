@@ -7,6 +7,7 @@ mod certificates;
 mod decimals;
 mod elements;
 mod fields;
+mod items;
 mod json;
 mod matching;
 mod moments;
@@ -31,6 +32,7 @@ enum Topic {
     Packages,
     Elements,
     Schemas,
+    Items,
     Certificates,
     Decimals,
     Names,
@@ -47,6 +49,7 @@ fn name_of(topic: Topic) -> &'static str {
         Topic::Packages => "packages",
         Topic::Elements => "elements",
         Topic::Schemas => "schemas",
+        Topic::Items => "items",
         Topic::Certificates => "certificates",
         Topic::Decimals => "decimals",
         Topic::Names => "names",
@@ -70,6 +73,7 @@ fn answer(
         Topic::Packages => packages::answer(alloc, case.text(), call, argument),
         Topic::Elements => elements::answer(alloc, case.text(), call, argument),
         Topic::Schemas => schemas::answer(alloc, case.files(), call, argument),
+        Topic::Items => items::answer(alloc, case.files(), case.text(), call, argument),
         Topic::Certificates => {
             certificates::answer(alloc, case.files(), case.text(), call, argument)
         }
@@ -171,6 +175,7 @@ fn main(rt: HostRuntime) -> io::Result<()> {
     ask_all(&rt, Topic::Packages)?;
     ask_all(&rt, Topic::Elements)?;
     ask_all(&rt, Topic::Schemas)?;
+    ask_all(&rt, Topic::Items)?;
     ask_all(&rt, Topic::Certificates)?;
     ask_all(&rt, Topic::Decimals)?;
     ask_all(&rt, Topic::Names)?;

@@ -1,10 +1,10 @@
-//! Questions on the schema of the case's package: `usable URL`, `covers CODE OTHER`, `type_root CODE`; and of the definition
-//! `http://example.org/flat/one` `node ID`, `name ID`, `slot NAME`.
+//! Questions on the schema of the case's package: `usable URL`, `flat URL`, `forms URL ID`, `property URL ID NAME`,
+//! `covers CODE OTHER`, `type_root CODE`; and of the definition `http://example.org/flat/one` `node ID`, `name ID`, `slot NAME`.
 
 use crate::packages::package_of;
 use fhir_elements::TypeEntry;
 use fhir_package::{MemoryFile, Package};
-use fhir_schema::{NodeRef, Schema, Slot};
+use fhir_schema::{Form, NodeRef, Property, Schema, Slot};
 use std::alloc::{AllocError, Global};
 
 // The definition that nodes are asked of.
@@ -43,6 +43,9 @@ fn answer_of_schema(
 ) -> Result<Option<String>, AllocError> {
     let told = match call {
         "usable" => usable(alloc, schema, argument)?,
+        "flat" => format!(in alloc; "{}", schema.is_flat(argument))?,
+        "forms" => forms_at(alloc, schema, argument)?,
+        "property" => property_at(alloc, schema, argument)?,
         "node" => node_told(alloc, schema, schema.node(PROFILE, argument))?,
         "name" => name_told(alloc, schema, schema.node(PROFILE, argument))?,
         "slot" => kid_told(alloc, schema, schema.root(PROFILE), argument)?,
@@ -130,4 +133,60 @@ fn name_told(alloc: Global, schema: &Schema, node: Option<NodeRef>) -> Result<St
     };
     let (id, code) = (element.id(), schema.type_code(node));
     format!(in alloc; "{node:?} {:?} {id} {code}", schema.name(node))
+}
+
+// The node of a url and an id behind a blank.
+fn node_at(schema: &Schema, named: &str) -> Option<NodeRef> {
+    let (url, id) = named.split_once(' ').unwrap_or((named, ""));
+    schema.node(url, id)
+}
+
+// The forms of a node's children, with a blank between each two.
+fn forms_at(alloc: Global, schema: &Schema, named: &str) -> Result<String, AllocError> {
+    let Some(node) = node_at(schema, named) else {
+        return String::from_str(alloc, "none");
+    };
+    let mut text = String::new(alloc);
+    for form in schema.forms(node) {
+        if !text.is_empty() {
+            text.push(' ')?;
+        }
+        text.push_str(form_told(alloc, form)?.as_str())?;
+    }
+    Ok(text)
+}
+
+// A form's property and its type, `*` where it repeats, and `^` where it is a primitive.
+fn form_told(alloc: Global, form: &Form) -> Result<String, AllocError> {
+    let star = if form.repeats() { "*" } else { "" };
+    let caret = if form.content().is_primitive() {
+        "^"
+    } else {
+        ""
+    };
+    format!(in alloc; "{}:{}{star}{caret}", form.property(), form.code())
+}
+
+// What a name means at a node, by the property of its form.
+fn property_at(alloc: Global, schema: &Schema, asked: &str) -> Result<String, AllocError> {
+    let (named, name) = asked.rsplit_once(' ').unwrap_or((asked, ""));
+    let Some(node) = node_at(schema, named) else {
+        return String::from_str(alloc, "no node");
+    };
+    match schema.property(node, name) {
+        Some(property) => property_told(alloc, schema.forms(node), property),
+        None => String::from_str(alloc, "none"),
+    }
+}
+
+fn property_told(alloc: Global, forms: &[Form], property: Property) -> Result<String, AllocError> {
+    let Some(form) = forms.get(property.form) else {
+        return String::from_str(alloc, "no form");
+    };
+    let companion = if property.is_companion {
+        " companion"
+    } else {
+        ""
+    };
+    format!(in alloc; "{}{companion}", form.property())
 }
