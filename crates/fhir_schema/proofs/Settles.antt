@@ -7,14 +7,15 @@ use Rattle.std.proofs.lemmas.Bool.Decides.{nat_tests}
 use Rattle.std.proofs.lemmas.List.{length-map}
 use Rattle.fhir_json.specs.Tree.{Text, Tree}
 use Rattle.fhir_elements.specs.declared.reason.Reason.{Reason}
-use Rattle.fhir_elements.specs.declared.reason.Reason.TheVariants.{UnusableType, NoTree, BaseCycle, NoSnapshot, SecondType, NotYet}
+use Rattle.fhir_elements.specs.declared.reason.Reason.TheVariants.{UnusableType}
 use Rattle.fhir_elements.specs.TypeEntry.{TypeEntry}
 use Rattle.fhir_elements.specs.Element.{Element}
 use Rattle.fhir_elements.specs.Tests.{first_of, all_hold}
-use Rattle.fhir_definition.specs.Snapshot.{is_root, is_tree}
-use Rattle.fhir_definition.specs.Definition.{Definition, definition_of, definitions_from, has_snapshot}
-use Rattle.fhir_schema.specs.Settling.{Reasons, reason_at, is_usable_type, is_system, entry_is_usable, element_is_usable, types_are_usable, chain_ends}
-use Rattle.fhir_schema.specs.Settling.{is_first_of_type, is_flat, fault_of, tests, reason_of, round, rounds, no_reasons, all_reasons, type_place}
+use Rattle.fhir_definition.specs.Snapshot.{is_root}
+use Rattle.fhir_definition.specs.Definition.{Definition, definition_of, definitions_from}
+use Rattle.fhir_schema.specs.Types.{type_place, is_system}
+use Rattle.fhir_schema.specs.Settling.{Reasons, reason_at, is_usable_type, entry_is_usable, element_is_usable, types_are_usable}
+use Rattle.fhir_schema.specs.Settling.{fault_of, lasting_tests, tests, reason_of, round, rounds, no_reasons, all_reasons}
 use Rattle.fhir_schema.specs.Usability.{AllApply, IsClosed, IsWithin}
 use Rattle.fhir_schema.proofs.Rounds.{rounds_fixed}
 use Rattle.fhir_schema.proofs.Failing.{first_fails, none_fails, hold_none, hold_more, fails_more}
@@ -86,18 +87,6 @@ pub placed : (es : List (Text × Tree)) (place : ℕ) (d : Definition) → slice
 unfolding Placed
 placed es place d h = placed_from 0 es place d h ∙ omega arith
 
--- ---- tests
-
--- the tests behind that of the types, which ask nothing of what is found
-behind : List Definition → Definition → List (Bool × Reason)
-behind ds d =
-    (not (has_snapshot d) || is_tree d.elements, NoTree)
-    ∷ (chain_ends ds d, BaseCycle)
-    ∷ (has_snapshot d, NoSnapshot)
-    ∷ (is_first_of_type ds d, SecondType)
-    ∷ (is_flat ds d, NotYet)
-    ∷ []
-
 -- ---- what fewer findings leave usable
 
 Fewer : Reasons → Reasons → Type 0
@@ -149,14 +138,12 @@ module _ (ds : List Definition) (reasons next : Reasons) (fewer : Fewer reasons 
       (all_more (element_is_usable ds next) (element_is_usable ds reasons) element_more d.elements parts.1)
 
   applies_more : (d : Definition) (r : Reason) → Contains (tests ds reasons d) (false, r) → Contains (tests ds next d) (false, r)
-  unfolding behind
   applies_more d r h =
-      fails_more (types_are_usable ds reasons d) (types_are_usable ds next d) UnusableType (behind ds d) (fault_of d) r (types_more d) h
+      fails_more (types_are_usable ds reasons d) (types_are_usable ds next d) UnusableType (lasting_tests ds d) (fault_of d) r (types_more d) h
 
   tests_less : (d : Definition) → IsTrue (all_hold (tests ds next d)) → IsTrue (all_hold (tests ds reasons d))
-  unfolding behind
   tests_less d h =
-      hold_more (types_are_usable ds next d) (types_are_usable ds reasons d) UnusableType (behind ds d) (fault_of d) (types_more d) h
+      hold_more (types_are_usable ds next d) (types_are_usable ds reasons d) UnusableType (lasting_tests ds d) (fault_of d) (types_more d) h
 
 module _ (ds : List Definition) (is_placed : (i : ℕ) (d : Definition) → slice_get ds i ≡ Some d → d.place ≡ i) where
   -- a round at a place
