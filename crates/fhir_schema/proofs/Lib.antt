@@ -8,3 +8,4 @@ pub mod KnownNodes
 pub mod Stepping
 pub mod Roots
 pub mod Capitals
+pub mod Users
