@@ -9,3 +9,4 @@ pub mod Stepping
 pub mod Roots
 pub mod Capitals
 pub mod Users
+pub mod Spreading

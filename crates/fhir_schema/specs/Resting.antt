@@ -41,9 +41,13 @@ users_of ds = users_from ds ds (replicate (length ds) [])
 
 -- ---- what follows
 
--- why each can't be used, if it rests on no other that can't
+-- the reason of the first test that each fails
+abbrev pub failing : List Definition → Reasons → Reasons
+failing ds reasons = map (λ d. first_of (tests ds reasons d)) ds
+
+-- why each can't be used, where it rests on no other that can't
 abbrev pub first_reasons : List Definition → Reasons
-first_reasons ds = map (λ d. first_of (tests ds (no_reasons ds) d)) ds
+first_reasons ds = failing ds (no_reasons ds)
 
 abbrev pub unusable_at : ℕ → Option Reason → List ℕ
 unusable_at place reason = if is_some reason then place ∷ [] else []
