@@ -167,6 +167,7 @@ pub(crate) fn all_reasons(
     requires { are_apart.now ≡ map (spells_apart table.now) table.now }
     ensures { IfOk result (λ v. v.items ≡ all_reasons table.now) }
 {
+    table.are_placed();
     let users = users_of(alloc, table)?;
     let none = no_reasons(alloc, table)?;
     let ends = chains_end(alloc, table)?;
@@ -178,6 +179,5 @@ pub(crate) fn all_reasons(
         mark_users(&users, place, &mut reasons, &mut queue)?;
         at += 1;
     }
-    table.are_placed();
     Ok(reasons)
 }
