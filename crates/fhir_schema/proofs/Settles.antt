@@ -2,7 +2,7 @@
 use Rattle.std.proofs.Common.{◌≡◌, ℕ, zero, suc, ◌<◌, ◌≤◌, ◌+◌, List, [], ◌∷◌, map, length, get_or, true, false, Bool, ◌&&◌, ◌||◌, not, nat_le, refl, ap, sym}
 use Rattle.std.proofs.Common.{◌∙◌, Some, None, Option, is_some, is_none, IsTrue, arith}
 use Rattle.std.specs.List.{slice_get, list_all, Contains}
-use Rattle.std.specs.Option.{option_map_or, option_or}
+use Rattle.std.specs.Option.{option_map_or}
 use Rattle.std.proofs.lemmas.Bool.Decides.{nat_tests}
 use Rattle.std.proofs.lemmas.List.{length-map}
 use Rattle.std.proofs.lemmas.Option.{slice_get_within}

@@ -1,6 +1,6 @@
 -- A work list finds the reasons that rounds find.
 use Rattle.std.proofs.Common.{◌≡◌, ℕ, zero, suc, ◌<◌, ◌≤◌, ◌+◌, List, [], ◌∷◌, ◌++◌, length, get_or, set, refl, ap, subst, sym, ◌∙◌, IsTrue, arith}
-use Rattle.std.proofs.Common.{Bool, true, false, ◌&&◌, cond, nat_eq, nat_lt, Option, Some, None, is_some, is_none, ◌⊎◌, inl, inr}
+use Rattle.std.proofs.Common.{Bool, true, false, cond, nat_eq, nat_lt, Option, Some, None, is_some, is_none, ◌⊎◌, inl, inr}
 use Rattle.std.specs.List.{Contains, All, list_all, list_any, slice_get}
 use Rattle.std.proofs.lemmas.Bool.{cases_eq, cases_lt, and_parts, and_from, and_cases, or_cases, or_left, or_right, eqb-true, eq-eqb, lt-ltb, ltb-true, false≢true}
 use Rattle.std.proofs.lemmas.Option.{none-some, same_Some, slice_get_within}
@@ -8,7 +8,7 @@ use Rattle.std.proofs.lemmas.List.{length-set, length-map, length_push, get_or_a
 use Rattle.std.proofs.lemmas.List.Elements.{All-push, All-weaker, All-append, All-nil, All-cons, All-get_or, Contains-push, Contains-append_left, Contains-append_right}
 use Rattle.fhir_elements.specs.declared.reason.Reason.{Reason}
 use Rattle.fhir_elements.specs.declared.reason.Reason.TheVariants.{UnusableType}
-use Rattle.fhir_elements.specs.Tests.{first_of, all_hold}
+use Rattle.fhir_elements.specs.Tests.{first_of}
 use Rattle.fhir_definition.specs.Snapshot.{is_at}
 use Rattle.fhir_definition.specs.Definition.{Definition}
 use Rattle.fhir_schema.specs.Tables.{ArePlaced}
@@ -250,9 +250,9 @@ module _ (ds : List Definition) (is_placed : ArePlaced ds) where
       let u = user ds is_placed p q h is_user in
       let d = u.0 in
       subst (HasReason (all_reasons ds)) (sym u.2) (some_from (reason_at (all_reasons ds) d.place) (λ none. (
-          let types : types_are_usable ds (all_reasons ds) d ≡ true =
-          it_holds (types_are_usable ds (all_reasons ds) d) true UnusableType (lasting_tests ds d) (fault_of d) (closed ds is_placed d u.1 none) in
-          unusable_one (all_reasons ds) p some (rests_on ds d) u.3 (sym (types_ask ds (all_reasons ds) d) ∙ types))))
+      let types : types_are_usable ds (all_reasons ds) d ≡ true =
+      it_holds (types_are_usable ds (all_reasons ds) d) true UnusableType (lasting_tests ds d) (fault_of d) (closed ds is_placed d u.1 none) in
+      unusable_one (all_reasons ds) p some (rests_on ds d) u.3 (sym (types_ask ds (all_reasons ds) d) ∙ types))))
 
   user_within : (p q : ℕ) → p < length ds → has (users_of ds) p q ≡ true → q < length ds
   user_within p q h is_user =
@@ -364,9 +364,9 @@ module _ (ds : List Definition) (is_placed : ArePlaced ds) where
         → reason_at reasons p ≡ None
     free d at_place none p asks =
         none_or (reason_at reasons p) (λ some. (
-            let within : p < length ds = subst (λ n. p < n) s.sound.counted (some_within reasons p some) in
-            let too : is_some (reason_at reasons d.place) ≡ true = users_marked p d.place some (listed ds is_placed p d within at_place asks) in
-            false≢true (sym (ap is_some none) ∙ too)))
+        let within : p < length ds = subst (λ n. p < n) s.sound.counted (some_within reasons p some) in
+        let too : is_some (reason_at reasons d.place) ≡ true = users_marked p d.place some (listed ds is_placed p d within at_place asks) in
+        false≢true (sym (ap is_some none) ∙ too)))
 
     all_closed : IsClosed ds reasons
     all_closed d at_place none =

@@ -7,5 +7,5 @@ pub invariant_of-result : goal.invariant_of-result
 invariant_of-result c = (
   subst (FindsTypes c.in_ok-types.types) c.deref.ensures.value c.in_ok-types.ensures,
   subst (FindsUrls c.in_ok-urls.urls) c.deref-2.ensures.value c.in_ok-urls.ensures,
-  subst ArePlaced (sym c.in_ok-definitions.ensures) (placed c.args.from.now.structure_definitions)
+  subst ArePlaced (sym c.in_ok-definitions.ensures) (placed c.args.from.now.structure_definitions),
 )
