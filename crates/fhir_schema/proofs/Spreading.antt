@@ -2,10 +2,12 @@
 use Rattle.std.proofs.Common.{◌≡◌, ℕ, zero, suc, ◌<◌, ◌≤◌, ◌+◌, List, [], ◌∷◌, ◌++◌, length, get_or, set, refl, ap, subst, sym, ◌∙◌, IsTrue, arith}
 use Rattle.std.proofs.Common.{Bool, true, false, cond, nat_eq, nat_lt, Option, Some, None, is_some, is_none, ◌⊎◌, inl, inr}
 use Rattle.std.specs.List.{Contains, All, list_all, list_any, slice_get}
-use Rattle.std.proofs.lemmas.Bool.{cases_eq, cases_lt, and_parts, and_from, and_cases, or_cases, or_left, or_right, eqb-true, eq-eqb, lt-ltb, ltb-true, false≢true}
+use Rattle.std.proofs.lemmas.Bool.{cases_eq, cases_lt, and_parts, and_from, and_cases, or_cases, or_left, or_right}
+use Rattle.std.proofs.lemmas.Bool.{eqb-true, eq-eqb, lt-ltb, ltb-true, false≢true}
 use Rattle.std.proofs.lemmas.Option.{none-some, same_Some, slice_get_within}
 use Rattle.std.proofs.lemmas.List.{length-set, length-map, length_push, get_or_append_left, get_or-set_same, get_or-set_other, get_or_past, ext_get_or}
-use Rattle.std.proofs.lemmas.List.Elements.{All-push, All-weaker, All-append, All-nil, All-cons, All-get_or, Contains-push, Contains-append_left, Contains-append_right}
+use Rattle.std.proofs.lemmas.List.Elements.{All-push, All-weaker, All-append, All-nil, All-cons, All-get_or}
+use Rattle.std.proofs.lemmas.List.Elements.{Contains-push, Contains-append_left, Contains-append_right}
 use Rattle.fhir_elements.specs.declared.reason.Reason.{Reason}
 use Rattle.fhir_elements.specs.declared.reason.Reason.TheVariants.{UnusableType}
 use Rattle.fhir_elements.specs.Tests.{first_of}
@@ -14,7 +16,8 @@ use Rattle.fhir_definition.specs.Definition.{Definition}
 use Rattle.fhir_schema.specs.Tables.{ArePlaced}
 use Rattle.fhir_schema.specs.Settling.{Reasons, reason_at, fault_of, lasting_tests, types_are_usable, tests, no_reasons, all_reasons}
 use Rattle.fhir_schema.specs.Usability.{IsClosed, IsWithin}
-use Rattle.fhir_schema.specs.Resting.{rests_on, users_of, failing, first_reasons, unusable_at, unusable_from, is_unmarked, marked, queued, marked_all, queued_all}
+use Rattle.fhir_schema.specs.Resting.{rests_on, users_of, failing, first_reasons, unusable_at, unusable_from}
+use Rattle.fhir_schema.specs.Resting.{is_unmarked, marked, queued, marked_all, queued_all}
 use Rattle.fhir_schema.proofs.Failing.{none_fails, hold_more, it_holds, it_fails}
 use Rattle.fhir_schema.proofs.Settles.{closed, apply, least, first_at, first_lasts, length_all}
 use Rattle.fhir_schema.proofs.Users.{is_usable, types_ask, has, user, listed}
@@ -55,7 +58,8 @@ module _ (all : Reasons) where
   unusable_here n true e = All-cons (HasReason all) n [] e (All-nil (HasReason all))
   unusable_here n false e = All-nil (HasReason all)
 
-  unusable_known : (n : ℕ) (reasons : Reasons) → ((p m : ℕ) → n + p ≡ m → reason_at all m ≡ get_or reasons p None) → All (HasReason all) (unusable_from n reasons)
+  unusable_known : (n : ℕ) (reasons : Reasons) → ((p m : ℕ) → n + p ≡ m → reason_at all m ≡ get_or reasons p None)
+      → All (HasReason all) (unusable_from n reasons)
   unusable_known n [] h = All-nil (HasReason all)
   unusable_known n (r ∷ rs) h =
       All-append (HasReason all) (unusable_at n r) (unusable_from (suc n) rs)
@@ -64,7 +68,7 @@ module _ (all : Reasons) where
 
 -- ---- one place is marked
 
--- what the second know, where the first have been marked further
+-- marking takes no reason back, and puts places behind a queue
 record Grows (reasons more : Reasons) (queue longer : List ℕ) : Type 0 where
   pub counted : length more ≡ length reasons
   pub kept : (p : ℕ) → HasReason reasons p → HasReason more p
@@ -151,10 +155,10 @@ all_some (p ∷ ps) reasons queue q h e =
           all_some ps (marked p reasons) (queued p reasons queue) q (omega arith) behind)
     ]
 
--- ---- what the work list knows
+-- ---- what is known while the work list is gone through
 
 module _ (ds : List Definition) where
-  -- what is marked is what rounds find
+  -- what has a reason so far has it from the first round, or has one by rounds too, and waits in the queue
   pub record AreSound (reasons : Reasons) (queue : List ℕ) : Type 0 where
     pub counted : length reasons ≡ length ds
     pub keeps : (p : ℕ) (r : Reason) → reason_at (first_reasons ds) p ≡ Some r → reason_at reasons p ≡ Some r

@@ -108,7 +108,7 @@ fn unusable_places(alloc: Global, reasons: &[Option<Reason>]) -> Result<Vec<usiz
     Ok(places)
 }
 
-// Puts a place behind the queue where it has no reason yet, since a type that it rests on can't be used.
+// Marks a place that has no reason yet, since a type that it rests on can't be used, and puts it behind the queue.
 fn mark(
     place: usize,
     reasons: &mut [Option<Reason>],
@@ -150,7 +150,8 @@ fn mark_users(
     queue: &mut Vec<usize>,
 ) -> Result<(), AllocError>
     ensures reasons { OnOk result (reasons.new ≡ marked_all (get_or (lists_in users.now) place []) reasons.old) }
-    ensures queue { OnOk result (queue.new.items ≡ queued_all (get_or (lists_in users.now) place []) reasons.old queue.old.items) }
+    ensures queue { OnOk result (queue.new.items
+        ≡ queued_all (get_or (lists_in users.now) place []) reasons.old queue.old.items) }
 {
     match users.get(place) {
         Some(places) => mark_each(places, reasons, queue),
