@@ -1,8 +1,9 @@
 -- Lists of tests: which of them fail, and which still do where one is harder to meet.
-use Rattle.std.proofs.Common.{◌≡◌, List, [], ◌∷◌, ◌++◌, Bool, true, false, Some, None, Option, refl, ap, sym, ◌∙◌, subst, inl, inr, IsTrue, ◌⊎◌, arith}
+use Rattle.std.proofs.Common.{◌≡◌, List, [], ◌∷◌, ◌++◌, Bool, true, false, Some, None, refl, ap, sym, ◌∙◌, subst, inl, inr, IsTrue, arith}
 use Rattle.std.proofs.Common.{if◌then◌else◌}
 use Rattle.std.specs.List.{Contains}
-use Rattle.std.proofs.lemmas.Bool.{and_parts, and_from}
+use Rattle.std.proofs.lemmas.Bool.{and_parts, and_from, false≢true}
+use Rattle.std.proofs.lemmas.List.Folds.{list_all-append}
 use Rattle.std.proofs.lemmas.Option.{none-some, same_Some}
 use Rattle.std.proofs.lemmas.List.Elements.{Contains-push, Contains-push_cases, Contains-append_left, Contains-append_right, Contains-append_cases}
 use Rattle.fhir_elements.specs.Tests.{first_of, all_hold}
@@ -80,4 +81,41 @@ module _ {R : Type 0} where
         elim (Contains-append_cases front ((a, u) ∷ rest) (false, r) h) [
           | inl there ↦ Contains-append_left front ((b, u) ∷ rest) (false, r) there
           | inr behind ↦ Contains-append_right front ((b, u) ∷ rest) (false, r) (head_more r more behind)
+        ]
+
+module _ {R : Type 0} where
+  -- where all hold, none fails
+  none_fail : (ts : List (Bool × R)) (r : R) → IsTrue (all_hold ts) → Contains ts (false, r) → ⊥
+  none_fail [] r h c = omega (arith, c.1)
+  none_fail (t ∷ ts) r h c =
+      let parts = and_parts t.0 (all_hold ts) h in
+      elim (Contains-append_cases (t ∷ []) ts (false, r) c) [
+        | inl first ↦ elim (Contains-push_cases [] t (false, r) first) [
+          | inl nowhere ↦ absurd (omega (arith, nowhere.1))
+          | inr e ↦ false≢true (sym (ap (λ (y : Bool × R). y.0) e) ∙ parts.0)
+        ]
+        | inr behind ↦ none_fail ts r parts.1 behind
+      ]
+
+  module _ (a b : Bool) (u : R) (rest front : List (Bool × R)) (h : IsTrue (all_hold (front ++ (a, u) ∷ rest))) where
+    parts_hold : (all_hold front ≡ true) × (all_hold ((a, u) ∷ rest) ≡ true)
+    parts_hold =
+        and_parts (all_hold front) (all_hold ((a, u) ∷ rest))
+        (sym (list_all-append (λ (test : Bool × R). test.0) front ((a, u) ∷ rest)) ∙ h)
+
+    pub it_holds : a ≡ true
+    it_holds = (and_parts a (all_hold rest) parts_hold.1).0
+
+    -- what fails where all but one hold is that one
+    pub it_fails : (r : R) → Contains (front ++ (b, u) ∷ rest) (false, r) → r ≡ u
+    it_fails r c =
+        elim (Contains-append_cases front ((b, u) ∷ rest) (false, r) c) [
+          | inl there ↦ absurd (none_fail front r parts_hold.0 there)
+          | inr behind ↦ elim (Contains-append_cases ((b, u) ∷ []) rest (false, r) behind) [
+            | inl first ↦ elim (Contains-push_cases [] (b, u) (false, r) first) [
+              | inl nowhere ↦ absurd (omega (arith, nowhere.1))
+              | inr e ↦ sym (ap (λ (y : Bool × R). y.1) e)
+            ]
+            | inr last ↦ absurd (none_fail rest r (and_parts a (all_hold rest) parts_hold.1).1 last)
+          ]
         ]

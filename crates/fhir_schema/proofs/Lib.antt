@@ -11,3 +11,5 @@ pub mod Capitals
 pub mod Spelled
 pub mod Meaning
 pub mod OneMeaning
+pub mod Users
+pub mod Spreading

@@ -1,5 +1,5 @@
 -- Rounds, and the definitions of more entries.
-use Rattle.std.proofs.Common.{◌≡◌, ℕ, zero, suc, ◌<◌, ◌≤◌, ◌+◌, ◌-◌, List, [], ◌∷◌, ◌++◌, length, drop, refl, ap, sym, ◌∙◌, Some, add-one, append_assoc, arith}
+use Rattle.std.proofs.Common.{◌≡◌, ℕ, zero, suc, ◌<◌, ◌+◌, List, [], ◌∷◌, ◌++◌, length, drop, refl, ap, sym, ◌∙◌, Some, add-one, append_assoc}
 use Rattle.std.specs.List.{slice_get}
 use Rattle.std.proofs.lemmas.Option.{slice_get_within, get_or_from_slice_get}
 use Rattle.std.proofs.Math.Seq.{drop-cons}
@@ -10,19 +10,6 @@ use Rattle.fhir_schema.specs.Settling.{Reasons, round, rounds}
 pub rounds_fixed : (ds : List Definition) (n : ℕ) (reasons : Reasons) → round ds reasons ≡ reasons → rounds ds n reasons ≡ reasons
 rounds_fixed ds zero reasons e = refl
 rounds_fixed ds (suc n) reasons e = ap (rounds ds n) e ∙ rounds_fixed ds n reasons e
-
-pub rounds_step : (ds : List Definition) (n k : ℕ) (reasons next s : Reasons) → k < n → next ≡ round ds reasons → rounds ds (n - k) reasons ≡ s
-    → rounds ds (n - (k + 1)) next ≡ s
-rounds_step ds n k reasons next s h is e =
-    let one : n - k ≡ suc (n - (k + 1)) = omega arith in
-    ap (rounds ds (n - (k + 1))) is ∙ sym (ap (λ m. rounds ds m reasons) one) ∙ e
-
-pub rounds_stop : (ds : List Definition) (m : ℕ) (reasons next s : Reasons) → next ≡ round ds reasons → next ≡ reasons → rounds ds m reasons ≡ s → reasons ≡ s
-rounds_stop ds m reasons next s is same e = sym (rounds_fixed ds m reasons (sym is ∙ same)) ∙ e
-
-pub rounds_end : (ds : List Definition) (n k : ℕ) (reasons s : Reasons) → n ≤ k → rounds ds (n - k) reasons ≡ s → reasons ≡ s
-rounds_end ds n k reasons s h e =
-    let none : n - k ≡ 0 = omega arith in sym (ap (λ m. rounds ds m reasons) none) ∙ e
 
 cons_at : (es : List (List ℕ × Tree)) (i : ℕ) (e : List ℕ × Tree) → slice_get es i ≡ Some e → drop i es ≡ e ∷ drop (suc i) es
 cons_at es i e h =

@@ -2,20 +2,23 @@
 use Rattle.std.proofs.Common.{◌≡◌, ℕ, zero, suc, ◌<◌, ◌≤◌, ◌+◌, List, [], ◌∷◌, map, length, get_or, true, false, Bool, ◌&&◌, ◌||◌, not, nat_le, refl, ap, sym}
 use Rattle.std.proofs.Common.{◌∙◌, Some, None, Option, is_some, is_none, IsTrue, arith}
 use Rattle.std.specs.List.{slice_get, list_all, Contains}
-use Rattle.std.specs.Option.{option_map_or, option_or}
+use Rattle.std.specs.Option.{option_map_or}
 use Rattle.std.proofs.lemmas.Bool.Decides.{nat_tests}
 use Rattle.std.proofs.lemmas.List.{length-map}
+use Rattle.std.proofs.lemmas.Option.{slice_get_within}
 use Rattle.fhir_json.specs.Tree.{Text, Tree}
 use Rattle.fhir_elements.specs.declared.reason.Reason.{Reason}
-use Rattle.fhir_elements.specs.declared.reason.Reason.TheVariants.{UnusableType, NoTree, BaseCycle, NoSnapshot, SecondType, NotYet}
+use Rattle.fhir_elements.specs.declared.reason.Reason.TheVariants.{UnusableType}
 use Rattle.fhir_elements.specs.TypeEntry.{TypeEntry}
 use Rattle.fhir_elements.specs.Element.{Element}
 use Rattle.fhir_elements.specs.Tests.{first_of, all_hold}
-use Rattle.fhir_definition.specs.Snapshot.{is_root, is_tree}
-use Rattle.fhir_definition.specs.Definition.{Definition, definition_of, definitions_from, has_snapshot}
-use Rattle.fhir_schema.specs.Settling.{Reasons, reason_at, is_usable_type, is_system, entry_is_usable, element_is_usable, types_are_usable, chain_ends}
-use Rattle.fhir_schema.specs.Settling.{is_first_of_type, is_flat, fault_of, tests, reason_of, round, rounds, no_reasons, all_reasons, type_place}
+use Rattle.fhir_definition.specs.Snapshot.{is_root}
+use Rattle.fhir_definition.specs.Definition.{Definition, definition_of, definitions_from}
+use Rattle.fhir_schema.specs.Types.{type_place, is_system}
+use Rattle.fhir_schema.specs.Settling.{Reasons, reason_at, is_usable_type, entry_is_usable, element_is_usable, types_are_usable}
+use Rattle.fhir_schema.specs.Settling.{fault_of, lasting_tests, tests, reason_of, round, rounds, no_reasons, all_reasons}
 use Rattle.fhir_schema.specs.Usability.{AllApply, IsClosed, IsWithin}
+use Rattle.fhir_schema.specs.Resting.{first_reasons}
 use Rattle.fhir_schema.proofs.Rounds.{rounds_fixed}
 use Rattle.fhir_schema.proofs.Failing.{first_fails, none_fails, hold_none, hold_more, fails_more}
 
@@ -86,18 +89,6 @@ pub placed : (es : List (Text × Tree)) (place : ℕ) (d : Definition) → slice
 unfolding Placed
 placed es place d h = placed_from 0 es place d h ∙ omega arith
 
--- ---- tests
-
--- the tests behind that of the types, which ask nothing of what is found
-behind : List Definition → Definition → List (Bool × Reason)
-behind ds d =
-    (not (has_snapshot d) || is_tree d.elements, NoTree)
-    ∷ (chain_ends ds d, BaseCycle)
-    ∷ (has_snapshot d, NoSnapshot)
-    ∷ (is_first_of_type ds d, SecondType)
-    ∷ (is_flat ds d, NotYet)
-    ∷ []
-
 -- ---- what fewer findings leave usable
 
 Fewer : Reasons → Reasons → Type 0
@@ -149,14 +140,12 @@ module _ (ds : List Definition) (reasons next : Reasons) (fewer : Fewer reasons 
       (all_more (element_is_usable ds next) (element_is_usable ds reasons) element_more d.elements parts.1)
 
   applies_more : (d : Definition) (r : Reason) → Contains (tests ds reasons d) (false, r) → Contains (tests ds next d) (false, r)
-  unfolding behind
   applies_more d r h =
-      fails_more (types_are_usable ds reasons d) (types_are_usable ds next d) UnusableType (behind ds d) (fault_of d) r (types_more d) h
+      fails_more (types_are_usable ds reasons d) (types_are_usable ds next d) UnusableType (lasting_tests ds d) (fault_of d) r (types_more d) h
 
   tests_less : (d : Definition) → IsTrue (all_hold (tests ds next d)) → IsTrue (all_hold (tests ds reasons d))
-  unfolding behind
   tests_less d h =
-      hold_more (types_are_usable ds next d) (types_are_usable ds reasons d) UnusableType (behind ds d) (fault_of d) (types_more d) h
+      hold_more (types_are_usable ds next d) (types_are_usable ds reasons d) UnusableType (lasting_tests ds d) (fault_of d) (types_more d) h
 
 module _ (ds : List Definition) (is_placed : (i : ℕ) (d : Definition) → slice_get ds i ≡ Some d → d.place ≡ i) where
   -- a round at a place
@@ -211,8 +200,17 @@ module _ (ds : List Definition) (is_placed : (i : ℕ) (d : Definition) → slic
           let more : how_many reasons < how_many (round ds reasons) = grind (arith, nat_tests) in
           later (omega arith)
 
+  none_at : (xs : List Definition) (i : ℕ) → get_or (no_reasons xs) i None ≡ None
+  none_at [] i = refl
+  none_at (x ∷ xs) zero = refl
+  none_at (x ∷ xs) (suc i) = none_at xs i
+
   length_none : (xs : List Definition) → length (no_reasons xs) ≡ length xs
   length_none xs = length-map xs (λ d. None)
+
+  length_rounds : (n : ℕ) (reasons : Reasons) → length reasons ≡ length ds → length (rounds ds n reasons) ≡ length ds
+  length_rounds zero reasons e = e
+  length_rounds (suc n) reasons e = length_rounds n (round ds reasons) (length_round reasons)
 
   at_rest : round ds (all_reasons ds) ≡ all_reasons ds
   at_rest = rests (length ds) (no_reasons ds) (length_none ds) (omega arith)
@@ -222,6 +220,36 @@ module _ (ds : List Definition) (is_placed : (i : ℕ) (d : Definition) → slic
       let of : reason_of ds (all_reasons ds) d ≡ None =
       sym (round_at (all_reasons ds) d at) ∙ ap (λ l. reason_at l d.place) at_rest ∙ none in
       none_fails (tests ds (all_reasons ds) d) (rw none at of)
+
+  pub length_all : length (all_reasons ds) ≡ length ds
+  length_all = length_rounds (length ds) (no_reasons ds) (length_none ds)
+
+  -- ---- the reasons of the first round last
+
+  first_same : (d : Definition) → first_of (tests ds (no_reasons ds) d) ≡ reason_of ds (no_reasons ds) d
+  first_same d = rw (none_at ds d.place) refl
+
+  first_round : first_reasons ds ≡ round ds (no_reasons ds)
+  first_round = λ i. map (λ d. first_same d i) ds
+
+  pub first_at : (d : Definition) → slice_get ds d.place ≡ Some d → reason_at (first_reasons ds) d.place ≡ first_of (tests ds (no_reasons ds) d)
+  first_at d at = round_at_from (λ d. first_of (tests ds (no_reasons ds) d)) ds d.place d at
+
+  rounds_keep : (n : ℕ) (reasons : Reasons) → length reasons ≡ length ds → Extends reasons (rounds ds n reasons)
+  unfolding Extends
+  rounds_keep zero reasons e i r h = h
+  rounds_keep (suc n) reasons e i r h = rounds_keep n (round ds reasons) (length_round reasons) i r (round_keeps reasons e i r h)
+
+  round_lasts : (n : ℕ) → length ds ≡ n → Extends (round ds (no_reasons ds)) (rounds ds n (no_reasons ds))
+  unfolding Extends
+  round_lasts zero e i r h =
+      let s = has_definition ds (round ds (no_reasons ds)) i r (length_round (no_reasons ds)) h in
+      let within : i < length ds = slice_get_within ds i s.0 s.1 in absurd (omega arith)
+  round_lasts (suc n) e i r h = rounds_keep n (round ds (no_reasons ds)) (length_round (no_reasons ds)) i r h
+
+  pub first_lasts : (place : ℕ) (r : Reason) → reason_at (first_reasons ds) place ≡ Some r → reason_at (all_reasons ds) place ≡ Some r
+  unfolding Extends
+  first_lasts place r h = round_lasts (length ds) refl place r (sym (ap (λ l. reason_at l place) first_round) ∙ h)
 
   -- ---- the reasons that are reasons apply
 
@@ -252,11 +280,6 @@ module _ (ds : List Definition) (is_placed : (i : ℕ) (d : Definition) → slic
   apply_rounds : (n : ℕ) (reasons : Reasons) → length reasons ≡ length ds → AllApply ds reasons → AllApply ds (rounds ds n reasons)
   apply_rounds zero reasons e all = all
   apply_rounds (suc n) reasons e all = apply_rounds n (round ds reasons) (length_round reasons) (apply_round reasons e all)
-
-  none_at : (xs : List Definition) (i : ℕ) → get_or (no_reasons xs) i None ≡ None
-  none_at [] i = refl
-  none_at (x ∷ xs) zero = refl
-  none_at (x ∷ xs) (suc i) = none_at xs i
 
   pub apply : AllApply ds (all_reasons ds)
   apply = apply_rounds (length ds) (no_reasons ds) (length_none ds) (λ d r at h. (let no : None ≡ Some r = sym (none_at ds d.place) ∙ h in cc))

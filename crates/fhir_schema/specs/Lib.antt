@@ -8,3 +8,4 @@ pub mod Schemas
 pub mod Chains
 pub mod Tables
 pub mod Covers
+pub mod Resting

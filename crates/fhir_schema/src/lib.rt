@@ -27,6 +27,7 @@ mod node;
 mod node_forms;
 mod nodes;
 mod property_name;
+mod resting;
 mod schema;
 mod settling;
 mod slot_list;

@@ -54,8 +54,7 @@ impl Model for Schema {
 }
 
 impl Schema {
-    /// The schema of a package. It takes time near linear in the package's size, but for the rounds in which it is found
-    /// which definitions can't be used: one more than there are definitions between a fault and what rests on it.
+    /// The schema of a package. It takes time near linear in the package's size. The one refusal is want of memory.
     pub fn build(alloc: Global, from: &Package) -> Result<Schema, NoMemory>
         ensures { Gives (λ s. s) result (schema_of from.now) }
     {

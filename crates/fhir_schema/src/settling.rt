@@ -1,34 +1,19 @@
-//! Which definitions can't be used, reasons in rounds.
+//! Which definitions can't be used: what is wrong with one, and what rests on it.
 
-ghost use Rattle.std.specs.Prelude.{◌≡◌, map, IfOk, IsTrue};
+ghost use Rattle.std.specs.Prelude.{◌≡◌, ◌++◌, [], map, get_or, IfOk, OnOk};
 ghost use Rattle.fhir_elements.specs.Tests.{first_of};
+ghost use Rattle.fhir_definition.specs.Views.{lists_in};
 ghost use Rattle.fhir_schema.specs.Forms.{spells_apart};
-ghost use Rattle.fhir_schema.specs.Settling.{chain_ends, tests, reason_of, round, no_reasons, all_reasons};
+ghost use Rattle.fhir_schema.specs.Settling.{chain_ends, tests, no_reasons, all_reasons};
+ghost use Rattle.fhir_schema.specs.Resting.{failing, unusable_at, unusable_from, marked, queued, marked_all, queued_all};
 
 use crate::chains::chains_end;
+use crate::resting::users_of;
 use crate::table::Table;
-use crate::types::{is_first_of_type, is_supported, reason_at, types_are_usable};
+use crate::types::{is_first_of_type, is_supported, types_are_usable};
 use fhir_definition::Definition;
 use fhir_elements::Reason;
 use std::alloc::{AllocError, Global};
-
-// Why a definition can't be used, as far as is found; its chain of bases ends, or doesn't.
-fn reason_of(
-    table: &Table,
-    reasons: &[Option<Reason>],
-    definition: &Definition,
-    is_ending: bool,
-    is_apart: bool,
-) -> Option<Reason>
-    requires ending { is_ending ≡ chain_ends table.now definition.now }
-    requires apart { is_apart ≡ spells_apart table.now definition.now }
-    ensures { result ≡ reason_of table.now reasons.now definition.now }
-{
-    match reason_at(reasons, definition.place()) {
-        Some(reason) => Some(reason),
-        None => first_failing(table, reasons, definition, is_ending, is_apart),
-    }
-}
 
 // The reason of the first test that a definition fails.
 fn first_failing(
@@ -68,36 +53,6 @@ fn first_failing(
     None
 }
 
-fn round(
-    alloc: Global,
-    table: &Table,
-    ends: &[bool],
-    are_apart: &[bool],
-    reasons: &[Option<Reason>],
-) -> Result<Vec<Option<Reason>>, AllocError>
-    requires ends { ends.now ≡ map (chain_ends table.now) table.now }
-    requires apart { are_apart.now ≡ map (spells_apart table.now) table.now }
-    ensures { IfOk result (λ v. v.items ≡ round table.now reasons.now) }
-{
-    let mut all = Vec::new(alloc);
-    let mut left = table.definitions();
-    let mut ends_left = ends;
-    let mut apart_left = are_apart;
-    while let [definition, definitions @ ..] = left {
-        let [is_ending, endings @ ..] = ends_left else {
-            return Ok(all);
-        };
-        let [is_apart, aparts @ ..] = apart_left else {
-            return Ok(all);
-        };
-        all.push(reason_of(table, reasons, definition, *is_ending, *is_apart))?;
-        left = definitions;
-        ends_left = endings;
-        apart_left = aparts;
-    }
-    Ok(all)
-}
-
 fn no_reasons(alloc: Global, table: &Table) -> Result<Vec<Option<Reason>>, AllocError>
     ensures { IfOk result (λ v. v.items ≡ no_reasons table.now) }
 {
@@ -108,41 +63,103 @@ fn no_reasons(alloc: Global, table: &Table) -> Result<Vec<Option<Reason>>, Alloc
     Ok(all)
 }
 
-fn same_reason(a: Reason, b: Reason) -> bool
-    ensures { IsTrue result → a ≡ b }
+// The reason of the first test that each definition fails.
+fn failing(
+    alloc: Global,
+    table: &Table,
+    reasons: &[Option<Reason>],
+    ends: &[bool],
+    are_apart: &[bool],
+) -> Result<Vec<Option<Reason>>, AllocError>
+    requires ends { ends.now ≡ map (chain_ends table.now) table.now }
+    requires apart { are_apart.now ≡ map (spells_apart table.now) table.now }
+    ensures { IfOk result (λ v. v.items ≡ failing table.now reasons.now) }
 {
-    a == b
+    let mut all = Vec::new(alloc);
+    for (place, definition) in table.definitions().iter().enumerate() {
+        let is_ending = ends[place];
+        let is_apart = are_apart[place];
+        all.push(first_failing(table, reasons, definition, is_ending, is_apart))?;
+    }
+    Ok(all)
 }
 
-fn same(a: Option<Reason>, b: Option<Reason>) -> bool
-    ensures { IsTrue result → a ≡ b }
+fn push_unusable(
+    places: &mut Vec<usize>,
+    place: usize,
+    reason: Option<Reason>,
+) -> Result<(), AllocError>
+    ensures { OnOk result (places.new.items ≡ places.old.items ++ unusable_at place reason) }
 {
-    match (a, b) {
-        (None, None) => true,
-        (Some(a), Some(b)) => same_reason(a, b),
-        _ => false,
+    if reason.is_some() {
+        places.push(place)?;
+    }
+    Ok(())
+}
+
+// The places of those that have a reason.
+fn unusable_places(alloc: Global, reasons: &[Option<Reason>]) -> Result<Vec<usize>, AllocError>
+    ensures { IfOk result (λ v. v.items ≡ unusable_from 0 reasons.now) }
+{
+    let mut places = Vec::new(alloc);
+    for (place, reason) in reasons.iter().enumerate() {
+        push_unusable(&mut places, place, *reason)?;
+    }
+    Ok(places)
+}
+
+// Marks a place that has no reason yet, since a type that it rests on can't be used, and puts it behind the queue.
+fn mark(
+    place: usize,
+    reasons: &mut [Option<Reason>],
+    queue: &mut Vec<usize>,
+) -> Result<(), AllocError>
+    ensures reasons { OnOk result (reasons.new ≡ marked place reasons.old) }
+    ensures queue { OnOk result (queue.new.items ≡ queued place reasons.old queue.old.items) }
+{
+    if place >= reasons.len() {
+        return Ok(());
+    }
+    if reasons[place].is_some() {
+        return Ok(());
+    }
+    reasons[place] = Some(Reason::UnusableType);
+    queue.push(place)?;
+    Ok(())
+}
+
+fn mark_each(
+    places: &[usize],
+    reasons: &mut [Option<Reason>],
+    queue: &mut Vec<usize>,
+) -> Result<(), AllocError>
+    ensures reasons { OnOk result (reasons.new ≡ marked_all places.now reasons.old) }
+    ensures queue { OnOk result (queue.new.items ≡ queued_all places.now reasons.old queue.old.items) }
+{
+    for place in places {
+        mark(*place, reasons, queue)?;
+    }
+    Ok(())
+}
+
+// Marks those that rest on the definition at a place.
+fn mark_users(
+    users: &[Vec<usize>],
+    place: usize,
+    reasons: &mut [Option<Reason>],
+    queue: &mut Vec<usize>,
+) -> Result<(), AllocError>
+    ensures reasons { OnOk result (reasons.new ≡ marked_all (get_or (lists_in users.now) place []) reasons.old) }
+    ensures queue { OnOk result (queue.new.items
+        ≡ queued_all (get_or (lists_in users.now) place []) reasons.old queue.old.items) }
+{
+    match users.get(place) {
+        Some(places) => mark_each(places, reasons, queue),
+        None => Ok(()),
     }
 }
 
-fn are_same(a: &[Option<Reason>], b: &[Option<Reason>]) -> bool
-    ensures { IsTrue result → a.now ≡ b.now }
-{
-    let mut left = a;
-    let mut right = b;
-    while let [x, xs @ ..] = left {
-        let [y, ys @ ..] = right else {
-            return false;
-        };
-        if !same(*x, *y) {
-            return false;
-        }
-        left = xs;
-        right = ys;
-    }
-    right.is_empty()
-}
-
-/// Why each definition can't be used. The rounds end at the first that finds nothing.
+/// Why each definition can't be used. Each that can't is in the queue once, so the time grows with how many types they name.
 pub(crate) fn all_reasons(
     alloc: Global,
     table: &Table,
@@ -151,14 +168,17 @@ pub(crate) fn all_reasons(
     requires { are_apart.now ≡ map (spells_apart table.now) table.now }
     ensures { IfOk result (λ v. v.items ≡ all_reasons table.now) }
 {
+    table.are_placed();
+    let users = users_of(alloc, table)?;
+    let none = no_reasons(alloc, table)?;
     let ends = chains_end(alloc, table)?;
-    let mut reasons = no_reasons(alloc, table)?;
-    for k in 0..table.definitions().len() {
-        let next = round(alloc, table, &ends, are_apart, &reasons)?;
-        if are_same(&next, &reasons) {
-            return Ok(reasons);
-        }
-        reasons = next;
+    let mut reasons = failing(alloc, table, &none, &ends, are_apart)?;
+    let mut queue = unusable_places(alloc, &reasons)?;
+    let mut at = 0;
+    while at < queue.len() {
+        let place = queue[at];
+        mark_users(&users, place, &mut reasons, &mut queue)?;
+        at += 1;
     }
     Ok(reasons)
 }

@@ -7,7 +7,7 @@ ghost use Rattle.fhir_package.specs.Definitions.{ByUrl};
 ghost use Rattle.fhir_definition.specs.Definition.{Definition as Shown, definitions_from};
 ghost use Rattle.fhir_schema.specs.Types.{type_place};
 ghost use Rattle.fhir_schema.specs.Settling.{url_place};
-ghost use Rattle.fhir_schema.specs.Tables.{FindsTypes, FindsUrls};
+ghost use Rattle.fhir_schema.specs.Tables.{FindsTypes, FindsUrls, ArePlaced};
 
 use fhir_definition::Definition;
 use fhir_json::NoMemory;
@@ -35,11 +35,13 @@ impl Model for Table {
 
     ghost coded = { Prim.hlevel (codes, tree_code) };
 
-    ghost use Rattle.fhir_schema.specs.Tables.{FindsTypes, FindsUrls};
+    ghost use Rattle.fhir_schema.specs.Tables.{FindsTypes, FindsUrls, ArePlaced};
 
     ghost view = { λ t. t.definitions.items };
 
-    ghost invariant = { λ t. FindsTypes t.types t.definitions.items × FindsUrls t.urls t.definitions.items };
+    ghost invariant = { λ t. FindsTypes t.types t.definitions.items
+        × FindsUrls t.urls t.definitions.items
+        × ArePlaced t.definitions.items };
 }
 
 fn put_type(alloc: Global, index: &mut Index, definition: &Definition) -> Result<(), AllocError>
@@ -140,5 +142,12 @@ impl Table {
         ensures { result ≡ url_place self.now url.now }
     {
         self.urls.get(url)
+    }
+
+    /// Each definition stands at its place.
+    pub(crate) fn are_placed(&self)
+        ensures { ArePlaced self.now }
+    {
+        let _definitions = &self.definitions;
     }
 }

@@ -1,0 +1,117 @@
+//! Which definitions rest on which by their types.
+
+ghost use Rattle.std.specs.Prelude.{◌≡◌, ◌++◌, [], replicate, IfOk, OnOk};
+ghost use Rattle.std.specs.List.{flat_map};
+ghost use Rattle.fhir_definition.specs.Gathering.{put_at};
+ghost use Rattle.fhir_definition.specs.Views.{lists_in};
+ghost use Rattle.fhir_schema.specs.Resting.{entry_rests_on, element_rests_on, rests_on, put_under, users_of};
+
+use crate::kinds::is_system;
+use crate::table::Table;
+use fhir_definition::{Definition, is_root};
+use fhir_elements::{ElementDef, TypeEntry};
+use std::alloc::{AllocError, Global};
+
+fn push_entry(
+    table: &Table,
+    entry: &TypeEntry,
+    places: &mut Vec<Option<usize>>,
+) -> Result<(), AllocError>
+    ensures { OnOk result (places.new.items ≡ places.old.items ++ entry_rests_on table.now entry.now) }
+{
+    let code = entry.code();
+    if is_system(code) {
+        return Ok(());
+    }
+    places.push(table.type_place(code))?;
+    Ok(())
+}
+
+fn push_entries(
+    table: &Table,
+    entries: &[TypeEntry],
+    places: &mut Vec<Option<usize>>,
+) -> Result<(), AllocError>
+    ensures { OnOk result (places.new.items ≡ places.old.items ++ flat_map (entry_rests_on table.now) entries.now) }
+{
+    for entry in entries {
+        push_entry(table, entry, places)?;
+    }
+    Ok(())
+}
+
+fn push_element(
+    table: &Table,
+    element: &ElementDef,
+    places: &mut Vec<Option<usize>>,
+) -> Result<(), AllocError>
+    ensures { OnOk result (places.new.items ≡ places.old.items ++ element_rests_on table.now element.now) }
+{
+    if is_root(element) {
+        return Ok(());
+    }
+    push_entries(table, element.types(), places)
+}
+
+// The places of the types that a definition asks for.
+fn rests_on(
+    alloc: Global,
+    table: &Table,
+    definition: &Definition,
+) -> Result<Vec<Option<usize>>, AllocError>
+    ensures { IfOk result (λ v. v.items ≡ rests_on table.now definition.now) }
+{
+    let mut places = Vec::new(alloc);
+    places.push(table.type_place(definition.type_code()))?;
+    for element in definition.elements() {
+        push_element(table, element, &mut places)?;
+    }
+    Ok(places)
+}
+
+fn empty_lists(alloc: Global, count: usize) -> Result<Vec<Vec<usize>>, AllocError>
+    ensures { IfOk result (λ v. lists_in v.items ≡ replicate count []) }
+{
+    let mut all = Vec::new(alloc);
+    for _done in 0..count {
+        all.push(Vec::new(alloc))?;
+    }
+    Ok(all)
+}
+
+fn put_at(all: &mut Vec<Vec<usize>>, at: Option<usize>, place: usize) -> Result<(), AllocError>
+    ensures { OnOk result (lists_in all.new.items ≡ put_at at place (lists_in all.old.items)) }
+{
+    let Some(at) = at else {
+        return Ok(());
+    };
+    if at < all.len() {
+        all[at].push(place)?;
+    }
+    Ok(())
+}
+
+fn put_under(
+    all: &mut Vec<Vec<usize>>,
+    ats: &[Option<usize>],
+    place: usize,
+) -> Result<(), AllocError>
+    ensures { OnOk result (lists_in all.new.items ≡ put_under ats.now place (lists_in all.old.items)) }
+{
+    for at in ats {
+        put_at(all, *at, place)?;
+    }
+    Ok(())
+}
+
+/// For each definition the places of those that rest on it.
+pub(crate) fn users_of(alloc: Global, table: &Table) -> Result<Vec<Vec<usize>>, AllocError>
+    ensures { IfOk result (λ v. lists_in v.items ≡ users_of table.now) }
+{
+    let mut users = empty_lists(alloc, table.definitions().len())?;
+    for definition in table.definitions() {
+        let ats = rests_on(alloc, table, definition)?;
+        put_under(&mut users, &ats, definition.place())?;
+    }
+    Ok(users)
+}
