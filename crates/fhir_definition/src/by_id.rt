@@ -1,4 +1,4 @@
-//! The elements of a snapshot, reasons by their ids.
+//! The elements of a snapshot, found by their ids.
 
 ghost use Rattle.std.specs.Prelude.{◌≡◌, ◌∷◌, List, ℕ, is_some, not, map, IfOk, OnOk, length, suc};
 ghost use Rattle.std.specs.List.{list_all, count_by, slice_get};

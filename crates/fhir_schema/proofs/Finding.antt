@@ -1,5 +1,5 @@
 -- Tables stay right as what they are made of is put before the rest.
-use Rattle.std.proofs.Common.{◌≡◌, ℕ, ◌<◌, ◌+◌, true, false, cond, List, ◌∷◌, length, drop, get_or, refl, ap, sym, ◌∙◌, subst, Some, Option, suc, add-one}
+use Rattle.std.proofs.Common.{◌≡◌, ℕ, ◌<◌, ◌+◌, true, false, cond, List, ◌∷◌, length, drop, get_or, ap, sym, ◌∙◌, subst, Some, Option, suc, add-one}
 use Rattle.std.specs.Str.{bytes_eq}
 use Rattle.std.proofs.Math.Seq.{drop-cons}
 use Rattle.fhir_names.specs.Places.{Places, place_of, Puts}

@@ -1,10 +1,10 @@
 -- What the name of a property means is one thing, and what a form spells.
-use Rattle.std.proofs.Common.{◌≡◌, ℕ, zero, suc, ◌+◌, ◌<◌, Bool, true, false, not, ◌&&◌, ◌||◌, cond, List, [], ◌∷◌, ◌++◌, length, map, get_or, Option, None, Some, is_some, IsTrue, refl, ap, sym, ◌∙◌, subst, arith}
+use Rattle.std.proofs.Common.{◌≡◌, ℕ, zero, suc, ◌+◌, ◌<◌, Bool, true, false, not, cond, List, [], ◌∷◌, length, map, get_or, Some, is_some, IsTrue, refl, ap, sym, ◌∙◌, subst, arith}
 use Rattle.std.specs.Cmp.{IsEquivalence}
 use Rattle.std.specs.Str.{bytes_eq}
 use Rattle.std.specs.List.{Contains, IsDistinct, AllByRecursion, list_any, slice_get}
 use Rattle.std.specs.Map.{lookup, keys_of}
-use Rattle.std.proofs.lemmas.Bool.{and_parts, or_parts, not-true, false≢true, or_left, or_right}
+use Rattle.std.proofs.lemmas.Bool.{and_parts, or_parts, not-true}
 use Rattle.std.proofs.lemmas.Option.{same_Some, none-some}
 use Rattle.std.proofs.lemmas.Slice.Eq.{bytes_eq-Decides}
 use Rattle.std.proofs.lemmas.Map.Views.{lookup-from_Contains, Contains-from_lookup}
@@ -13,7 +13,7 @@ use Rattle.fhir_json.specs.Sound.{is_among, differ}
 use Rattle.fhir_definition.specs.Definition.{Definition}
 use Rattle.fhir_schema.specs.declared.form.Property.{Property}
 use Rattle.fhir_schema.specs.Slots.{Slot, slots_of}
-use Rattle.fhir_schema.specs.Forms.{Form, forms_under, if_apart, forms_of, are_apart, is_primitive, companion_name, spells, spellings_of, spellings_from, spellings, property_of}
+use Rattle.fhir_schema.specs.Forms.{Form, forms_under, if_apart, forms_of, are_apart, is_primitive, companion_name, spells, spellings_from, spellings, property_of}
 
 -- ---- the forms of a schema are apart
 

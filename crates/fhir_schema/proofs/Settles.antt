@@ -22,7 +22,7 @@ use Rattle.fhir_schema.specs.Resting.{first_reasons}
 use Rattle.fhir_schema.proofs.Rounds.{rounds_fixed}
 use Rattle.fhir_schema.proofs.Failing.{first_fails, none_fails, hold_none, hold_more, fails_more}
 
--- ---- lists of what is reasons
+-- ---- lists of reasons
 
 -- what the first has reasons, the second has reasons at the same places
 Extends : Reasons → Reasons → Type 0
@@ -157,7 +157,7 @@ module _ (ds : List Definition) (is_placed : (i : ℕ) (d : Definition) → slic
   round_at : (reasons : Reasons) (d : Definition) → slice_get ds d.place ≡ Some d → reason_at (round ds reasons) d.place ≡ reason_of ds reasons d
   round_at reasons d h = round_at_from (reason_of ds reasons) ds d.place d h
 
-  -- what is reasons has a definition
+  -- what has a reason has a definition
   has_definition : (xs : List Definition) (reasons : Reasons) (i : ℕ) (r : Reason) → length reasons ≡ length xs → get_or reasons i None ≡ Some r
       → (d : Definition) × (slice_get xs i ≡ Some d)
   has_definition [] [] i r e h = cc

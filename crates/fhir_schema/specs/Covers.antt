@@ -1,6 +1,6 @@
 -- Which type codes cover which: a code covers itself, and one of a resource covers the types that derive from it (FHIR
 -- R4, Resource: an element of type `Resource` holds any resource).
-use Rattle.std.specs.Prelude.{ℕ, zero, suc, List, [], length, Bool, true, false, ◌&&◌, ◌||◌, nat_eq, Option, None, Some}
+use Rattle.std.specs.Prelude.{ℕ, zero, suc, List, [], length, Bool, false, ◌&&◌, ◌||◌, nat_eq, Option, None, Some}
 use Rattle.std.specs.Option.{option_map_or}
 use Rattle.std.specs.List.{slice_get}
 use Rattle.std.specs.Str.{bytes_eq}

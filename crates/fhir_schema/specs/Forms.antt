@@ -1,6 +1,6 @@
 -- The forms of elements in JSON (FHIR R4, JSON representation of resources): under which property an element stands, once
 -- for each of its types, and what that property holds. Type definitions alone say so, never a profile.
-use Rattle.std.specs.Prelude.{ℕ, suc, List, [], ◌∷◌, ◌++◌, ◌-◌, map, length, take, Bool, true, false, not, ◌&&◌, ◌||◌, nat_eq, nat_le, nat_lt, Option, None, Some, if◌then◌else◌, codes}
+use Rattle.std.specs.Prelude.{ℕ, suc, List, [], ◌∷◌, ◌++◌, ◌-◌, map, length, take, Bool, true, false, not, ◌&&◌, ◌||◌, nat_eq, nat_le, nat_lt, Option, Some, if◌then◌else◌, codes}
 use Rattle.std.specs.Option.{option_map_or}
 use Rattle.std.specs.List.{list_all, flat_map, slice_get, ends_with}
 use Rattle.std.specs.Map.{lookup}

@@ -38,7 +38,7 @@ version_place ds r = option_and_then (where_versioned ds r.1) (url_place ds r.0)
 abbrev pub canonical_place : List Definition → Text → Option ℕ
 canonical_place ds canonical = option_and_then (version_place ds) (result_ok (read_canonical canonical))
 
--- ---- what has been reasons so far, in the places of the definitions
+-- ---- why definitions can't be used, so far as is found, by their places
 
 abbrev pub Reasons : Type 0
 Reasons = List (Option Reason)

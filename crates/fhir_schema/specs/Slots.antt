@@ -1,5 +1,5 @@
 -- Slots: the names that the children of an item may have at a node (FHIR R4, ElementDefinition, slicing for the slices).
-use Rattle.std.specs.Prelude.{ℕ, List, [], map, filter, length, get_or, Bool, true, false, not, ◌&&◌, ◌==◌, nat_lt, Option, if◌then◌else◌, codes}
+use Rattle.std.specs.Prelude.{ℕ, List, [], map, filter, length, get_or, Bool, false, not, ◌&&◌, ◌==◌, Option, if◌then◌else◌, codes}
 use Rattle.std.specs.Option.{option_map_or, option_and_then}
 use Rattle.std.specs.List.{slice_get, list_all}
 use Rattle.std.specs.Str.{bytes_eq}
