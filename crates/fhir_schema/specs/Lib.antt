@@ -6,5 +6,6 @@ pub mod Settling
 pub mod Usability
 pub mod Schemas
 pub mod Chains
+pub mod Lineages
 pub mod Tables
 pub mod Covers
