@@ -1,6 +1,7 @@
 -- Chains of bases, compared by powers of the step to the base.
-use Rattle.std.proofs.Common.{◌≡◌, ◌<◌, ◌≤◌, ℕ, zero, suc, ◌+◌, ◌-◌, ◌*◌, ◌/◌, ◌%◌, ◌^◌, List, [], ◌∷◌, ◌++◌, map, length, get_or, drop, Option, None, Some, Bool, true, false, cond, not}
-use Rattle.std.proofs.Common.{is_some, is_none, IsTrue, nat_eq, nat_le, ◌&&◌, ◌||◌, inl, inr, refl, ap, ap₂, sym, subst, ◌∙◌, arith, length-append}
+use Rattle.std.proofs.Common.{◌≡◌, ◌<◌, ◌≤◌, ℕ, zero, suc, ◌+◌, ◌-◌, ◌*◌, ◌/◌, ◌%◌, ◌^◌, List, [], ◌∷◌, ◌++◌, map, length, get_or, drop}
+use Rattle.std.proofs.Common.{Option, None, Some, Bool, true, false, cond, not}
+use Rattle.std.proofs.Common.{is_some, IsTrue, nat_eq, nat_le, ◌&&◌, inl, inr, refl, ap, ap₂, sym, subst, ◌∙◌, arith, length-append}
 use Rattle.std.proofs.Math.Nat.{pow-succ', mul-le-mul_right, mul-le-mul_left}
 use Rattle.std.proofs.Math.Seq.{drop-cons}
 use Rattle.std.proofs.lemmas.Bool.{and_parts, and_from, or_cases, or_left, or_right, eqb-true, false≢true}
@@ -54,6 +55,10 @@ module _ (ds : List Definition) where
       let half : steps / 2 < 2 ^ count = omega arith in
       halved-steps n steps place (nat_eq (steps % 2) 1) (λ w. after (powers_from ds count (n + suc n)) (steps / 2) w)
       (λ w. after_powers count (n + suc n) (steps / 2) w half) (λ is. grind (arith, nat_tests)) (λ is. grind (arith, nat_tests))
+
+  after_steps : (count steps : ℕ) (place : Option ℕ) → steps < 2 ^ count
+      → after (powers_from ds count 0) steps place ≡ base_after ds steps place
+  after_steps count steps place few = after_powers count 0 steps place few ∙ same_steps (steps * 1) steps place (omega arith)
 
   -- ---- to the end of a chain
 
@@ -145,28 +150,46 @@ module _ (ds : List Definition) where
   is_at_itself goal None is = cc
   is_at_itself goal (Some p) is = let same : goal ≡ p = cc in grind (arith, nat_tests)
 
-  module _ (start goal all : ℕ) (from to : ℕ × ℕ) where
-    sound : (n : ℕ) → base_after ds n (Some start) ≡ None → Climbs ds 0 all start from → to.1 ≤ from.1
-        → base_after ds (from.1 - to.1) (Some start) ≡ Some goal → IsTrue (meets_within ds goal n (Some start))
-    sound n none h below at =
-        meets_at (from.1 - to.1) n goal (Some start) (not_behind (from.1 - to.1) n goal (Some start) at none) at
+  -- a place that is so many steps on is met
+  found_meets : (powers : List (List (Option ℕ))) (start goal n a b : ℕ) → base_after ds n (Some start) ≡ None
+      → after powers (a - b) (Some start) ≡ base_after ds (a - b) (Some start) → IsTrue (is_between powers start goal a b)
+      → IsTrue (meets_within ds goal n (Some start))
+  found_meets powers start goal n a b none is found =
+      let parts = and_parts (nat_le b a) (is_at goal (after powers (a - b) (Some start))) found in
+      let at : base_after ds (a - b) (Some start) ≡ Some goal = sym is ∙ at_place goal (after powers (a - b) (Some start)) parts.1 in
+      meets_at (a - b) n goal (Some start) (not_behind (a - b) n goal (Some start) at none) at
 
-    complete : (n k : ℕ) → base_after ds n (Some start) ≡ None → n ≤ all → Climbs ds 0 all start from → Climbs ds 0 all goal to
-        → base_after ds k (Some start) ≡ Some goal → to.1 + k ≡ from.1
-    complete n k none within f t at =
-        let leads_from : base_after ds from.1 (Some start) ≡ Some from.0 = same_steps from.1 (from.1 * 1) (Some start) (omega arith) ∙ f.leads in
-        let leads_to : base_after ds to.1 (Some goal) ≡ Some to.0 = same_steps to.1 (to.1 * 1) (Some goal) (omega arith) ∙ t.leads in
-        let onwards = λ (m : ℕ). sym (after-sum ds k m (Some start)) ∙ ap (base_after ds m) at in
-        let all_from : base_after ds all (Some start) ≡ None = none_later n all (Some start) within none in
-        let end_from : base_after ds (from.1 + 1) (Some start) ≡ None =
-            sym (after-sum ds from.1 1 (Some start)) ∙ ap (base_after ds 1) leads_from ∙ f.ends all_from in
-        let all_to : base_after ds all (Some goal) ≡ None =
-            sym (onwards all) ∙ none_later all (k + all) (Some start) (omega arith) all_from in
-        let end_to : base_after ds (k + (to.1 + 1)) (Some start) ≡ None =
-            onwards (to.1 + 1) ∙ sym (after-sum ds to.1 1 (Some goal)) ∙ ap (base_after ds 1) leads_to ∙ t.ends all_to in
-        let low : from.1 < k + (to.1 + 1) = not_behind from.1 (k + (to.1 + 1)) from.0 (Some start) leads_from end_to in
-        let high : k + to.1 < from.1 + 1 = not_behind (k + to.1) (from.1 + 1) to.0 (Some start) (onwards to.1 ∙ leads_to) end_from in
-        omega arith
+  -- a place that is met is so many steps on
+  meets_found : (powers : List (List (Option ℕ))) (start goal k a b : ℕ) → b + k ≡ a
+      → after powers (a - b) (Some start) ≡ base_after ds (a - b) (Some start) → base_after ds k (Some start) ≡ Some goal
+      → IsTrue (is_between powers start goal a b)
+  meets_found powers start goal k a b sum is at =
+      let place = after powers (a - b) (Some start) in
+      let there : place ≡ Some goal = is ∙ same_steps (a - b) k (Some start) (omega arith) ∙ at in
+      and_from (nat_le b a) (is_at goal place) (grind (arith, nat_tests)) (is_at_itself goal place there)
+
+  one_size : (count start : ℕ) → Climbs ds 0 (2 ^ count) start (climb (powers_from ds count 0) start)
+  one_size count start = climbs count 0 (2 ^ count) start (omega arith)
+
+  leads_on : (all start : ℕ) (last : ℕ × ℕ) → Climbs ds 0 all start last → base_after ds last.1 (Some start) ≡ Some last.0
+  leads_on all start last h = same_steps last.1 (last.1 * 1) (Some start) (omega arith) ∙ h.leads
+
+  ends_behind : (all start : ℕ) (last : ℕ × ℕ) → Climbs ds 0 all start last → base_after ds all (Some start) ≡ None
+      → base_after ds (last.1 + 1) (Some start) ≡ None
+  ends_behind all start last h ended =
+      sym (after-sum ds last.1 1 (Some start)) ∙ ap (base_after ds 1) (leads_on all start last h) ∙ h.ends ended
+
+  -- the steps of two chains to their ends, of which one comes by the start of the other
+  steps_between : (all start goal k : ℕ) (from to : ℕ × ℕ) → base_after ds all (Some start) ≡ None → Climbs ds 0 all start from
+      → Climbs ds 0 all goal to → base_after ds k (Some start) ≡ Some goal → to.1 + k ≡ from.1
+  steps_between all start goal k from to ended f t at =
+      let onwards = λ (m : ℕ). sym (after-sum ds k m (Some start)) ∙ ap (base_after ds m) at in
+      let goal_ended : base_after ds all (Some goal) ≡ None = sym (onwards all) ∙ none_later all (k + all) (Some start) (omega arith) ended in
+      let end : base_after ds (k + (to.1 + 1)) (Some start) ≡ None = onwards (to.1 + 1) ∙ ends_behind all goal to t goal_ended in
+      let low = not_behind from.1 (k + (to.1 + 1)) from.0 (Some start) (leads_on all start from f) end in
+      let there : base_after ds (k + to.1) (Some start) ≡ Some to.0 = onwards to.1 ∙ leads_on all goal to t in
+      let high = not_behind (k + to.1) (from.1 + 1) to.0 (Some start) there (ends_behind all start from f ended) in
+      omega (arith, low, high)
 
   comes_by_meets : (count start goal n : ℕ) → n ≤ 2 ^ count → base_after ds n (Some start) ≡ None
       → comes_by (powers_from ds count 0) start goal ≡ meets_within ds goal n (Some start)
@@ -174,50 +197,41 @@ module _ (ds : List Definition) where
       let powers = powers_from ds count 0 in
       let from = climb powers start in
       let to = climb powers goal in
-      let f = climbs count 0 (2 ^ count) start (omega arith) in
-      let t = climbs count 0 (2 ^ count) goal (omega arith) in
-      let steps = λ (k : ℕ) (h : k < 2 ^ count).
-          after_powers count 0 k (Some start) h ∙ same_steps (k * 1) k (Some start) (omega arith) in
-      let few : from.1 < n =
-          not_behind from.1 n from.0 (Some start) (same_steps from.1 (from.1 * 1) (Some start) (omega arith) ∙ f.leads) none in
-      let difference = steps (from.1 - to.1) (omega arith) in
+      let f = one_size count start in
+      let ended : base_after ds (2 ^ count) (Some start) ≡ None = none_later n (2 ^ count) (Some start) within none in
+      let few : from.1 < n = not_behind from.1 n from.0 (Some start) (leads_on (2 ^ count) start from f) none in
+      let is = after_steps count (from.1 - to.1) (Some start) (omega arith) in
+      let sum = λ (k : ℕ). steps_between (2 ^ count) start goal k from to ended f (one_size count goal) in
       both_ways (comes_by powers start goal) (meets_within ds goal n (Some start))
-      (λ yes_. let parts = and_parts (nat_le to.1 from.1) (is_at goal (after powers (from.1 - to.1) (Some start))) yes_ in
-          let below : to.1 ≤ from.1 = grind (arith, nat_tests) in
-          sound start goal (2 ^ count) from to n none f below (sym difference ∙ at_place goal (after powers (from.1 - to.1) (Some start)) parts.1))
-      (λ meets.
-          let k = meets_where n goal (Some start) meets in
-          let sum : to.1 + k.0 ≡ from.1 = complete start goal (2 ^ count) from to n k.0 none within f t k.1 in
-          and_from (nat_le to.1 from.1) (is_at goal (after powers (from.1 - to.1) (Some start))) (grind (arith, nat_tests))
-          (is_at_itself goal (after powers (from.1 - to.1) (Some start))
-          (difference ∙ same_steps (from.1 - to.1) k.0 (Some start) (omega arith) ∙ k.1)))
+      (found_meets powers start goal n from.1 to.1 none is)
+      (λ meets. let k = meets_where n goal (Some start) meets in meets_found powers start goal k.0 from.1 to.1 (sum k.0 k.1) is k.1)
 
   -- the chain ends, and comes by the goal
   reaches_by : (powers : List (List (Option ℕ))) (start goal : ℕ) → IsLineage ds powers
       → (not (is_some (after powers (length ds) (Some start))) && comes_by powers start goal) ≡ reaches ds start goal
   reaches_by powers start goal h =
       let count = length powers in
-      let steps =
-          after_powers count 0 (length ds) (Some start) h.1 ∙ same_steps (length ds * 1) (length ds) (Some start) (omega arith) in
+      let steps = after_steps count (length ds) (Some start) h.1 in
       let ends = ap (λ (o : Option ℕ). not (is_some o)) steps ∙ ends-after ds (length ds) (Some start) in
+      let meets = λ (is : IsTrue (ends_within ds (length ds) (Some start))).
+      comes_by_meets count start goal (length ds) (omega (arith, h.1)) (none_where (length ds) (Some start) is) in
       ap (λ (ps : List (List (Option ℕ))). not (is_some (after ps (length ds) (Some start))) && comes_by ps start goal) h.0
       ∙ ap (λ (b : Bool). b && comes_by (powers_from ds count 0) start goal) ends
       ∙ and_where (ends_within ds (length ds) (Some start)) (comes_by (powers_from ds count 0) start goal)
-          (meets_within ds goal (length ds) (Some start))
-          (λ is. comes_by_meets count start goal (length ds) (omega (arith, h.1)) (none_where (length ds) (Some start) is))
+      (meets_within ds goal (length ds) (Some start)) meets
 
   pub unended : (powers : List (List (Option ℕ))) (start goal places : ℕ) (left : Bool) → IsLineage ds powers → places ≡ length ds
       → left ≡ is_some (after powers places (Some start)) → left ≡ true → false ≡ reaches ds start goal
   unended powers start goal places left h all is more =
       let e : true ≡ is_some (after powers (length ds) (Some start)) =
-          sym more ∙ is ∙ ap (λ (n : ℕ). is_some (after powers n (Some start))) all in
+      sym more ∙ is ∙ ap (λ (n : ℕ). is_some (after powers n (Some start))) all in
       ap (λ (b : Bool). not b && comes_by powers start goal) e ∙ reaches_by powers start goal h
 
   pub ended_by : (powers : List (List (Option ℕ))) (start goal places : ℕ) (left : Bool) → IsLineage ds powers → places ≡ length ds
       → left ≡ is_some (after powers places (Some start)) → left ≡ false → comes_by powers start goal ≡ reaches ds start goal
   ended_by powers start goal places left h all is none =
       let e : false ≡ is_some (after powers (length ds) (Some start)) =
-          sym none ∙ is ∙ ap (λ (n : ℕ). is_some (after powers n (Some start))) all in
+      sym none ∙ is ∙ ap (λ (n : ℕ). is_some (after powers n (Some start))) all in
       ap (λ (b : Bool). not b && comes_by powers start goal) e ∙ reaches_by powers start goal h
 
 -- ---- the lists are worked out
@@ -270,33 +284,28 @@ pub as_many : (ds : List Definition) (powers : List (List (Option ℕ))) (power 
     → length power ≡ length ds
 as_many ds powers power left h = ap length h.next ∙ length-map ds (λ d. base_after ds h.before (base_place ds d))
 
-pub all_doubled : (ds : List Definition) (powers : List (List (Option ℕ))) (power : List (Option ℕ)) (left : ℕ) → left ≡ 0
-    → AreDoubled ds powers power left → IsLineage ds powers
-all_doubled ds powers power left none h =
-    (h.are, omega (arith, h.enough, ap (λ (k : ℕ). suc k * 2 ^ length powers) none), h.small)
-
 -- ---- the steps are counted within a word
 
-pub counted : (steps i below count : ℕ) → i ≡ suc below → suc steps * 2 ^ i ≤ 2 ^ count → 2 ^ count ≤ 2 ^ 64 → steps * 2 + 1 < 2 ^ 64
-counted steps i below count is few small =
-    let twice : 2 ^ i ≡ 2 * 2 ^ below = ap (λ (k : ℕ). 2 ^ k) is ∙ pow-succ' 2 below in
-    let whole : suc steps * 2 ^ i ≡ suc steps * 2 * 2 ^ below = omega (arith, ap (λ (k : ℕ). suc steps * k) twice) in
-    let one : suc steps * 2 * 1 ≤ suc steps * 2 * 2 ^ below = mul-le-mul_left (suc steps * 2) (pow_pos below) in
-    omega arith
-
--- one more list, of twice as many steps fewer
+-- the climb by all lists but the first ones, and few enough steps for the climb by these
 pub record Counted (powers : List (List (Option ℕ))) (start i : ℕ) (last : ℕ × ℕ) : Type 0 where
+  pub within : i ≤ length powers
   pub last_is : last ≡ climb (drop i powers) start
   pub few : suc last.1 * 2 ^ i ≤ 2 ^ length powers
 
-few_climbed : (next : Option ℕ) (place steps i below count : ℕ) → i ≡ suc below → suc steps * 2 ^ i ≤ 2 ^ count
-    → suc (option_map_or {U = ℕ × ℕ} (λ base. (base, steps * 2 + 1)) next (place, steps * 2)).1 * 2 ^ below ≤ 2 ^ count
-few_climbed None place steps i below count is few =
-    let twice : 2 ^ i ≡ 2 * 2 ^ below = ap (λ (k : ℕ). 2 ^ k) is ∙ pow-succ' 2 below in
-    omega (arith, ap (λ (k : ℕ). suc steps * k) twice)
-few_climbed (Some base) place steps i below count is few =
-    let twice : 2 ^ i ≡ 2 * 2 ^ below = ap (λ (k : ℕ). 2 ^ k) is ∙ pow-succ' 2 below in
-    omega (arith, ap (λ (k : ℕ). suc steps * k) twice)
+twice_as_many : (i : ℕ) → 0 < i → 2 ^ i ≡ 2 * 2 ^ (i - 1)
+twice_as_many i some = let e : i ≡ suc (i - 1) = omega arith in ap (λ (k : ℕ). 2 ^ k) e ∙ pow-succ' 2 (i - 1)
+
+pub counted : (powers : List (List (Option ℕ))) (start i : ℕ) (last : ℕ × ℕ) → 0 < i → Counted powers start i last → 2 ^ length powers ≤ 2 ^ 64
+    → last.1 * 2 + 1 < 2 ^ 64
+counted powers start i last some h small =
+    let all : suc last.1 * 2 ^ i ≡ suc last.1 * 2 * 2 ^ (i - 1) = omega (arith, ap (λ (k : ℕ). suc last.1 * k) (twice_as_many i some)) in
+    let part : suc last.1 * 2 * 1 ≤ suc last.1 * 2 * 2 ^ (i - 1) = mul-le-mul_left (suc last.1 * 2) (pow_pos (i - 1)) in
+    omega (arith, h.few)
+
+few_climbed : (next : Option ℕ) (place steps i count : ℕ) → 0 < i → suc steps * 2 ^ i ≤ 2 ^ count
+    → suc (option_map_or {U = ℕ × ℕ} (λ base. (base, steps * 2 + 1)) next (place, steps * 2)).1 * 2 ^ (i - 1) ≤ 2 ^ count
+few_climbed None place steps i count some few = omega (arith, ap (λ (k : ℕ). suc steps * k) (twice_as_many i some))
+few_climbed (Some base) place steps i count some few = omega (arith, ap (λ (k : ℕ). suc steps * k) (twice_as_many i some))
 
 at_map : {A B : Type 0} (f : A → B) (xs : List A) (i : ℕ) (x : A) → f (get_or xs i x) ≡ get_or (map f xs) i (f x)
 at_map f [] i x = refl
@@ -308,14 +317,20 @@ pub at_shown : {A B : Type 0} (f : A → B) (xs : List A) (shown : List B) (i : 
 at_shown {B = B} f xs shown i x y is at same =
     same ∙ ap f at ∙ at_map f xs i x ∙ ap₂ (λ (l : List B) (z : B). get_or l i z) is (sym same)
 
-pub one_up : (powers : List (List (Option ℕ))) (power : List (Option ℕ)) (start i below : ℕ) (last next : ℕ × ℕ) → i ≡ suc below → below < length powers
-    → power ≡ get_or powers below power → next ≡ climbed power (last.0, last.1) → last ≡ climb (drop i powers) start
-    → suc last.1 * 2 ^ i ≤ 2 ^ length powers → Counted powers start below next
-one_up powers power start i below last next is within power_is next_is last_is few = record {
-  last_is =
-      next_is ∙ ap (climbed power) (last_is ∙ ap (λ (k : ℕ). climb (drop k powers) start) is)
-      ∙ ap (λ (p : List (Option ℕ)). climbed p (climb (drop (suc below) powers) start)) power_is
-      ∙ ap (λ (ps : List (List (Option ℕ))). climb ps start) (sym (drop-cons powers below power within));
-  few = subst (λ (r : ℕ × ℕ). suc r.1 * 2 ^ below ≤ 2 ^ length powers) (sym next_is)
-      (few_climbed (followed power (Some last.0)) last.0 last.1 i below (length powers) is few);
-}
+pub one_up : (powers : List (List (Option ℕ))) (power : List (Option ℕ)) (start i : ℕ) (last next : ℕ × ℕ) → 0 < i
+    → power ≡ get_or powers (i - 1) power → next ≡ climbed power (last.0, last.1) → Counted powers start i last
+    → Counted powers start (i - 1) next
+one_up powers power start i last next some power_is next_is h =
+    let below = i - 1 in
+    let step : i ≡ suc (i - 1) = omega arith in
+    let within : below < length powers = omega (arith, h.within) in
+    record {
+      within = omega arith;
+      last_is =
+          next_is ∙ ap (climbed power) (h.last_is ∙ ap (λ (k : ℕ). climb (drop k powers) start) step)
+          ∙ ap (λ (p : List (Option ℕ)). climbed p (climb (drop (suc below) powers) start)) power_is
+          ∙ ap (λ (ps : List (List (Option ℕ))). climb ps start) (sym (drop-cons powers below power within));
+      few =
+          subst (λ (r : ℕ × ℕ). suc r.1 * 2 ^ below ≤ 2 ^ length powers) (sym next_is)
+          (few_climbed (followed power (Some last.0)) last.0 last.1 i (length powers) some h.few);
+    }

@@ -1,5 +1,6 @@
 -- Powers of the step from a definition to its base, by which chains of bases are compared (used by private contracts alone).
-use Rattle.std.specs.Prelude.{◌≡◌, ◌<◌, ◌≤◌, ℕ, zero, suc, ◌+◌, ◌-◌, ◌*◌, ◌/◌, ◌%◌, ◌^◌, List, [], ◌∷◌, length, get_or, Bool, ◌&&◌, nat_eq, nat_le, Option, None, Some, if◌then◌else◌}
+use Rattle.std.specs.Prelude.{◌≡◌, ◌<◌, ◌≤◌, ℕ, zero, suc, ◌+◌, ◌-◌, ◌*◌, ◌/◌, ◌%◌, ◌^◌, List, [], ◌∷◌, length, get_or}
+use Rattle.std.specs.Prelude.{Bool, ◌&&◌, nat_eq, nat_le, Option, None, Some, if◌then◌else◌}
 use Rattle.std.specs.Option.{option_map_or, option_and_then}
 use Rattle.fhir_definition.specs.Snapshot.{is_at}
 use Rattle.fhir_definition.specs.Definition.{Definition}

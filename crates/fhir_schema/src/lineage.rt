@@ -35,11 +35,7 @@ fn climbed(power: &[Option<usize>], place: usize, steps: usize) -> (usize, usize
     }
 }
 
-fn followed_where(
-    is_further: bool,
-    power: &[Option<usize>],
-    place: Option<usize>,
-) -> Option<usize>
+fn followed_where(is_further: bool, power: &[Option<usize>], place: Option<usize>) -> Option<usize>
     ensures { result ≡ (if is_further then followed power.now place else place) }
 {
     if is_further {
