@@ -6,6 +6,7 @@ pub mod Resolved
 pub mod Covered
 pub mod KnownNodes
 pub mod Stepping
+pub mod Climbing
 pub mod Roots
 pub mod Capitals
 pub mod Spelled

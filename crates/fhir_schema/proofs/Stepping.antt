@@ -8,18 +8,18 @@ use Rattle.fhir_schema.specs.Settling.{base_place, base_of_place, ends_within, c
 use Rattle.fhir_schema.specs.Chains.{base_after, bases_after}
 
 module _ (ds : List Definition) where
-  after-none : (n : ℕ) → base_after ds n None ≡ None
+  pub after-none : (n : ℕ) → base_after ds n None ≡ None
   after-none zero = refl
   after-none (suc n) = after-none n
 
   -- a chain ends within so many steps where none is left after them
-  ends-after : (n : ℕ) (place : Option ℕ) → not (is_some (base_after ds n place)) ≡ ends_within ds n place
+  pub ends-after : (n : ℕ) (place : Option ℕ) → not (is_some (base_after ds n place)) ≡ ends_within ds n place
   ends-after n None = ap (λ (o : Option ℕ). not (is_some o)) (after-none n)
   ends-after zero (Some p) = refl
   ends-after (suc n) (Some p) = ends-after n (base_of_place ds p)
 
   -- steps after steps
-  after-sum : (a n : ℕ) (place : Option ℕ) → base_after ds n (base_after ds a place) ≡ base_after ds (a + n) place
+  pub after-sum : (a n : ℕ) (place : Option ℕ) → base_after ds n (base_after ds a place) ≡ base_after ds (a + n) place
   after-sum zero n place = let e : n ≡ 0 + n = omega arith in ap (λ (k : ℕ). base_after ds k place) e
   after-sum (suc a) n place =
       let e : suc (a + n) ≡ suc a + n = omega arith in
@@ -36,7 +36,7 @@ module _ (ds : List Definition) where
   behind_base m (Some d) = refl
 
   -- the list of where so many steps lead from each base leads one step further
-  further : (m : ℕ) (place : Option ℕ) → option_and_then (λ p. get_or (bases_after ds m) p None) place ≡ base_after ds (suc m) place
+  pub further : (m : ℕ) (place : Option ℕ) → option_and_then (λ p. get_or (bases_after ds m) p None) place ≡ base_after ds (suc m) place
   further m None = sym (after-none m)
   further m (Some p) = listed (λ d. base_after ds m (base_place ds d)) ds p ∙ behind_base m (slice_get ds p)
 

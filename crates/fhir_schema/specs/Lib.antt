@@ -6,6 +6,7 @@ pub mod Settling
 pub mod Usability
 pub mod Schemas
 pub mod Chains
+pub mod Lineages
 pub mod Tables
 pub mod Covers
 pub mod Resting

@@ -9,8 +9,8 @@ use crate::table::Table;
 use crate::types::base_place;
 use std::alloc::{AllocError, Global};
 
-// The place of each definition's base.
-fn bases_of(alloc: Global, table: &Table) -> Result<Vec<Option<usize>>, AllocError>
+/// The place of each definition's base.
+pub(crate) fn bases_of(alloc: Global, table: &Table) -> Result<Vec<Option<usize>>, AllocError>
     ensures { IfOk result (λ v. v.items ≡ bases_after table.now 0) }
 {
     let mut places = Vec::new(alloc);
@@ -20,7 +20,8 @@ fn bases_of(alloc: Global, table: &Table) -> Result<Vec<Option<usize>>, AllocErr
     Ok(places)
 }
 
-fn place_at(places: &[Option<usize>], at: Option<usize>) -> Option<usize>
+/// Where the steps of a list lead from a place.
+pub(crate) fn place_at(places: &[Option<usize>], at: Option<usize>) -> Option<usize>
     ensures { result ≡ option_and_then (λ p. get_or places.now p None) at }
 {
     match at {
@@ -29,8 +30,8 @@ fn place_at(places: &[Option<usize>], at: Option<usize>) -> Option<usize>
     }
 }
 
-// For each place the one to which further steps lead from it.
-fn followed(
+/// For each place the one to which further steps lead from it.
+pub(crate) fn followed(
     alloc: Global,
     places: &[Option<usize>],
     further: &[Option<usize>],

@@ -23,6 +23,7 @@ mod form_table;
 mod forms;
 mod kinds;
 mod laws;
+mod lineage;
 mod node;
 mod node_forms;
 mod nodes;

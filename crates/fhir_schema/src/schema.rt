@@ -13,6 +13,7 @@ use crate::covering::covers;
 use crate::flat::is_flat;
 use crate::form::{Form, Property};
 use crate::kinds::{is_resource, type_of_code};
+use crate::lineage::Lineage;
 use crate::node::NodeRef;
 use crate::node_forms::NodeForms;
 use crate::nodes::Nodes;
@@ -30,6 +31,7 @@ use std::marker::Model;
 #[derive(Drop)]
 pub struct Schema {
     table: Table,
+    lineage: Lineage,
     reasons: Vec<Option<Reason>>,
     nodes: Nodes,
     forms: NodeForms,
@@ -47,10 +49,11 @@ impl Model for Schema {
 
     ghost use Rattle.std.specs.Prelude.{◌≡◌};
     ghost use Rattle.fhir_schema.specs.Schemas.{all_slots, all_forms};
+    ghost use Rattle.fhir_schema.specs.Lineages.{IsLineage};
 
     ghost view = { λ s. record { definitions = s.table; reasons = s.reasons.items } };
 
-    ghost invariant = { λ s. (s.nodes ≡ all_slots s.table) × (s.forms.forms ≡ all_forms s.table) };
+    ghost invariant = { λ s. (s.nodes ≡ all_slots s.table) × (s.forms.forms ≡ all_forms s.table) × IsLineage s.table s.lineage };
 }
 
 impl Schema {
@@ -59,11 +62,13 @@ impl Schema {
         ensures { Gives (λ s. s) result (schema_of from.now) }
     {
         let table = Table::of(alloc, from)?;
+        let lineage = Lineage::of(alloc, &table)?;
         let nodes = Nodes::of(alloc, &table)?;
         let forms = NodeForms::of(alloc, &table, &nodes)?;
         let reasons = all_reasons(alloc, &table, forms.are_apart())?;
         Ok(Schema {
             table,
+            lineage,
             reasons,
             nodes,
             forms,
@@ -326,6 +331,6 @@ impl Schema {
     pub fn covers(&self, code: &str, other: &str) -> bool
         ensures { result ≡ covers self.now code.now other.now }
     {
-        covers(&self.table, code, other)
+        covers(&self.table, &self.lineage, code, other)
     }
 }

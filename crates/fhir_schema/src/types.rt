@@ -3,7 +3,7 @@
 ghost use Rattle.std.specs.Prelude.{◌≡◌};
 ghost use Rattle.std.specs.Option.{option_map_or, option_and_then};
 ghost use Rattle.std.specs.List.{list_all, slice_get};
-ghost use Rattle.fhir_schema.specs.Settling.{is_versioned, where_versioned, version_place, canonical_place, reason_at, is_usable_type, entry_is_usable, element_is_usable, types_are_usable, base_place, base_of_place, ends_within, is_first_of_type, names_no_resource, element_is_supported, is_supported};
+ghost use Rattle.fhir_schema.specs.Settling.{is_versioned, where_versioned, version_place, canonical_place, reason_at, is_usable_type, entry_is_usable, element_is_usable, types_are_usable, base_place, is_first_of_type, names_no_resource, element_is_supported, is_supported};
 
 use crate::kinds::{is_system, names_resource};
 use crate::table::Table;
@@ -116,32 +116,6 @@ pub(crate) fn base_place(table: &Table, definition: &Definition) -> Option<usize
         Some(base) => canonical_place(table, base),
         None => None,
     }
-}
-
-/// The place of a definition's base.
-pub(crate) fn base_of_place(table: &Table, place: usize) -> Option<usize>
-    ensures { result ≡ base_of_place table.now place }
-{
-    match table.definition(place) {
-        Some(definition) => base_place(table, definition),
-        None => None,
-    }
-}
-
-/// Whether the chain of bases from a place ends within so many steps.
-pub(crate) fn ends_within(table: &Table, steps: usize, start: Option<usize>) -> bool
-    ensures { result ≡ ends_within table.now steps start }
-{
-    let mut at = start;
-    let mut left = steps;
-    while let Some(place) = at {
-        if left == 0 {
-            return false;
-        }
-        left -= 1;
-        at = base_of_place(table, place);
-    }
-    true
 }
 
 /// Whether it is the first of its type, if it is a type definition.
