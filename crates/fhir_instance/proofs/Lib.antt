@@ -1,0 +1,7 @@
+pub mod Meanings
+pub mod Looking
+pub mod Ordered
+pub mod Spots
+pub mod Joining
+pub mod Walking
+pub mod NamedItems

@@ -1,6 +1,9 @@
 pub mod Items
 pub mod Typing
 pub mod Accounting
+pub mod View
+pub mod Spelled
+pub mod Found
 pub mod Conformance
 pub mod Example
 pub mod TypingExample

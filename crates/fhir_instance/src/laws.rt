@@ -1,16 +1,24 @@
 //! Laws: what the definitions say of one another.
 
-ghost use Rattle.std.specs.Prelude.{◌≡◌, codes};
+ghost use Rattle.std.specs.Prelude.{◌≡◌, List, Some, codes};
 ghost use Rattle.fhir_json.specs.Tree.{Tree};
 ghost use Rattle.fhir_schema.specs.Schemas.{SchemaValue};
-ghost use Rattle.fhir_instance.specs.Items.{Item, Interpretation};
-ghost use Rattle.fhir_instance.specs.Typing.{Types};
+ghost use Rattle.fhir_instance.specs.Items.{Item, Named, Interpretation};
+ghost use Rattle.fhir_instance.specs.Typing.{Types, Frame, Field, object_kids};
+ghost use Rattle.fhir_instance.specs.Accounting.{Accounts};
 ghost use Rattle.fhir_instance.specs.Conformance.{Conforms};
 ghost use Rattle.fhir_instance.specs.Example.{schema, bare, noted, unknown};
 
 /// A tree has at most one item.
 pub fn one_item()
     ensures { (s : SchemaValue) (t : Tree) (x y : Item) → Types s t x → Types s t y → x ≡ y }
+{}
+
+/// What it is that an object has these children: each of its properties is an element's or names its type, and under each
+/// name stand the items that are typed from that element's properties.
+pub fn accounted()
+    ensures { (s : SchemaValue) (frame : Frame) (fields : List Field) (kids : List Named)
+        → object_kids s frame fields ≡ Some kids → Accounts s frame fields kids }
 {}
 
 /// The definitions at work, on a resource that may have a note, and profiles of it. One with a note conforms to a profile

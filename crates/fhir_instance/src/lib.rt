@@ -11,9 +11,20 @@
 //! Read the contract of `example` first: it shows the definitions at work on one small package.
 #![tactic(auto)]
 
+mod children;
 mod examples;
+mod found;
 mod frame;
 mod laws;
+mod leaves;
+mod misfit;
+mod placing;
+mod resource;
+mod spelled;
+mod typed;
 
 pub use examples::typing_example;
-pub use laws::{example, one_item};
+pub use laws::{accounted, example, one_item};
+pub use misfit::{Misfit, MisfitKind};
+pub use resource::type_resource;
+pub use typed::{Kid, Typed};

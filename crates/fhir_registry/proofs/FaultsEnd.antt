@@ -13,7 +13,7 @@ use Rattle.fhir_certificate.specs.Reading.{reading}
 use Rattle.fhir_cert_check.specs.Rule.{RuleName}
 use Rattle.fhir_cert_check.specs.Checking.{answer_of}
 use Rattle.fhir_registry.specs.Ending.{is_fault}
-use Rattle.fhir_registry.specs.Replying.{ReplyValue, RequestValue, certify, wrong_reply, answer_reply, certificate_reply, certify_reply, answer_to}
+use Rattle.fhir_registry.specs.Replying.{ReplyValue, certify, wrong_reply, answer_reply, certificate_reply, certify_reply, answer_to}
 
 abbrev EndsSo : ReplyValue → Type 0
 EndsSo reply = IsTrue (is_fault reply) → reply.status ≡ 3
@@ -31,10 +31,10 @@ of_package : (name : Text) (p : Result Definitions Refusal) (bytes : Option Text
 of_package name (Ok p) bytes h = of_certificate name (schema_of p) bytes h
 of_package name (Err refusal) bytes h = refl
 
-of_request : (request : RequestValue) (files : Result Files LoadFault) (bytes : Option Text) → EndsSo (answer_to request files bytes)
-of_request (certify folder file) (Ok files) bytes h = of_package file (pack_files files) bytes h
-of_request (certify folder file) (Err fault) bytes h = refl
+of_files : (folder file : Text) (files : Result Files LoadFault) (bytes : Option Text) → EndsSo (answer_to (certify folder file) files bytes)
+of_files folder file (Ok files) bytes h = of_package file (pack_files files) bytes h
+of_files folder file (Err fault) bytes h = refl
 
-pub faults_end : (request : RequestValue) (files : Result Files LoadFault) (bytes : Option Text) (reply : ReplyValue) → reply ≡ answer_to request files bytes
-    → EndsSo reply
-faults_end request files bytes reply e = subst EndsSo (sym e) (of_request request files bytes)
+pub faults_end : (folder file : Text) (files : Result Files LoadFault) (bytes : Option Text) (reply : ReplyValue)
+    → reply ≡ answer_to (certify folder file) files bytes → EndsSo reply
+faults_end folder file files bytes reply e = subst EndsSo (sym e) (of_files folder file files bytes)

@@ -1,0 +1,507 @@
+//! The children of objects.
+
+ghost use Rattle.std.specs.Prelude.{◌≡◌, ◌&&◌, ◌==◌, nat_lt, length, map, IfOk, OnOk, IsTrue, None, Some, if◌then◌else◌};
+ghost use Rattle.std.specs.List.{zip};
+ghost use Rattle.fhir_json.specs.Views.{tree_of};
+ghost use Rattle.fhir_schema.specs.Forms.{is_primitive};
+ghost use Rattle.fhir_schema.specs.Schemas.{resource_root};
+ghost use Rattle.fhir_instance.specs.declared.frame.Part.TheVariants as parts;
+ghost use Rattle.fhir_instance.specs.Typing.{kids_as, kids_by, object_kids, both, joined, items_from, place_items, resource_item, resource_of_type, under, complex_item, value_of};
+ghost use Rattle.fhir_instance.specs.Found.{kids_found, frame_of, fields_in, held_at, held_in_hand, value_in_hand, halves_in_hand, one_items, given, ArePlaces};
+
+use crate::found::{Found, Spot, Spots};
+use crate::frame::Part;
+use crate::leaves::{
+    add_primitive, add_system, add_uncompanied, add_untyped, check_value, check_values, is_null,
+    type_named,
+};
+use crate::misfit::{MisfitKind, kind_of, kind_of_single};
+use crate::placing::{Tally, form_at, room_for};
+use crate::spelled::{Places, group_at, sorted_in};
+use fhir_json::{Json, Member};
+use fhir_schema::{Content, Form, NodeRef, Schema};
+use std::alloc::{AllocError, Global};
+
+// The children of a value, as an object that a node types.
+#[cycle(typing)]
+fn kids_of<'a, 'j>(
+    alloc: Global,
+    schema: &'a Schema,
+    json: &'a Json<'j>,
+    node: NodeRef,
+    part: Part,
+) -> Result<Found<'a, 'j>, AllocError>
+    ensures { IfOk result (λ f. kids_found f ≡ kids_as schema.now (tree_of json.now) (frame_of node part)) }
+{
+    match json {
+        Json::Obj(members) => object_kids(alloc, schema, members, node, part),
+        _ => Ok(Found::refused(alloc, kind_of(json))),
+    }
+}
+
+// The same, where a node may type it.
+#[cycle(typing)]
+fn kids_by<'a, 'j>(
+    alloc: Global,
+    schema: &'a Schema,
+    json: &'a Json<'j>,
+    below: Option<NodeRef>,
+    part: Part,
+) -> Result<Found<'a, 'j>, AllocError>
+    ensures { IfOk result (λ f. kids_found f ≡ kids_by part below (value_of schema.now (tree_of json.now))) }
+{
+    match below {
+        Some(node) => kids_of(alloc, schema, json, node, part),
+        None => Ok(Found::refused(alloc, kind_of(json))),
+    }
+}
+
+#[cycle(typing)]
+fn object_kids<'a, 'j>(
+    alloc: Global,
+    schema: &'a Schema,
+    members: &'a Vec<Member<'j>>,
+    node: NodeRef,
+    part: Part,
+) -> Result<Found<'a, 'j>, AllocError>
+    ensures { IfOk result (λ f. kids_found f
+        ≡ object_kids schema.now (frame_of node part) (fields_in schema.now members.now.items)) }
+{
+    if members.len() == 0 {
+        return Ok(Found::refused(alloc, MisfitKind::Empty));
+    }
+    let mut found: Found<'a, 'j> = Found::with_room(alloc, room_for(members))?;
+    let spelled = sorted_in(alloc, schema, node, part, members, &mut found)?;
+    schema.forms_are_apart(node);
+    let forms = schema.forms(node);
+    let mut tally = Tally::new();
+    let mut i = 0;
+    while i < spelled.len() {
+        let group = group_at(&spelled, i);
+        let form = form_at(forms, group.form);
+        let before = tally.before(forms, group, members);
+        add_form(
+            alloc,
+            schema,
+            form,
+            members,
+            group.places,
+            before,
+            &mut found,
+        )?;
+        i += group.count;
+    }
+    Ok(found)
+}
+
+// The items of a form, whose properties are at these places.
+#[cycle(typing)]
+fn add_form<'a, 'j>(
+    alloc: Global,
+    schema: &'a Schema,
+    form: &'a Form,
+    members: &'a Vec<Member<'j>>,
+    at: Places,
+    before: usize,
+    found: &mut Found<'a, 'j>,
+) -> Result<(), AllocError>
+    requires { ArePlaces form.now (length members.now.items) at }
+    ensures { OnOk result (kids_found found.new ≡ both (kids_found found.old)
+        (items_from schema.now form.now (held_at schema.now members.now.items at.value)
+        (held_at schema.now members.now.items at.companion))) }
+{
+    match at.value {
+        Some(i) => match at.companion {
+            Some(k) => add_both(
+                alloc,
+                schema,
+                form,
+                &members[k].value,
+                &members[i].value,
+                Spots {
+                    value: Spot::of(&members[i], i, before),
+                    companion: Spot::of(&members[k], k, before),
+                },
+                found,
+            ),
+            None => add_values(
+                alloc,
+                schema,
+                form,
+                &members[i].value,
+                Spot::of(&members[i], i, before),
+                found,
+            ),
+        },
+        None => match at.companion {
+            Some(k) => add_companions(
+                alloc,
+                schema,
+                form,
+                &members[k].value,
+                Spot::of(&members[k], k, before),
+                found,
+            ),
+            None => Ok(()),
+        },
+    }
+}
+
+// The items of a property that has no companion.
+#[cycle(typing)]
+fn add_values<'a, 'j>(
+    alloc: Global,
+    schema: &'a Schema,
+    form: &'a Form,
+    json: &'a Json<'j>,
+    spot: Spot<'a>,
+    found: &mut Found<'a, 'j>,
+) -> Result<(), AllocError>
+    ensures { OnOk result (kids_found found.new ≡ both (kids_found found.old)
+        (items_from schema.now form.now (Some (held_in_hand schema.now json.now)) None)) }
+{
+    if !form.repeats() {
+        return add_value(alloc, schema, form, json, spot, found);
+    }
+    match json {
+        Json::Arr(items) => add_each_value(alloc, schema, form, items, spot, found),
+        _ => {
+            found.refuse_early(alloc, kind_of_single(json), spot);
+            Ok(())
+        }
+    }
+}
+
+#[cycle(typing)]
+fn add_each_value<'a, 'j>(
+    alloc: Global,
+    schema: &'a Schema,
+    form: &'a Form,
+    items: &'a Vec<Json<'j>>,
+    spot: Spot<'a>,
+    found: &mut Found<'a, 'j>,
+) -> Result<(), AllocError>
+    ensures { OnOk result (kids_found found.new ≡ both (kids_found found.old)
+        (if nat_lt 0 (length items.now.items)
+        then joined (map (λ j. place_items schema.now form.now (value_in_hand schema.now j, None)) items.now.items)
+        else None)) }
+{
+    if items.len() == 0 {
+        found.refuse_early(alloc, MisfitKind::Empty, spot);
+        return Ok(());
+    }
+    for i in 0..items.len() {
+        add_value(alloc, schema, form, &items[i], spot.item(i), found)?;
+    }
+    Ok(())
+}
+
+// The items of a companion whose property isn't there.
+#[cycle(typing)]
+fn add_companions<'a, 'j>(
+    alloc: Global,
+    schema: &'a Schema,
+    form: &'a Form,
+    json: &'a Json<'j>,
+    spot: Spot<'a>,
+    found: &mut Found<'a, 'j>,
+) -> Result<(), AllocError>
+    ensures { OnOk result (kids_found found.new ≡ both (kids_found found.old)
+        (items_from schema.now form.now None (Some (held_in_hand schema.now json.now)))) }
+{
+    if !form.repeats() {
+        return add_alone(alloc, schema, form, json, spot, found);
+    }
+    match json {
+        Json::Arr(items) => add_each_alone(alloc, schema, form, items, spot, found),
+        _ => {
+            found.refuse_early(alloc, kind_of_single(json), spot);
+            Ok(())
+        }
+    }
+}
+
+#[cycle(typing)]
+fn add_each_alone<'a, 'j>(
+    alloc: Global,
+    schema: &'a Schema,
+    form: &'a Form,
+    items: &'a Vec<Json<'j>>,
+    spot: Spot<'a>,
+    found: &mut Found<'a, 'j>,
+) -> Result<(), AllocError>
+    ensures { OnOk result (kids_found found.new ≡ both (kids_found found.old)
+        (if nat_lt 0 (length items.now.items)
+        then joined (map (λ j. place_items schema.now form.now (None, value_in_hand schema.now j)) items.now.items)
+        else None)) }
+{
+    if items.len() == 0 {
+        found.refuse_early(alloc, MisfitKind::Empty, spot);
+        return Ok(());
+    }
+    for i in 0..items.len() {
+        add_alone(alloc, schema, form, &items[i], spot.item(i), found)?;
+    }
+    Ok(())
+}
+
+// The items of a property and its companion. Where one is no array, the other is still looked at, since the first misfit
+// may be in it.
+#[cycle(typing)]
+fn add_both<'a, 'j>(
+    alloc: Global,
+    schema: &'a Schema,
+    form: &'a Form,
+    companions: &'a Json<'j>,
+    values: &'a Json<'j>,
+    spots: Spots<'a>,
+    found: &mut Found<'a, 'j>,
+) -> Result<(), AllocError>
+    requires { IsTrue (is_primitive form.now.content) }
+    ensures { OnOk result (kids_found found.new ≡ both (kids_found found.old)
+        (items_from schema.now form.now (Some (held_in_hand schema.now values.now))
+        (Some (held_in_hand schema.now companions.now)))) }
+{
+    if !form.repeats() {
+        return add_one_pair(alloc, schema, form, companions, values, spots, found);
+    }
+    match companions {
+        Json::Arr(companions) => match values {
+            Json::Arr(values) => {
+                add_each_pair(alloc, schema, form, companions, values, spots, found)
+            }
+            _ => {
+                found.refuse_early(alloc, kind_of_single(values), spots.value);
+                add_each_alone(alloc, schema, form, companions, spots.companion, found)
+            }
+        },
+        _ => {
+            found.refuse_early(alloc, kind_of_single(companions), spots.companion);
+            check_values(alloc, form, values, spots.value, found);
+            Ok(())
+        }
+    }
+}
+
+// The item of a value and its companion, neither of which may be null.
+#[cycle(typing)]
+fn add_one_pair<'a, 'j>(
+    alloc: Global,
+    schema: &'a Schema,
+    form: &'a Form,
+    companion: &'a Json<'j>,
+    value: &'a Json<'j>,
+    spots: Spots<'a>,
+    found: &mut Found<'a, 'j>,
+) -> Result<(), AllocError>
+    ensures { OnOk result (kids_found found.new ≡ both (kids_found found.old)
+        (one_items schema.now form.now (value_in_hand schema.now value.now) (value_in_hand schema.now companion.now))) }
+{
+    if is_null(companion) {
+        found.refuse_null(alloc, spots.companion);
+        check_values(alloc, form, value, spots.value, found);
+        return Ok(());
+    }
+    if is_null(value) {
+        found.refuse_null(alloc, spots.value);
+        return add_alone(alloc, schema, form, companion, spots.companion, found);
+    }
+    add_companion(alloc, schema, form, companion, Some(value), spots, found)
+}
+
+#[cycle(typing)]
+fn add_each_pair<'a, 'j>(
+    alloc: Global,
+    schema: &'a Schema,
+    form: &'a Form,
+    companions: &'a Vec<Json<'j>>,
+    values: &'a Vec<Json<'j>>,
+    spots: Spots<'a>,
+    found: &mut Found<'a, 'j>,
+) -> Result<(), AllocError>
+    requires { IsTrue (is_primitive form.now.content) }
+    ensures { OnOk result (kids_found found.new ≡ both (kids_found found.old)
+        (if nat_lt 0 (length values.now.items) && (length values.now.items == length companions.now.items)
+        then joined (map (λ p. place_items schema.now form.now (halves_in_hand schema.now p.0 p.1)) (zip values.now.items companions.now.items))
+        else None)) }
+{
+    if values.len() == 0 || values.len() != companions.len() {
+        found.refuse_counts(alloc, values.len(), companions.len(), spots);
+        return Ok(());
+    }
+    for i in 0..companions.len() {
+        add_pair(
+            alloc,
+            schema,
+            form,
+            &companions[i],
+            &values[i],
+            spots.item(i),
+            found,
+        )?;
+    }
+    Ok(())
+}
+
+// The item of a value and a companion, one of which may be null.
+#[cycle(typing)]
+fn add_pair<'a, 'j>(
+    alloc: Global,
+    schema: &'a Schema,
+    form: &'a Form,
+    companion: &'a Json<'j>,
+    value: &'a Json<'j>,
+    spots: Spots<'a>,
+    found: &mut Found<'a, 'j>,
+) -> Result<(), AllocError>
+    requires { IsTrue (is_primitive form.now.content) }
+    ensures { OnOk result (kids_found found.new ≡ both (kids_found found.old)
+        (place_items schema.now form.now (halves_in_hand schema.now value.now companion.now))) }
+{
+    if is_null(companion) {
+        return add_uncompanied(alloc, form, value, spots, found);
+    }
+    if is_null(value) {
+        return add_companion(alloc, schema, form, companion, None, spots, found);
+    }
+    add_companion(alloc, schema, form, companion, Some(value), spots, found)
+}
+
+// The item of a companion without a value.
+#[cycle(typing)]
+fn add_alone<'a, 'j>(
+    alloc: Global,
+    schema: &'a Schema,
+    form: &'a Form,
+    json: &'a Json<'j>,
+    spot: Spot<'a>,
+    found: &mut Found<'a, 'j>,
+) -> Result<(), AllocError>
+    ensures { OnOk result (kids_found found.new ≡ both (kids_found found.old)
+        (place_items schema.now form.now (None, value_in_hand schema.now json.now))) }
+{
+    if is_null(json) {
+        found.refuse_null(alloc, spot);
+        return Ok(());
+    }
+    add_companion(alloc, schema, form, json, None, Spots::alone(spot), found)
+}
+
+// The item of a companion, and of a value, neither of them null. Both are looked at, since the first misfit may be in
+// either.
+#[cycle(typing)]
+fn add_companion<'a, 'j>(
+    alloc: Global,
+    schema: &'a Schema,
+    form: &'a Form,
+    companion: &'a Json<'j>,
+    value: Option<&'a Json<'j>>,
+    spots: Spots<'a>,
+    found: &mut Found<'a, 'j>,
+) -> Result<(), AllocError>
+    ensures { OnOk result (kids_found found.new ≡ both (kids_found found.old)
+        (place_items schema.now form.now (given schema.now value.entry, Some (value_of schema.now (tree_of companion.now))))) }
+{
+    let Content::Primitive(prim, below) = form.content() else {
+        found.refuse(alloc, MisfitKind::UnknownProperty, spots.companion);
+        return Ok(());
+    };
+    check_value(alloc, prim, value, spots.value, found);
+    let inner = kids_by(alloc, schema, companion, below, Part::Companion)?;
+    found.add(form, form.code(), value, inner, spots.companion)
+}
+
+// The item of a value that has no companion.
+#[cycle(typing)]
+fn add_value<'a, 'j>(
+    alloc: Global,
+    schema: &'a Schema,
+    form: &'a Form,
+    json: &'a Json<'j>,
+    spot: Spot<'a>,
+    found: &mut Found<'a, 'j>,
+) -> Result<(), AllocError>
+    ensures { OnOk result (kids_found found.new ≡ both (kids_found found.old)
+        (place_items schema.now form.now (value_in_hand schema.now json.now, None))) }
+{
+    if is_null(json) {
+        found.refuse_null(alloc, spot);
+        return Ok(());
+    }
+    match form.content() {
+        Content::Primitive(prim, _below) => add_primitive(alloc, form, prim, json, spot, found),
+        Content::System => add_system(alloc, form, json, spot, found),
+        Content::Resource => add_resource(alloc, schema, form, json, spot, found),
+        Content::Complex(below) => add_complex(alloc, schema, form, json, below, spot, found),
+    }
+}
+
+#[cycle(typing)]
+fn add_complex<'a, 'j>(
+    alloc: Global,
+    schema: &'a Schema,
+    form: &'a Form,
+    json: &'a Json<'j>,
+    below: Option<NodeRef>,
+    spot: Spot<'a>,
+    found: &mut Found<'a, 'j>,
+) -> Result<(), AllocError>
+    ensures { OnOk result (kids_found found.new ≡ both (kids_found found.old)
+        (under form.now (complex_item below form.now.code (value_of schema.now (tree_of json.now))))) }
+{
+    let inner = kids_by(alloc, schema, json, below, Part::Element)?;
+    found.add(form, form.code(), Some(json), inner, spot)
+}
+
+#[cycle(typing)]
+fn add_resource<'a, 'j>(
+    alloc: Global,
+    schema: &'a Schema,
+    form: &'a Form,
+    json: &'a Json<'j>,
+    spot: Spot<'a>,
+    found: &mut Found<'a, 'j>,
+) -> Result<(), AllocError>
+    ensures { OnOk result (kids_found found.new ≡ both (kids_found found.old)
+        (under form.now (resource_item schema.now (value_of schema.now (tree_of json.now))))) }
+{
+    match type_named(json) {
+        Some(code) => add_typed(alloc, schema, form, json, code, spot, found),
+        None => add_untyped(alloc, form, json, spot, found),
+    }
+}
+
+// A resource that says its type.
+#[cycle(typing)]
+fn add_typed<'a, 'j>(
+    alloc: Global,
+    schema: &'a Schema,
+    form: &'a Form,
+    json: &'a Json<'j>,
+    code: &'a str,
+    spot: Spot<'a>,
+    found: &mut Found<'a, 'j>,
+) -> Result<(), AllocError>
+    ensures { OnOk result (kids_found found.new ≡ both (kids_found found.old)
+        (under form.now (resource_of_type schema.now (value_of schema.now (tree_of json.now)) code.now))) }
+{
+    let inner = resource_kids(alloc, schema, json, code)?;
+    found.add(form, code, Some(json), inner, spot)
+}
+
+/// The children of a resource of a type.
+#[cycle(typing)]
+pub(crate) fn resource_kids<'a, 'j>(
+    alloc: Global,
+    schema: &'a Schema,
+    json: &'a Json<'j>,
+    code: &str,
+) -> Result<Found<'a, 'j>, AllocError>
+    ensures { IfOk result (λ f. kids_found f
+        ≡ kids_by parts.Resource (resource_root schema.now code.now) (value_of schema.now (tree_of json.now))) }
+{
+    match schema.resource_root(code) {
+        Some(node) => kids_of(alloc, schema, json, node, Part::Resource),
+        None => Ok(Found::refused_at(alloc, MisfitKind::UnknownType, "resourceType")),
+    }
+}

@@ -1,0 +1,249 @@
+//! Which form each property of an object belongs to.
+
+ghost use Rattle.std.specs.Prelude.{◌≡◌, ◌++◌, ◌+◌, ◌<◌, ◌≤◌, ℕ, length, take, drop, IfOk, OnOk, is_some, None, if◌then◌else◌};
+ghost use Rattle.std.specs.List.{list_any};
+ghost use Rattle.std.specs.List.Sorted.{IsNonDecreasingBy};
+ghost use Rattle.fhir_json.specs.Tree.{names};
+ghost use Rattle.fhir_json.specs.Views.{members_view};
+ghost use Rattle.fhir_json.specs.Views.{property_of as name_and_value};
+ghost use Rattle.fhir_schema.specs.Forms.{spells};
+ghost use Rattle.fhir_instance.specs.Typing.{names_type_in, is_of_part, is_known, forms_in};
+ghost use Rattle.fhir_instance.specs.Found.{frame_of, kids_found};
+ghost use Rattle.fhir_instance.specs.Spelled.{meaning, where_of_part, spelled_at, spelled_from, are_known, of_form, count_front, first_form, value_among, companion_among, places_among};
+
+use crate::found::{Found, Spot};
+use crate::frame::Part;
+use crate::misfit::MisfitKind;
+use fhir_json::Member;
+use fhir_schema::{Form, NodeRef, Property, Schema};
+use std::alloc::{AllocError, Global};
+
+/// A property of an object: the place of the form that it belongs to, whether it is that one's companion, and its own
+/// place in the object.
+#[derive(Clone, Copy, Debug)]
+pub(crate) struct Spelled {
+    pub(crate) form: usize,
+    pub(crate) is_companion: bool,
+    pub(crate) at: usize,
+}
+
+/// Where the properties of one form are in an object: its own, and that of its companions.
+#[derive(Clone, Copy, Debug)]
+pub(crate) struct Places {
+    pub(crate) value: Option<usize>,
+    pub(crate) companion: Option<usize>,
+}
+
+fn name_in<'m>(member: &'m Member<'_>) -> &'m str
+    ensures { result.now ≡ (name_and_value member.now).0 }
+{
+    member.name.as_str()
+}
+
+fn is_of_part(part: Part, form: &Form) -> bool
+    ensures { result ≡ is_of_part part form.now }
+{
+    match part {
+        Part::Element => true,
+        Part::Resource => form.property() != "resourceType",
+        Part::Companion => form.name() == "id" || form.name() == "extension",
+    }
+}
+
+fn names_type_in(part: Part, name: &str) -> bool
+    ensures { result ≡ names_type_in part name.now }
+{
+    match part {
+        Part::Resource => name == "resourceType",
+        Part::Element => false,
+        Part::Companion => false,
+    }
+}
+
+fn where_of_part(part: Part, forms: &[Form], property: Property) -> Option<Property>
+    ensures { result ≡ where_of_part part forms.now property }
+{
+    match forms.get(property.form) {
+        Some(form) if is_of_part(part, form) => Some(property),
+        _ => None,
+    }
+}
+
+// What the name of a property means in an object.
+fn meaning(schema: &Schema, node: NodeRef, part: Part, name: &str) -> Option<Property>
+    ensures meaning { result ≡ meaning schema.now (frame_of node part) name.now }
+    ensures found { is_some result ≡ list_any (λ f. spells f name.now) (forms_in schema.now (frame_of node part)) }
+{
+    schema.forms_are_apart(node);
+    match schema.property(node, name) {
+        Some(property) => where_of_part(part, schema.forms(node), property),
+        None => None,
+    }
+}
+
+// Adds a property, if it is a form's; notes it, if it isn't known.
+fn put<'a, 'j>(
+    alloc: Global,
+    schema: &Schema,
+    node: NodeRef,
+    part: Part,
+    member: &'a Member<'j>,
+    at: usize,
+    all: &mut Vec<Spelled>,
+    found: &mut Found<'a, 'j>,
+) -> Result<(), AllocError>
+    ensures all { OnOk result (all.new.items ≡ all.old.items
+        ++ spelled_at at (meaning schema.now (frame_of node part) (name_and_value member.now).0)) }
+    ensures found { OnOk result (kids_found found.new
+        ≡ (if is_known schema.now (frame_of node part) (name_and_value member.now).0 then kids_found found.old else None)) }
+{
+    let name = name_in(member);
+    match meaning(schema, node, part, name) {
+        Some(property) => all.push(Spelled {
+            form: property.form,
+            is_companion: property.is_companion,
+            at,
+        })?,
+        None => {
+            if !names_type_in(part, name) {
+                found.refuse(alloc, MisfitKind::UnknownProperty, Spot::of(member, at, 0));
+            }
+        }
+    }
+    Ok(())
+}
+
+// The properties of an object that are a form's, in their order. Notes those that aren't known.
+fn spelled_in<'a, 'j>(
+    alloc: Global,
+    schema: &Schema,
+    node: NodeRef,
+    part: Part,
+    members: &'a Vec<Member<'j>>,
+    found: &mut Found<'a, 'j>,
+) -> Result<Vec<Spelled>, AllocError>
+    ensures spelled { IfOk result (λ v. v.items
+        ≡ spelled_from schema.now (frame_of node part) 0 (names (members_view members.now.items))) }
+    ensures found { OnOk result (kids_found found.new
+        ≡ (if are_known schema.now (frame_of node part) (names (members_view members.now.items))
+        then kids_found found.old else None)) }
+{
+    let mut all = Vec::with_capacity(alloc, members.len())?;
+    for i in 0..members.len() {
+        put(alloc, schema, node, part, &members[i], i, &mut all, found)?;
+    }
+    Ok(all)
+}
+
+// Puts properties into the order of their forms. Those of one form stay in their order.
+fn sort_by_form(all: &mut Vec<Spelled>) -> Result<(), AllocError>
+    ensures ascends { OnOk result (IsNonDecreasingBy (λ e. e.form) all.new.items) }
+    ensures stable { (form : ℕ) → of_form form all.new.items ≡ of_form form all.old.items }
+{
+    all.sort_by_key(|entry| entry.form)
+}
+
+/// The properties of an object that are a form's, in the order of the forms. Notes those that aren't known.
+pub(crate) fn sorted_in<'a, 'j>(
+    alloc: Global,
+    schema: &Schema,
+    node: NodeRef,
+    part: Part,
+    members: &'a Vec<Member<'j>>,
+    found: &mut Found<'a, 'j>,
+) -> Result<Vec<Spelled>, AllocError>
+    ensures ascends { IfOk result (λ v. IsNonDecreasingBy (λ e. e.form) v.items) }
+    ensures spelled { IfOk result (λ v. (form : ℕ) → of_form form v.items
+        ≡ of_form form (spelled_from schema.now (frame_of node part) 0 (names (members_view members.now.items)))) }
+    ensures found { OnOk result (kids_found found.new
+        ≡ (if are_known schema.now (frame_of node part) (names (members_view members.now.items))
+        then kids_found found.old else None)) }
+{
+    let mut all = spelled_in(alloc, schema, node, part, members, found)?;
+    sort_by_form(&mut all)?;
+    Ok(all)
+}
+
+// How many at the front are of a form.
+fn count_front(form: usize, all: &[Spelled]) -> usize
+    ensures count { result ≡ count_front form all.now }
+    ensures within { result ≤ length all.now }
+{
+    for i in 0..all.len() {
+        if all[i].form != form {
+            return i;
+        }
+    }
+    all.len()
+}
+
+fn value_among(all: &[Spelled]) -> Option<usize>
+    ensures { result ≡ value_among all.now }
+{
+    for i in 0..all.len() {
+        if !all[i].is_companion {
+            return Some(all[i].at);
+        }
+    }
+    None
+}
+
+fn companion_among(all: &[Spelled]) -> Option<usize>
+    ensures { result ≡ companion_among all.now }
+{
+    for i in 0..all.len() {
+        if all[i].is_companion {
+            return Some(all[i].at);
+        }
+    }
+    None
+}
+
+// Where the first value and the first companion are.
+fn places_among(all: &[Spelled]) -> Places
+    ensures { result ≡ places_among all.now }
+{
+    Places {
+        value: value_among(all),
+        companion: companion_among(all),
+    }
+}
+
+/// The properties of one form: which it is, where they are, and how many they are.
+#[derive(Clone, Copy, Debug)]
+pub(crate) struct Group {
+    pub(crate) form: usize,
+    pub(crate) places: Places,
+    pub(crate) count: usize,
+}
+
+// Those at the front that are of the first one's form.
+fn first_group(rest: &[Spelled]) -> Group
+    requires { 0 < length rest.now }
+    ensures form { result.form ≡ first_form rest.now }
+    ensures places { result.places ≡ places_among (take (count_front (first_form rest.now) rest.now) rest.now) }
+    ensures count { result.count ≡ count_front (first_form rest.now) rest.now }
+    ensures within { result.count ≤ length rest.now }
+    ensures some { 0 < result.count }
+{
+    let form = rest[0].form;
+    let count = count_front(form, rest);
+    Group {
+        form,
+        places: places_among(&rest[..count]),
+        count,
+    }
+}
+
+/// Those from a place on that are of the form of the one there.
+pub(crate) fn group_at(all: &Vec<Spelled>, at: usize) -> Group
+    requires { at < length all.now.items }
+    ensures form { result.form ≡ first_form (drop at all.now.items) }
+    ensures places { result.places
+        ≡ places_among (take (count_front (first_form (drop at all.now.items)) (drop at all.now.items)) (drop at all.now.items)) }
+    ensures count { result.count ≡ count_front (first_form (drop at all.now.items)) (drop at all.now.items) }
+    ensures within { at + result.count ≤ length all.now.items }
+    ensures some { 0 < result.count }
+{
+    first_group(&all[at..])
+}
