@@ -25,17 +25,20 @@ module _ {X : Type 0} (test : X → Bool) where
 
 -- ---- how many at the front are of a form
 
-pub counted_here : (k : ℕ) (xs : List Spelled) (i : ℕ) (x : Spelled) → i < length xs → x ≡ get_or xs i x → nat_eq k x.form ≡ false → i + count_front k (drop i xs) ≡ i
+pub counted_here : (k : ℕ) (xs : List Spelled) (i : ℕ) (x : Spelled) → i < length xs → x ≡ get_or xs i x → nat_eq k x.form ≡ false
+    → i + count_front k (drop i xs) ≡ i
 counted_here k xs i x h e t =
     let none : count_front k (drop i xs) ≡ 0 = ap (count_front k) (drop_at xs i x h e) ∙ rw t refl in omega arith
 
-pub counted_more : (k : ℕ) (xs : List Spelled) (i : ℕ) (x : Spelled) → i < length xs → x ≡ get_or xs i x → nat_eq k x.form ≡ true → i + count_front k (drop i xs) ≡ (i + 1) + count_front k (drop (i + 1) xs)
+pub counted_more : (k : ℕ) (xs : List Spelled) (i : ℕ) (x : Spelled) → i < length xs → x ≡ get_or xs i x → nat_eq k x.form ≡ true
+    → i + count_front k (drop i xs) ≡ (i + 1) + count_front k (drop (i + 1) xs)
 counted_more k xs i x h e t =
     let more : count_front k (drop i xs) ≡ suc (count_front k (drop (i + 1) xs)) = ap (count_front k) (drop_at xs i x h e) ∙ rw t refl in omega arith
 
 -- ---- the properties that are a form's
 
-front : (ms : List Member) (i : ℕ) (m : Member) → i < length ms → m ≡ get_or ms i m → names (members_view (drop i ms)) ≡ (property_of m).0 ∷ names (members_view (drop (i + 1) ms))
+front : (ms : List Member) (i : ℕ) (m : Member) → i < length ms → m ≡ get_or ms i m
+    → names (members_view (drop i ms)) ≡ (property_of m).0 ∷ names (members_view (drop (i + 1) ms))
 front ms i m h e = ap (λ (l : List Member). names (members_view l)) (drop_at ms i m h e)
 
 pub spelled_more : (s : SchemaValue) (fr : Frame) (ms : List Member) (i : ℕ) (m : Member) (old new all : List Spelled) → i < length ms → m ≡ get_or ms i m

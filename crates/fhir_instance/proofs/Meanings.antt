@@ -53,7 +53,8 @@ among_spelled n (f ∷ fs) x = go (is_primitive f.content) refl (among_spelled (
     second true c d e = refl
     second false c d e = e
 
-    go : (p : Bool) → is_primitive f.content ≡ p → is_among x (map (λ e. e.0) (spellings_from (suc n) fs)) ≡ list_any (λ f. spells f x) fs → is_among x (map (λ e. e.0) (spellings_from n (f ∷ fs))) ≡ list_any (λ f. spells f x) (f ∷ fs)
+    go : (p : Bool) → is_primitive f.content ≡ p → is_among x (map (λ e. e.0) (spellings_from (suc n) fs)) ≡ list_any (λ f. spells f x) fs
+        → is_among x (map (λ e. e.0) (spellings_from n (f ∷ fs))) ≡ list_any (λ f. spells f x) (f ∷ fs)
     go true is ih = rw is (third (bytes_eq x f.property) (bytes_eq x (companion_name f)) _ _ ih)
     go false is ih = rw is (second (bytes_eq x f.property) _ _ ih)
 
@@ -63,19 +64,24 @@ IsApart n fs = IsTrue (differ (map (λ e. e.0) (spellings_from n fs)))
 -- ---- one form in front of the others
 
 -- the first form spells no name of the others, and they are apart
-apart_parts : (n : ℕ) (f : Form) (fs : List Form) → IsApart n (f ∷ fs) → ((x : Text) → spells f x ≡ true → list_any (λ g. spells g x) fs ≡ false) × IsApart (suc n) fs
+apart_parts : (n : ℕ) (f : Form) (fs : List Form) → IsApart n (f ∷ fs)
+    → ((x : Text) → spells f x ≡ true → list_any (λ g. spells g x) fs ≡ false) × IsApart (suc n) fs
 apart_parts n f fs h = go (is_primitive f.content) refl
   where
-    none : (x y : Text) (b : Bool) → is_among y (map (λ e. e.0) (spellings_from (suc n) fs)) ≡ false → bytes_eq x y ≡ true → list_any (λ g. spells g x) fs ≡ false
+    none : (x y : Text) (b : Bool) → is_among y (map (λ e. e.0) (spellings_from (suc n) fs)) ≡ false → bytes_eq x y ≡ true
+        → list_any (λ g. spells g x) fs ≡ false
     none x y b e is =
         sym (among_spelled (suc n) fs x) ∙ subst (λ (z : Text). is_among z (map (λ e. e.0) (spellings_from (suc n) fs)) ≡ false) (sym (same_text x y is)) e
 
-    either : (x : Text) (a b : Bool) → bytes_eq x f.property ≡ a → bytes_eq x (companion_name f) ≡ b → (a || b) ≡ true → is_among f.property (map (λ e. e.0) (spellings_from (suc n) fs)) ≡ false → is_among (companion_name f) (map (λ e. e.0) (spellings_from (suc n) fs)) ≡ false → list_any (λ g. spells g x) fs ≡ false
+    either : (x : Text) (a b : Bool) → bytes_eq x f.property ≡ a → bytes_eq x (companion_name f) ≡ b → (a || b) ≡ true
+        → is_among f.property (map (λ e. e.0) (spellings_from (suc n) fs)) ≡ false
+        → is_among (companion_name f) (map (λ e. e.0) (spellings_from (suc n) fs)) ≡ false → list_any (λ g. spells g x) fs ≡ false
     either x true b a_is b_is s p c = none x f.property true p a_is
     either x false true a_is b_is s p c = none x (companion_name f) true c b_is
     either x false false a_is b_is s p c = absurd cc
 
-    only : (x : Text) (a : Bool) → bytes_eq x f.property ≡ a → (a || false) ≡ true → is_among f.property (map (λ e. e.0) (spellings_from (suc n) fs)) ≡ false → list_any (λ g. spells g x) fs ≡ false
+    only : (x : Text) (a : Bool) → bytes_eq x f.property ≡ a → (a || false) ≡ true → is_among f.property (map (λ e. e.0) (spellings_from (suc n) fs)) ≡ false
+        → list_any (λ g. spells g x) fs ≡ false
     only x true a_is s p = none x f.property true p a_is
     only x false a_is s p = absurd cc
 
@@ -97,17 +103,20 @@ meant n f x = record { form = n; is_companion = not (bytes_eq x f.property) }
 spelled_here : (n : ℕ) (f : Form) (fs : List Form) (x : Text) → spells f x ≡ true → lookup (bytes_eq x) (spellings_from n (f ∷ fs)) ≡ Some (meant n f x)
 spelled_here n f fs x s = go (is_primitive f.content) refl (bytes_eq x f.property) refl (bytes_eq x (companion_name f)) refl
   where
-    go : (p : Bool) → is_primitive f.content ≡ p → (a : Bool) → bytes_eq x f.property ≡ a → (b : Bool) → bytes_eq x (companion_name f) ≡ b → lookup (bytes_eq x) (spellings_from n (f ∷ fs)) ≡ Some (meant n f x)
+    go : (p : Bool) → is_primitive f.content ≡ p → (a : Bool) → bytes_eq x f.property ≡ a → (b : Bool) → bytes_eq x (companion_name f) ≡ b
+        → lookup (bytes_eq x) (spellings_from n (f ∷ fs)) ≡ Some (meant n f x)
     go true p_is true a_is b b_is = rw (p_is, a_is) refl
     go true p_is false a_is true b_is = rw (p_is, a_is, b_is) refl
     go true p_is false a_is false b_is = absurd (let e = rw (p_is, a_is, b_is) at s in cc)
     go false p_is true a_is b b_is = rw (p_is, a_is) refl
     go false p_is false a_is b b_is = absurd (let e = rw (p_is, a_is) at s in cc)
 
-spelled_later : (n : ℕ) (f : Form) (fs : List Form) (x : Text) → spells f x ≡ false → lookup (bytes_eq x) (spellings_from n (f ∷ fs)) ≡ lookup (bytes_eq x) (spellings_from (suc n) fs)
+spelled_later : (n : ℕ) (f : Form) (fs : List Form) (x : Text) → spells f x ≡ false
+    → lookup (bytes_eq x) (spellings_from n (f ∷ fs)) ≡ lookup (bytes_eq x) (spellings_from (suc n) fs)
 spelled_later n f fs x s = go (is_primitive f.content) refl (bytes_eq x f.property) refl (bytes_eq x (companion_name f)) refl
   where
-    go : (p : Bool) → is_primitive f.content ≡ p → (a : Bool) → bytes_eq x f.property ≡ a → (b : Bool) → bytes_eq x (companion_name f) ≡ b → lookup (bytes_eq x) (spellings_from n (f ∷ fs)) ≡ lookup (bytes_eq x) (spellings_from (suc n) fs)
+    go : (p : Bool) → is_primitive f.content ≡ p → (a : Bool) → bytes_eq x f.property ≡ a → (b : Bool) → bytes_eq x (companion_name f) ≡ b
+        → lookup (bytes_eq x) (spellings_from n (f ∷ fs)) ≡ lookup (bytes_eq x) (spellings_from (suc n) fs)
     go p p_is true a_is b b_is = absurd (let e = rw a_is at s in cc)
     go true p_is false a_is true b_is = absurd (let e = rw (p_is, a_is, b_is) at s in cc)
     go true p_is false a_is false b_is = rw (p_is, a_is, b_is) refl
@@ -129,12 +138,14 @@ pub find_form : (test : Form → Bool) (fs : List Form) → list_any test fs ≡
 find_form test [] h = absurd cc
 find_form test (g ∷ fs) h = go (test g) refl (λ e. find_form test fs e)
   where
-    go : (b : Bool) → test g ≡ b → (list_any test fs ≡ true → (d : ℕ) × (f : Form) × (slice_get fs d ≡ Some f) × (test f ≡ true)) → (d : ℕ) × (f : Form) × (slice_get (g ∷ fs) d ≡ Some f) × (test f ≡ true)
+    go : (b : Bool) → test g ≡ b → (list_any test fs ≡ true → (d : ℕ) × (f : Form) × (slice_get fs d ≡ Some f) × (test f ≡ true))
+        → (d : ℕ) × (f : Form) × (slice_get (g ∷ fs) d ≡ Some f) × (test f ≡ true)
     go true is later = (0, g, refl, is)
     go false is later = let r = later (rw is at h) in (suc r.0, r.1, r.2, r.3)
 
 -- the first form that spells a name is the one, where they are apart
-pub means_form : (n : ℕ) (fs : List Form) (x : Text) (d : ℕ) (f : Form) → IsApart n fs → slice_get fs d ≡ Some f → spells f x ≡ true → lookup (bytes_eq x) (spellings_from n fs) ≡ Some (meant (n + d) f x)
+pub means_form : (n : ℕ) (fs : List Form) (x : Text) (d : ℕ) (f : Form) → IsApart n fs → slice_get fs d ≡ Some f → spells f x ≡ true
+    → lookup (bytes_eq x) (spellings_from n fs) ≡ Some (meant (n + d) f x)
 means_form n [] x d f h e s = absurd cc
 means_form n (g ∷ fs) x zero f h e s =
     let same : g ≡ f = cc in
@@ -142,7 +153,8 @@ means_form n (g ∷ fs) x zero f h e s =
     rw (sum, ← same) (spelled_here n g fs x (ap (λ (k : Form). spells k x) same ∙ s))
 means_form n (g ∷ fs) x (suc d) f h e s = go (spells g x) refl (means_form (suc n) fs x d f (apart_parts n g fs h).1 e s)
   where
-    go : (b : Bool) → spells g x ≡ b → lookup (bytes_eq x) (spellings_from (suc n) fs) ≡ Some (meant (suc n + d) f x) → lookup (bytes_eq x) (spellings_from n (g ∷ fs)) ≡ Some (meant (n + suc d) f x)
+    go : (b : Bool) → spells g x ≡ b → lookup (bytes_eq x) (spellings_from (suc n) fs) ≡ Some (meant (suc n + d) f x)
+        → lookup (bytes_eq x) (spellings_from n (g ∷ fs)) ≡ Some (meant (n + suc d) f x)
     go true is later =
         let none = (apart_parts n g fs h).0 x is in
         let some = any_at (λ k. spells k x) fs d f e s in absurd cc
@@ -151,11 +163,14 @@ means_form n (g ∷ fs) x (suc d) f h e s = go (spells g x) refl (means_form (su
         spelled_later n g fs x is ∙ later ∙ ap (λ (k : ℕ). Some (meant k f x)) (sym sum)
 
 -- what is found is some form's
-pub form_meant : (n : ℕ) (fs : List Form) (x : Text) (p : Property) → lookup (bytes_eq x) (spellings_from n fs) ≡ Some p → (d : ℕ) × (f : Form) × (slice_get fs d ≡ Some f) × (spells f x ≡ true) × (p ≡ meant (n + d) f x)
+pub form_meant : (n : ℕ) (fs : List Form) (x : Text) (p : Property) → lookup (bytes_eq x) (spellings_from n fs) ≡ Some p
+    → (d : ℕ) × (f : Form) × (slice_get fs d ≡ Some f) × (spells f x ≡ true) × (p ≡ meant (n + d) f x)
 form_meant n [] x p e = absurd cc
 form_meant n (g ∷ fs) x p e = go (spells g x) refl (λ k. form_meant (suc n) fs x p k)
   where
-    go : (b : Bool) → spells g x ≡ b → (lookup (bytes_eq x) (spellings_from (suc n) fs) ≡ Some p → (d : ℕ) × (f : Form) × (slice_get fs d ≡ Some f) × (spells f x ≡ true) × (p ≡ meant (suc n + d) f x)) → (d : ℕ) × (f : Form) × (slice_get (g ∷ fs) d ≡ Some f) × (spells f x ≡ true) × (p ≡ meant (n + d) f x)
+    go : (b : Bool) → spells g x ≡ b → (lookup (bytes_eq x) (spellings_from (suc n) fs) ≡ Some p
+        → (d : ℕ) × (f : Form) × (slice_get fs d ≡ Some f) × (spells f x ≡ true) × (p ≡ meant (suc n + d) f x))
+        → (d : ℕ) × (f : Form) × (slice_get (g ∷ fs) d ≡ Some f) × (spells f x ≡ true) × (p ≡ meant (n + d) f x)
     go true is later =
         let sum : n + 0 ≡ n = omega arith in
         let here = spelled_here n g fs x is in
@@ -167,38 +182,47 @@ form_meant n (g ∷ fs) x p e = go (spells g x) refl (λ k. form_meant (suc n) f
 
 -- ---- those of one part
 
-of_part_at : (part : Part) (x : Text) (fs : List Form) (d : ℕ) (f : Form) → slice_get fs d ≡ Some f → is_of_part part f ≡ true → spells f x ≡ true → list_any (λ g. spells g x) (filter (is_of_part part) fs) ≡ true
+of_part_at : (part : Part) (x : Text) (fs : List Form) (d : ℕ) (f : Form) → slice_get fs d ≡ Some f → is_of_part part f ≡ true → spells f x ≡ true
+    → list_any (λ g. spells g x) (filter (is_of_part part) fs) ≡ true
 of_part_at part x [] d f e q s = absurd cc
 of_part_at part x (g ∷ fs) zero f e q s =
     let same : g ≡ f = cc in rw (ap (is_of_part part) same ∙ q, ap (λ (k : Form). spells k x) same ∙ s) refl
 of_part_at part x (g ∷ fs) (suc d) f e q s = go (is_of_part part g) refl (spells g x) refl (of_part_at part x fs d f e q s)
   where
-    go : (a : Bool) → is_of_part part g ≡ a → (b : Bool) → spells g x ≡ b → list_any (λ g. spells g x) (filter (is_of_part part) fs) ≡ true → list_any (λ g. spells g x) (filter (is_of_part part) (g ∷ fs)) ≡ true
+    go : (a : Bool) → is_of_part part g ≡ a → (b : Bool) → spells g x ≡ b → list_any (λ g. spells g x) (filter (is_of_part part) fs) ≡ true
+        → list_any (λ g. spells g x) (filter (is_of_part part) (g ∷ fs)) ≡ true
     go true a_is true b_is h = rw (a_is, b_is) refl
     go true a_is false b_is h = rw (a_is, b_is) h
     go false a_is b b_is h = rw a_is h
 
-find_of_part : (part : Part) (x : Text) (fs : List Form) → list_any (λ g. spells g x) (filter (is_of_part part) fs) ≡ true → (d : ℕ) × (f : Form) × (slice_get fs d ≡ Some f) × (is_of_part part f ≡ true) × (spells f x ≡ true)
+find_of_part : (part : Part) (x : Text) (fs : List Form) → list_any (λ g. spells g x) (filter (is_of_part part) fs) ≡ true
+    → (d : ℕ) × (f : Form) × (slice_get fs d ≡ Some f) × (is_of_part part f ≡ true) × (spells f x ≡ true)
 find_of_part part x [] h = absurd cc
 find_of_part part x (g ∷ fs) h = go (λ e. let r = find_of_part part x fs e in (suc r.0, r.1, r.2, r.3, r.4)) (is_of_part part g) refl (spells g x) refl
   where
-    go : (list_any (λ g. spells g x) (filter (is_of_part part) fs) ≡ true → (d : ℕ) × (f : Form) × (slice_get (g ∷ fs) d ≡ Some f) × (is_of_part part f ≡ true) × (spells f x ≡ true)) → (a : Bool) → is_of_part part g ≡ a → (b : Bool) → spells g x ≡ b → (d : ℕ) × (f : Form) × (slice_get (g ∷ fs) d ≡ Some f) × (is_of_part part f ≡ true) × (spells f x ≡ true)
+    go : (list_any (λ g. spells g x) (filter (is_of_part part) fs) ≡ true
+        → (d : ℕ) × (f : Form) × (slice_get (g ∷ fs) d ≡ Some f) × (is_of_part part f ≡ true) × (spells f x ≡ true)) → (a : Bool) → is_of_part part g ≡ a
+        → (b : Bool) → spells g x ≡ b → (d : ℕ) × (f : Form) × (slice_get (g ∷ fs) d ≡ Some f) × (is_of_part part f ≡ true) × (spells f x ≡ true)
     go later true a_is true b_is = (0, g, refl, a_is, b_is)
     go later true a_is false b_is = later (rw (a_is, b_is) at h)
     go later false a_is b b_is = later (rw a_is at h)
 
 -- a form of the part means the names that it spells
-pub part_means : (part : Part) (fs : List Form) (x : Text) (d : ℕ) (f : Form) → IsTrue (are_apart fs) → slice_get fs d ≡ Some f → is_of_part part f ≡ true → spells f x ≡ true → option_and_then (where_of_part part fs) (property_of fs x) ≡ Some (meant d f x)
+pub part_means : (part : Part) (fs : List Form) (x : Text) (d : ℕ) (f : Form) → IsTrue (are_apart fs) → slice_get fs d ≡ Some f → is_of_part part f ≡ true
+    → spells f x ≡ true → option_and_then (where_of_part part fs) (property_of fs x) ≡ Some (meant d f x)
 part_means part fs x d f h e q s =
     let sum : 0 + d ≡ d = omega arith in
     let found = means_form 0 fs x d f h e s ∙ ap (λ (k : ℕ). Some (meant k f x)) sum in
     rw (found, e, q) refl
 
 -- what a name means is a form of the part
-pub meant_of_part : (part : Part) (fs : List Form) (x : Text) (p : Property) → option_and_then (where_of_part part fs) (property_of fs x) ≡ Some p → (f : Form) × (slice_get fs p.form ≡ Some f) × (is_of_part part f ≡ true) × (spells f x ≡ true) × (p ≡ meant p.form f x)
+pub meant_of_part : (part : Part) (fs : List Form) (x : Text) (p : Property) → option_and_then (where_of_part part fs) (property_of fs x) ≡ Some p
+    → (f : Form) × (slice_get fs p.form ≡ Some f) × (is_of_part part f ≡ true) × (spells f x ≡ true) × (p ≡ meant p.form f x)
 meant_of_part part fs x p e = go (property_of fs x) refl e
   where
-    part_of : (b : Bool) (q : Property) (f : Form) → is_of_part part f ≡ b → slice_get fs q.form ≡ Some f → spells f x ≡ true → q ≡ meant q.form f x → where_of_part part fs q ≡ Some p → (f : Form) × (slice_get fs p.form ≡ Some f) × (is_of_part part f ≡ true) × (spells f x ≡ true) × (p ≡ meant p.form f x)
+    part_of : (b : Bool) (q : Property) (f : Form) → is_of_part part f ≡ b → slice_get fs q.form ≡ Some f → spells f x ≡ true → q ≡ meant q.form f x
+        → where_of_part part fs q ≡ Some p → (f : Form) × (slice_get fs p.form ≡ Some f) × (is_of_part part f ≡ true) × (spells f x ≡ true) ×
+        (p ≡ meant p.form f x)
     part_of true q f is at s q_is e =
         let e2 : Some q ≡ Some p = sym (rw (at, is) refl) ∙ e in
         let same : q ≡ p = cc in
@@ -206,7 +230,8 @@ meant_of_part part fs x p e = go (property_of fs x) refl e
     part_of false q f is at s q_is e =
         let e2 : None ≡ Some p = sym (rw (at, is) refl) ∙ e in absurd cc
 
-    go : (o : Option Property) → property_of fs x ≡ o → option_and_then (where_of_part part fs) o ≡ Some p → (f : Form) × (slice_get fs p.form ≡ Some f) × (is_of_part part f ≡ true) × (spells f x ≡ true) × (p ≡ meant p.form f x)
+    go : (o : Option Property) → property_of fs x ≡ o → option_and_then (where_of_part part fs) o ≡ Some p
+        → (f : Form) × (slice_get fs p.form ≡ Some f) × (is_of_part part f ≡ true) × (spells f x ≡ true) × (p ≡ meant p.form f x)
     go None is e = absurd cc
     go (Some q) is e =
         let r = form_meant 0 fs x q is in
@@ -216,10 +241,12 @@ meant_of_part part fs x p e = go (property_of fs x) refl e
         part_of (is_of_part part r.1) q r.1 refl at r.3 (q_is ∙ ap (λ (k : Property). meant k.form r.1 x) (sym q_is)) e
 
 -- a name means something where some form of the part spells it
-pub meaning_found : (part : Part) (fs : List Form) (x : Text) → IsTrue (are_apart fs) → is_some (option_and_then (where_of_part part fs) (property_of fs x)) ≡ list_any (λ f. spells f x) (filter (is_of_part part) fs)
+pub meaning_found : (part : Part) (fs : List Form) (x : Text) → IsTrue (are_apart fs)
+    → is_some (option_and_then (where_of_part part fs) (property_of fs x)) ≡ list_any (λ f. spells f x) (filter (is_of_part part) fs)
 meaning_found part fs x h = go (list_any (λ f. spells f x) (filter (is_of_part part) fs)) refl (option_and_then (where_of_part part fs) (property_of fs x)) refl
   where
-    go : (b : Bool) → list_any (λ f. spells f x) (filter (is_of_part part) fs) ≡ b → (o : Option Property) → option_and_then (where_of_part part fs) (property_of fs x) ≡ o → is_some o ≡ b
+    go : (b : Bool) → list_any (λ f. spells f x) (filter (is_of_part part) fs) ≡ b → (o : Option Property)
+        → option_and_then (where_of_part part fs) (property_of fs x) ≡ o → is_some o ≡ b
     go true is (Some p) o_is = refl
     go true is None o_is =
         let r = find_of_part part x fs is in

@@ -57,7 +57,8 @@ module _ (s : SchemaValue) (n : Text) (f : Form) where
       named_both n (place_items s f h) (joined (map (place_items s f) hs))
       ∙ ap₂ (λ (a b : Option (List Named)). both a b) (kept n f (content_item s f.content f.code h.0 h.1) e) (kept_places hs e)
 
-  dropped_both : (a b : Option (List Named)) (ks : List Named) → ((xs : List Named) → a ≡ Some xs → named n xs ≡ []) → ((ys : List Named) → b ≡ Some ys → named n ys ≡ []) → both a b ≡ Some ks → named n ks ≡ []
+  dropped_both : (a b : Option (List Named)) (ks : List Named) → ((xs : List Named) → a ≡ Some xs → named n xs ≡ [])
+      → ((ys : List Named) → b ≡ Some ys → named n ys ≡ []) → both a b ≡ Some ks → named n ks ≡ []
   dropped_both None b ks first rest is = absurd cc
   dropped_both (Some xs) None ks first rest is = absurd cc
   dropped_both (Some xs) (Some ys) ks first rest is =
@@ -75,7 +76,8 @@ module _ (s : SchemaValue) (n : Text) (f : Form) where
   kept_from None e = refl
   kept_from (Some hs) e = kept_places hs e
 
-  dropped_from : (hs : Option (List Halves)) (ks : List Named) → bytes_eq n f.name ≡ false → option_and_then (λ l. joined (map (place_items s f) l)) hs ≡ Some ks → named n ks ≡ []
+  dropped_from : (hs : Option (List Halves)) (ks : List Named) → bytes_eq n f.name ≡ false
+      → option_and_then (λ l. joined (map (place_items s f) l)) hs ≡ Some ks → named n ks ≡ []
   dropped_from None ks e is = absurd cc
   dropped_from (Some hs) ks e is = dropped_places hs ks e is
 
@@ -90,7 +92,8 @@ named_forms s fields n (f ∷ fs) ks is =
     places = places_of f.repeats (value_in f fields) (companion_in f fields)
 
     go : (a : Option (List Named)) → form_items s fields f ≡ a → (b : Option (List Named)) → joined (map (form_items s fields) fs) ≡ b → both a b ≡ Some ks
-        → ((ys : List Named) → joined (map (form_items s fields) fs) ≡ Some ys → joined (map (form_items s fields) (filter (λ f. bytes_eq n f.name) fs)) ≡ Some (named n ys))
+        → ((ys : List Named) → joined (map (form_items s fields) fs) ≡ Some ys
+        → joined (map (form_items s fields) (filter (λ f. bytes_eq n f.name) fs)) ≡ Some (named n ys))
         → joined (map (form_items s fields) (filter (λ f. bytes_eq n f.name) (f ∷ fs))) ≡ Some (named n ks)
     go None a_is b b_is is ih = absurd cc
     go (Some xs) a_is None b_is is ih = absurd cc
@@ -104,7 +107,8 @@ named_forms s fields n (f ∷ fs) ks is =
             let mine : Some (named n xs) ≡ form_items s fields f = ap (option_map (named n)) (sym a_is) ∙ kept_from s n f places e in
             rw e (ap₂ (λ (a b : Option (List Named)). both a b) (sym mine) (ih ys b_is) ∙ ap (λ l. Some l) (sym (named_append n xs ys) ∙ ap (named n) same))
         here false e =
-            rw e (ih ys b_is ∙ ap (λ l. Some l) (sym (named_append n xs ys ∙ ap (λ l. l ++ named n ys) (dropped_from s n f places xs e a_is)) ∙ ap (named n) same))
+            rw e (ih ys b_is ∙ ap (λ l. Some l) (sym (named_append n xs ys ∙ ap (λ l. l ++ named n ys) (dropped_from s n f places xs e a_is))
+            ∙ ap (named n) same))
 
 pub accounted : (s : SchemaValue) (fr : Frame) (fields : List Field) (kids : List Named) → object_kids s fr fields ≡ Some kids → Accounts s fr fields kids
 accounted s fr fields kids is = go (nat_lt 0 (length fields)) refl (list_all (λ x. is_known s fr x.name) fields) refl

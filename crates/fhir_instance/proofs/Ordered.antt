@@ -34,7 +34,8 @@ Ascends k (e ∷ es) = (k ≤ e.form) × Ascends e.form es
 ascends_tail : (e : Spelled) (es : List Spelled) → IsNonDecreasingBy (λ (e : Spelled). e.form) (e ∷ es) → IsNonDecreasingBy (λ (e : Spelled). e.form) es
 ascends_tail e es h = λ i j d below within. h (suc i) (suc j) d (omega arith) (omega arith)
 
-ascends_from : (k : ℕ) (es : List Spelled) → ((d : Spelled) → 0 < length es → k ≤ (get_or es 0 d).form) → IsNonDecreasingBy (λ (e : Spelled). e.form) es → Ascends k es
+ascends_from : (k : ℕ) (es : List Spelled) → ((d : Spelled) → 0 < length es → k ≤ (get_or es 0 d).form) → IsNonDecreasingBy (λ (e : Spelled). e.form) es
+    → Ascends k es
 ascends_from k [] first h = tt
 ascends_from k (e ∷ es) first h = (first e (omega arith), ascends_from e.form es (λ d some. h 0 1 d (omega arith) (omega arith)) (ascends_tail e es h))
 
@@ -64,7 +65,8 @@ pub front_is : (k : ℕ) (es : List Spelled) → Ascends k es → of_form k es �
 front_is k [] h = refl
 front_is k (e ∷ es) h = go (nat_eq k e.form) refl (λ same. front_is k es (subst (λ (m : ℕ). Ascends m es) (sym same) h.1))
   where
-    go : (b : Bool) → nat_eq k e.form ≡ b → (k ≡ e.form → of_form k es ≡ take (count_front k es) es) → of_form k (e ∷ es) ≡ take (count_front k (e ∷ es)) (e ∷ es)
+    go : (b : Bool) → nat_eq k e.form ≡ b → (k ≡ e.form → of_form k es ≡ take (count_front k es) es)
+        → of_form k (e ∷ es) ≡ take (count_front k (e ∷ es)) (e ∷ es)
     go true is later = rw is (ap (λ l. e ∷ l) (later (same_number k e.form is)))
     go false is later = rw is (none_below k e.form es (above k e.form h.0 is) h.1)
 
@@ -73,7 +75,8 @@ pub behind_front : (k : ℕ) (es : List Spelled) → Ascends k es → Ascends (s
 behind_front k [] h = tt
 behind_front k (e ∷ es) h = go (nat_eq k e.form) refl (λ same. behind_front k es (subst (λ (m : ℕ). Ascends m es) (sym same) h.1))
   where
-    go : (b : Bool) → nat_eq k e.form ≡ b → (k ≡ e.form → Ascends (suc k) (drop (count_front k es) es)) → Ascends (suc k) (drop (count_front k (e ∷ es)) (e ∷ es))
+    go : (b : Bool) → nat_eq k e.form ≡ b → (k ≡ e.form → Ascends (suc k) (drop (count_front k es) es))
+        → Ascends (suc k) (drop (count_front k (e ∷ es)) (e ∷ es))
     go true is later = rw is (later (same_number k e.form is))
     go false is later = rw is (above k e.form h.0 is, h.1)
 
@@ -82,7 +85,8 @@ pub others_behind : (j k : ℕ) (es : List Spelled) → nat_eq j k ≡ false →
 others_behind j k [] e = refl
 others_behind j k (x ∷ xs) e = go (nat_eq k x.form) refl (others_behind j k xs e)
   where
-    go : (b : Bool) → nat_eq k x.form ≡ b → of_form j (drop (count_front k xs) xs) ≡ of_form j xs → of_form j (drop (count_front k (x ∷ xs)) (x ∷ xs)) ≡ of_form j (x ∷ xs)
+    go : (b : Bool) → nat_eq k x.form ≡ b → of_form j (drop (count_front k xs) xs) ≡ of_form j xs
+        → of_form j (drop (count_front k (x ∷ xs)) (x ∷ xs)) ≡ of_form j (x ∷ xs)
     go true is ih =
         let other : nat_eq j x.form ≡ false = ap (nat_eq j) (sym (same_number k x.form is)) ∙ e in
         rw (is, other) ih

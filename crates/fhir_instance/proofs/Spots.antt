@@ -35,7 +35,9 @@ module _ (s : SchemaValue) (fr : Frame) where
   one_of_part n [] k e es h = absurd cc
   one_of_part n (x ∷ names) k e es h = go (meaning s fr x) refl (λ t. one_of_part (suc n) names k e es t)
     where
-      go : (o : Option Property) → meaning s fr x ≡ o → (of_form k (spelled_from s fr (suc n) names) ≡ e ∷ es → (f : Form) × (slice_get (forms s fr.node) k ≡ Some f) × (is_of_part fr.part f ≡ true)) → (f : Form) × (slice_get (forms s fr.node) k ≡ Some f) × (is_of_part fr.part f ≡ true)
+      go : (o : Option Property) → meaning s fr x ≡ o → (of_form k (spelled_from s fr (suc n) names) ≡ e ∷ es
+          → (f : Form) × (slice_get (forms s fr.node) k ≡ Some f) × (is_of_part fr.part f ≡ true))
+          → (f : Form) × (slice_get (forms s fr.node) k ≡ Some f) × (is_of_part fr.part f ≡ true)
       go None is later = later (rw is at h)
       go (Some p) is later = here (nat_eq k p.form) refl
         where
@@ -45,29 +47,35 @@ module _ (s : SchemaValue) (fr : Frame) where
               (r.0, ap (λ (j : ℕ). slice_get (forms s fr.node) j) (same_number k p.form k_is) ∙ r.1, r.2)
           here false k_is = later (rw (is, k_is) at h)
 
-  module _ (k : ℕ) (f : Form) (apart : IsTrue (are_apart (forms s fr.node))) (at : slice_get (forms s fr.node) k ≡ Some f) (q : is_of_part fr.part f ≡ true) where
+  module _ (k : ℕ) (f : Form) (apart : IsTrue (are_apart (forms s fr.node))) (at : slice_get (forms s fr.node) k ≡ Some f)
+      (q : is_of_part fr.part f ≡ true) where
     -- one property more, before the others: one that the form spells
-    spelled_value : (n : ℕ) (x : Text) (names : List Text) → bytes_eq x f.property ≡ true → places_among (of_form k (spelled_from s fr (suc n) names)) ≡ places_from (suc n) names f
+    spelled_value : (n : ℕ) (x : Text) (names : List Text) → bytes_eq x f.property ≡ true
+        → places_among (of_form k (spelled_from s fr (suc n) names)) ≡ places_from (suc n) names f
         → places_among (of_form k (spelled_from s fr n (x ∷ names))) ≡ places_from n (x ∷ names) f
     spelled_value n x names e ih =
         let spelt : spells f x ≡ true = rw e refl in
-        let means : meaning s fr x ≡ Some (record { form = k; is_companion = false }) = part_means fr.part (forms s fr.node) x k f apart at q spelt ∙ rw e refl in
+        let means : meaning s fr x ≡ Some (record { form = k; is_companion = false }) =
+        part_means fr.part (forms s fr.node) x k f apart at q spelt ∙ rw e refl in
         let value : bytes_eq f.property x ≡ true = turned x f.property true e in
         let companion : bytes_eq (companion_name f) x ≡ false = ap (λ (y : Text). bytes_eq (companion_name f) y) (same_text x f.property e) ∙ longer f in
         rw (means, itself k, value, companion) (ap (λ (p : Places). record { value = Some n; companion = p.companion }) ih)
 
-    spelled_companion : (n : ℕ) (x : Text) (names : List Text) → is_primitive f.content ≡ true → bytes_eq x f.property ≡ false → bytes_eq x (companion_name f) ≡ true
+    spelled_companion : (n : ℕ) (x : Text) (names : List Text) → is_primitive f.content ≡ true → bytes_eq x f.property ≡ false
+        → bytes_eq x (companion_name f) ≡ true
         → places_among (of_form k (spelled_from s fr (suc n) names)) ≡ places_from (suc n) names f
         → places_among (of_form k (spelled_from s fr n (x ∷ names))) ≡ places_from n (x ∷ names) f
     spelled_companion n x names prim d e ih =
         let spelt : spells f x ≡ true = rw (d, prim, e) refl in
-        let means : meaning s fr x ≡ Some (record { form = k; is_companion = true }) = part_means fr.part (forms s fr.node) x k f apart at q spelt ∙ rw d refl in
+        let means : meaning s fr x ≡ Some (record { form = k; is_companion = true }) =
+        part_means fr.part (forms s fr.node) x k f apart at q spelt ∙ rw d refl in
         let value : bytes_eq f.property x ≡ false = turned x f.property false d in
         let companion : bytes_eq (companion_name f) x ≡ true = turned x (companion_name f) true e in
         rw (means, itself k, value, companion, prim) (ap (λ (p : Places). record { value = p.value; companion = Some n }) ih)
 
     -- one that it doesn't spell
-    elsewhere : (n : ℕ) (x : Text) (names : List Text) → spells f x ≡ false → of_form k (spelled_from s fr n (x ∷ names)) ≡ of_form k (spelled_from s fr (suc n) names)
+    elsewhere : (n : ℕ) (x : Text) (names : List Text) → spells f x ≡ false
+        → of_form k (spelled_from s fr n (x ∷ names)) ≡ of_form k (spelled_from s fr (suc n) names)
     elsewhere n x names d = go (meaning s fr x) refl
       where
         go : (o : Option Property) → meaning s fr x ≡ o → of_form k (spelled_from s fr n (x ∷ names)) ≡ of_form k (spelled_from s fr (suc n) names)
@@ -85,7 +93,8 @@ module _ (s : SchemaValue) (fr : Frame) where
     unspelled : (n : ℕ) (x : Text) (names : List Text) → spells f x ≡ false → places_from n (x ∷ names) f ≡ places_from (suc n) names f
     unspelled n x names d = go (is_primitive f.content) refl (bytes_eq x f.property) refl (bytes_eq x (companion_name f)) refl
       where
-        go : (p : Bool) → is_primitive f.content ≡ p → (a : Bool) → bytes_eq x f.property ≡ a → (b : Bool) → bytes_eq x (companion_name f) ≡ b → places_from n (x ∷ names) f ≡ places_from (suc n) names f
+        go : (p : Bool) → is_primitive f.content ≡ p → (a : Bool) → bytes_eq x f.property ≡ a → (b : Bool) → bytes_eq x (companion_name f) ≡ b
+            → places_from n (x ∷ names) f ≡ places_from (suc n) names f
         go p p_is true a_is b b_is = absurd (let e = rw a_is at d in cc)
         go true p_is false a_is true b_is = absurd (let e = rw (a_is, p_is, b_is) at d in cc)
         go true p_is false a_is false b_is = rw (p_is, turned x f.property false a_is, turned x (companion_name f) false b_is) refl
@@ -100,10 +109,13 @@ module _ (s : SchemaValue) (fr : Frame) where
         go false is = rw is refl
     places_found n (x ∷ names) = go (bytes_eq x f.property) refl (is_primitive f.content) refl (bytes_eq x (companion_name f)) refl (places_found (suc n) names)
       where
-        other : spells f x ≡ false → places_among (of_form k (spelled_from s fr (suc n) names)) ≡ places_from (suc n) names f → places_among (of_form k (spelled_from s fr n (x ∷ names))) ≡ places_from n (x ∷ names) f
+        other : spells f x ≡ false → places_among (of_form k (spelled_from s fr (suc n) names)) ≡ places_from (suc n) names f
+            → places_among (of_form k (spelled_from s fr n (x ∷ names))) ≡ places_from n (x ∷ names) f
         other d ih = ap places_among (elsewhere n x names d) ∙ ih ∙ sym (unspelled n x names d)
 
-        go : (a : Bool) → bytes_eq x f.property ≡ a → (p : Bool) → is_primitive f.content ≡ p → (b : Bool) → bytes_eq x (companion_name f) ≡ b → places_among (of_form k (spelled_from s fr (suc n) names)) ≡ places_from (suc n) names f → places_among (of_form k (spelled_from s fr n (x ∷ names))) ≡ places_from n (x ∷ names) f
+        go : (a : Bool) → bytes_eq x f.property ≡ a → (p : Bool) → is_primitive f.content ≡ p → (b : Bool) → bytes_eq x (companion_name f) ≡ b
+            → places_among (of_form k (spelled_from s fr (suc n) names)) ≡ places_from (suc n) names f
+            → places_among (of_form k (spelled_from s fr n (x ∷ names))) ≡ places_from n (x ∷ names) f
         go true a_is p p_is b b_is ih = spelled_value n x names a_is ih
         go false a_is true p_is true b_is ih = spelled_companion n x names p_is a_is b_is ih
         go false a_is true p_is false b_is ih = other (rw (a_is, p_is, b_is) refl) ih

@@ -71,13 +71,16 @@ module _ (items : Form → Option (List Named)) where
   items_of_none n (f ∷ fs) = both_first (items_of (suc n) fs []) ∙ items_of_none (suc n) fs
 
   -- the forms behind the one whose properties fall away
-  items_later : (n k : ℕ) (fs : List Form) (es rest : List Spelled) → k < n → ((j : ℕ) → nat_eq j k ≡ false → of_form j rest ≡ of_form j es) → items_of n fs es ≡ items_of n fs rest
+  items_later : (n k : ℕ) (fs : List Form) (es rest : List Spelled) → k < n → ((j : ℕ) → nat_eq j k ≡ false → of_form j rest ≡ of_form j es)
+      → items_of n fs es ≡ items_of n fs rest
   items_later n k [] es rest h same = refl
   items_later n k (f ∷ fs) es rest h same =
-      ap₂ (λ (l : List Spelled) (b : Option (List Named)). both (where_some l (items f)) b) (sym (same n (apart_numbers n k h))) (items_later (suc n) k fs es rest (omega arith) same)
+      ap₂ (λ (l : List Spelled) (b : Option (List Named)). both (where_some l (items f)) b) (sym (same n (apart_numbers n k h)))
+      (items_later (suc n) k fs es rest (omega arith) same)
 
   -- the form whose properties fall away
-  items_front : (n d k : ℕ) (fs : List Form) (f : Form) (e : Spelled) (es rest front : List Spelled) → n + d ≡ k → slice_get fs d ≡ Some f → of_form k es ≡ e ∷ front → of_form k rest ≡ []
+  items_front : (n d k : ℕ) (fs : List Form) (f : Form) (e : Spelled) (es rest front : List Spelled) → n + d ≡ k → slice_get fs d ≡ Some f
+      → of_form k es ≡ e ∷ front → of_form k rest ≡ []
       → ((j : ℕ) → j < k → of_form j es ≡ []) → ((j : ℕ) → j < k → of_form j rest ≡ []) → ((j : ℕ) → nat_eq j k ≡ false → of_form j rest ≡ of_form j es)
       → items_of n fs es ≡ both (items f) (items_of n fs rest)
   items_front n d k [] f e es rest front sum at some none below low same = absurd cc
@@ -87,7 +90,8 @@ module _ (items : Form → Option (List Named)) where
       let some_here : of_form n es ≡ e ∷ front = ap (λ (j : ℕ). of_form j es) here ∙ some in
       let none_here : of_form n rest ≡ [] = ap (λ (j : ℕ). of_form j rest) here ∙ none in
       rw (some_here, none_here)
-      (ap₂ (λ (h : Form) (b : Option (List Named)). both (items h) b) g_is (items_later (suc n) k fs es rest (omega arith) same ∙ sym (both_first (items_of (suc n) fs rest))))
+      (ap₂ (λ (h : Form) (b : Option (List Named)). both (items h) b) g_is
+      (items_later (suc n) k fs es rest (omega arith) same ∙ sym (both_first (items_of (suc n) fs rest))))
   items_front n (suc d) k (g ∷ fs) f e es rest front sum at some none below low same =
       let next : suc n + d ≡ k = omega arith in
       let ih = items_front (suc n) d k fs f e es rest front next at some none below low same in
@@ -101,13 +105,15 @@ module _ (items : Form → Option (List Named)) where
       → items_of n fs es ≡ joined (map items (filter p fs))
   items_all p n [] es has hasnt = refl
   items_all p n (f ∷ fs) es has hasnt =
-      go (p f) refl (of_form n es) refl (items_all p (suc n) fs es (λ d g at is none. has (suc d) g at is (subst (λ (k : ℕ). of_form k es ≡ []) (omega arith) none))
+      go (p f) refl (of_form n es) refl (items_all p (suc n) fs es (λ d g at is none. has (suc d) g at is
+      (subst (λ (k : ℕ). of_form k es ≡ []) (omega arith) none))
       (λ d g at is. subst (λ (k : ℕ). of_form k es ≡ []) (omega arith) (hasnt (suc d) g at is)))
     where
       zeroth : n + 0 ≡ n
       zeroth = omega arith
 
-      go : (b : Bool) → p f ≡ b → (l : List Spelled) → of_form n es ≡ l → items_of (suc n) fs es ≡ joined (map items (filter p fs)) → items_of n (f ∷ fs) es ≡ joined (map items (filter p (f ∷ fs)))
+      go : (b : Bool) → p f ≡ b → (l : List Spelled) → of_form n es ≡ l → items_of (suc n) fs es ≡ joined (map items (filter p fs))
+          → items_of n (f ∷ fs) es ≡ joined (map items (filter p (f ∷ fs)))
       go true is [] l_is ih =
           let none : items f ≡ Some [] = has 0 f refl is (ap (λ (k : ℕ). of_form k es) zeroth ∙ l_is) in
           rw (is, l_is, none) (ap (λ (b : Option (List Named)). both (Some []) b) ih)
@@ -132,7 +138,8 @@ module _ (s : SchemaValue) (fr : Frame) (ms : List Member) where
 
   -- ---- the first of what is left
 
-  head_found : (es : List Spelled) → IsRest es → 0 < length es → (e : Spelled) × (front : List Spelled) × (of_form (first_form es) all_spelled ≡ e ∷ front) × (of_form (first_form es) es ≡ e ∷ front)
+  head_found : (es : List Spelled) → IsRest es → 0 < length es → (e : Spelled) × (front : List Spelled) × (of_form (first_form es) all_spelled ≡ e ∷ front) ×
+      (of_form (first_form es) es ≡ e ∷ front)
   head_found [] r some = absurd (omega arith)
   head_found (e ∷ es) r some = go (r.whole e.form)
     where
@@ -144,7 +151,8 @@ module _ (s : SchemaValue) (fr : Frame) (ms : List Member) where
       go (inl none) = let clash : e ∷ of_form e.form es ≡ [] = sym here ∙ none in absurd cc
       go (inr same) = (e, of_form e.form es, sym same ∙ here, here)
 
-  first_at : (es : List Spelled) → IsRest es → 0 < length es → (f : Form) × (slice_get (forms s fr.node) (first_form es) ≡ Some f) × (is_of_part fr.part f ≡ true)
+  first_at : (es : List Spelled) → IsRest es → 0 < length es → (f : Form) × (slice_get (forms s fr.node) (first_form es) ≡ Some f) ×
+      (is_of_part fr.part f ≡ true)
   first_at es r some =
       let h = head_found es r some in
       one_of_part s fr 0 (names (members_view ms)) (first_form es) h.0 h.1 h.2
@@ -160,7 +168,8 @@ module _ (s : SchemaValue) (fr : Frame) (ms : List Member) where
       ap (is_of_part fr.part) (sym same) ∙ h.2
 
   -- its form's properties are where its names are
-  pub first_places : (es : List Spelled) (f : Form) (at : Places) → IsTrue (are_apart (forms s fr.node)) → IsRest es → 0 < length es → slice_get (forms s fr.node) (first_form es) ≡ Some f
+  pub first_places : (es : List Spelled) (f : Form) (at : Places) → IsTrue (are_apart (forms s fr.node)) → IsRest es → 0 < length es
+      → slice_get (forms s fr.node) (first_form es) ≡ Some f
       → at ≡ places_among (take (count_front (first_form es) es) es) → at ≡ places_from 0 (names (members_view ms)) f
   first_places es f at apart r some is at_is =
       let h = head_found es r some in
@@ -175,7 +184,8 @@ module _ (s : SchemaValue) (fr : Frame) (ms : List Member) where
       let k = first_form es in
       let behind = behind_front k es (ascends_first es r.ascends) in
       items_front (form_items s (fields_in s ms)) 0 k k (forms s fr.node) f h.0 es (drop (count_front k es) es) h.1 (omega arith) is h.3
-      (none_below k (suc k) _ (omega arith) behind) (λ j low. none_below j k es low (ascends_first es r.ascends)) (λ j low. none_below j (suc k) _ (omega arith) behind)
+      (none_below k (suc k) _ (omega arith) behind) (λ j low. none_below j k es low (ascends_first es r.ascends))
+      (λ j low. none_below j (suc k) _ (omega arith) behind)
       (λ j other. others_behind j k es other)
 
   pub first_rest : (es : List Spelled) → IsRest es → 0 < length es → IsRest (drop (count_front (first_form es) es) es)
@@ -184,15 +194,18 @@ module _ (s : SchemaValue) (fr : Frame) (ms : List Member) where
       let behind = behind_front k es (ascends_first es r.ascends) in
       record { ascends = ascends_lower 0 (suc k) _ (omega arith) behind; whole = λ j. go j behind (nat_eq j k) refl (r.whole j) }
     where
-      go : (j : ℕ) → Ascends (suc (first_form es)) (drop (count_front (first_form es) es) es) → (b : Bool) → nat_eq j (first_form es) ≡ b → (of_form j es ≡ []) ⊎ (of_form j es ≡ of_form j all_spelled)
+      go : (j : ℕ) → Ascends (suc (first_form es)) (drop (count_front (first_form es) es) es) → (b : Bool) → nat_eq j (first_form es) ≡ b
+          → (of_form j es ≡ []) ⊎ (of_form j es ≡ of_form j all_spelled)
           → (of_form j (drop (count_front (first_form es) es) es) ≡ []) ⊎ (of_form j (drop (count_front (first_form es) es) es) ≡ of_form j all_spelled)
       go j behind true e w = inl (none_below j (suc (first_form es)) _ (let same = same_number j (first_form es) e in omega arith) behind)
       go j behind false e (inl none) = inl (others_behind j (first_form es) es e ∙ none)
       go j behind false e (inr same) = inr (others_behind j (first_form es) es e ∙ same)
 
   -- the items of the first are added
-  pub walk_step : (es rest : List Spelled) (f : Form) (at : Places) (old new all : Option (List Named)) → IsTrue (are_apart (forms s fr.node)) → IsRest es → 0 < length es
-      → slice_get (forms s fr.node) (first_form es) ≡ Some f → at ≡ places_among (take (count_front (first_form es) es) es) → rest ≡ drop (count_front (first_form es) es) es
+  pub walk_step : (es rest : List Spelled) (f : Form) (at : Places) (old new all : Option (List Named)) → IsTrue (are_apart (forms s fr.node)) → IsRest es
+      → 0 < length es
+      → slice_get (forms s fr.node) (first_form es) ≡ Some f → at ≡ places_among (take (count_front (first_form es) es) es)
+      → rest ≡ drop (count_front (first_form es) es) es
       → new ≡ both old (items_from s f (held_at s ms at.value) (held_at s ms at.companion)) → both old (rest_items es) ≡ all → both new (rest_items rest) ≡ all
   walk_step es rest f at old new all apart r some form_is at_is rest_is new_is was =
       let held = form_held s ms f at (first_places es f at apart r some form_is at_is) in
@@ -202,7 +215,8 @@ module _ (s : SchemaValue) (fr : Frame) (ms : List Member) where
 
   pub walk_end : (es : List Spelled) (i : ℕ) (old all : Option (List Named)) → length es ≤ i → both old (rest_items (drop i es)) ≡ all → old ≡ all
   walk_end es i old all h was =
-      sym (ap (λ (l : List Spelled). both old (rest_items l)) (drop_beyond es i h) ∙ ap (λ (b : Option (List Named)). both old b) (items_of_none (form_items s (fields_in s ms)) 0 (forms s fr.node)) ∙ both_nothing old) ∙ was
+      sym (ap (λ (l : List Spelled). both old (rest_items l)) (drop_beyond es i h)
+      ∙ ap (λ (b : Option (List Named)). both old b) (items_of_none (form_items s (fields_in s ms)) 0 (forms s fr.node)) ∙ both_nothing old) ∙ was
 
   -- ---- the whole
 
@@ -219,12 +233,15 @@ module _ (s : SchemaValue) (fr : Frame) (ms : List Member) where
       zero_plus : (d : ℕ) → 0 + d ≡ d
       zero_plus d = omega arith
 
-      has : (d : ℕ) (f : Form) → slice_get (forms s fr.node) d ≡ Some f → is_of_part fr.part f ≡ true → of_form d all_spelled ≡ [] → form_items s (fields_in s ms) f ≡ Some []
+      has : (d : ℕ) (f : Form) → slice_get (forms s fr.node) d ≡ Some f → is_of_part fr.part f ≡ true → of_form d all_spelled ≡ []
+          → form_items s (fields_in s ms) f ≡ Some []
       has d f at is none =
-          let nowhere : places_among [] ≡ places_from 0 (names (members_view ms)) f = ap places_among (sym none) ∙ places_found s fr d f apart at is 0 (names (members_view ms)) in
+          let nowhere : places_among [] ≡ places_from 0 (names (members_view ms)) f =
+          ap places_among (sym none) ∙ places_found s fr d f apart at is 0 (names (members_view ms)) in
           sym (form_held s ms f (places_among []) nowhere)
 
-      hasnt : (d : ℕ) (f : Form) → slice_get (forms s fr.node) d ≡ Some f → is_of_part fr.part f ≡ false → (l : List Spelled) → of_form d all_spelled ≡ l → l ≡ []
+      hasnt : (d : ℕ) (f : Form) → slice_get (forms s fr.node) d ≡ Some f → is_of_part fr.part f ≡ false → (l : List Spelled) → of_form d all_spelled ≡ l
+          → l ≡ []
       hasnt d f at is [] l_is = refl
       hasnt d f at is (e ∷ l) l_is =
           let r = one_of_part s fr 0 (names (members_view ms)) d e l l_is in

@@ -1,21 +1,17 @@
 //! The children of objects.
 
-ghost use Rattle.std.specs.Prelude.{◌≡◌, ◌&&◌, ◌==◌, nat_lt, length, map, IfOk, OnOk, IsTrue, None, Some, if◌then◌else◌};
-ghost use Rattle.std.specs.List.{zip};
+ghost use Rattle.std.specs.Prelude.{◌≡◌, nat_lt, length, map, IfOk, OnOk, None, Some, if◌then◌else◌};
 ghost use Rattle.fhir_json.specs.Views.{tree_of};
-ghost use Rattle.fhir_schema.specs.Forms.{is_primitive};
 ghost use Rattle.fhir_schema.specs.Schemas.{resource_root};
 ghost use Rattle.fhir_instance.specs.declared.frame.Part.TheVariants as parts;
 ghost use Rattle.fhir_instance.specs.Typing.{kids_as, kids_by, object_kids, both, joined, items_from, place_items, resource_item, resource_of_type, under, complex_item, value_of};
-ghost use Rattle.fhir_instance.specs.Found.{kids_found, frame_of, fields_in, held_at, held_in_hand, value_in_hand, halves_in_hand, one_items, given, ArePlaces};
+ghost use Rattle.fhir_instance.specs.Found.{kids_found, frame_of, fields_in, held_at, held_in_hand, value_in_hand, given, ArePlaces};
 
 use crate::found::{Found, Spot, Spots};
 use crate::frame::Part;
-use crate::leaves::{
-    add_primitive, add_system, add_uncompanied, add_untyped, check_value, check_values, is_null,
-    type_named,
-};
+use crate::leaves::{add_primitive, add_system, add_untyped, check_value, is_null, type_named};
 use crate::misfit::{MisfitKind, kind_of, kind_of_single};
+use crate::pairs::add_both;
 use crate::placing::{Tally, form_at, room_for};
 use crate::spelled::{Places, group_at, sorted_in};
 use fhir_json::{Json, Member};
@@ -110,41 +106,53 @@ fn add_form<'a, 'j>(
         (items_from schema.now form.now (held_at schema.now members.now.items at.value)
         (held_at schema.now members.now.items at.companion))) }
 {
-    match at.value {
-        Some(i) => match at.companion {
-            Some(k) => add_both(
-                alloc,
-                schema,
-                form,
-                &members[k].value,
-                &members[i].value,
-                Spots {
-                    value: Spot::of(&members[i], i, before),
-                    companion: Spot::of(&members[k], k, before),
-                },
-                found,
-            ),
-            None => add_values(
-                alloc,
-                schema,
-                form,
-                &members[i].value,
-                Spot::of(&members[i], i, before),
-                found,
-            ),
-        },
-        None => match at.companion {
-            Some(k) => add_companions(
-                alloc,
-                schema,
-                form,
-                &members[k].value,
-                Spot::of(&members[k], k, before),
-                found,
-            ),
-            None => Ok(()),
-        },
+    if let Some(i) = at.value {
+        return add_valued(alloc, schema, form, members, i, at.companion, before, found);
     }
+    match at.companion {
+        Some(k) => {
+            let spot = Spot::of(&members[k], k, before);
+            add_companions(alloc, schema, form, &members[k].value, spot, found)
+        }
+        None => Ok(()),
+    }
+}
+
+// The items of a form that has a value.
+#[cycle(typing)]
+fn add_valued<'a, 'j>(
+    alloc: Global,
+    schema: &'a Schema,
+    form: &'a Form,
+    members: &'a Vec<Member<'j>>,
+    value: usize,
+    companion: Option<usize>,
+    before: usize,
+    found: &mut Found<'a, 'j>,
+) -> Result<(), AllocError>
+    requires { ArePlaces form.now (length members.now.items) (record { value = Some value; companion = companion }) }
+    ensures { OnOk result (kids_found found.new ≡ both (kids_found found.old)
+        (items_from schema.now form.now (held_at schema.now members.now.items (Some value))
+        (held_at schema.now members.now.items companion))) }
+{
+    let spot = Spot::of(&members[value], value, before);
+    let Some(k) = companion else {
+        return add_values(alloc, schema, form, &members[value].value, spot, found);
+    };
+    let spots = Spots {
+        value: spot,
+        companion: Spot::of(&members[k], k, before),
+    };
+    let companions = &members[k].value;
+    add_both(
+        alloc,
+        schema,
+        form,
+        companions,
+        &members[value].value,
+        spots,
+        found,
+    )
 }
 
 // The items of a property that has no companion.
@@ -221,8 +229,9 @@ fn add_companions<'a, 'j>(
     }
 }
 
+/// The items of the companions in an array, which have no values.
 #[cycle(typing)]
-fn add_each_alone<'a, 'j>(
+pub(crate) fn add_each_alone<'a, 'j>(
     alloc: Global,
     schema: &'a Schema,
     form: &'a Form,
@@ -245,131 +254,9 @@ fn add_each_alone<'a, 'j>(
     Ok(())
 }
 
-// The items of a property and its companion. Where one is no array, the other is still looked at, since the first misfit
-// may be in it.
+/// The item of a companion without a value.
 #[cycle(typing)]
-fn add_both<'a, 'j>(
-    alloc: Global,
-    schema: &'a Schema,
-    form: &'a Form,
-    companions: &'a Json<'j>,
-    values: &'a Json<'j>,
-    spots: Spots<'a>,
-    found: &mut Found<'a, 'j>,
-) -> Result<(), AllocError>
-    requires { IsTrue (is_primitive form.now.content) }
-    ensures { OnOk result (kids_found found.new ≡ both (kids_found found.old)
-        (items_from schema.now form.now (Some (held_in_hand schema.now values.now))
-        (Some (held_in_hand schema.now companions.now)))) }
-{
-    if !form.repeats() {
-        return add_one_pair(alloc, schema, form, companions, values, spots, found);
-    }
-    match companions {
-        Json::Arr(companions) => match values {
-            Json::Arr(values) => {
-                add_each_pair(alloc, schema, form, companions, values, spots, found)
-            }
-            _ => {
-                found.refuse_early(alloc, kind_of_single(values), spots.value);
-                add_each_alone(alloc, schema, form, companions, spots.companion, found)
-            }
-        },
-        _ => {
-            found.refuse_early(alloc, kind_of_single(companions), spots.companion);
-            check_values(alloc, form, values, spots.value, found);
-            Ok(())
-        }
-    }
-}
-
-// The item of a value and its companion, neither of which may be null.
-#[cycle(typing)]
-fn add_one_pair<'a, 'j>(
-    alloc: Global,
-    schema: &'a Schema,
-    form: &'a Form,
-    companion: &'a Json<'j>,
-    value: &'a Json<'j>,
-    spots: Spots<'a>,
-    found: &mut Found<'a, 'j>,
-) -> Result<(), AllocError>
-    ensures { OnOk result (kids_found found.new ≡ both (kids_found found.old)
-        (one_items schema.now form.now (value_in_hand schema.now value.now) (value_in_hand schema.now companion.now))) }
-{
-    if is_null(companion) {
-        found.refuse_null(alloc, spots.companion);
-        check_values(alloc, form, value, spots.value, found);
-        return Ok(());
-    }
-    if is_null(value) {
-        found.refuse_null(alloc, spots.value);
-        return add_alone(alloc, schema, form, companion, spots.companion, found);
-    }
-    add_companion(alloc, schema, form, companion, Some(value), spots, found)
-}
-
-#[cycle(typing)]
-fn add_each_pair<'a, 'j>(
-    alloc: Global,
-    schema: &'a Schema,
-    form: &'a Form,
-    companions: &'a Vec<Json<'j>>,
-    values: &'a Vec<Json<'j>>,
-    spots: Spots<'a>,
-    found: &mut Found<'a, 'j>,
-) -> Result<(), AllocError>
-    requires { IsTrue (is_primitive form.now.content) }
-    ensures { OnOk result (kids_found found.new ≡ both (kids_found found.old)
-        (if nat_lt 0 (length values.now.items) && (length values.now.items == length companions.now.items)
-        then joined (map (λ p. place_items schema.now form.now (halves_in_hand schema.now p.0 p.1)) (zip values.now.items companions.now.items))
-        else None)) }
-{
-    if values.len() == 0 || values.len() != companions.len() {
-        found.refuse_counts(alloc, values.len(), companions.len(), spots);
-        return Ok(());
-    }
-    for i in 0..companions.len() {
-        add_pair(
-            alloc,
-            schema,
-            form,
-            &companions[i],
-            &values[i],
-            spots.item(i),
-            found,
-        )?;
-    }
-    Ok(())
-}
-
-// The item of a value and a companion, one of which may be null.
-#[cycle(typing)]
-fn add_pair<'a, 'j>(
-    alloc: Global,
-    schema: &'a Schema,
-    form: &'a Form,
-    companion: &'a Json<'j>,
-    value: &'a Json<'j>,
-    spots: Spots<'a>,
-    found: &mut Found<'a, 'j>,
-) -> Result<(), AllocError>
-    requires { IsTrue (is_primitive form.now.content) }
-    ensures { OnOk result (kids_found found.new ≡ both (kids_found found.old)
-        (place_items schema.now form.now (halves_in_hand schema.now value.now companion.now))) }
-{
-    if is_null(companion) {
-        return add_uncompanied(alloc, form, value, spots, found);
-    }
-    if is_null(value) {
-        return add_companion(alloc, schema, form, companion, None, spots, found);
-    }
-    add_companion(alloc, schema, form, companion, Some(value), spots, found)
-}
-
-// The item of a companion without a value.
-#[cycle(typing)]
-fn add_alone<'a, 'j>(
+pub(crate) fn add_alone<'a, 'j>(
     alloc: Global,
     schema: &'a Schema,
     form: &'a Form,
@@ -381,16 +268,16 @@ fn add_alone<'a, 'j>(
         (place_items schema.now form.now (None, value_in_hand schema.now json.now))) }
 {
     if is_null(json) {
-        found.refuse_null(alloc, spot);
+        found.refuse_null(alloc, form, spot);
         return Ok(());
     }
     add_companion(alloc, schema, form, json, None, Spots::alone(spot), found)
 }
 
-// The item of a companion, and of a value, neither of them null. Both are looked at, since the first misfit may be in
-// either.
+/// The item of a companion, and of a value, neither of them null. Both are looked at, since the first misfit may be in
+/// either.
 #[cycle(typing)]
-fn add_companion<'a, 'j>(
+pub(crate) fn add_companion<'a, 'j>(
     alloc: Global,
     schema: &'a Schema,
     form: &'a Form,
@@ -425,7 +312,7 @@ fn add_value<'a, 'j>(
         (place_items schema.now form.now (value_in_hand schema.now json.now, None))) }
 {
     if is_null(json) {
-        found.refuse_null(alloc, spot);
+        found.refuse_null(alloc, form, spot);
         return Ok(());
     }
     match form.content() {

@@ -195,15 +195,15 @@ impl<'a, 'j> Found<'a, 'j> {
         self.keep(Flaw::in_property(alloc, kind, spot, true));
     }
 
-    /// Notes that a null stands where there is no item of it: in an array beside nothing, or in place of the one value.
-    pub(crate) fn refuse_null(&mut self, alloc: Global, spot: Spot<'a>)
+    /// Notes a null. Null stands for nothing in an array of primitives alone, and there beside something.
+    pub(crate) fn refuse_null(&mut self, alloc: Global, form: &Form, spot: Spot<'a>)
         ensures { kids_found self.new ≡ None }
     {
-        let kind = match spot.index {
-            Some(_index) => MisfitKind::Unparallel,
-            None => MisfitKind::Empty,
-        };
-        self.refuse_early(alloc, kind, spot);
+        if spot.index.is_some() && form.content().is_primitive() {
+            self.refuse_early(alloc, MisfitKind::Unparallel, spot);
+        } else {
+            self.refuse(alloc, MisfitKind::Empty, spot);
+        }
     }
 
     /// Notes that the numbers of values and of companions, which are arrays, don't go together.

@@ -131,6 +131,7 @@ pub(crate) fn check_value<'a, 'j>(
 
 fn check_one<'a, 'j>(
     alloc: Global,
+    form: &Form,
     prim: PrimType,
     json: &Json<'_>,
     spot: Spot<'a>,
@@ -140,7 +141,7 @@ fn check_one<'a, 'j>(
     ensures { kids_found found.new ≡ None }
 {
     if is_null(json) {
-        found.refuse_null(alloc, spot);
+        found.refuse_null(alloc, form, spot);
     } else {
         check_value(alloc, prim, Some(json), spot, found);
     }
@@ -148,6 +149,7 @@ fn check_one<'a, 'j>(
 
 fn check_each<'a, 'j>(
     alloc: Global,
+    form: &Form,
     prim: PrimType,
     items: &[Json<'_>],
     spot: Spot<'a>,
@@ -160,7 +162,7 @@ fn check_each<'a, 'j>(
         found.refuse_early(alloc, MisfitKind::Empty, spot);
     }
     for i in 0..items.len() {
-        check_one(alloc, prim, &items[i], spot.item(i), found);
+        check_one(alloc, form, prim, &items[i], spot.item(i), found);
     }
 }
 
@@ -179,11 +181,11 @@ pub(crate) fn check_values<'a, 'j>(
         return;
     };
     if !form.repeats() {
-        check_one(alloc, prim, json, spot, found);
+        check_one(alloc, form, prim, json, spot, found);
         return;
     }
     match json {
-        Json::Arr(items) => check_each(alloc, prim, items, spot, found),
+        Json::Arr(items) => check_each(alloc, form, prim, items, spot, found),
         _ => found.refuse_early(alloc, kind_of_single(json), spot),
     }
 }

@@ -1,14 +1,24 @@
-//! Items of resources, and when they conform to profiles: definitions, and what they say of one another.
+//! Items of resources: which item a JSON value is, and when an item conforms to a profile.
 //!
-//! The crate judges nothing: it defines what a certificate promises. `specs/Items.antt` has items, `specs/Typing.antt`
-//! which item a tree is, and `specs/Conformance.antt` when an item conforms to a node and a resource to a profile. A
-//! function whose proof needs a law calls it, which does nothing:
+//! A value is typed by the type definitions of a schema, which say under which properties an object's elements stand and
+//! what each holds. Its item is the finite tree of typed values that FHIRPath and profiles speak of.
 //!
 //! ```
-//! one_item();
+//! /// Whether a JSON value is a patient, or why it is no resource at all.
+//! pub fn is_patient(alloc: Global, schema: &Schema, json: &Json<'_>) -> Result<bool, Misfit>
+//!     ensures { IfOk result (λ b. (x : Item) × Types schema.now (tree_of json.now) x
+//!         × (b ≡ bytes_eq (type_of x) (codes "Patient"))) }
+//! {
+//!     let item = type_resource(alloc, schema, json)?;
+//!     Ok(item.code() == "Patient")
+//! }
 //! ```
 //!
-//! Read the contract of `example` first: it shows the definitions at work on one small package.
+//! The contract to read first is that of [`type_resource`]: a value has the item that it answers, and where it answers a
+//! misfit it has none. `specs/Items.antt` has items, `specs/Typing.antt` which item a tree is, and `specs/Conformance.antt`
+//! when an item conforms to a node and a resource to a profile; the contract of [`example`] shows the definitions at work
+//! on one small package, and that of [`accounted`] says what typing comes to. A function whose proof needs a law calls it,
+//! which does nothing.
 #![tactic(auto)]
 
 mod children;
@@ -18,6 +28,7 @@ mod frame;
 mod laws;
 mod leaves;
 mod misfit;
+mod pairs;
 mod placing;
 mod resource;
 mod spelled;

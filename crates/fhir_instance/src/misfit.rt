@@ -12,12 +12,12 @@ pub enum MisfitKind {
     UnwantedArray,
     /// One value stands where the type asks for an array.
     MissingArray,
-    /// A null, or an array, an object or a text that is empty.
+    /// A null in place of a value, or an array, an object or a text that is empty.
     Empty,
     /// A value is of another kind of JSON than the type asks for, or is no value of the type.
     WrongValue,
-    /// The values and the companions of a primitive don't go together: their numbers differ, or null stands where the
-    /// other has nothing either.
+    /// The arrays of a primitive's values and of its companions don't go together: their lengths differ, or null stands at
+    /// a place where the other has nothing either.
     Unparallel,
     /// No `resourceType`, or one that names no type that a resource may be of.
     UnknownType,

@@ -76,17 +76,19 @@ fn put_item(
     if levels == 0 {
         return Ok(());
     }
-    let mut before = " {";
-    for kid in kids {
-        text.push_str(before)?;
-        put_name(text, kid)?;
+    text.push_str(" {")?;
+    for (place, kid) in kids.iter().enumerate() {
+        put_name(text, place, kid)?;
         put_item(alloc, text, kid.item(), levels - 1)?;
-        before = ", ";
     }
     text.push('}')
 }
 
-fn put_name(text: &mut String, kid: &Kid<'_, '_>) -> Result<(), AllocError> {
+// The name of the child at a place, behind those before it.
+fn put_name(text: &mut String, place: usize, kid: &Kid<'_, '_>) -> Result<(), AllocError> {
+    if place > 0 {
+        text.push_str(", ")?;
+    }
     text.push_str(kid.name())?;
     text.push_str(": ")
 }
