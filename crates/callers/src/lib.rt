@@ -25,6 +25,9 @@ ghost use Rattle.fhir_elements.specs.Element.{Element, element_of};
 ghost use Rattle.fhir_definition.specs.Definition.{definition_of};
 ghost use Rattle.fhir_definition.specs.Snapshot.{root_place};
 ghost use Rattle.fhir_schema.specs.Schemas.{root, slots};
+ghost use Rattle.std.specs.Str.{bytes_eq};
+ghost use Rattle.fhir_instance.specs.Items.{Item, type_of};
+ghost use Rattle.fhir_instance.specs.Typing.{Types};
 ghost use Rattle.fhir_certificate.specs.Certificate.{CertificateValue};
 ghost use Rattle.fhir_certificate.specs.Judging.{Stands};
 ghost use Rattle.fhir_cert_check.specs.Checking.{SpellsCertificate};
@@ -35,6 +38,7 @@ use fhir_certificate::CertFault;
 use fhir_decimal::Decimal;
 use fhir_definition::Definition;
 use fhir_elements::{ElementDef, ElementFault};
+use fhir_instance::{Misfit, type_resource};
 use fhir_json::{Json, JsonFault, NoMemory};
 use fhir_matching::{json_eq, matches};
 use fhir_names::{ElementId, front_of};
@@ -132,6 +136,15 @@ pub fn root_slots<'s>(schema: &'s Schema, profile: &str) -> &'s [Slot]
         Some(root) => schema.slots(root),
         None => Default::default(),
     }
+}
+
+/// Whether a JSON value is a patient, or why it is no resource at all.
+pub fn is_patient(alloc: Global, schema: &Schema, json: &Json<'_>) -> Result<bool, Misfit>
+    ensures { IfOk result (λ b. (x : Item) × Types schema.now (tree_of json.now) x
+        × (b ≡ bytes_eq (type_of x) (codes "Patient"))) }
+{
+    let item = type_resource(alloc, schema, json)?;
+    Ok(item.code() == "Patient")
 }
 
 /// How many pairs of items a certificate has, or why the bytes are none.

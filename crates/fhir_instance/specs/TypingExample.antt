@@ -157,10 +157,10 @@ abbrev pub person_item : Item
 person_item =
     item (codes "Person") (Some person)
     (kid (codes "name") (item (codes "Name") (Some (name_with beside))
-        (kid (codes "resourceType") (leaf (codes "code") (codes "N"))
-        (kid (codes "given") (leaf (codes "code") (codes "a"))
-        (kid (codes "given") second_name
-        no_kids))))
+    (kid (codes "resourceType") (leaf (codes "code") (codes "N"))
+    (kid (codes "given") (leaf (codes "code") (codes "a"))
+    (kid (codes "given") second_name
+    no_kids))))
     (kid (codes "alias") (item (codes "Name") (Some alias) (kid (codes "short") (leaf (codes "code") (codes "s")) no_kids))
     (kid (codes "value[x]") (leaf (codes "code") (codes "c"))
     (kid (codes "value[x]") (item (codes "boolean") (Some (boolean true)) no_kids)
