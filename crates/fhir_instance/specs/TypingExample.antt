@@ -214,3 +214,16 @@ with_value = person_of (codes "_valueCode") (object (member (codes "value") (str
 -- a resource of an abstract type
 abbrev pub of_abstract : Tree
 of_abstract = resource_of (codes "Anyone") (codes "valueCode") (string (codes "c"))
+
+-- a companion whose id is empty
+abbrev pub empty_id : Tree
+empty_id = person_of (codes "_valueCode") (object (member (codes "id") (string []) no_members))
+
+-- null beside a companion, where one value must stand
+abbrev pub null_value : Tree
+null_value =
+    object
+    (member (codes "resourceType") (string (codes "Person"))
+    (member (codes "valueCode") null
+    (member (codes "_valueCode") companion
+    no_members)))
