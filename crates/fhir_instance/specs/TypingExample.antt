@@ -227,3 +227,13 @@ null_value =
     (member (codes "valueCode") null
     (member (codes "_valueCode") companion
     no_members)))
+
+-- a property that names a type, in the object of an element that has no element of that name
+abbrev pub named_element : Tree
+named_element = person_of (codes "alias")
+    (object (member (codes "resourceType") (string (codes "Person")) (member (codes "short") (string (codes "s")) no_members)))
+
+-- the same in a companion
+abbrev pub named_companion : Tree
+named_companion = person_of (codes "_valueCode")
+    (object (member (codes "resourceType") (string (codes "Person")) (member (codes "id") (string (codes "x")) no_members)))
