@@ -3,8 +3,8 @@ use Rattle.std.specs.Prelude.{IsTrue}
 use Rattle.fhir_json.specs.Tree.{Text, Tree}
 use Rattle.fhir_schema.specs.declared.node.NodeRef.{NodeRef}
 use Rattle.fhir_schema.specs.Schemas.{SchemaValue}
-use Rattle.fhir_instance.specs.Items.{Item, Interpretation}
-use Rattle.fhir_instance.specs.Conformance.{Around, conforms, Conforms}
+use Rattle.fhir_instance.specs.Items.{Item}
+use Rattle.fhir_slicing.specs.Conformance.{Interpretation, Around, conforms, Conforms}
 
 -- each item, wherever it stands and whatever unread rules mean, that conforms to the first node conforms to the second
 abbrev pub IncludesItems : SchemaValue → NodeRef → NodeRef → Type 0

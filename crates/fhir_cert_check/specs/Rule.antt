@@ -5,13 +5,16 @@ use Rattle.fhir_json.specs.Tree.{Text}
 
 -- a rule, with the name of the slot that it is about
 pub data RuleName : Type 0 where
-  root type fixed children : RuleName
+  root type fixed pattern range length_limit children : RuleName
   slot cardinality entry : List ℕ → RuleName
 
 abbrev pub word_of : RuleName → Text
 word_of root = codes "root"
 word_of type = codes "type"
 word_of fixed = codes "fixed"
+word_of pattern = codes "pattern"
+word_of range = codes "range"
+word_of length_limit = codes "length"
 word_of children = codes "children"
 word_of (slot name) = codes "slot"
 word_of (cardinality name) = codes "cardinality"

@@ -1,33 +1,32 @@
 -- The rules of a certificate's pairs: when a pair is right by the certificate's others. A pair of items says that each
 -- item which conforms to its derived node conforms to its base node, and a pair of children the same of an item's
 -- children; no item occurs in the rules.
-use Rattle.std.specs.Prelude.{List, [], ◌∷◌, Bool, true, false, not, ◌&&◌, ◌||◌, nat_le, nat_eq, Option, None, Some, if◌then◌else◌}
+use Rattle.std.specs.Prelude.{List, [], ◌∷◌, Bool, true, false, not, ◌&&◌, ◌||◌, length, nat_eq, Option, None, Some, if◌then◌else◌}
 use Rattle.std.specs.Option.{option_map_or, option_and_then}
 use Rattle.std.specs.List.{flat_map}
 use Rattle.fhir_json.specs.Tree.{Text}
-use Rattle.fhir_json.specs.Tree.{Property}
-use Rattle.fhir_matching.specs.Equality.{equal}
-use Rattle.fhir_elements.specs.declared.max.Max.{Max}
-use Rattle.fhir_elements.specs.declared.max.Max.TheVariants.{Unbounded, UpTo}
-use Rattle.fhir_elements.specs.Max.{is_within}
 use Rattle.fhir_elements.specs.TypeEntry.{TypeEntry}
 use Rattle.fhir_elements.specs.Element.{Element}
+use Rattle.fhir_elements.specs.Tests.{first_of, all_hold}
 use Rattle.fhir_schema.specs.declared.node.NodeRef.{NodeRef}
 use Rattle.fhir_schema.specs.Slots.{Slot}
 use Rattle.fhir_schema.specs.Schemas.{SchemaValue, element_at, entry_of, is_root_node, slots, slot_named, holder, types}
 use Rattle.fhir_schema.specs.Covers.{covers, type_at}
-use Rattle.fhir_instance.specs.Conformance.{least_of, is_untyped}
+use Rattle.fhir_facets.specs.Values.{fixed_narrower, pattern_narrower, fixed_fits, length_narrower}
+use Rattle.fhir_facets.specs.Ranges.{range_narrower}
+use Rattle.fhir_facets.specs.Targets.{targets_narrower}
+use Rattle.fhir_facets.specs.Counts.{count_narrower, is_forbidden}
+use Rattle.fhir_slicing.specs.Conformance.{range_of, is_untyped}
 use Rattle.fhir_certificate.specs.declared.pair.Pair.{Pair}
 use Rattle.fhir_certificate.specs.declared.pair.Pair.TheVariants.{Item, Kids}
-use Rattle.fhir_cert_check.specs.Rule.{RuleName, type, fixed, children, slot, cardinality, entry}
-use Rattle.fhir_elements.specs.Tests.{first_of, all_hold}
+use Rattle.fhir_cert_check.specs.Rule.{RuleName, type, fixed, pattern, range, length_limit, children, slot, cardinality, entry}
 use Rattle.fhir_cert_check.specs.Lists.{each_answers}
 
--- ---- items
+-- ---- types
 
--- the item's type is one that the base node allows
+-- the item's type is one that the base's entry allows, and so are the targets of its references
 abbrev pub entry_answers : SchemaValue → TypeEntry → TypeEntry → Bool
-entry_answers s e f = covers s f.code e.code
+entry_answers s e f = covers s f.code e.code && targets_narrower s e f
 
 abbrev pub types_answer : SchemaValue → NodeRef → NodeRef → Bool
 types_answer s n m = is_untyped s m || (not (is_untyped s n) && each_answers (entry_answers s) (types s n) (types s m))
@@ -38,40 +37,29 @@ roots_answer s n m = is_root_node s m && covers s (type_at s m) (type_at s n)
 abbrev pub type_answers : SchemaValue → NodeRef → NodeRef → Bool
 type_answers s n m = if is_root_node s n then roots_answer s n m else not (is_root_node s m) && types_answer s n m
 
-abbrev pub fixed_at : SchemaValue → NodeRef → Option Property
-fixed_at s n = option_and_then (λ e. e.fixed) (element_at s n)
+-- ---- what an element asks of a value: each of the base's is answered by one of the derived's
 
--- the base node fixes no value, or the derived one fixes an equal one
-abbrev pub fixed_answers : SchemaValue → NodeRef → NodeRef → Bool
-fixed_answers s n m =
-    option_map_or (λ q. option_map_or (λ p. equal q.1 p.1) (fixed_at s n) false) (fixed_at s m) true
+-- what the base asks for, if anything, is answered by what the derived element asks for
+abbrev pub is_answered : {A B : Type 0} → (A → B → Bool) → Option A → Option B → Bool
+is_answered answers own base = option_map_or (λ q. option_map_or (λ p. answers p q) own false) base true
 
--- ---- bounds
+abbrev pub fixed_answers : Element → Element → Bool
+fixed_answers e f = is_answered (λ p q. fixed_narrower p.1 q.1) e.fixed f.fixed
 
--- an upper bound within another, where none is the widest
-abbrev pub max_answers : Max → Max → Bool
-max_answers Unbounded Unbounded = true
-max_answers Unbounded (UpTo m) = false
-max_answers (UpTo n) most = is_within n most
+-- by a fixed value that fits, or by a pattern that does
+abbrev pub pattern_answers : Element → Element → Bool
+pattern_answers e f =
+    is_answered (λ p q. fixed_fits p.1 q.1) e.fixed f.pattern || is_answered (λ p q. pattern_narrower p.1 q.1) e.pattern f.pattern
 
-abbrev pub most_answers : Option Max → Option Max → Bool
-most_answers p q = option_map_or (λ most. option_map_or (λ own. max_answers own most) p false) q true
+abbrev pub range_answers : Element → Element → Bool
+range_answers e f = range_narrower (range_of e) (range_of f)
 
--- the derived element's bounds lie within the base element's
-abbrev pub bounds_answer : Element → Element → Bool
-bounds_answer e f = nat_le (least_of f) (least_of e) && most_answers e.max f.max
+abbrev pub length_answers : Element → Element → Bool
+length_answers e f = is_answered length_narrower e.max_length f.max_length
 
-abbrev pub allows_none : Max → Bool
-allows_none Unbounded = false
-allows_none (UpTo n) = nat_eq n 0
-
--- no item may be there
-abbrev pub is_forbidden : Element → Bool
-is_forbidden e = option_map_or allows_none e.max false
-
-abbrev pub cardinality_answers : SchemaValue → NodeRef → NodeRef → Bool
-cardinality_answers s n m =
-    option_map_or (λ f. option_map_or (λ e. bounds_answer e f) (element_at s n) false) (element_at s m) true
+-- the elements of two nodes are so; what is no node asks for nothing
+abbrev pub elements_answer : (Element → Element → Bool) → SchemaValue → NodeRef → NodeRef → Bool
+elements_answer answers s n m = is_answered answers (element_at s n) (element_at s m)
 
 abbrev pub is_forbidden_at : SchemaValue → NodeRef → Bool
 is_forbidden_at s n = option_map_or is_forbidden (element_at s n) false
@@ -93,7 +81,13 @@ module _ (pairs : Pair → Bool) where
 
     abbrev pub item_rules : NodeRef → NodeRef → List (Bool × RuleName)
     item_rules n m =
-        (type_answers s n m, type) ∷ (fixed_answers s n m, fixed) ∷ (children_answer n m, children) ∷ []
+        (type_answers s n m, type)
+        ∷ (elements_answer fixed_answers s n m, fixed)
+        ∷ (elements_answer pattern_answers s n m, pattern)
+        ∷ (elements_answer range_answers s n m, range)
+        ∷ (elements_answer length_answers s n m, length_limit)
+        ∷ (children_answer n m, children)
+        ∷ []
 
     -- where none may be, nothing more is asked
     abbrev pub entry_rules : Text → NodeRef → NodeRef → List (Bool × RuleName)
@@ -102,7 +96,7 @@ module _ (pairs : Pair → Bool) where
     abbrev pub own_slot_rules : NodeRef → NodeRef → Slot → Option Slot → List (Bool × RuleName)
     own_slot_rules n m b None = (false, slot b.name) ∷ []
     own_slot_rules n m b (Some a) =
-        (cardinality_answers s (entry_of n a) (entry_of m b), cardinality b.name)
+        (elements_answer count_narrower s (entry_of n a) (entry_of m b), cardinality b.name)
         ∷ entry_rules b.name (entry_of n a) (entry_of m b)
 
     -- what a slot of the base node asks of the derived one

@@ -2,15 +2,18 @@
 use Rattle.std.specs.Prelude.{Bool, true, false, Option, None, Some, option_map}
 use Rattle.fhir_certificate.specs.declared.pair.Pair.{Pair}
 use Rattle.fhir_cert_check.specs.declared.rule.Rule.{Rule}
-use Rattle.fhir_cert_check.specs.declared.rule.Rule.TheVariants.{Root, TypeCode, Fixed, Children, Slot, Cardinality, Entry}
+use Rattle.fhir_cert_check.specs.declared.rule.Rule.TheVariants.{Root, TypeCode, Fixed, Pattern, Range, Length, Children, Slot, Cardinality, Entry}
 use Rattle.fhir_cert_check.specs.declared.answer.Answer.{Answer}
 use Rattle.fhir_cert_check.specs.declared.answer.Answer.TheVariants.{Yes, No}
-use Rattle.fhir_cert_check.specs.Rule.{RuleName, root, type, fixed, children, slot, cardinality, entry}
+use Rattle.fhir_cert_check.specs.Rule.{RuleName, root, type, fixed, pattern, range, length_limit, children, slot, cardinality, entry}
 
 abbrev pub rule_name : Rule → RuleName
 rule_name Root = root
 rule_name TypeCode = type
 rule_name Fixed = fixed
+rule_name Pattern = pattern
+rule_name Range = range
+rule_name Length = length_limit
 rule_name Children = children
 rule_name (Slot name) = slot name.now
 rule_name (Cardinality name) = cardinality name.now

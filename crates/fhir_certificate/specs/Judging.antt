@@ -3,7 +3,7 @@ use Rattle.std.specs.Prelude.{◌≡◌, ◌≤◌, ℕ, List, [], ◌∷◌, �
 use Rattle.std.specs.Option.{option_map, option_map_or, option_and_then}
 use Rattle.fhir_json.specs.Tree.{Text}
 use Rattle.fhir_schema.specs.declared.node.NodeRef.{NodeRef}
-use Rattle.fhir_schema.specs.Schemas.{SchemaValue, root, node, is_flat_at}
+use Rattle.fhir_schema.specs.Schemas.{SchemaValue, root, node}
 use Rattle.fhir_certificate.specs.declared.fault.CertFault.{CertFault}
 use Rattle.fhir_certificate.specs.declared.fault.CertFault.TheVariants.{UnknownNode, TooManyPairs}
 use Rattle.fhir_certificate.specs.declared.pair.NodePair.{NodePair}
@@ -35,17 +35,14 @@ with_lines s [] c = Some c
 with_lines s (item derived base ∷ lines) c = option_and_then (with_item (pair_of s derived base)) (with_lines s lines c)
 with_lines s (kids derived base ∷ lines) c = option_and_then (with_kids (pair_of s derived base)) (with_lines s lines c)
 
--- the definition at a url can be used, and is flat: so far certificates of others aren't read
-abbrev pub is_readable : SchemaValue → Text → Bool
-is_readable s url = is_some (root s url) && is_flat_at s url
+-- both definitions can be used
+abbrev pub are_usable : SchemaValue → Written → Bool
+are_usable s w = is_some (root s w.derived) && is_some (root s w.base)
 
-abbrev pub are_readable : SchemaValue → Written → Bool
-are_readable s w = is_readable s w.derived && is_readable s w.base
-
--- the certificate that is written, where its definitions are readable and all nodes are known
+-- the certificate that is written, where its definitions can be used and all nodes are known
 abbrev pub certificate_of : SchemaValue → Written → Option CertificateValue
 certificate_of s w =
-    if are_readable s w then with_lines s w.lines (record { derived = w.derived; base = w.base; items = []; kids = [] })
+    if are_usable s w then with_lines s w.lines (record { derived = w.derived; base = w.base; items = []; kids = [] })
     else None
 
 abbrev pub has_room : Written → Bool

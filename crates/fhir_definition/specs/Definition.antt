@@ -13,7 +13,8 @@ use Rattle.fhir_definition.specs.declared.kind.TypeKind.{TypeKind}
 use Rattle.fhir_definition.specs.Kind.{is_primitive_kind}
 use Rattle.fhir_definition.specs.Head.{kind_in, is_type_definition, has_right_head}
 use Rattle.fhir_definition.specs.Snapshot.{ids_differ, is_root}
-use Rattle.fhir_definition.specs.Supported.{is_plain_element, is_shallow_element}
+use Rattle.fhir_definition.specs.Bounds.{has_lexical_bounds}
+use Rattle.fhir_definition.specs.Supported.{is_plain_element}
 
 pub record Definition : Type 0 where
   -- where it stands in the package's order
@@ -37,7 +38,7 @@ pub record Definition : Type 0 where
 abbrev pub element_trees : Tree → List Tree
 element_trees t = option_map_or (items_in (codes "element")) (field (codes "snapshot") t) []
 
--- an element of a snapshot has its bounds, and unless it is the root a type or a content reference
+-- an element of a snapshot says how many there may be, and unless it is the root has a type or a content reference
 abbrev pub is_whole : Element → Bool
 is_whole e =
     is_some e.min && is_some e.max && (is_root e || nat_lt 0 (length e.types) || is_some e.content_reference)
@@ -65,7 +66,7 @@ element_faults t = map element_fault (element_trees t)
 -- what a definition has to meet by itself, each with the reason that applies where it doesn't
 abbrev pub own_tests : Text → Tree → List Element → List (Bool × Reason)
 own_tests url t es =
-    (has_right_head url t && list_all is_whole es && not (list_any is_wrong_field (element_faults t)), WrongField)
+    (has_right_head url t && list_all is_whole es && list_all has_lexical_bounds es && not (list_any is_wrong_field (element_faults t)), WrongField)
     ∷ (not (list_any is_min_over_max (element_faults t)), MinOverMax)
     ∷ (not (list_any is_repeated_type (element_faults t)), RepeatedType)
     ∷ (not (list_any is_wrong_id (element_faults t)) && ids_differ es, WrongId)
@@ -110,7 +111,3 @@ is_primitive d = option_map_or is_primitive_kind d.kind false
 -- its elements are supported so far
 abbrev pub is_plain : Definition → Bool
 is_plain d = list_all is_plain_element d.elements
-
--- its elements stand one level below the root; those of a primitive type are a root alone
-abbrev pub is_shallow : Definition → Bool
-is_shallow d = list_all is_shallow_element d.elements && (not (is_primitive d) || (length d.elements == 1))

@@ -2,6 +2,7 @@ pub mod Kind
 pub mod Snapshot
 pub mod Children
 pub mod Supported
+pub mod Bounds
 pub mod Head
 pub mod Definition
 pub mod Views

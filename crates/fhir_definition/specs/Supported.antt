@@ -1,5 +1,5 @@
--- What is supported so far of a definition by itself: its elements say how many there may be, what they are fixed to and
--- of which types they are, and no more. And which definitions are flat: their elements stand one level below the root.
+-- What is supported so far of a definition by itself: its elements say how many there may be, which values they have, of
+-- which types they are and what references may refer to, and no more.
 use Rattle.std.specs.Prelude.{length, Bool, true, false, not, ◌&&◌, ◌||◌, ◌==◌, nat_eq, is_some, is_none, codes}
 use Rattle.std.specs.Option.{option_map_or, option_and_then}
 use Rattle.std.specs.List.{list_all, list_any, ends_with, starts_with}
@@ -34,11 +34,6 @@ must_hold c = option_map_or is_error c.severity false
 abbrev pub binds : Binding → Bool
 binds b = option_map_or is_required b.strength false && is_some b.value_set
 
--- no value is asked for but by `fixed[x]`
-abbrev pub has_plain_value : Element → Bool
-has_plain_value e =
-    is_none e.pattern && is_none e.min_value && is_none e.max_value && is_none e.max_length
-
 abbrev pub has_plain_rules : Element → Bool
 has_plain_rules e =
     not (option_map_or binds e.binding false)
@@ -47,25 +42,11 @@ has_plain_rules e =
     && is_none e.content_reference
 
 abbrev pub is_bare : TypeEntry → Bool
-is_bare entry = is_empty entry.profiles && is_empty entry.targets
+is_bare entry = is_empty entry.profiles
 
--- no slice, and of types without profiles and targets
+-- no slice, and of types without profiles
 abbrev pub is_plain_child : Element → Bool
 is_plain_child e = is_none (slice_of e.id) && list_all is_bare e.types
 
 abbrev pub is_plain_element : Element → Bool
-is_plain_element e = has_plain_value e && has_plain_rules e && (is_root e || is_plain_child e)
-
--- ---- flat definitions
-
--- neither a choice of types nor the name of a companion
-abbrev pub is_plain_name : Text → Bool
-is_plain_name name =
-    not (ends_with nat_eq name (codes "[x]")) && not (starts_with nat_eq name (codes "_"))
-
-abbrev pub is_one_down : Text → Bool
-is_one_down id = is_none (option_and_then front_of (front_of id)) && is_plain_name (name_of id)
-
--- a root, or one level below it and of one type
-abbrev pub is_shallow_element : Element → Bool
-is_shallow_element e = is_root e || (is_one_down e.id && (length e.types == 1))
+is_plain_element e = has_plain_rules e && (is_root e || is_plain_child e)

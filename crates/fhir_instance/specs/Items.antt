@@ -39,7 +39,3 @@ kids_in (k ∷ ks) = kid k.0 k.1 (kids_in ks)
 -- the steps from the outermost item to an item in it: at each the position of the child among all of its parent's
 abbrev pub Place : Type 0
 Place = List ℕ
-
--- What the unread rules mean: whether the rule of a text holds at a place in an outermost item. Any test may be meant.
-abbrev pub Interpretation : Type 0
-Interpretation = Text → Item → Place → Bool

@@ -4,6 +4,4 @@ pub mod Accounting
 pub mod View
 pub mod Spelled
 pub mod Found
-pub mod Conformance
-pub mod Example
 pub mod TypingExample

@@ -1,14 +1,23 @@
 -- A package with a complex type, a choice and companions, and a profile, which has no say in typing; and resources: which item
 -- one is, and what is none.
 use Rattle.std.specs.Prelude.{[], ◌∷◌, true, Some, None, codes}
-use Rattle.fhir_json.specs.Tree.{Text, Tree, null, boolean, string, array, object, Items, no_items, Members, no_members, member}
+use Rattle.fhir_json.specs.Tree.{Text, Tree, null, boolean, number, string, array, object, Items, no_items, Members, no_members, member}
 use Rattle.fhir_json.specs.Tree.{item as one_more}
 use Rattle.fhir_package.specs.Definitions.{Definitions}
 use Rattle.fhir_schema.specs.Schemas.{SchemaValue, schema_of}
-use Rattle.fhir_instance.specs.Example.{element, definition}
 use Rattle.fhir_instance.specs.Items.{Item, item, no_kids, kid}
 
 -- ---- the definitions
+
+-- an element of so many items
+abbrev pub element : Text → Text → Text → Members → Tree
+element id min max more =
+    object (member (codes "id") (string id) (member (codes "min") (number min) (member (codes "max") (string max) more)))
+
+-- a StructureDefinition with a snapshot
+abbrev pub definition : Text → Text → Members → Tree
+definition kind type more =
+    object (member (codes "kind") (string kind) (member (codes "type") (string type) more))
 
 abbrev pub one_code : Text → Tree
 one_code code = object (member (codes "code") (string code) no_members)

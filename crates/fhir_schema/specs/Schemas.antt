@@ -1,5 +1,5 @@
 -- The schema of a package: its definitions, which of them can be used, and the nodes of those.
-use Rattle.std.specs.Prelude.{ℕ, List, [], length, get_or, map, Bool, false, not, ◌&&◌, ◌||◌, nat_lt, nat_eq, Option, None, Some, is_none, if◌then◌else◌}
+use Rattle.std.specs.Prelude.{ℕ, List, [], length, get_or, map, Bool, false, not, ◌&&◌, ◌||◌, nat_lt, nat_eq, Option, None, Some, is_some, is_none, if◌then◌else◌}
 use Rattle.std.specs.Option.{option_map, option_map_or, option_and_then}
 use Rattle.std.specs.List.{slice_get, find, list_all}
 use Rattle.std.specs.Str.{bytes_eq}
@@ -10,12 +10,12 @@ use Rattle.fhir_elements.specs.TypeEntry.{TypeEntry}
 use Rattle.fhir_elements.specs.Element.{Element}
 use Rattle.fhir_schema.specs.declared.node.NodeRef.{NodeRef}
 use Rattle.fhir_definition.specs.Snapshot.{id_place, is_at, is_root, root_place}
-use Rattle.fhir_definition.specs.Definition.{Definition, definitions_from, is_shallow}
+use Rattle.fhir_definition.specs.Definition.{Definition, definitions_from}
 use Rattle.fhir_schema.specs.Types.{type_place, is_resource, type_of_code}
-use Rattle.fhir_schema.specs.Slots.{Slot, id_at, slots_of, entry_is_primitive}
+use Rattle.fhir_schema.specs.Slots.{Slot, id_at, slots_of}
 use Rattle.fhir_schema.specs.Forms.{Form, forms_of, property_of}
 use Rattle.fhir_schema.specs.declared.form.Property.{Property}
-use Rattle.fhir_schema.specs.Settling.{Reasons, all_reasons, url_place, reason_at}
+use Rattle.fhir_schema.specs.Settling.{Reasons, all_reasons, url_place, canonical_place, reason_at}
 
 pub record SchemaValue : Type 0 where
   pub definitions : List Definition
@@ -73,6 +73,14 @@ root_in s place = node_in s place (root_element s place)
 abbrev pub root : SchemaValue → Text → Option NodeRef
 root s url = option_and_then (root_in s) (url_place s.definitions url)
 
+-- a definition stands at the url, whether it can be used or not
+abbrev pub is_loaded : SchemaValue → Text → Bool
+is_loaded s url = is_some (url_place s.definitions url)
+
+-- the root of the definition that a canonical names, if that can be used
+abbrev pub loaded : SchemaValue → Text → Option NodeRef
+loaded s canonical = option_and_then (root_in s) (canonical_place s.definitions canonical)
+
 -- the node of a url and an id
 abbrev pub node_with : SchemaValue → Text → ℕ → Option NodeRef
 node_with s id place = node_in s place (id_place (elements_at s place) id)
@@ -128,17 +136,3 @@ is_concrete d = is_resource d && not d.abstract
 abbrev pub resource_root : SchemaValue → Text → Option NodeRef
 resource_root s code =
     if option_map_or is_concrete (type_of_code s.definitions code) false then type_root s code else None
-
--- ---- flat definitions, of which alone certificates are read so far
-
-abbrev pub element_is_flat : List Definition → Element → Bool
-element_is_flat ds e = is_root e || list_all (entry_is_primitive ds) e.types
-
--- its elements stand one level below the root, each of one type, which is primitive
-abbrev pub is_flat : List Definition → Definition → Bool
-is_flat ds d = is_shallow d && list_all (element_is_flat ds) d.elements
-
--- the definition at a url is flat
-abbrev pub is_flat_at : SchemaValue → Text → Bool
-is_flat_at s url =
-    option_map_or (is_flat s.definitions) (option_and_then (slice_get s.definitions) (url_place s.definitions url)) false

@@ -3,20 +3,11 @@ use Rattle.std.specs.Prelude.{[], ◌∷◌, codes}
 use Rattle.fhir_json.specs.Tree.{Text, Tree, string, number, array, object, no_items, item, Members, no_members, member}
 use Rattle.fhir_package.specs.Definitions.{Definitions}
 use Rattle.fhir_schema.specs.Schemas.{SchemaValue, schema_of}
-
--- an element of so many items
-abbrev pub element : Text → Text → Text → Members → Tree
-element id min max more =
-    object (member (codes "id") (string id) (member (codes "min") (number min) (member (codes "max") (string max) more)))
+use Rattle.fhir_instance.specs.TypingExample.{element, definition}
 
 -- its one type is `code`
 abbrev pub of_code : Members
 of_code = member (codes "type") (array (item (object (member (codes "code") (string (codes "code")) no_members)) no_items)) no_members
-
--- a StructureDefinition with a snapshot
-abbrev pub definition : Text → Text → Members → Tree
-definition kind type more =
-    object (member (codes "kind") (string kind) (member (codes "type") (string type) more))
 
 abbrev pub code_type : Tree
 code_type =

@@ -1,0 +1,115 @@
+-- Bounds of a value (FHIR R4, ElementDefinition, minValue[x] and maxValue[x]). Numbers are compared by value, and moments and
+-- times of day by their fields; a bound of another type is an unread rule.
+use Rattle.std.specs.Prelude.{Bool, true, false, ◌&&◌, Option, None, Some, if◌then◌else◌}
+use Rattle.std.specs.Option.{option_map, option_map_or, option_and_then}
+use Rattle.std.specs.Ordering.{is_some_and, is_le, is_ge}
+use Rattle.std.specs.declared.cmp.Ordering.{Ordering}
+use Rattle.std.specs.Str.{bytes_eq}
+use Rattle.fhir_json.specs.Tree.{Text, Tree, Property}
+use Rattle.fhir_json.specs.Fields.{as_text, as_number}
+use Rattle.fhir_decimal.specs.Text.{Parts}
+use Rattle.fhir_decimal.specs.Reading.{parts}
+use Rattle.fhir_decimal.specs.Value.{Value, value_of, value_order}
+use Rattle.fhir_prims.specs.declared.prim.PrimType.{PrimType}
+use Rattle.fhir_prims.specs.declared.prim.PrimType.TheVariants.{Integer, UnsignedInt, PositiveInt, Decimal, Date, DateTime, Instant}
+use Rattle.fhir_prims.specs.declared.prim.PrimType.TheVariants.{Time as TimeOfDay}
+use Rattle.fhir_prims.specs.Values.{prim_of}
+use Rattle.fhir_prims.specs.Order.{Fields, moment_order}
+use Rattle.fhir_prims.specs.Reading.{fields_of}
+use Rattle.fhir_definition.specs.Bounds.{bound_type}
+use Rattle.fhir_facets.specs.declared.kind.Kind.{Kind}
+use Rattle.fhir_facets.specs.declared.kind.Kind.TheVariants.{Number, Moment, Time}
+use Rattle.fhir_facets.specs.Unread.{Meaning, range}
+use Rattle.fhir_facets.specs.Identity.{identical}
+use Rattle.fhir_facets.specs.Seen.{Seen}
+
+-- ---- the kinds of values that have an order
+
+abbrev pub kind_of : PrimType → Option Kind
+kind_of Integer = Some Number
+kind_of UnsignedInt = Some Number
+kind_of PositiveInt = Some Number
+kind_of Decimal = Some Number
+kind_of Date = Some Moment
+kind_of DateTime = Some Moment
+kind_of Instant = Some Moment
+kind_of TimeOfDay = Some Time
+kind_of _ = None
+
+abbrev pub same_kind : Kind → Kind → Bool
+same_kind Number Number = true
+same_kind Moment Moment = true
+same_kind Time Time = true
+same_kind _ _ = false
+
+-- that of the items of a type
+abbrev pub kind_of_code : Text → Option Kind
+kind_of_code code = option_and_then kind_of (prim_of code)
+
+-- that of a bound, by its property
+abbrev pub kind_of_bound : Text → Option Kind
+kind_of_bound property = option_and_then kind_of (bound_type property)
+
+-- ---- their order
+
+abbrev pub number_in : Tree → Option Value
+number_in t = option_map value_of (option_and_then parts (as_number t))
+
+abbrev pub fields_in : Tree → Option Fields
+fields_in t = option_and_then fields_of (as_text t)
+
+abbrev pub number_order : Tree → Tree → Option Ordering
+number_order t u = option_and_then (λ a. option_map (value_order a) (number_in u)) (number_in t)
+
+abbrev pub field_order_of : Tree → Tree → Option Ordering
+field_order_of t u = option_and_then (λ a. option_and_then (moment_order a) (fields_in u)) (fields_in t)
+
+-- two values of one kind may have no order
+abbrev pub order_of : Kind → Tree → Tree → Option Ordering
+order_of Number t u = number_order t u
+order_of Moment t u = field_order_of t u
+order_of Time t u = field_order_of t u
+
+-- ---- one bound, of the lower side or of the upper
+
+abbrev pub is_beyond : (Ordering → Bool) → Kind → Tree → Tree → Bool
+is_beyond side kind value bound = is_some_and side (order_of kind value bound)
+
+-- a value of its kind isn't outside; an item without a value, or of another kind, is passed over
+abbrev pub kind_holds : (Ordering → Bool) → Tree → Seen → Kind → Bool
+kind_holds side bound x kind =
+    if option_map_or (same_kind kind) (kind_of_code x.type) false
+    then option_map_or (λ value. is_beyond side kind value bound) x.json true else true
+
+abbrev pub bound_holds : (Ordering → Bool) → Meaning → Seen → Property → Bool
+bound_holds side m x p = option_map_or (kind_holds side p.1 x) (kind_of_bound p.0) (m (range p.0 p.1))
+
+-- unread bounds: their texts are one
+abbrev pub is_same_bound : Property → Property → Bool
+is_same_bound p q = bytes_eq p.0 q.0 && identical p.1 q.1
+
+-- as narrow as a bound of that kind
+abbrev pub is_narrow_bound : (Ordering → Bool) → Property → Tree → Kind → Bool
+is_narrow_bound side p base kind =
+    option_map_or (same_kind kind) (kind_of_bound p.0) false && is_beyond side kind p.1 base
+
+abbrev pub bound_narrower : (Ordering → Bool) → Property → Property → Bool
+bound_narrower side p q = option_map_or (is_narrow_bound side p q.1) (kind_of_bound q.0) (is_same_bound p q)
+
+-- ---- both bounds of an element
+
+-- the least and the greatest value, each if there is one
+pub record Range : Type 0 where
+  pub least : Option Property
+  pub most : Option Property
+
+abbrev pub range_holds : Meaning → Range → Seen → Bool
+range_holds m r x =
+    option_map_or (bound_holds is_ge m x) r.least true && option_map_or (bound_holds is_le m x) r.most true
+
+-- a bound of the base has one that is as narrow
+abbrev pub side_narrower : (Ordering → Bool) → Option Property → Option Property → Bool
+side_narrower side own base = option_map_or (λ q. option_map_or (λ p. bound_narrower side p q) own false) base true
+
+abbrev pub range_narrower : Range → Range → Bool
+range_narrower r base = side_narrower is_ge r.least base.least && side_narrower is_le r.most base.most

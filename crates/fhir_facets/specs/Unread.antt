@@ -1,0 +1,19 @@
+-- Unread rules: what a definition asks for and this program doesn't judge, each by what it says.
+use Rattle.std.specs.Prelude.{ℕ, List, ◌++◌, Bool, codes}
+use Rattle.fhir_json.specs.Tree.{Text, Tree}
+use Rattle.fhir_json.specs.Compact.{compact}
+
+pub data Unread : Type 0 where
+  -- a bound of a type that isn't compared: its property, as `minValueQuantity`, and its value
+  range : (property : List ℕ) → Tree → Unread
+  -- a target profile that isn't there, or can't be used
+  target : (canonical : List ℕ) → Unread
+
+-- as a message says it
+abbrev pub unread_text : Unread → Text
+unread_text (range property value) = codes "range " ++ property ++ codes " " ++ compact value
+unread_text (target canonical) = codes "target " ++ canonical
+
+-- What the unread rules mean of one item: whether each holds. Any test may be meant.
+abbrev pub Meaning : Type 0
+Meaning = Unread → Bool

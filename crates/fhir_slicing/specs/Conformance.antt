@@ -1,0 +1,153 @@
+-- When an item conforms to a node, and a resource to a profile (FHIR R4, Profiling and ElementDefinition): where all holds
+-- that the node asks of it. An item is folded into its test of nodes: what is asked of a child is asked of the child's test.
+use Rattle.std.specs.Prelude.{◌≡◌, ℕ, suc, List, [], ◌∷◌, ◌++◌, length, get_or, Bool, true, ◌&&◌, ◌||◌, nat_eq, Option, Some, IsTrue, if◌then◌else◌}
+use Rattle.std.specs.Option.{option_map_or}
+use Rattle.std.specs.List.{list_all, list_any}
+use Rattle.fhir_json.specs.Tree.{Text, Tree}
+use Rattle.fhir_elements.specs.TypeEntry.{TypeEntry}
+use Rattle.fhir_elements.specs.Element.{Element}
+use Rattle.fhir_schema.specs.declared.node.NodeRef.{NodeRef}
+use Rattle.fhir_schema.specs.Types.{names_resource}
+use Rattle.fhir_schema.specs.Schemas.{SchemaValue, element_at, is_root_node, root, types}
+use Rattle.fhir_schema.specs.Covers.{covers, type_at}
+use Rattle.fhir_instance.specs.Items.{Item, item, Kids, no_kids, kid, Place, type_of, json_of, has_kids}
+use Rattle.fhir_instance.specs.Typing.{Types}
+use Rattle.fhir_facets.specs.Unread.{Unread, Meaning}
+use Rattle.fhir_facets.specs.Seen.{Seen}
+use Rattle.fhir_facets.specs.Values.{fixed_holds, pattern_holds, length_holds}
+use Rattle.fhir_facets.specs.Ranges.{Range, range_holds}
+use Rattle.fhir_facets.specs.Targets.{targets_hold}
+use Rattle.fhir_facets.specs.Counts.{are_enough, are_within}
+use Rattle.fhir_slicing.specs.Asks.{RuleName, root_type, types as of_types, fixed, pattern, range, length_limit, too_few, too_many}
+use Rattle.fhir_slicing.specs.Asks.{Ask, own, root as as_root, child, places_of, root_asks, inner_asks}
+
+abbrev pub seen : Item → Seen
+seen x = record { type = type_of x; json = json_of x; has_kids = has_kids x }
+
+abbrev pub count_of : Text → Item → ℕ
+count_of name x = length (places_of name x)
+
+-- ---- the rules of an element, where unread rules mean so
+
+abbrev pub fixed_at : Item → Element → Bool
+fixed_at x e = option_map_or (λ p. fixed_holds p.1 (seen x)) e.fixed true
+
+abbrev pub pattern_at : Item → Element → Bool
+pattern_at x e = option_map_or (λ p. pattern_holds p.1 (seen x)) e.pattern true
+
+abbrev pub range_of : Element → Range
+range_of e = record { least = e.min_value; most = e.max_value }
+
+abbrev pub range_at : Meaning → Item → Element → Bool
+range_at m x e = range_holds m (range_of e) (seen x)
+
+abbrev pub length_at : Item → Element → Bool
+length_at x e = option_map_or (λ most. length_holds most (seen x)) e.max_length true
+
+-- the element of a node passes a test; what is no node asks for nothing
+abbrev pub at_element : SchemaValue → (Element → Bool) → NodeRef → Bool
+at_element s test n = option_map_or test (element_at s n) true
+
+-- the node names no types
+abbrev pub is_untyped : SchemaValue → NodeRef → Bool
+is_untyped s n = nat_eq (length (types s n)) 0
+
+module _ (s : SchemaValue) (m : Meaning) (x : Item) where
+  -- a type entry's code covers the item's type, and its targets hold
+  abbrev pub entry_holds : TypeEntry → Bool
+  entry_holds e = covers s e.code (type_of x) && targets_hold s m e (seen x)
+
+  -- the item is of one of the node's types, where it names any
+  abbrev pub types_hold : NodeRef → Bool
+  types_hold n = is_untyped s n || list_any entry_holds (types s n)
+
+  abbrev pub rule_holds : RuleName → NodeRef → Bool
+  rule_holds root_type n = covers s (type_at s n) (type_of x)
+  rule_holds of_types n = types_hold n
+  rule_holds fixed n = at_element s (fixed_at x) n
+  rule_holds pattern n = at_element s (pattern_at x) n
+  rule_holds range n = at_element s (range_at m x) n
+  rule_holds length_limit n = at_element s (length_at x) n
+  rule_holds (too_few name) n = at_element s (λ e. are_enough e (count_of name x)) n
+  rule_holds (too_many name) n = at_element s (λ e. are_within e (count_of name x)) n
+
+  -- ---- all that a node asks, where these are the roots that the item conforms to, and these the tests of its children
+
+  module _ (kids : List (NodeRef → Bool)) where
+    abbrev pub ask_holds : (NodeRef → Bool) → Ask → Bool
+    ask_holds roots (own rule n) = rule_holds rule n
+    ask_holds roots (as_root r) = roots r
+    ask_holds roots (child i n) = get_or kids i (λ n. true) n
+
+    -- a root asks for no other root
+    abbrev pub root_holds : NodeRef → Bool
+    root_holds r = list_all (ask_holds (λ r. true)) (root_asks s x r)
+
+    abbrev pub inner_holds : NodeRef → Bool
+    inner_holds n = list_all (ask_holds root_holds) (inner_asks s x n)
+
+    abbrev pub item_holds : NodeRef → Bool
+    item_holds n = if is_root_node s n then root_holds n else inner_holds n
+
+-- ---- items in a resource
+
+-- What the unread rules mean: whether each holds at a place in an outermost item. Any test may be meant.
+abbrev pub Interpretation : Type 0
+Interpretation = Unread → Item → Place → Bool
+
+-- where an item stands: the outermost item, the place in that, and the nearest resource around it
+pub record Around : Type 0 where
+  pub outermost : Item
+  pub place : Place
+  pub nearest : Item
+
+abbrev pub meaning_at : Interpretation → Around → Meaning
+meaning_at meaning around rule = meaning rule around.outermost around.place
+
+abbrev pub is_resource_item : SchemaValue → Item → Bool
+is_resource_item s x = names_resource s.definitions (type_of x)
+
+-- where the children of an item stand, but for their positions
+abbrev pub inside : SchemaValue → Around → Item → Around
+inside s around x = record {
+  outermost = around.outermost;
+  place = around.place;
+  nearest = if is_resource_item s x then x else around.nearest;
+}
+
+-- where the child at a position among all children stands
+abbrev pub below : Around → ℕ → Around
+below around position = record {
+  outermost = around.outermost;
+  place = around.place ++ position ∷ [];
+  nearest = around.nearest;
+}
+
+abbrev mutual
+  -- the item, which stands there, conforms to the node
+  pub conforms : SchemaValue → Interpretation → Around → Item → NodeRef → Bool
+  conforms s meaning around (item type json kids) =
+      item_holds s (meaning_at meaning around) (item type json kids)
+      (kid_tests s meaning (inside s around (item type json kids)) 0 kids)
+
+  -- the tests of the children, whose positions begin at a number
+  pub kid_tests : SchemaValue → Interpretation → Around → ℕ → Kids → List (NodeRef → Bool)
+  kid_tests s meaning around position no_kids = []
+  kid_tests s meaning around position (kid name x kids) =
+      conforms s meaning (below around position) x ∷ kid_tests s meaning around (suc position) kids
+
+-- an item that stands in no other
+abbrev pub outermost : Item → Around
+outermost x = record { outermost = x; place = []; nearest = x }
+
+-- each unread rule holds everywhere, or none does anywhere
+abbrev pub constant : Bool → Interpretation
+constant b rule outermost place = b
+
+-- A resource conforms to a profile: its item conforms to the profile's root.
+pub record Conforms (s : SchemaValue) (meaning : Interpretation) (profile : Text) (t : Tree) : Type 0 where
+  pub node : NodeRef
+  pub itself : Item
+  pub usable : root s profile ≡ Some node
+  pub typed : Types s t itself
+  pub holds : IsTrue (conforms s meaning (outermost itself) itself node)

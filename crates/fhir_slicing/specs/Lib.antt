@@ -1,0 +1,4 @@
+pub mod Asks
+pub mod Conformance
+pub mod Meeting
+pub mod Example

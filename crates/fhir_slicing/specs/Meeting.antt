@@ -1,0 +1,50 @@
+-- Which nodes a profile asks which items of a resource to conform to, and which unread rules stand there.
+use Rattle.std.specs.Prelude.{◌≡◌, ℕ, zero, suc, List, [], ◌∷◌, ◌++◌, Bool, Option, None, Some, if◌then◌else◌, ◌&&◌, is_none}
+use Rattle.std.specs.Option.{option_map_or}
+use Rattle.std.specs.List.{Contains, flat_map}
+use Rattle.fhir_json.specs.Tree.{Text, Property}
+use Rattle.fhir_elements.specs.TypeEntry.{TypeEntry}
+use Rattle.fhir_elements.specs.Element.{Element}
+use Rattle.fhir_schema.specs.declared.node.NodeRef.{NodeRef}
+use Rattle.fhir_schema.specs.Schemas.{SchemaValue, element_at, types, loaded}
+use Rattle.fhir_schema.specs.Covers.{covers}
+use Rattle.fhir_instance.specs.Items.{Item, Kids, no_kids, kid, Place, kids_of, type_of}
+use Rattle.fhir_facets.specs.Unread.{Unread, range, target}
+use Rattle.fhir_facets.specs.Ranges.{kind_of_bound}
+use Rattle.fhir_facets.specs.Targets.{has_targets}
+use Rattle.fhir_slicing.specs.Asks.{root, child, asks}
+
+-- the item at a position among these
+abbrev pub kid_at : Kids → ℕ → Option Item
+kid_at no_kids i = None
+kid_at (kid name x kids) zero = Some x
+kid_at (kid name x kids) (suc i) = kid_at kids i
+
+-- The pairs of node and item that a resource meets: the profile's root with the outermost item, and with a pair each that
+-- its node asks for.
+pub data Met (s : SchemaValue) (outermost : Item) (profile : NodeRef) : Place → Item → NodeRef → Type 0 where
+  first : {place : Place} {x : Item} {n : NodeRef} → place ≡ [] → x ≡ outermost → n ≡ profile → Met s outermost profile place x n
+  at_item : {place : Place} {x : Item} {n m : NodeRef}
+      → Met s outermost profile place x n → Contains (asks s x n) (root m) → Met s outermost profile place x m
+  at_child : {place within : Place} {x y : Item} {n m : NodeRef} (i : ℕ)
+      → Met s outermost profile place x n → Contains (asks s x n) (child i m) → kid_at (kids_of x) i ≡ Some y → within ≡ place ++ i ∷ []
+      → Met s outermost profile within y m
+
+-- ---- the unread rules that a node carries to an item
+
+abbrev pub bound_unread : Property → List Unread
+bound_unread p = if is_none (kind_of_bound p.0) then range p.0 p.1 ∷ [] else []
+
+abbrev pub range_unread : Element → List Unread
+range_unread e = option_map_or bound_unread e.min_value [] ++ option_map_or bound_unread e.max_value []
+
+abbrev pub target_unread : SchemaValue → Text → List Unread
+target_unread s canonical = if is_none (loaded s canonical) then target canonical ∷ [] else []
+
+-- a type entry's, where its code covers the item's type
+abbrev pub entry_unread : SchemaValue → Item → TypeEntry → List Unread
+entry_unread s x e = if covers s e.code (type_of x) && has_targets e then flat_map (target_unread s) e.targets else []
+
+abbrev pub unread_at : SchemaValue → Item → NodeRef → List Unread
+unread_at s x n =
+    flat_map (entry_unread s x) (types s n) ++ option_map_or range_unread (element_at s n) []
