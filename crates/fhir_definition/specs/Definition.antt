@@ -1,6 +1,6 @@
 -- A StructureDefinition by itself (FHIR R4, StructureDefinition): its fields, and what is wrong with it whatever the
 -- other definitions are.
-use Rattle.std.specs.Prelude.{ℕ, suc, List, [], ◌∷◌, map, length, Bool, true, false, not, ◌&&◌, ◌||◌, ◌==◌, nat_lt, Option, None, Some, is_some, codes}
+use Rattle.std.specs.Prelude.{ℕ, suc, List, [], ◌∷◌, map, length, Bool, true, false, not, ◌&&◌, ◌||◌, nat_lt, Option, Some, is_some, codes}
 use Rattle.std.specs.Option.{option_map_or}
 use Rattle.std.specs.List.{list_all, list_any}
 use Rattle.fhir_json.specs.Tree.{Text, Tree}

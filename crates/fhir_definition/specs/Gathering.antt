@@ -1,4 +1,4 @@
--- Places put into lists one after another (used by private contracts alone).
+-- Places put into lists one after another.
 use Rattle.std.specs.Prelude.{ℕ, List, [], ◌∷◌, ◌++◌, get_or, set, Option, None, Some}
 
 abbrev pub put_at : Option ℕ → ℕ → List (List ℕ) → List (List ℕ)

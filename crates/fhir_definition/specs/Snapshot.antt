@@ -1,5 +1,5 @@
 -- The tree that the ids of a snapshot's elements make (FHIR R4, ElementDefinition, id), by the places of the elements.
-use Rattle.std.specs.Prelude.{ℕ, suc, List, [], ◌∷◌, Bool, true, false, not, ◌&&◌, ◌==◌, nat_eq, Option, None, Some, is_some, is_none, if◌then◌else◌}
+use Rattle.std.specs.Prelude.{ℕ, suc, List, [], ◌∷◌, Bool, true, false, ◌&&◌, ◌==◌, nat_eq, Option, None, Some, is_some, is_none, if◌then◌else◌}
 use Rattle.std.specs.Option.{option_map_or, option_and_then}
 use Rattle.std.specs.List.{list_all, count_by, position}
 use Rattle.std.specs.Str.{bytes_eq}

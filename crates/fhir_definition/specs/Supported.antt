@@ -1,15 +1,14 @@
 -- What is supported so far of a definition by itself: its elements say how many there may be, which values they have, of
 -- which types they are and what references may refer to, and no more.
-use Rattle.std.specs.Prelude.{length, Bool, true, false, not, ◌&&◌, ◌||◌, ◌==◌, nat_eq, is_some, is_none, codes}
-use Rattle.std.specs.Option.{option_map_or, option_and_then}
-use Rattle.std.specs.List.{list_all, list_any, ends_with, starts_with}
+use Rattle.std.specs.Prelude.{Bool, true, false, not, ◌&&◌, ◌||◌, is_some, is_none}
+use Rattle.std.specs.Option.{option_map_or}
+use Rattle.std.specs.List.{list_all, list_any}
 use Rattle.fhir_json.specs.Bytes.{is_empty}
-use Rattle.fhir_json.specs.Tree.{Text}
 use Rattle.fhir_elements.specs.declared.constraint.Severity.{Severity}
 use Rattle.fhir_elements.specs.declared.constraint.Severity.TheVariants as severities
 use Rattle.fhir_elements.specs.declared.binding.Strength.{Strength}
 use Rattle.fhir_elements.specs.declared.binding.Strength.TheVariants as strengths
-use Rattle.fhir_names.specs.Parents.{front_of, name_of, slice_of}
+use Rattle.fhir_names.specs.Parents.{slice_of}
 use Rattle.fhir_elements.specs.TypeEntry.{TypeEntry}
 use Rattle.fhir_elements.specs.Constraint.{Constraint}
 use Rattle.fhir_elements.specs.Binding.{Binding}

@@ -8,7 +8,8 @@ ghost use Rattle.fhir_definition.specs.Views.{lists_in};
 use crate::by_id::ElementsById;
 use std::alloc::{AllocError, Global};
 
-fn empty_lists(alloc: Global, count: usize) -> Result<Vec<Vec<usize>>, AllocError>
+/// So many empty lists. The one refusal is want of memory.
+pub fn empty_lists(alloc: Global, count: usize) -> Result<Vec<Vec<usize>>, AllocError>
     ensures { IfOk result (λ v. lists_in v.items ≡ replicate count []) }
 {
     let mut all = Vec::new(alloc);
@@ -18,7 +19,8 @@ fn empty_lists(alloc: Global, count: usize) -> Result<Vec<Vec<usize>>, AllocErro
     Ok(all)
 }
 
-fn put_at(all: &mut Vec<Vec<usize>>, at: Option<usize>, place: usize) -> Result<(), AllocError>
+/// Puts a place at the end of the list at a place; where there is none, nothing changes. The one refusal is want of memory.
+pub fn put_at(all: &mut Vec<Vec<usize>>, at: Option<usize>, place: usize) -> Result<(), AllocError>
     ensures { OnOk result (lists_in all.new.items ≡ put_at at place (lists_in all.old.items)) }
 {
     let Some(at) = at else {

@@ -8,14 +8,14 @@ ghost use Rattle.fhir_json.specs.Memory.{Gives};
 ghost use Rattle.fhir_definition.specs.Snapshot.{id_place, is_tree, root_place};
 ghost use Rattle.fhir_definition.specs.Children.{children_of, slices_at};
 ghost use Rattle.fhir_definition.specs.Views.{lists_in};
-ghost use Rattle.fhir_definition.specs.Definition.{has_snapshot, is_primitive, is_plain, is_shallow, definition_of};
+ghost use Rattle.fhir_definition.specs.Definition.{has_snapshot, is_primitive, is_plain, definition_of};
 
 use crate::elements::{element_trees, elements_of};
 use crate::faults::own_fault;
 use crate::head::{is_abstract, is_type_definition, kind_in};
 use crate::kind::TypeKind;
 use crate::snapshot::Snapshot;
-use crate::supported::{are_plain, are_shallow};
+use crate::supported::are_plain;
 use fhir_elements::{ElementDef, Reason};
 use fhir_json::{Json, NoMemory};
 use std::alloc::{AllocError, Global};
@@ -241,13 +241,5 @@ impl Definition {
         ensures { result ≡ is_plain self.now }
     {
         are_plain(self.elements())
-    }
-
-    /// Whether its elements stand one level below the root, each of one type. Those of a primitive type are a root alone.
-    pub fn is_shallow(&self) -> bool
-        ensures { result ≡ is_shallow self.now }
-    {
-        let is_alone = !self.is_primitive() || self.elements().len() == 1;
-        are_shallow(self.elements()) && is_alone
     }
 }

@@ -5,12 +5,14 @@ ghost use Rattle.std.specs.List.{list_all, list_any};
 ghost use Rattle.fhir_json.specs.Views.{tree_of};
 ghost use Rattle.fhir_elements.specs.Element.{element_fault};
 ghost use Rattle.fhir_definition.specs.Head.{has_right_head};
+ghost use Rattle.fhir_definition.specs.Bounds.{has_lexical_bounds};
 ghost use Rattle.fhir_definition.specs.Definition.{is_whole, is_wrong_field, is_min_over_max, is_repeated_type, is_wrong_id, element_faults, own_fault};
 
+use crate::bounds::have_lexical_bounds;
 use crate::elements::{are_whole, element_trees, faults_of};
 use crate::head::has_right_head;
 use crate::snapshot::Snapshot;
-use fhir_elements::Reason;
+use fhir_elements::{ElementDef, Reason};
 use fhir_json::{Json, NoMemory};
 use std::alloc::Global;
 
@@ -62,6 +64,12 @@ fn has_wrong_id(faults: &[Option<Reason>]) -> bool
     faults.iter().any(|fault| is_wrong_id(*fault))
 }
 
+fn have_right_values(elements: &[ElementDef]) -> bool
+    ensures { result ≡ (list_all is_whole elements.now && list_all has_lexical_bounds elements.now) }
+{
+    are_whole(elements) && have_lexical_bounds(elements)
+}
+
 // Whether each field of the head and of the elements is right.
 fn has_right_fields(
     url: &str,
@@ -70,9 +78,9 @@ fn has_right_fields(
     faults: &[Option<Reason>],
 ) -> bool
     ensures { result ≡ (has_right_head url.now (tree_of json.now) && list_all is_whole snapshot.now
-        && not (list_any is_wrong_field faults.now)) }
+        && list_all has_lexical_bounds snapshot.now && not (list_any is_wrong_field faults.now)) }
 {
-    has_right_head(url, json) && are_whole(snapshot.elements()) && !has_wrong_field(faults)
+    has_right_head(url, json) && have_right_values(snapshot.elements()) && !has_wrong_field(faults)
 }
 
 /// The first reason that applies to a definition by itself.

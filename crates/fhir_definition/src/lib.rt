@@ -13,6 +13,7 @@
 //! The contract to read first is that of [`Definition::of`].
 #![tactic(auto)]
 
+mod bounds;
 mod by_id;
 mod children;
 mod definition;
@@ -24,7 +25,9 @@ mod laws;
 mod snapshot;
 mod supported;
 
+pub use bounds::bound_type;
 pub use by_id::is_root;
+pub use children::{empty_lists, put_at};
 pub use definition::Definition;
 pub use kind::TypeKind;
 pub use laws::children_and_slices;

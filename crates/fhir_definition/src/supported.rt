@@ -1,14 +1,13 @@
-//! What is supported so far of a definition by itself, and which definitions are flat.
+//! What is supported so far of a definition by itself.
 
-ghost use Rattle.std.specs.Prelude.{◌≡◌, false, is_some};
-ghost use Rattle.std.specs.Option.{option_map_or, option_and_then};
+ghost use Rattle.std.specs.Prelude.{◌≡◌, false};
+ghost use Rattle.std.specs.Option.{option_map_or};
 ghost use Rattle.std.specs.List.{list_all, list_any};
-ghost use Rattle.fhir_names.specs.Parents.{front_of};
-ghost use Rattle.fhir_definition.specs.Supported.{is_error, is_required, must_hold, binds, has_plain_value, has_plain_rules, is_bare, is_plain_child, is_plain_element, is_plain_name, is_one_down, is_shallow_element};
+ghost use Rattle.fhir_definition.specs.Supported.{is_error, is_required, must_hold, binds, has_plain_rules, is_bare, is_plain_child, is_plain_element};
 
 use crate::by_id::is_root;
 use fhir_elements::{BindingDef, ConstraintDef, ElementDef, Severity, Strength, TypeEntry};
-use fhir_names::{front_of, name_of, slice_of};
+use fhir_names::slice_of;
 
 fn is_error(severity: Severity) -> bool
     ensures { result ≡ is_error severity }
@@ -67,15 +66,6 @@ fn has_binding(element: &ElementDef) -> bool
     }
 }
 
-fn has_plain_value(element: &ElementDef) -> bool
-    ensures { result ≡ has_plain_value element.now }
-{
-    element.pattern().is_none()
-        && element.min_value().is_none()
-        && element.max_value().is_none()
-        && element.max_length().is_none()
-}
-
 fn has_plain_rules(element: &ElementDef) -> bool
     ensures { result ≡ has_plain_rules element.now }
 {
@@ -85,44 +75,10 @@ fn has_plain_rules(element: &ElementDef) -> bool
         && element.content_reference().is_none()
 }
 
-fn is_plain_name(name: &str) -> bool
-    ensures { result ≡ is_plain_name name.now }
-{
-    !name.as_bytes().ends_with(b"[x]") && !name.as_bytes().starts_with(b"_")
-}
-
-fn is_two_down(id: &str) -> bool
-    ensures { result ≡ is_some (option_and_then front_of (front_of id.now)) }
-{
-    match front_of(id) {
-        Some(front) => front_of(front).is_some(),
-        None => false,
-    }
-}
-
-fn is_one_down(id: &str) -> bool
-    ensures { result ≡ is_one_down id.now }
-{
-    !is_two_down(id) && is_plain_name(name_of(id))
-}
-
-fn is_shallow_element(element: &ElementDef) -> bool
-    ensures { result ≡ is_shallow_element element.now }
-{
-    is_root(element) || (is_one_down(element.id()) && element.types().len() == 1)
-}
-
-/// Whether each element is a root, or one level below it and of one type.
-pub(crate) fn are_shallow(elements: &[ElementDef]) -> bool
-    ensures { result ≡ list_all is_shallow_element elements.now }
-{
-    elements.iter().all(|element| is_shallow_element(element))
-}
-
 fn is_bare(entry: &TypeEntry) -> bool
     ensures { result ≡ is_bare entry.now }
 {
-    entry.profiles().is_empty() && entry.targets().is_empty()
+    entry.profiles().is_empty()
 }
 
 fn are_bare(entries: &[TypeEntry]) -> bool
@@ -140,9 +96,7 @@ fn is_plain_child(element: &ElementDef) -> bool
 fn is_plain_element(element: &ElementDef) -> bool
     ensures { result ≡ is_plain_element element.now }
 {
-    has_plain_value(element)
-        && has_plain_rules(element)
-        && (is_root(element) || is_plain_child(element))
+    has_plain_rules(element) && (is_root(element) || is_plain_child(element))
 }
 
 /// Whether each element is supported so far.

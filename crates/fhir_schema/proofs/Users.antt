@@ -1,37 +1,21 @@
 -- Who rests on a definition: what is asked of types, by their places, and the lists of those that ask.
-use Rattle.std.proofs.Common.{◌≡◌, ℕ, zero, suc, ◌<◌, List, [], ◌∷◌, ◌++◌, length, get_or, set, replicate, Vec, refl, ap, ap₂, sym, ◌∙◌, arith}
+use Rattle.std.proofs.Common.{◌≡◌, ℕ, ◌<◌, List, [], ◌∷◌, ◌++◌, length, get_or, replicate, refl, ap, ap₂, sym, ◌∙◌, arith}
 use Rattle.std.proofs.Common.{Bool, true, false, ◌&&◌, ◌||◌, cond, nat_eq, Option, Some, None, is_none, ◌⊎◌, inl, inr}
 use Rattle.std.specs.Option.{option_map_or}
 use Rattle.std.specs.List.{list_all, list_any, flat_map, slice_get}
 use Rattle.std.proofs.lemmas.Bool.{cases_eq, eq-eqb, ne_eqb, eqb-true, and_parts, and_from}
-use Rattle.std.proofs.lemmas.List.{map-set, length-set, length-replicate, get_or-set_same, get_or-set_other, get_or-replicate}
+use Rattle.std.proofs.lemmas.List.{length-set, length-replicate, get_or-set_same, get_or-set_other, get_or-replicate}
 use Rattle.std.proofs.lemmas.List.Folds.{list_all-append, list_any-append, list_any_at, Any-from_list_any}
 use Rattle.std.proofs.lemmas.Option.{slice_get_read, slice_get_within, get_or_from_slice_get}
-use Rattle.std.specs.declared.alloc.Global.{Global}
 use Rattle.fhir_elements.specs.TypeEntry.{TypeEntry}
 use Rattle.fhir_elements.specs.Element.{Element}
 use Rattle.fhir_definition.specs.Snapshot.{is_at, is_root}
 use Rattle.fhir_definition.specs.Definition.{Definition}
 use Rattle.fhir_definition.specs.Gathering.{put_at}
-use Rattle.fhir_definition.specs.Views.{lists_in}
 use Rattle.fhir_schema.specs.Types.{type_place, is_system}
 use Rattle.fhir_schema.specs.Tables.{ArePlaced}
 use Rattle.fhir_schema.specs.Settling.{Reasons, reason_at, is_usable_type, entry_is_usable, element_is_usable, types_are_usable}
 use Rattle.fhir_schema.specs.Resting.{entry_rests_on, element_rests_on, rests_on, put_under, users_from, users_of}
-
--- ---- lists behind vectors
-
-get_or-lists : (vs : List (Vec ℕ Global)) (at : ℕ) (v : Vec ℕ Global) → at < length vs → get_or (lists_in vs) at [] ≡ (get_or vs at v).items
-get_or-lists [] at v h = absurd (omega arith)
-get_or-lists (x ∷ xs) zero v h = refl
-get_or-lists (x ∷ xs) (suc at) v h = let less : at < length xs = omega arith in get_or-lists xs at v less
-
-pub put_there : (vs : List (Vec ℕ Global)) (at place : ℕ) (old new : Vec ℕ Global) → at < length vs → old ≡ get_or vs at old
-    → new.items ≡ old.items ++ place ∷ [] → lists_in (set vs at new) ≡ put_at (Some at) place (lists_in vs)
-put_there vs at place old new h is more =
-    let there : get_or (lists_in vs) at [] ≡ old.items = get_or-lists vs at old h ∙ ap (λ v. v.items) (sym is) in
-    let now : new.items ≡ get_or (lists_in vs) at [] ++ place ∷ [] = more ∙ ap (λ l. l ++ place ∷ []) (sym there) in
-    map-set (λ v. v.items) vs at new ∙ ap (set (lists_in vs) at) now
 
 -- ---- the types of a definition can be used where those at their places can
 

@@ -1,7 +1,7 @@
 -- The schema of a package: its definitions, which of them can be used, and the nodes of those.
-use Rattle.std.specs.Prelude.{ℕ, List, [], length, get_or, map, Bool, false, not, ◌&&◌, ◌||◌, nat_lt, nat_eq, Option, None, Some, is_some, is_none, if◌then◌else◌}
+use Rattle.std.specs.Prelude.{ℕ, List, [], length, get_or, map, Bool, false, not, ◌&&◌, nat_lt, nat_eq, Option, None, Some, is_some, is_none, if◌then◌else◌}
 use Rattle.std.specs.Option.{option_map, option_map_or, option_and_then}
-use Rattle.std.specs.List.{slice_get, find, list_all}
+use Rattle.std.specs.List.{slice_get, find}
 use Rattle.std.specs.Str.{bytes_eq}
 use Rattle.fhir_json.specs.Tree.{Text}
 use Rattle.fhir_package.specs.Definitions.{Definitions}
@@ -9,7 +9,7 @@ use Rattle.fhir_elements.specs.declared.reason.Reason.{Reason}
 use Rattle.fhir_elements.specs.TypeEntry.{TypeEntry}
 use Rattle.fhir_elements.specs.Element.{Element}
 use Rattle.fhir_schema.specs.declared.node.NodeRef.{NodeRef}
-use Rattle.fhir_definition.specs.Snapshot.{id_place, is_at, is_root, root_place}
+use Rattle.fhir_definition.specs.Snapshot.{id_place, is_at, root_place}
 use Rattle.fhir_definition.specs.Definition.{Definition, definitions_from}
 use Rattle.fhir_schema.specs.Types.{type_place, is_resource, type_of_code}
 use Rattle.fhir_schema.specs.Slots.{Slot, id_at, slots_of}

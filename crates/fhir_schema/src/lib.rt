@@ -17,7 +17,6 @@
 
 mod chains;
 mod covering;
-mod flat;
 mod form;
 mod form_table;
 mod forms;

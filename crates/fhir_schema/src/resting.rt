@@ -1,14 +1,13 @@
 //! Which definitions rest on which by their types.
 
-ghost use Rattle.std.specs.Prelude.{◌≡◌, ◌++◌, [], replicate, IfOk, OnOk};
+ghost use Rattle.std.specs.Prelude.{◌≡◌, ◌++◌, IfOk, OnOk};
 ghost use Rattle.std.specs.List.{flat_map};
-ghost use Rattle.fhir_definition.specs.Gathering.{put_at};
 ghost use Rattle.fhir_definition.specs.Views.{lists_in};
 ghost use Rattle.fhir_schema.specs.Resting.{entry_rests_on, element_rests_on, rests_on, put_under, users_of};
 
 use crate::kinds::is_system;
 use crate::table::Table;
-use fhir_definition::{Definition, is_root};
+use fhir_definition::{Definition, empty_lists, is_root, put_at};
 use fhir_elements::{ElementDef, TypeEntry};
 use std::alloc::{AllocError, Global};
 
@@ -67,28 +66,6 @@ fn rests_on(
         push_element(table, element, &mut places)?;
     }
     Ok(places)
-}
-
-fn empty_lists(alloc: Global, count: usize) -> Result<Vec<Vec<usize>>, AllocError>
-    ensures { IfOk result (λ v. lists_in v.items ≡ replicate count []) }
-{
-    let mut all = Vec::new(alloc);
-    for _done in 0..count {
-        all.push(Vec::new(alloc))?;
-    }
-    Ok(all)
-}
-
-fn put_at(all: &mut Vec<Vec<usize>>, at: Option<usize>, place: usize) -> Result<(), AllocError>
-    ensures { OnOk result (lists_in all.new.items ≡ put_at at place (lists_in all.old.items)) }
-{
-    let Some(at) = at else {
-        return Ok(());
-    };
-    if at < all.len() {
-        all[at].push(place)?;
-    }
-    Ok(())
 }
 
 fn put_under(

@@ -2,15 +2,13 @@
 
 ghost use Rattle.std.specs.Prelude.{◌≡◌, false, IsTrue};
 ghost use Rattle.std.specs.Option.{option_copied, option_map_or};
-ghost use Rattle.std.specs.List.{slice_get};
 ghost use Rattle.fhir_json.specs.Memory.{Gives};
-ghost use Rattle.fhir_schema.specs.Schemas.{schema_of, unusable, is_usable, elements_at, has, element_at, url_at, id_of_node, is_root_node, node_in, root_element, root, node_with, node, slots, slot_named, holder, types, forms, property, type_root, resource_root, is_concrete, is_flat, is_flat_at};
+ghost use Rattle.fhir_schema.specs.Schemas.{schema_of, unusable, is_usable, elements_at, has, element_at, url_at, id_of_node, is_root_node, node_in, root_element, root, node_with, node, slots, slot_named, holder, types, forms, property, type_root, resource_root, is_concrete, is_loaded, loaded};
 ghost use Rattle.fhir_schema.specs.Types.{type_of_code};
 ghost use Rattle.fhir_schema.specs.Forms.{are_apart};
 ghost use Rattle.fhir_schema.specs.Covers.{type_at, covers};
 
 use crate::covering::covers;
-use crate::flat::is_flat;
 use crate::form::{Form, Property};
 use crate::kinds::{is_resource, type_of_code};
 use crate::lineage::Lineage;
@@ -20,7 +18,7 @@ use crate::nodes::Nodes;
 use crate::settling::all_reasons;
 use crate::slots::Slot;
 use crate::table::Table;
-use crate::types::reason_at;
+use crate::types::{canonical_place, reason_at};
 use fhir_elements::{ElementDef, Reason, TypeEntry};
 use fhir_json::NoMemory;
 use fhir_package::Package;
@@ -168,6 +166,24 @@ impl Schema {
         }
     }
 
+    /// Whether a definition stands at a url. It may be one that can't be used.
+    pub fn is_loaded(&self, url: &str) -> bool
+        ensures { result ≡ is_loaded self.now url.now }
+    {
+        self.table.url_place(url).is_some()
+    }
+
+    /// The root of the definition that a canonical names (FHIR R4, Data Types, canonical), if that can be used. A canonical
+    /// with a version names a definition of that version, or one without any.
+    pub fn loaded(&self, canonical: &str) -> Option<NodeRef>
+        ensures { result ≡ loaded self.now canonical.now }
+    {
+        match canonical_place(&self.table, canonical) {
+            Some(place) => self.node_in(place, self.root_element(place)),
+            None => None,
+        }
+    }
+
     fn node_with(&self, id: &str, place: usize) -> Option<NodeRef>
         ensures { result ≡ node_with self.now id.now place }
     {
@@ -304,26 +320,6 @@ impl Schema {
         ensures { IsTrue (are_apart (forms self.now node)) }
     {
         self.forms.forms_are_apart(node)
-    }
-
-    /// Whether the definition at a url is flat: its elements stand one level below the root, each of one type, which is
-    /// primitive.
-    pub fn is_flat(&self, url: &str) -> bool
-        ensures { result ≡ is_flat_at self.now url.now }
-    {
-        match self.table.url_place(url) {
-            Some(place) => self.is_flat_at_place(place),
-            None => false,
-        }
-    }
-
-    fn is_flat_at_place(&self, place: usize) -> bool
-        ensures { result ≡ option_map_or (is_flat self.now.definitions) (slice_get self.now.definitions place) false }
-    {
-        match self.table.definition(place) {
-            Some(definition) => is_flat(&self.table, definition),
-            None => false,
-        }
     }
 
     /// Whether a type code covers another: it is that one, or it is of a resource from which the other derives by its
