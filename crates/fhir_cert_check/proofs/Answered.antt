@@ -1,10 +1,12 @@
 -- Tests over lists.
-use Rattle.std.proofs.Common.{◌≡◌, Bool, true, false, List, [], ◌∷◌, ◌++◌, Some, refl, inl, inr, ◌⊎◌, arith, IsTrue, filter, cond, nat_eq, length}
+use Rattle.std.proofs.Common.{◌≡◌, ℕ, zero, suc, Bool, true, false, List, [], ◌∷◌, ◌++◌, map, get_or, Option, Some, None, refl, inl, inr, ◌⊎◌, arith, IsTrue, cond, nat_eq, length}
 use Rattle.std.specs.Prelude.{if◌then◌else◌}
 use Rattle.std.specs.List.{list_all, list_any, find, flat_map, AllByRecursion}
+use Rattle.std.specs.Option.{option_map_or}
 use Rattle.std.proofs.lemmas.Bool.{and_parts, and_from, or_cases, eqb-true, or_left, or_right, false≢true}
 use Rattle.std.proofs.lemmas.Option.{none-some, same_Some}
 use Rattle.fhir_cert_check.specs.Lists.{each_answers}
+use Rattle.fhir_cert_check.specs.Rules.{is_answered}
 
 pub cases_if : (b x y : Bool) → IsTrue (if b then x else y) → ((b ≡ true) × IsTrue x) ⊎ ((b ≡ false) × IsTrue y)
 cases_if true x y h = inl (refl, h)
@@ -35,37 +37,45 @@ answers_any r p q f xs ys answers some =
     any_with_all p (λ x. list_any (λ y. r x y) ys) (IsTrue (list_any q ys))
     (λ x here each. any_step (λ y. r x y) q (λ y answered. f x y answered here) ys each) xs some answers
 
-pub all_step : {A : Type 0} (p q : A → Bool) (xs : List A) → AllByRecursion (λ x. IsTrue (p x) → IsTrue (q x)) xs → IsTrue (list_all p xs)
-    → IsTrue (list_all q xs)
-all_step p q [] f each = refl
-all_step p q (x ∷ xs) f each =
-    let parts = and_parts (p x) (list_all p xs) each in
-    and_from (q x) (list_all q xs) (f.0 parts.0) (all_step p q xs f.1 parts.1)
-
 pub all_map : {A : Type 0} (p q : A → Bool) → ((x : A) → IsTrue (p x) → IsTrue (q x)) → (xs : List A) → IsTrue (list_all p xs) → IsTrue (list_all q xs)
 all_map p q f [] each = refl
 all_map p q f (x ∷ xs) each =
     let parts = and_parts (p x) (list_all p xs) each in
     and_from (q x) (list_all q xs) (f x parts.0) (all_map p q f xs parts.1)
 
-pub all_weaker : {A : Type 0} (P Q : A → Type 0) → ((x : A) → P x → Q x) → (xs : List A) → AllByRecursion P xs → AllByRecursion Q xs
-all_weaker P Q f [] each = tt
-all_weaker P Q f (x ∷ xs) each = (f x each.0, all_weaker P Q f xs each.1)
+-- what holds of each holds at each position, where it holds of what stands behind the end
+pub each_at : {A : Type 0} (P : A → Type 0) (d : A) → P d → (xs : List A) → AllByRecursion P xs → (i : ℕ) → P (get_or xs i d)
+each_at P d last [] each i = last
+each_at P d last (x ∷ xs) each zero = each.0
+each_at P d last (x ∷ xs) each (suc i) = each_at P d last xs each.1 i
 
-pub all_filter : {A : Type 0} (P : A → Type 0) (p : A → Bool) (xs : List A) → AllByRecursion P xs → AllByRecursion P (filter p xs)
-all_filter P p [] each = tt
-all_filter P p (x ∷ xs) each =
-    elim (p x) as (λ b. AllByRecursion P (cond b (x ∷ filter p xs) (filter p xs))) [
-      | true ↦ (each.0, all_filter P p xs each.1)
-      | false ↦ all_filter P p xs each.1
-    ]
+-- from what one gives to what the other gives
+pub all_moved : {A B : Type 0} (f g : A → B) (p : B → Bool) → ((x : A) → IsTrue (p (f x)) → IsTrue (p (g x))) → (xs : List A)
+    → IsTrue (list_all p (map f xs)) → IsTrue (list_all p (map g xs))
+all_moved f g p step [] each = refl
+all_moved f g p step (x ∷ xs) each =
+    let parts = and_parts (p (f x)) (list_all p (map f xs)) each in
+    and_from (p (g x)) (list_all p (map g xs)) (step x parts.0) (all_moved f g p step xs parts.1)
 
-all_append : {A : Type 0} (p : A → Bool) (xs ys : List A) → IsTrue (list_all p (xs ++ ys)) → IsTrue (list_all p xs) × IsTrue (list_all p ys)
+pub all_append : {A : Type 0} (p : A → Bool) (xs ys : List A) → IsTrue (list_all p (xs ++ ys)) → IsTrue (list_all p xs) × IsTrue (list_all p ys)
 all_append p [] ys each = (refl, each)
 all_append p (x ∷ xs) ys each =
     let parts = and_parts (p x) (list_all p (xs ++ ys)) each in
     let rest = all_append p xs ys parts.1 in
     (and_from (p x) (list_all p xs) parts.0 rest.0, rest.1)
+
+pub all_joined : {A : Type 0} (p : A → Bool) (xs ys : List A) → IsTrue (list_all p xs) → IsTrue (list_all p ys) → IsTrue (list_all p (xs ++ ys))
+all_joined p [] ys each more = more
+all_joined p (x ∷ xs) ys each more =
+    let parts = and_parts (p x) (list_all p xs) each in
+    and_from (p x) (list_all p (xs ++ ys)) parts.0 (all_joined p xs ys parts.1 more)
+
+-- the same behind the same
+pub all_behind : {A : Type 0} (p : A → Bool) (xs ys zs : List A) → (IsTrue (list_all p ys) → IsTrue (list_all p zs)) → IsTrue (list_all p (xs ++ ys))
+    → IsTrue (list_all p (xs ++ zs))
+all_behind p xs ys zs step each =
+    let parts = all_append p xs ys each in
+    all_joined p xs zs parts.0 (step parts.1)
 
 -- what holds of all that each gives
 pub all_given : {A B : Type 0} (p : B → Bool) (f : A → List B) (xs : List A) → IsTrue (list_all p (flat_map f xs))
@@ -74,6 +84,13 @@ all_given p f [] each = refl
 all_given p f (x ∷ xs) each =
     let parts = all_append p (f x) (flat_map f xs) each in
     and_from (list_all p (f x)) (list_all (λ x. list_all p (f x)) xs) parts.0 (all_given p f xs parts.1)
+
+pub all_taken : {A B : Type 0} (p : B → Bool) (f : A → List B) (xs : List A) → IsTrue (list_all (λ x. list_all p (f x)) xs)
+    → IsTrue (list_all p (flat_map f xs))
+all_taken p f [] each = refl
+all_taken p f (x ∷ xs) each =
+    let parts = and_parts (list_all p (f x)) (list_all (λ x. list_all p (f x)) xs) each in
+    all_joined p (f x) (flat_map f xs) parts.0 (all_taken p f xs parts.1)
 
 -- the one that is found passes the test, and what all pass
 pub found_passes : {A : Type 0} (p q : A → Bool) (xs : List A) (a : A) → find p xs ≡ Some a → IsTrue (list_all q xs) → IsTrue (p a) × IsTrue (q a)
@@ -90,3 +107,18 @@ found_passes p q (x ∷ xs) a e each =
 pub none_of_length : {A : Type 0} (xs : List A) → IsTrue (nat_eq (length xs) 0) → xs ≡ []
 none_of_length [] h = refl
 none_of_length (x ∷ xs) h = absurd (omega (arith, eqb-true (length (x ∷ xs)) 0 h))
+
+-- what is asked for and answered holds, where what answers it holds
+pub answered : {A B : Type 0} (answers : A → B → Bool) (P : A → Bool) (Q : B → Bool) → ((a : A) (b : B) → IsTrue (answers a b) → IsTrue (P a) → IsTrue (Q b))
+    → (o : Option A) (p : Option B) → IsTrue (is_answered answers o p) → IsTrue (option_map_or P o true) → IsTrue (option_map_or Q p true)
+answered answers P Q step o None is holds = refl
+answered answers P Q step None (Some b) is holds = absurd (false≢true is)
+answered answers P Q step (Some a) (Some b) is holds = step a b is holds
+
+-- the same where two hold of what answers it
+pub answered_by_both : {A B : Type 0} (answers : A → B → Bool) (P R : A → Bool) (Q : B → Bool)
+    → ((a : A) (b : B) → IsTrue (answers a b) → IsTrue (P a) → IsTrue (R a) → IsTrue (Q b)) → (o : Option A) (p : Option B) → IsTrue (is_answered answers o p)
+    → IsTrue (option_map_or P o true) → IsTrue (option_map_or R o true) → IsTrue (option_map_or Q p true)
+answered_by_both answers P R Q step o None is holds more = refl
+answered_by_both answers P R Q step None (Some b) is holds more = absurd (false≢true is)
+answered_by_both answers P R Q step (Some a) (Some b) is holds more = step a b is holds more

@@ -15,6 +15,22 @@ first_of-append (x ∷ xs) ys = go x.0 (first_of-append xs ys)
     go true e = e
     go false e = refl
 
+-- where the first part's tests all hold, it is the second part's first
+pub first_behind : {R : Type 0} (xs ys : List (Bool × R)) → first_of xs ≡ None → first_of (xs ++ ys) ≡ first_of ys
+first_behind xs ys none = first_of-append xs ys ∙ ap (λ o. option_or o (first_of ys)) none
+
+-- where one of them doesn't, it is that one
+pub first_before : {R : Type 0} (xs ys : List (Bool × R)) (r : R) → first_of xs ≡ Some r → first_of (xs ++ ys) ≡ Some r
+first_before xs ys r some = first_of-append xs ys ∙ ap (λ o. option_or o (first_of ys)) some
+
+pub first_holds : {R : Type 0} (b : Bool) (r : R) (xs : List (Bool × R)) → b ≡ true → first_of ((b, r) ∷ xs) ≡ first_of xs
+first_holds true r xs e = refl
+first_holds false r xs e = absurd (false≢true e)
+
+pub first_fails : {R : Type 0} (b : Bool) (r : R) (xs : List (Bool × R)) → b ≡ false → first_of ((b, r) ∷ xs) ≡ Some r
+first_fails true r xs e = absurd (true≢false e)
+first_fails false r xs e = refl
+
 -- no rule fails exactly where all hold
 pub is_none-first_of : {R : Type 0} (cs : List (Bool × R)) → is_none (first_of cs) ≡ list_all (λ c. c.0) cs
 is_none-first_of [] = refl

@@ -1,39 +1,45 @@
 -- What the pairs of a right certificate say holds at each item.
-use Rattle.std.proofs.Common.{◌≡◌, ℕ, suc, Bool, true, false, List, [], ◌∷◌, Option, Some, None, refl, sym}
-use Rattle.std.proofs.Common.{subst, ◌∙◌, inl, inr, arith, ◌&&◌, ◌||◌, IsTrue, not, nat_eq, nat_le, length, cond}
+use Rattle.std.proofs.Common.{◌≡◌, ℕ, zero, suc, ℤ, Bool, true, false, List, [], ◌∷◌, ◌++◌, map, Option, Some, None, refl, sym}
+use Rattle.std.proofs.Common.{subst, ◌∙◌, inl, inr, arith, ◌&&◌, ◌||◌, IsTrue, not, nat_eq, nat_le, length, cond, get_or}
 use Rattle.std.specs.Prelude.{if◌then◌else◌}
-use Rattle.std.specs.List.{list_all, list_any, AllByRecursion}
-use Rattle.std.specs.Option.{option_map_or, option_and_then}
+use Rattle.std.specs.List.{list_all, list_any, flat_map, AllByRecursion}
+use Rattle.std.specs.Option.{option_map_or}
 use Rattle.std.specs.Str.{bytes_eq}
 use Rattle.std.specs.Cmp.Lexicographic.{bytes_decides}
-use Rattle.std.proofs.lemmas.Bool.{and_parts, and_from, or_cases, or_left, or_right, not-true, le-leb, leb-true, eqb-true, false≢true, true≢false}
-use Rattle.fhir_json.specs.Tree.{Text, Tree}
-use Rattle.fhir_json.specs.Tree.{Property}
-use Rattle.fhir_json.specs.Fields.{is_object}
-use Rattle.fhir_matching.specs.Equality.{equal}
+use Rattle.std.proofs.lemmas.Bool.{and_parts, and_from, or_cases, or_left, or_right, not-true, leb-true, eqb-true, false≢true, true≢false}
+use Rattle.fhir_json.specs.Tree.{Text, Tree, Property}
 use Rattle.fhir_elements.specs.declared.max.Max.{Max}
 use Rattle.fhir_elements.specs.declared.max.Max.TheVariants.{Unbounded, UpTo}
 use Rattle.fhir_elements.specs.Max.{is_within}
+use Rattle.fhir_elements.specs.TypeEntry.{TypeEntry}
 use Rattle.fhir_elements.specs.Element.{Element}
+use Rattle.fhir_elements.specs.Tests.{all_hold}
 use Rattle.fhir_schema.specs.declared.node.NodeRef.{NodeRef}
 use Rattle.fhir_schema.specs.Slots.{Slot}
-use Rattle.fhir_schema.specs.Schemas.{SchemaValue, element_at, is_root_node, slots, slot_named, entry_of, types}
+use Rattle.fhir_schema.specs.Schemas.{SchemaValue, element_at, is_root_node, slots, slot_named, entry_of, types, type_root}
 use Rattle.fhir_schema.specs.Covers.{covers, type_at}
-use Rattle.fhir_instance.specs.Items.{Item, item, Kids, no_kids, kid, Interpretation, type_of, json_of, has_kids}
-use Rattle.fhir_instance.specs.Conformance.{Around, Child, least_of, is_count_within, is_fixed_to, fixed_holds, children_of_name, takes, slot_holds, kids_hold}
-use Rattle.fhir_instance.specs.Conformance.{is_untyped, facets_hold, root_holds, entry_holds, types_hold}
-use Rattle.fhir_instance.specs.Conformance.{own_type_holds, inner_holds, node_holds, below, conforms, children_of}
+use Rattle.fhir_instance.specs.Items.{Item, item, Kids, no_kids, kid, type_of}
+use Rattle.fhir_facets.specs.Unread.{Meaning}
+use Rattle.fhir_facets.specs.Seen.{Seen}
+use Rattle.fhir_facets.specs.Values.{fixed_holds, fixed_narrower, pattern_holds, pattern_narrower, fixed_fits, length_holds, length_narrower}
+use Rattle.fhir_facets.specs.Ranges.{Range, range_holds, range_narrower}
+use Rattle.fhir_facets.specs.Targets.{targets_hold, targets_narrower}
+use Rattle.fhir_facets.specs.Counts.{are_enough, are_within, count_holds, count_narrower, allows_none, is_forbidden}
+use Rattle.fhir_slicing.specs.Asks.{RuleName, root_type, types as of_types, fixed, pattern, range, length_limit, too_few, too_many}
+use Rattle.fhir_slicing.specs.Asks.{Ask, own, child, places_of, child_ask, facet_asks, slot_asks, own_root, kids_asks}
+use Rattle.fhir_slicing.specs.Conformance.{Interpretation, Around, seen, count_of, fixed_at, pattern_at, range_at, length_at, is_untyped, entry_holds}
+use Rattle.fhir_slicing.specs.Conformance.{types_hold, rule_holds, ask_holds, root_holds, inner_holds, item_holds, meaning_at, inside, below}
+use Rattle.fhir_slicing.specs.Conformance.{conforms, kid_tests}
 use Rattle.fhir_certificate.specs.declared.pair.Pair.{Pair}
 use Rattle.fhir_certificate.specs.declared.pair.Pair.TheVariants.{Item as ItemPair, Kids as KidsPair}
-use Rattle.fhir_elements.specs.Tests.{all_hold}
-use Rattle.fhir_cert_check.specs.Rule.{RuleName}
-use Rattle.fhir_cert_check.specs.Rules.{entry_answers, types_answer, roots_answer, type_answers}
-use Rattle.fhir_cert_check.specs.Rules.{fixed_answers, max_answers, most_answers, bounds_answer, allows_none}
-use Rattle.fhir_cert_check.specs.Rules.{is_forbidden, cardinality_answers, is_forbidden_at, has_item_pair, has_kids_pair}
+use Rattle.fhir_cert_check.specs.Rule.{entry, children}
+use Rattle.fhir_cert_check.specs.Rules.{entry_answers, types_answer, roots_answer, type_answers, is_answered, fixed_answers, pattern_answers}
+use Rattle.fhir_cert_check.specs.Rules.{range_answers, length_answers, elements_answer, is_forbidden_at, has_item_pair, has_kids_pair}
 use Rattle.fhir_cert_check.specs.Rules.{children_answer, entry_rules, own_slot_rules, slot_rules}
+use Rattle.fhir_cert_check.specs.Facets.{facet_rules}
 use Rattle.fhir_cert_check.specs.Checking.{IsRight}
 use Rattle.fhir_cert_check.specs.Inclusion.{IncludesItems}
-use Rattle.fhir_cert_check.proofs.Answered.{cases_if, answers_any, all_step, all_map, all_weaker, all_filter, all_given, found_passes, none_of_length}
+use Rattle.fhir_cert_check.proofs.Answered.{cases_if, answers_any, all_map, all_append, all_behind, all_given, all_taken, all_moved, found_passes, none_of_length, each_at, answered, answered_by_both}
 
 same_text : (a b : Text) → IsTrue (bytes_eq a b) → a ≡ b
 same_text a b h = (bytes_decides a b).0 h
@@ -56,27 +62,7 @@ of_false : (b r i : Bool) → b ≡ false → IsTrue (cond b r i) → IsTrue i
 of_false true r i e h = absurd (true≢false e)
 of_false false r i e h = h
 
--- ---- bounds
-
-within_wider : (own most : Max) (n : ℕ) → IsTrue (max_answers own most) → IsTrue (is_within n own) → IsTrue (is_within n most)
-within_wider Unbounded Unbounded n answers holds = refl
-within_wider Unbounded (UpTo m) n answers holds = absurd (false≢true answers)
-within_wider (UpTo k) Unbounded n answers holds = refl
-within_wider (UpTo k) (UpTo m) n answers holds =
-    le-leb n m (omega (arith, leb-true n k holds, leb-true k m answers))
-
-most_wider : (p q : Option Max) (n : ℕ) → IsTrue (most_answers p q) → IsTrue (option_map_or (is_within n) p true) → IsTrue (option_map_or (is_within n) q true)
-most_wider p None n answers holds = refl
-most_wider None (Some most) n answers holds = absurd (false≢true answers)
-most_wider (Some own) (Some most) n answers holds = within_wider own most n answers holds
-
-count_wider : (e f : Element) (n : ℕ) → IsTrue (bounds_answer e f) → IsTrue (is_count_within e n) → IsTrue (is_count_within f n)
-count_wider e f n answers holds =
-    let p = and_parts (nat_le (least_of f) (least_of e)) (most_answers e.max f.max) answers in
-    let h = and_parts (nat_le (least_of e) n) (option_map_or (is_within n) e.max true) holds in
-    and_from (nat_le (least_of f) n) (option_map_or (is_within n) f.max true)
-    (le-leb (least_of f) n (omega (arith, leb-true (least_of f) (least_of e) p.0, leb-true (least_of e) n h.0)))
-    (most_wider e.max f.max n p.1 h.1)
+-- ---- none where none may be
 
 none_there : {A : Type 0} (o : Option Max) (xs : List A) → IsTrue (option_map_or allows_none o false) → IsTrue (option_map_or (is_within (length xs)) o true)
     → xs ≡ []
@@ -86,183 +72,246 @@ none_there (Some Unbounded) (x ∷ xs) forbidden holds = absurd (false≢true fo
 none_there (Some (UpTo k)) (x ∷ xs) forbidden holds =
     absurd (omega (arith, eqb-true k 0 forbidden, leb-true (length (x ∷ xs)) k holds))
 
-module _ (s : SchemaValue) (covers_on : (a b c : Text) → IsTrue (covers s a b) → IsTrue (covers s b c) → IsTrue (covers s a c))
-    (equal_on : (t u v : Tree) → IsTrue (equal t u) → IsTrue (equal u v) → IsTrue (equal t v)) where
-  abbrev count_holds : NodeRef → List Child → Bool
-  count_holds n mine = option_map_or (λ e. is_count_within e (length mine)) (element_at s n) true
+none_at : {A : Type 0} (o : Option Element) (xs : List A) → IsTrue (option_map_or is_forbidden o false)
+    → IsTrue (option_map_or (λ e. are_within e (length xs)) o true) → xs ≡ []
+none_at None xs forbidden holds = absurd (false≢true forbidden)
+none_at (Some e) xs forbidden holds = none_there e.max xs forbidden holds
 
-  cardinality_step : (n m : NodeRef) (mine : List Child) → IsTrue (cardinality_answers s n m) → IsTrue (count_holds n mine) → IsTrue (count_holds m mine)
-  cardinality_step n m mine = go (element_at s n) (element_at s m)
-    where
-      go : (o p : Option Element) → IsTrue (option_map_or (λ f. option_map_or (λ e. bounds_answer e f) o false) p true)
-          → IsTrue (option_map_or (λ e. is_count_within e (length mine)) o true) → IsTrue (option_map_or (λ e. is_count_within e (length mine)) p true)
-      go o None answers holds = refl
-      go None (Some f) answers holds = absurd (false≢true answers)
-      go (Some e) (Some f) answers holds = count_wider e f (length mine) answers holds
+-- ---- what is narrower holds of less
 
-  forbidden_step : (n : NodeRef) (mine : List Child) → IsTrue (is_forbidden_at s n) → IsTrue (count_holds n mine) → mine ≡ []
-  forbidden_step n mine = go (element_at s n)
-    where
-      go : (o : Option Element) → IsTrue (option_map_or is_forbidden o false) → IsTrue (option_map_or (λ e. is_count_within e (length mine)) o true) → mine ≡ []
-      go None forbidden holds = absurd (false≢true forbidden)
-      go (Some e) forbidden holds =
-          none_there e.max mine forbidden (and_parts (nat_le (least_of e) (length mine)) (option_map_or (is_within (length mine)) e.max true) holds).1
+-- of each facet: where the derived element's is as narrow as the base's and holds, the base's holds
+pub record AreNarrow (s : SchemaValue) : Type 0 where
+  pub fixed_is : (p q : Tree) (x : Seen) → IsTrue (fixed_narrower p q) → IsTrue (fixed_holds p x) → IsTrue (fixed_holds q x)
+  pub pattern_is : (p q : Tree) (x : Seen) → IsTrue (pattern_narrower p q) → IsTrue (pattern_holds p x) → IsTrue (pattern_holds q x)
+  pub fits_is : (p q : Tree) (x : Seen) → IsTrue (fixed_fits p q) → IsTrue (fixed_holds p x) → IsTrue (pattern_holds q x)
+  pub range_is : (m : Meaning) (p q : Range) (x : Seen) → IsTrue (range_narrower p q) → IsTrue (range_holds m p x) → IsTrue (range_holds m q x)
+  pub length_is : (p q : ℤ) (x : Seen) → IsTrue (length_narrower p q) → IsTrue (length_holds p x) → IsTrue (length_holds q x)
+  pub count_is : (e f : Element) (n : ℕ) → IsTrue (count_narrower e f) → IsTrue (count_holds e n) → IsTrue (count_holds f n)
+  pub targets_are : (m : Meaning) (e f : TypeEntry) (x : Seen) → IsTrue (targets_narrower s e f) → IsTrue (targets_hold s m e x)
+      → IsTrue (targets_hold s m f x)
+  pub covers_on : (a b c : Text) → IsTrue (covers s a b) → IsTrue (covers s b c) → IsTrue (covers s a c)
 
-  -- ---- fixed values
+module _ (s : SchemaValue) (narrow : AreNarrow s) where
+  -- ---- what is asked of an item itself
 
-  fixed_step : (x : Item) (p q : Tree) → IsTrue (equal q p) → IsTrue (is_fixed_to p x) → IsTrue (is_fixed_to q x)
-  fixed_step x p q same = go (json_of x)
-    where
-      go : (o : Option Tree) → IsTrue (option_map_or (λ json. equal p json && (is_object json || not (has_kids x))) o false)
-          → IsTrue (option_map_or (λ json. equal q json && (is_object json || not (has_kids x))) o false)
-      go None holds = holds
-      go (Some json) holds =
-          let h = and_parts (equal p json) (is_object json || not (has_kids x)) holds in
-          and_from (equal q json) (is_object json || not (has_kids x)) (equal_on q p json same h.0) h.1
+  module _ (m : Meaning) (x : Item) where
+    fixed_of_elements : (e f : Element) → IsTrue (fixed_answers e f) → IsTrue (fixed_at x e) → IsTrue (fixed_at x f)
+    fixed_of_elements e f =
+        answered (λ p q. fixed_narrower p.1 q.1) (λ p. fixed_holds p.1 (seen x)) (λ q. fixed_holds q.1 (seen x))
+        (λ p q. narrow.fixed_is p.1 q.1 (seen x)) e.fixed f.fixed
 
-  facets_step : (x : Item) (children : List Child) (n m : NodeRef) → IsTrue (fixed_answers s n m) → IsTrue (facets_hold s x children n)
-      → IsTrue (facets_hold s x children m)
-  facets_step x children n m = outer (element_at s n) (element_at s m)
-    where
-      inner : (p q : Option Property) → IsTrue (option_map_or (λ q. option_map_or (λ p. equal q.1 p.1) p false) q true)
-          → IsTrue (option_map_or (λ p. is_fixed_to p.1 x) p true) → IsTrue (option_map_or (λ p. is_fixed_to p.1 x) q true)
-      inner p None answers holds = refl
-      inner None (Some q) answers holds = absurd (false≢true answers)
-      inner (Some p) (Some q) answers holds = fixed_step x p.1 q.1 answers holds
+    fixed_step : (n k : NodeRef) → IsTrue (elements_answer fixed_answers s n k) → IsTrue (rule_holds s m x fixed n) → IsTrue (rule_holds s m x fixed k)
+    fixed_step n k = answered fixed_answers (fixed_at x) (fixed_at x) fixed_of_elements (element_at s n) (element_at s k)
 
-      outer : (o p : Option Element) → IsTrue
-          (option_map_or (λ q. option_map_or (λ p. equal q.1 p.1) (option_and_then (λ e. e.fixed) o) false) (option_and_then (λ e. e.fixed) p) true)
-          → IsTrue (option_map_or (λ e. fixed_holds e x) o true) → IsTrue (option_map_or (λ e. fixed_holds e x) p true)
-      outer o None answers holds = refl
-      outer None (Some f) answers holds = inner None f.fixed answers refl
-      outer (Some e) (Some f) answers holds = inner e.fixed f.fixed answers holds
+    pattern_of_elements : (e f : Element) → IsTrue (pattern_answers e f) → IsTrue (fixed_at x e) → IsTrue (pattern_at x e) → IsTrue (pattern_at x f)
+    pattern_of_elements e f answers of_fixed of_pattern =
+        elim (or_cases (is_answered (λ p q. fixed_fits p.1 q.1) e.fixed f.pattern) (is_answered (λ p q. pattern_narrower p.1 q.1) e.pattern f.pattern) answers) [
+          | inl by_fixed ↦
+              answered (λ p q. fixed_fits p.1 q.1) (λ p. fixed_holds p.1 (seen x)) (λ q. pattern_holds q.1 (seen x))
+              (λ p q. narrow.fits_is p.1 q.1 (seen x)) e.fixed f.pattern by_fixed of_fixed
+          | inr by_pattern ↦
+              answered (λ p q. pattern_narrower p.1 q.1) (λ p. pattern_holds p.1 (seen x)) (λ q. pattern_holds q.1 (seen x))
+              (λ p q. narrow.pattern_is p.1 q.1 (seen x)) e.pattern f.pattern by_pattern of_pattern
+        ]
+
+    pattern_step : (n k : NodeRef) → IsTrue (elements_answer pattern_answers s n k) → IsTrue (rule_holds s m x fixed n) → IsTrue (rule_holds s m x pattern n)
+        → IsTrue (rule_holds s m x pattern k)
+    pattern_step n k =
+        answered_by_both pattern_answers (fixed_at x) (pattern_at x) (pattern_at x) pattern_of_elements (element_at s n) (element_at s k)
+
+    range_step : (n k : NodeRef) → IsTrue (elements_answer range_answers s n k) → IsTrue (rule_holds s m x range n) → IsTrue (rule_holds s m x range k)
+    range_step n k =
+        answered range_answers (range_at m x) (range_at m x)
+        (λ e f. narrow.range_is m (record { least = e.min_value; most = e.max_value }) (record { least = f.min_value; most = f.max_value }) (seen x))
+        (element_at s n) (element_at s k)
+
+    length_of_elements : (e f : Element) → IsTrue (length_answers e f) → IsTrue (length_at x e) → IsTrue (length_at x f)
+    length_of_elements e f =
+        answered length_narrower (λ p. length_holds p (seen x)) (λ q. length_holds q (seen x)) (λ p q. narrow.length_is p q (seen x)) e.max_length f.max_length
+
+    length_step : (n k : NodeRef) → IsTrue (elements_answer length_answers s n k) → IsTrue (rule_holds s m x length_limit n)
+        → IsTrue (rule_holds s m x length_limit k)
+    length_step n k = answered length_answers (length_at x) (length_at x) length_of_elements (element_at s n) (element_at s k)
+
+    root_type_step : (n k : NodeRef) → IsTrue (covers s (type_at s k) (type_at s n)) → IsTrue (rule_holds s m x root_type n) → IsTrue (rule_holds s m x root_type k)
+    root_type_step n k covered holds = narrow.covers_on (type_at s k) (type_at s n) (type_of x) covered holds
+
+    entry_step : (e f : TypeEntry) → IsTrue (entry_answers s e f) → IsTrue (entry_holds s m x e) → IsTrue (entry_holds s m x f)
+    entry_step e f answers holds =
+        let a = and_parts (covers s f.code e.code) (targets_narrower s e f) answers in
+        let h = and_parts (covers s e.code (type_of x)) (targets_hold s m e (seen x)) holds in
+        and_from (covers s f.code (type_of x)) (targets_hold s m f (seen x))
+        (narrow.covers_on f.code e.code (type_of x) a.0 h.0)
+        (narrow.targets_are m e f (seen x) a.1 h.1)
+
+    types_step : (n k : NodeRef) → IsTrue (types_answer s n k) → IsTrue (rule_holds s m x of_types n) → IsTrue (rule_holds s m x of_types k)
+    types_step n k answers holds =
+        elim (or_cases (is_untyped s k) _ answers) [
+          | inl untyped ↦ or_left (is_untyped s k) (list_any (entry_holds s m x) (types s k)) untyped
+          | inr typed ↦
+              let p = and_parts (not (is_untyped s n)) _ typed in
+              elim (or_cases (is_untyped s n) (list_any (entry_holds s m x) (types s n)) holds) [
+                | inl untyped ↦ absurd (true≢false (sym untyped ∙ not-true (is_untyped s n) p.0))
+                | inr some ↦
+                    or_right (is_untyped s k) (list_any (entry_holds s m x) (types s k))
+                    (answers_any (entry_answers s) (entry_holds s m x) (entry_holds s m x) entry_step (types s n) (types s k) p.1 some)
+              ]
+        ]
+
+    -- ---- how many
+
+    count_step : (name : Text) (n k : NodeRef) → IsTrue (elements_answer count_narrower s n k)
+        → IsTrue (rule_holds s m x (too_few name) n) → IsTrue (rule_holds s m x (too_many name) n)
+        → IsTrue (rule_holds s m x (too_few name) k) × IsTrue (rule_holds s m x (too_many name) k)
+    count_step name n k = both_answered (element_at s n) (element_at s k)
+      where
+        both_answered : (o p : Option Element) → IsTrue (is_answered count_narrower o p)
+            → IsTrue (option_map_or (λ e. are_enough e (count_of name x)) o true) → IsTrue (option_map_or (λ e. are_within e (count_of name x)) o true)
+            → IsTrue (option_map_or (λ e. are_enough e (count_of name x)) p true) × IsTrue (option_map_or (λ e. are_within e (count_of name x)) p true)
+        both_answered o None answers few many = (refl, refl)
+        both_answered None (Some f) answers few many = absurd (false≢true answers)
+        both_answered (Some e) (Some f) answers few many =
+            and_parts (are_enough f (count_of name x)) (are_within f (count_of name x))
+            (narrow.count_is e f (count_of name x) answers (and_from (are_enough e (count_of name x)) (are_within e (count_of name x)) few many))
 
   -- ---- a right certificate's pairs
 
   module _ (pairs : Pair → Bool) (right : IsRight s pairs) where
     -- a test of nodes that keeps to the pairs
     abbrev Keeps : (NodeRef → Bool) → Type 0
-    Keeps test = (n m : NodeRef) → IsTrue (has_item_pair pairs n m) → IsTrue (test n) → IsTrue (test m)
+    Keeps test = (n k : NodeRef) → IsTrue (has_item_pair pairs n k) → IsTrue (test n) → IsTrue (test k)
 
-    abbrev EachKeeps : List Child → Type 0
-    EachKeeps children = AllByRecursion (λ c. Keeps c.conforms_to) children
+    abbrev EachKeeps : List (NodeRef → Bool) → Type 0
+    EachKeeps tests = AllByRecursion Keeps tests
 
-    entry_step : (name : Text) (n m : NodeRef) (mine : List Child) → EachKeeps mine → IsTrue (all_hold (entry_rules pairs s name n m))
-        → IsTrue (count_holds n mine) → IsTrue (list_all (λ c. c.conforms_to n) mine) → IsTrue (list_all (λ c. c.conforms_to m) mine)
-    entry_step name n m mine keeps = go (is_forbidden_at s n) refl
-      where
-        go : (b : Bool) → is_forbidden_at s n ≡ b
-            → IsTrue (all_hold (if b then [] else (has_item_pair pairs n m, Rattle.fhir_cert_check.specs.Rule.entry name) ∷ [])) → IsTrue (count_holds n mine)
-            → IsTrue (list_all (λ c. c.conforms_to n) mine) → IsTrue (list_all (λ c. c.conforms_to m) mine)
-        go true forbidden rules count each = rw (forbidden_step n mine forbidden count) refl
-        go false allowed rules count each =
-            let pair = (and_parts (has_item_pair pairs n m) true rules).0 in
-            all_step (λ c. c.conforms_to n) (λ c. c.conforms_to m) mine
-            (all_weaker (λ c. Keeps c.conforms_to) (λ c. IsTrue (c.conforms_to n) → IsTrue (c.conforms_to m)) (λ c keep. keep n m pair) mine keeps)
-            each
+    module _ (m : Meaning) (x : Item) (kids : List (NodeRef → Bool)) (keeps : EachKeeps kids) where
+      module _ (roots : NodeRef → Bool) where
+        abbrev holds : Ask → Bool
+        holds ask = ask_holds s m x kids roots ask
 
-    takes_step : (name : Text) (n m : NodeRef) (mine : List Child) → EachKeeps mine
-        → IsTrue (cardinality_answers s n m && all_hold (entry_rules pairs s name n m)) → IsTrue (takes s n mine) → IsTrue (takes s m mine)
-    takes_step name n m mine keeps rules holds =
-        let r = and_parts (cardinality_answers s n m) (all_hold (entry_rules pairs s name n m)) rules in
-        let h = and_parts (count_holds n mine) (list_all (λ c. c.conforms_to n) mine) holds in
-        and_from (count_holds m mine) (list_all (λ c. c.conforms_to m) mine)
-        (cardinality_step n m mine r.0 h.0)
-        (entry_step name n m mine keeps r.1 h.0 h.1)
+        -- each child of the name, where all are asked
+        each_child_step : (name : Text) (n k : NodeRef) → IsTrue (all_hold (entry_rules pairs s name n k)) → IsTrue (rule_holds s m x (too_many name) n)
+            → IsTrue (list_all holds (map (child_ask n) (places_of name x))) → IsTrue (list_all holds (map (child_ask k) (places_of name x)))
+        each_child_step name n k rules few each = go (is_forbidden_at s n) refl rules
+          where
+            go : (b : Bool) → is_forbidden_at s n ≡ b → IsTrue (all_hold (if b then [] else (has_item_pair pairs n k, entry name) ∷ []))
+                → IsTrue (list_all holds (map (child_ask k) (places_of name x)))
+            go true forbidden rules = rw (none_at (element_at s n) (places_of name x) forbidden few) refl
+            go false allowed rules =
+                let pair = (and_parts (has_item_pair pairs n k) true rules).0 in
+                all_moved (child_ask n) (child_ask k) holds
+                (λ i. each_at Keeps (λ n. true) (λ n k pair h. refl) kids keeps i n k pair)
+                (places_of name x) each
 
-    slot_step : (children : List Child) → EachKeeps children → (n m : NodeRef) (b : Slot) → IsTrue (kids_hold s n children)
-        → IsTrue (all_hold (slot_rules pairs s n m b)) → IsTrue (slot_holds s m children b)
-    slot_step children keeps n m b holds = go (slot_named s n b.name) refl
-      where
-        go : (o : Option Slot) → slot_named s n b.name ≡ o → IsTrue (all_hold (own_slot_rules pairs s n m b o)) → IsTrue (slot_holds s m children b)
-        go None e rules = absurd (false≢true rules)
-        go (Some a) e rules =
-            let own = found_passes (λ slot. bytes_eq b.name slot.name) (slot_holds s n children) (slots s n) a e holds in
-            takes_step b.name (entry_of n a) (entry_of m b) (children_of_name b.name children)
-            (all_filter (λ c. Keeps c.conforms_to) (λ c. bytes_eq b.name c.name) children keeps)
-            rules
-            (subst (λ name. IsTrue (takes s (entry_of n a) (children_of_name name children))) (sym (same_text b.name a.name own.0)) own.1)
+        -- what a slot of that name asks, where its items are as the node says
+        abbrev named_asks : Text → NodeRef → List Ask
+        named_asks name n = own (too_few name) n ∷ own (too_many name) n ∷ map (child_ask n) (places_of name x)
 
-    kids_step : (children : List Child) → EachKeeps children → (n m : NodeRef) → IsTrue (has_kids_pair pairs n m) → IsTrue (kids_hold s n children)
-        → IsTrue (kids_hold s m children)
-    kids_step children keeps n m pair holds =
-        all_map (λ b. all_hold (slot_rules pairs s n m b)) (slot_holds s m children)
-        (λ b rules. slot_step children keeps n m b holds rules) (slots s m)
-        (all_given (λ rule. rule.0) (slot_rules pairs s n m) (slots s m) (right (KidsPair (record { derived = n; base = m })) pair))
+        named_step : (name : Text) (n k : NodeRef) → IsTrue (elements_answer count_narrower s n k && all_hold (entry_rules pairs s name n k))
+            → IsTrue (list_all holds (named_asks name n)) → IsTrue (list_all holds (named_asks name k))
+        named_step name n k rules each =
+            let r = and_parts (elements_answer count_narrower s n k) (all_hold (entry_rules pairs s name n k)) rules in
+            let few = and_parts (rule_holds s m x (too_few name) n) _ each in
+            let many = and_parts (rule_holds s m x (too_many name) n) _ few.1 in
+            let counts = count_step m x name n k r.0 few.0 many.0 in
+            and_from (rule_holds s m x (too_few name) k) _ counts.0
+            (and_from (rule_holds s m x (too_many name) k) _ counts.1 (each_child_step name n k r.1 many.0 many.1))
 
-    module _ (x : Item) (children : List Child) (keeps : EachKeeps children) where
-      children_step : (n m : NodeRef) → IsTrue (children_answer pairs s n m) → IsTrue (kids_hold s n children) → IsTrue (kids_hold s m children)
-      children_step n m answers holds =
-          go (nat_eq (length (slots s m)) 0) refl (nat_eq (length (slots s n)) 0) answers
-        where
-          go : (b : Bool) → nat_eq (length (slots s m)) 0 ≡ b → (a : Bool)
-              → IsTrue (option_map_or (λ base. option_map_or (λ derived. has_kids_pair pairs derived base) (cond a None (Some n)) false)
-              (cond b None (Some m)) true)
-              → IsTrue (kids_hold s m children)
-          go true leaf a h = rw (none_of_length (slots s m) leaf) refl
-          go false is true h = absurd (false≢true h)
-          go false is false h = kids_step children keeps n m h holds
+        slot_step : (n k : NodeRef) (b : Slot) → IsTrue (list_all holds (kids_asks s x n)) → IsTrue (all_hold (slot_rules pairs s n k b))
+            → IsTrue (list_all holds (slot_asks x k b))
+        slot_step n k b each = go (slot_named s n b.name) refl
+          where
+            go : (o : Option Slot) → slot_named s n b.name ≡ o → IsTrue (all_hold (own_slot_rules pairs s n k b o)) → IsTrue (list_all holds (slot_asks x k b))
+            go None e rules = absurd (false≢true rules)
+            go (Some a) e rules =
+                let found = found_passes (λ slot. bytes_eq b.name slot.name) (λ slot. list_all holds (slot_asks x n slot)) (slots s n) a e
+                (all_given holds (slot_asks x n) (slots s n) each) in
+                named_step b.name (entry_of n a) (entry_of k b) rules
+                (subst (λ name. IsTrue (list_all holds (named_asks name (entry_of n a)))) (sym (same_text b.name a.name found.0)) found.1)
 
-      root_step : (n m : NodeRef) → IsTrue (covers s (type_at s m) (type_at s n)) → IsTrue (fixed_answers s n m) → IsTrue (children_answer pairs s n m)
-          → IsTrue (root_holds s x children n) → IsTrue (root_holds s x children m)
-      root_step n m type fixed below holds =
-          let h = and_parts (covers s (type_at s n) (type_of x) && facets_hold s x children n) (kids_hold s n children) holds in
-          let k = and_parts (covers s (type_at s n) (type_of x)) (facets_hold s x children n) h.0 in
-          and_from (covers s (type_at s m) (type_of x) && facets_hold s x children m) (kids_hold s m children)
-          (and_from (covers s (type_at s m) (type_of x)) (facets_hold s x children m)
-          (covers_on (type_at s m) (type_at s n) (type_of x) type k.0)
-          (facets_step x children n m fixed k.1))
-          (children_step n m below h.1)
+        kids_step : (n k : NodeRef) → IsTrue (has_kids_pair pairs n k) → IsTrue (list_all holds (kids_asks s x n)) → IsTrue (list_all holds (kids_asks s x k))
+        kids_step n k pair each =
+            all_taken holds (slot_asks x k) (slots s k)
+            (all_map (λ b. all_hold (slot_rules pairs s n k b)) (λ b. list_all holds (slot_asks x k b))
+            (λ b rules. slot_step n k b each rules) (slots s k)
+            (all_given (λ rule. rule.0) (slot_rules pairs s n k) (slots s k) (right (KidsPair (record { derived = n; base = k })) pair)))
 
-      types_step : (n m : NodeRef) → IsTrue (types_answer s n m) → IsTrue (types_hold s x children n) → IsTrue (types_hold s x children m)
-      types_step n m answers holds =
-          elim (or_cases (is_untyped s m) _ answers) [
-            | inl untyped ↦ or_left (is_untyped s m) (list_any (entry_holds s x children) (types s m)) untyped
-            | inr typed ↦
-                let p = and_parts (not (is_untyped s n)) _ typed in
-                elim (or_cases (is_untyped s n) (list_any (entry_holds s x children) (types s n)) holds) [
-                  | inl untyped ↦ absurd (true≢false (sym untyped ∙ not-true (is_untyped s n) p.0))
-                  | inr some ↦
-                      or_right (is_untyped s m) (list_any (entry_holds s x children) (types s m))
-                      (answers_any (entry_answers s) (entry_holds s x children) (entry_holds s x children)
-                      (λ e f covered here. covers_on f.code e.code (type_of x) covered here) (types s n) (types s m) p.1 some)
-                ]
-          ]
+        children_step : (n k : NodeRef) → IsTrue (children_answer pairs s n k) → IsTrue (list_all holds (kids_asks s x n))
+            → IsTrue (list_all holds (kids_asks s x k))
+        children_step n k answers each =
+            go (nat_eq (length (slots s k)) 0) refl (nat_eq (length (slots s n)) 0) answers
+          where
+            go : (b : Bool) → nat_eq (length (slots s k)) 0 ≡ b → (a : Bool)
+                → IsTrue (option_map_or (λ base. option_map_or (λ derived. has_kids_pair pairs derived base) (cond a None (Some n)) false)
+                (cond b None (Some k)) true)
+                → IsTrue (list_all holds (kids_asks s x k))
+            go true leaf a h = rw (none_of_length (slots s k) leaf) refl
+            go false is true h = absurd (false≢true h)
+            go false is false h = kids_step n k h each
 
-      inner_step : (n m : NodeRef) → IsTrue (types_answer s n m) → IsTrue (fixed_answers s n m) → IsTrue (children_answer pairs s n m)
-          → IsTrue (inner_holds s x children n) → IsTrue (inner_holds s x children m)
-      inner_step n m type fixed below holds =
-          let h = and_parts (types_hold s x children n && own_type_holds s x children && facets_hold s x children n) (kids_hold s n children) holds in
-          let k = and_parts (types_hold s x children n && own_type_holds s x children) (facets_hold s x children n) h.0 in
-          let l = and_parts (types_hold s x children n) (own_type_holds s x children) k.0 in
-          and_from (types_hold s x children m && own_type_holds s x children && facets_hold s x children m) (kids_hold s m children)
-          (and_from (types_hold s x children m && own_type_holds s x children) (facets_hold s x children m)
-          (and_from (types_hold s x children m) (own_type_holds s x children) (types_step n m type l.0) l.1)
-          (facets_step x children n m fixed k.1))
-          (children_step n m below h.1)
+        -- the facets, and what follows them
+        facets_step : (n k : NodeRef) (after more : List Ask) → IsTrue (all_hold (facet_rules s n k)) → (IsTrue (list_all holds after) → IsTrue (list_all holds more))
+            → IsTrue (list_all holds (facet_asks n ++ after)) → IsTrue (list_all holds (facet_asks k ++ more))
+        facets_step n k after more answers rest each =
+            let fixed_answer = and_parts (elements_answer fixed_answers s n k) _ answers in
+            let pattern_answer = and_parts (elements_answer pattern_answers s n k) _ fixed_answer.1 in
+            let range_answer = and_parts (elements_answer range_answers s n k) _ pattern_answer.1 in
+            let length_answer = and_parts (elements_answer length_answers s n k) true range_answer.1 in
+            let by_fixed = and_parts (rule_holds s m x fixed n) _ each in
+            let by_pattern = and_parts (rule_holds s m x pattern n) _ by_fixed.1 in
+            let by_range = and_parts (rule_holds s m x range n) _ by_pattern.1 in
+            let by_length = and_parts (rule_holds s m x length_limit n) (list_all holds after) by_range.1 in
+            and_from (rule_holds s m x fixed k) _ (fixed_step m x n k fixed_answer.0 by_fixed.0)
+            (and_from (rule_holds s m x pattern k) _ (pattern_step m x n k pattern_answer.0 by_fixed.0 by_pattern.0)
+            (and_from (rule_holds s m x range k) _ (range_step m x n k range_answer.0 by_range.0)
+            (and_from (rule_holds s m x length_limit k) (list_all holds more) (length_step m x n k length_answer.0 by_length.0) (rest by_length.1))))
 
-      node_step : Keeps (node_holds s x children)
-      node_step n m pair holds =
-          let rules = right (ItemPair (record { derived = n; base = m })) pair in
-          let t = and_parts (type_answers s n m) (fixed_answers s n m && (children_answer pairs s n m && true)) rules in
-          let f = and_parts (fixed_answers s n m) (children_answer pairs s n m && true) t.1 in
-          let c = and_parts (children_answer pairs s n m) true f.1 in
-          elim (cases_if (is_root_node s n) (roots_answer s n m) (not (is_root_node s m) && types_answer s n m) t.0) [
+      root_step : (n k : NodeRef) → IsTrue (covers s (type_at s k) (type_at s n)) → IsTrue (all_hold (facet_rules s n k)) → IsTrue (children_answer pairs s n k)
+          → IsTrue (root_holds s m x kids n) → IsTrue (root_holds s m x kids k)
+      root_step n k covered facets answers each =
+          let type = and_parts (rule_holds s m x root_type n) _ each in
+          and_from (rule_holds s m x root_type k) _ (root_type_step m x n k covered type.0)
+          (facets_step (λ r. true) n k (kids_asks s x n) (kids_asks s x k) facets (children_step (λ r. true) n k answers) type.1)
+
+      inner_step : (n k : NodeRef) → IsTrue (types_answer s n k) → IsTrue (all_hold (facet_rules s n k)) → IsTrue (children_answer pairs s n k)
+          → IsTrue (inner_holds s m x kids n) → IsTrue (inner_holds s m x kids k)
+      inner_step n k typed facets answers each =
+          let roots = root_holds s m x kids in
+          let own_type = own_root (type_root s (type_of x)) in
+          let type = and_parts (rule_holds s m x of_types n) _ each in
+          and_from (rule_holds s m x of_types k) _ (types_step m x n k typed type.0)
+          (facets_step roots n k (own_type ++ kids_asks s x n) (own_type ++ kids_asks s x k) facets
+          (all_behind (ask_holds s m x kids roots) own_type (kids_asks s x n) (kids_asks s x k) (children_step roots n k answers)) type.1)
+
+      facets_and_children : (n k : NodeRef) → IsTrue (all_hold (facet_rules s n k ++ (children_answer pairs s n k, children) ∷ []))
+          → IsTrue (all_hold (facet_rules s n k)) × IsTrue (children_answer pairs s n k)
+      facets_and_children n k rules =
+          let parts = all_append (λ rule. rule.0) (facet_rules s n k) ((children_answer pairs s n k, children) ∷ []) rules in
+          (parts.0, (and_parts (children_answer pairs s n k) true parts.1).0)
+
+      item_step : Keeps (item_holds s m x kids)
+      item_step n k pair each =
+          let rules = right (ItemPair (record { derived = n; base = k })) pair in
+          let typed = and_parts (type_answers s n k) _ rules in
+          let parts = facets_and_children n k typed.1 in
+          elim (cases_if (is_root_node s n) (roots_answer s n k) (not (is_root_node s k) && types_answer s n k) typed.0) [
             | inl root ↦
-                let r = and_parts (is_root_node s m) (covers s (type_at s m) (type_at s n)) root.1 in
-                as_true (is_root_node s m) (root_holds s x children m) (inner_holds s x children m) r.0
-                (root_step n m r.1 f.0 c.0 (of_true (is_root_node s n) (root_holds s x children n) (inner_holds s x children n) root.0 holds))
+                let r = and_parts (is_root_node s k) (covers s (type_at s k) (type_at s n)) root.1 in
+                as_true (is_root_node s k) (root_holds s m x kids k) (inner_holds s m x kids k) r.0
+                (root_step n k r.1 parts.0 parts.1 (of_true (is_root_node s n) (root_holds s m x kids n) (inner_holds s m x kids n) root.0 each))
             | inr inner ↦
-                let r = and_parts (not (is_root_node s m)) (types_answer s n m) inner.1 in
-                as_false (is_root_node s m) (root_holds s x children m) (inner_holds s x children m) (not-true (is_root_node s m) r.0)
-                (inner_step n m r.1 f.0 c.0 (of_false (is_root_node s n) (root_holds s x children n) (inner_holds s x children n) inner.0 holds))
+                let r = and_parts (not (is_root_node s k)) (types_answer s n k) inner.1 in
+                as_false (is_root_node s k) (root_holds s m x kids k) (inner_holds s m x kids k) (not-true (is_root_node s k) r.0)
+                (inner_step n k r.1 parts.0 parts.1 (of_false (is_root_node s n) (root_holds s m x kids n) (inner_holds s m x kids n) inner.0 each))
           ]
 
     mutual
       keeps : (meaning : Interpretation) (around : Around) (x : Item) → Keeps (conforms s meaning around x)
-      keeps meaning around (item type json kids) = node_step (item type json kids) (children_of s meaning around 0 kids) (each_keeps meaning around 0 kids)
+      keeps meaning around (item type json kids) =
+          item_step (meaning_at meaning around) (item type json kids) (kid_tests s meaning (inside s around (item type json kids)) 0 kids)
+          (each_keeps meaning (inside s around (item type json kids)) 0 kids)
 
-      each_keeps : (meaning : Interpretation) (around : Around) (position : ℕ) (kids : Kids) → EachKeeps (children_of s meaning around position kids)
+      each_keeps : (meaning : Interpretation) (around : Around) (position : ℕ) (kids : Kids) → EachKeeps (kid_tests s meaning around position kids)
       each_keeps meaning around position no_kids = tt
       each_keeps meaning around position (kid name x kids) = (keeps meaning (below around position) x, each_keeps meaning around (suc position) kids)
 

@@ -12,7 +12,7 @@ use Rattle.fhir_certificate.specs.declared.pair.NodePair.{NodePair}
 use Rattle.fhir_certificate.specs.declared.pair.Pair.{Pair}
 use Rattle.fhir_certificate.specs.Certificate.{CertificateValue, are_nodes, fits}
 use Rattle.fhir_certificate.specs.Format.{Line, item, kids, Written}
-use Rattle.fhir_certificate.specs.Judging.{pair_of, with_item, with_kids, with_lines, are_readable, certificate_of}
+use Rattle.fhir_certificate.specs.Judging.{pair_of, with_item, with_kids, with_lines, are_usable, certificate_of}
 use Rattle.fhir_cert_check.specs.Rule.{RuleName}
 use Rattle.fhir_cert_check.specs.Checking.{roots_of, wrong_with, wrong_at}
 
@@ -50,7 +50,7 @@ with_lines_same s (kids derived base ∷ lines) c d e =
 
 -- the certificate is of the profiles that are written
 pub of_written : (s : SchemaValue) (w : Written) (c : CertificateValue) → certificate_of s w ≡ Some c → (w.derived ≡ c.derived) × (w.base ≡ c.base)
-of_written s w c = go (are_readable s w)
+of_written s w c = go (are_usable s w)
   where
     go : (b : Bool) → (if b then with_lines s w.lines (record { derived = w.derived; base = w.base; items = []; kids = [] }) else None) ≡ Some c
         → (w.derived ≡ c.derived) × (w.base ≡ c.base)

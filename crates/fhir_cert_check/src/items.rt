@@ -2,26 +2,38 @@
 
 ghost use Rattle.std.specs.Prelude.{◌≡◌, option_map};
 ghost use Rattle.std.specs.List.{list_any};
-ghost use Rattle.fhir_json.specs.Views.{property_seen};
-ghost use Rattle.fhir_instance.specs.Conformance.{is_untyped};
 ghost use Rattle.fhir_elements.specs.Tests.{first_of};
+ghost use Rattle.fhir_facets.specs.Targets.{targets_narrower};
+ghost use Rattle.fhir_facets.specs.Values.{fixed_fits, pattern_narrower};
+ghost use Rattle.fhir_slicing.specs.Conformance.{is_untyped};
 ghost use Rattle.fhir_cert_check.specs.Lists.{each_answers};
-ghost use Rattle.fhir_cert_check.specs.Rules.{entry_answers, types_answer, roots_answer, type_answers, fixed_at, fixed_answers, children_answer, item_rules};
+ghost use Rattle.fhir_cert_check.specs.Rules.{entry_answers, types_answer, roots_answer, type_answers, children_answer, item_rules};
+ghost use Rattle.fhir_cert_check.specs.Rules.{is_answered, fixed_answers, pattern_answers, range_answers, length_answers};
+ghost use Rattle.fhir_cert_check.specs.Facets.{element_rules, facet_rules};
 ghost use Rattle.fhir_cert_check.specs.Views.{rule_name};
 ghost use Rattle.fhir_cert_check.specs.PairSet.{has_in};
 
 use crate::pair_set::PairSet;
 use crate::rule::Rule;
 use fhir_certificate::{NodePair, Pair};
-use fhir_elements::TypeEntry;
-use fhir_json::Member;
-use fhir_matching::json_eq;
+use fhir_elements::{ElementDef, TypeEntry};
+use fhir_facets::{Facet, Fixed, Length, Pattern, Range, Targets, fixed_fits};
 use fhir_schema::{NodeRef, Schema};
+
+fn targets_answer(schema: &Schema, entry: &TypeEntry, base: &TypeEntry) -> bool
+    ensures { result ≡ targets_narrower schema.now entry.now base.now }
+{
+    let own = Targets { schema, entry };
+    own.narrower(&Targets {
+        schema,
+        entry: base,
+    })
+}
 
 fn entry_answers(schema: &Schema, entry: &TypeEntry, base: &TypeEntry) -> bool
     ensures { result ≡ entry_answers schema.now entry.now base.now }
 {
-    schema.covers(base.code(), entry.code())
+    schema.covers(base.code(), entry.code()) && targets_answer(schema, entry, base)
 }
 
 fn answers_one(schema: &Schema, entry: &TypeEntry, bases: &[TypeEntry]) -> bool
@@ -67,24 +79,94 @@ fn type_answers(schema: &Schema, n: NodeRef, m: NodeRef) -> bool
     }
 }
 
-fn fixed_at(schema: &Schema, node: NodeRef) -> Option<&Member<'static>>
-    ensures { property_seen result ≡ fixed_at schema.now node }
+fn fixed_answers(own: &ElementDef, base: &ElementDef) -> bool
+    ensures { result ≡ fixed_answers own.now base.now }
 {
-    match schema.element(node) {
-        Some(element) => element.fixed(),
-        None => None,
+    let Some(base) = base.fixed() else {
+        return true;
+    };
+    match own.fixed() {
+        Some(own) => Fixed(&own.value).narrower(&Fixed(&base.value)),
+        None => false,
     }
 }
 
-fn fixed_answers(schema: &Schema, n: NodeRef, m: NodeRef) -> bool
-    ensures { result ≡ fixed_answers schema.now n m }
+fn fixed_value_fits(own: &ElementDef, base: &ElementDef) -> bool
+    ensures { result ≡ is_answered (λ p q. fixed_fits p.1 q.1) own.now.fixed base.now.pattern }
 {
-    let Some(base) = fixed_at(schema, m) else {
+    let Some(base) = base.pattern() else {
         return true;
     };
-    match fixed_at(schema, n) {
-        Some(own) => json_eq(&base.value, &own.value),
+    match own.fixed() {
+        Some(own) => fixed_fits(&Fixed(&own.value), &Pattern(&base.value)),
         None => false,
+    }
+}
+
+fn pattern_fits(own: &ElementDef, base: &ElementDef) -> bool
+    ensures { result ≡ is_answered (λ p q. pattern_narrower p.1 q.1) own.now.pattern base.now.pattern }
+{
+    let Some(base) = base.pattern() else {
+        return true;
+    };
+    match own.pattern() {
+        Some(own) => Pattern(&own.value).narrower(&Pattern(&base.value)),
+        None => false,
+    }
+}
+
+fn pattern_answers(own: &ElementDef, base: &ElementDef) -> bool
+    ensures { result ≡ pattern_answers own.now base.now }
+{
+    fixed_value_fits(own, base) || pattern_fits(own, base)
+}
+
+fn range_answers(own: &ElementDef, base: &ElementDef) -> bool
+    ensures { result ≡ range_answers own.now base.now }
+{
+    Range::of(own).narrower(&Range::of(base))
+}
+
+fn length_answers(own: &ElementDef, base: &ElementDef) -> bool
+    ensures { result ≡ length_answers own.now base.now }
+{
+    let Some(base) = base.max_length() else {
+        return true;
+    };
+    match own.max_length() {
+        Some(own) => Length(own).narrower(&Length(base)),
+        None => false,
+    }
+}
+
+fn element_failing<'s>(own: &ElementDef, base: &ElementDef) -> Option<Rule<'s>>
+    ensures { option_map rule_name result ≡ first_of (element_rules own.now base.now) }
+{
+    if !fixed_answers(own, base) {
+        return Some(Rule::Fixed);
+    }
+    if !pattern_answers(own, base) {
+        return Some(Rule::Pattern);
+    }
+    if !range_answers(own, base) {
+        return Some(Rule::Range);
+    }
+    if !length_answers(own, base) {
+        return Some(Rule::Length);
+    }
+    None
+}
+
+// What is no node asks for nothing, and answers nothing.
+fn facet_failing<'s>(schema: &Schema, n: NodeRef, m: NodeRef) -> Option<Rule<'s>>
+    ensures { option_map rule_name result ≡ first_of (facet_rules schema.now n m) }
+{
+    let Some(base) = schema.element(m) else {
+        return None;
+    };
+    match schema.element(n) {
+        Some(own) => element_failing(own, base),
+        None => Some(Rule::Fixed),
     }
 }
 
@@ -110,8 +192,8 @@ pub(crate) fn item_failing<'s>(
     if !type_answers(schema, n, m) {
         return Some(Rule::TypeCode);
     }
-    if !fixed_answers(schema, n, m) {
-        return Some(Rule::Fixed);
+    if let Some(rule) = facet_failing(schema, n, m) {
+        return Some(rule);
     }
     if !children_answer(schema, pairs, n, m) {
         return Some(Rule::Children);

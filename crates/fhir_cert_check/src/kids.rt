@@ -4,72 +4,27 @@ ghost use Rattle.std.specs.Prelude.{◌≡◌, ◌∷◌, option_map};
 ghost use Rattle.std.specs.Option.{option_copied};
 ghost use Rattle.std.specs.List.{flat_map};
 ghost use Rattle.fhir_schema.specs.Schemas.{entry_of};
-ghost use Rattle.fhir_instance.specs.Conformance.{least_of};
 ghost use Rattle.fhir_elements.specs.Tests.{first_of};
+ghost use Rattle.fhir_facets.specs.Counts.{count_narrower};
 ghost use Rattle.fhir_cert_check.specs.Rule.{cardinality};
-ghost use Rattle.fhir_cert_check.specs.Rules.{max_answers, most_answers, bounds_answer, allows_none, is_forbidden};
-ghost use Rattle.fhir_cert_check.specs.Rules.{cardinality_answers, is_forbidden_at, has_item_pair, entry_rules, slot_rules, kids_rules};
+ghost use Rattle.fhir_cert_check.specs.Rules.{elements_answer, is_forbidden_at, has_item_pair, entry_rules, slot_rules, kids_rules};
 ghost use Rattle.fhir_cert_check.specs.Views.{rule_name};
 ghost use Rattle.fhir_cert_check.specs.PairSet.{has_in};
 
 use crate::pair_set::PairSet;
 use crate::rule::Rule;
 use fhir_certificate::{NodePair, Pair};
-use fhir_elements::{ElementDef, Max};
+use fhir_facets::{Cardinality, Facet, is_forbidden};
 use fhir_schema::{NodeRef, Schema, Slot};
 
-fn max_answers(own: Max, most: Max) -> bool
-    ensures { result ≡ max_answers own most }
-{
-    match (own, most) {
-        (Max::Unbounded, Max::Unbounded) => true,
-        (Max::Unbounded, Max::UpTo(_)) => false,
-        (Max::UpTo(count), most) => most.allows(count),
-    }
-}
-
-fn most_answers(own: Option<Max>, base: Option<Max>) -> bool
-    ensures { result ≡ most_answers own base }
-{
-    match (own, base) {
-        (_, None) => true,
-        (None, Some(_)) => false,
-        (Some(own), Some(most)) => max_answers(own, most),
-    }
-}
-
-fn least_of(element: &ElementDef) -> u32
-    ensures { result ≡ least_of element.now }
-{
-    element.min().unwrap_or(0)
-}
-
-fn bounds_answer(own: &ElementDef, base: &ElementDef) -> bool
-    ensures { result ≡ bounds_answer own.now base.now }
-{
-    least_of(base) <= least_of(own) && most_answers(own.max(), base.max())
-}
-
-fn allows_none(most: Max) -> bool
-    ensures { result ≡ allows_none most }
-{
-    matches!(most, Max::UpTo(0))
-}
-
-fn is_forbidden(element: &ElementDef) -> bool
-    ensures { result ≡ is_forbidden element.now }
-{
-    element.max().is_some_and(|most| allows_none(most))
-}
-
-fn cardinality_answers(schema: &Schema, n: NodeRef, m: NodeRef) -> bool
-    ensures { result ≡ cardinality_answers schema.now n m }
+fn count_answers(schema: &Schema, n: NodeRef, m: NodeRef) -> bool
+    ensures { result ≡ elements_answer count_narrower schema.now n m }
 {
     let Some(base) = schema.element(m) else {
         return true;
     };
     match schema.element(n) {
-        Some(own) => bounds_answer(own, base),
+        Some(own) => Cardinality(own).narrower(&Cardinality(base)),
         None => false,
     }
 }
@@ -125,10 +80,10 @@ fn own_slot_failing<'s>(
     m: NodeRef,
 ) -> Option<Rule<'s>>
     ensures { option_map rule_name result ≡ first_of
-        ((cardinality_answers schema.now n m, cardinality name.now)
+        ((elements_answer count_narrower schema.now n m, cardinality name.now)
         ∷ entry_rules (has_in pairs.now) schema.now name.now n m) }
 {
-    if !cardinality_answers(schema, n, m) {
+    if !count_answers(schema, n, m) {
         return Some(Rule::Cardinality(name));
     }
     entry_failing(schema, pairs, name, n, m)

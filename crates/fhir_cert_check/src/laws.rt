@@ -8,7 +8,7 @@ ghost use Rattle.fhir_cert_check.specs.Rules.{has_item_pair};
 ghost use Rattle.fhir_cert_check.specs.Checking.{IsRight};
 ghost use Rattle.fhir_cert_check.specs.Inclusion.{IncludesItems};
 
-use fhir_matching::equivalence;
+use fhir_facets::narrower_holds;
 use fhir_schema::covering_codes;
 
 /// Where each pair of a set is right by the set, an item that conforms to the derived node of one of its pairs conforms
@@ -18,5 +18,5 @@ pub fn inclusion()
         → (n m : NodeRef) → IsTrue (has_item_pair pairs n m) → IncludesItems s n m }
 {
     covering_codes();
-    equivalence();
+    narrower_holds();
 }

@@ -13,15 +13,25 @@ pub enum Rule<'s> {
     /// `root`: the certificate has the pair of the two roots.
     Root,
     /// `type`: both nodes are roots, and the base's type covers the derived one's; or neither is one, and each type that the
-    /// derived node allows is one that the base node allows.
+    /// derived node allows is one that the base node allows, with targets that the base node allows (FHIR R4,
+    /// ElementDefinition, type and type.targetProfile).
     TypeCode,
-    /// `fixed`: the derived node fixes the value that the base node fixes.
+    /// `fixed`: the derived node fixes the value that the base node fixes (ElementDefinition, fixed[x]).
     Fixed,
+    /// `pattern`: the derived node's fixed value fits the base node's pattern, or its pattern does (ElementDefinition,
+    /// pattern[x]).
+    Pattern,
+    /// `range`: the derived node's least and greatest values lie within those of the base node (ElementDefinition,
+    /// minValue[x] and maxValue[x]).
+    Range,
+    /// `length`: the derived node allows no longer a text than the base node (ElementDefinition, maxLength).
+    Length,
     /// `children`: the base node has no children, or there is a pair for them.
     Children,
     /// `slot`: the derived node has a slot of the base node's name.
     Slot(&'s str),
-    /// `cardinality`: the bounds of the derived node's slot lie within those of the base node's.
+    /// `cardinality`: the bounds of the derived node's slot lie within those of the base node's (ElementDefinition, min and
+    /// max).
     Cardinality(&'s str),
     /// `entry`: there is a pair for the elements of the slot.
     Entry(&'s str),
@@ -36,6 +46,9 @@ impl<'s> Rule<'s> {
             Rule::Root => "root",
             Rule::TypeCode => "type",
             Rule::Fixed => "fixed",
+            Rule::Pattern => "pattern",
+            Rule::Range => "range",
+            Rule::Length => "length",
             Rule::Children => "children",
             Rule::Slot(_) => "slot",
             Rule::Cardinality(_) => "cardinality",
@@ -48,8 +61,14 @@ impl<'s> Rule<'s> {
         ensures { text_seen result ≡ slot_name_of (rule_name self.now) }
     {
         match self {
-            Rule::Root | Rule::TypeCode | Rule::Fixed | Rule::Children => None,
             Rule::Slot(name) | Rule::Cardinality(name) | Rule::Entry(name) => Some(*name),
+            Rule::Root
+            | Rule::TypeCode
+            | Rule::Fixed
+            | Rule::Pattern
+            | Rule::Range
+            | Rule::Length
+            | Rule::Children => None,
         }
     }
 }

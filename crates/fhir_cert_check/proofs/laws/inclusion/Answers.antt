@@ -2,4 +2,15 @@ use Rattle.fhir_cert_check.proofs.Keeping.{includes}
 use Rattle.fhir_cert_check.proofs.laws.inclusion.Goals as goal
 
 pub returns : goal.returns
-returns c s pairs right n m pair = includes s (c.covering_codes.ensures.transitive s) c.equivalence.ensures.transitive pairs right n m pair
+returns c s pairs right n m pair =
+    let narrow = c.narrower_holds.ensures in
+    includes s (record {
+      covers_on = c.covering_codes.ensures.transitive s;
+      fixed_is = narrow.fixed;
+      pattern_is = narrow.pattern;
+      fits_is = narrow.fitted;
+      length_is = narrow.length;
+      range_is = narrow.range;
+      targets_are = narrow.targets s;
+      count_is = narrow.count;
+    }) pairs right n m pair
