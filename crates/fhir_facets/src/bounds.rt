@@ -1,8 +1,9 @@
 //! One bound of a value. A bound is read anew each time, which takes no memory: a decimal and a moment borrow from its text.
 
-ghost use Rattle.std.specs.Prelude.{◌≡◌, Bool, Option, Some, None};
+ghost use Rattle.std.specs.Prelude.{◌≡◌, Bool, false};
 ghost use Rattle.std.specs.Option.{option_map, option_map_or};
 ghost use Rattle.fhir_json.specs.Views.{tree_of, property_of, tree_seen, property_seen};
+ghost use Rattle.fhir_decimal.specs.Reading.{parts};
 ghost use Rattle.fhir_decimal.specs.Value.{value_of};
 ghost use Rattle.fhir_decimal.specs.Views.{parts_seen};
 ghost use Rattle.fhir_prims.specs.Views.{fields_seen};

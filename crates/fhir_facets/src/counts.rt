@@ -2,6 +2,7 @@
 
 ghost use Rattle.std.specs.Prelude.{◌≡◌, [], Option};
 ghost use Rattle.std.specs.Option.{option_map_or};
+ghost use Rattle.fhir_elements.specs.Max.{is_within};
 ghost use Rattle.fhir_facets.specs.Counts.{least_of, are_enough, are_within, count_holds, max_narrower, most_narrower, count_narrower, allows_none, is_forbidden};
 
 use crate::facet::Facet;

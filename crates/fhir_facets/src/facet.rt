@@ -1,7 +1,7 @@
 //! Facets.
 
 ghost use Rattle.std.specs.Prelude.{◌≡◌, Bool, List};
-ghost use Rattle.fhir_facets.specs.Unread.{Unread, Meaning};
+ghost use Rattle.fhir_facets.specs.Unread.{Unread as Rule, Meaning};
 ghost use Rattle.fhir_facets.specs.Views.{holding_under, IsCarried};
 
 use crate::holding::Holding;
@@ -12,7 +12,7 @@ pub trait Facet<'a, Asked> {
     ghost meant: { Meaning → Self → Asked → Bool };
 
     /// The unread rules that it may hang on.
-    ghost unread_rules: { Self → List Unread };
+    ghost unread_rules: { Self → List Rule };
 
     /// Whether the first is as narrow as the second.
     ghost is_narrower: { Self → Self → Bool };

@@ -1,7 +1,7 @@
 //! What a facet comes to.
 
-ghost use Rattle.std.specs.Prelude.{◌≡◌, Bool, List, ◌++◌, ◌&&◌, ◌||◌};
-ghost use Rattle.fhir_facets.specs.Unread.{Unread};
+ghost use Rattle.std.specs.Prelude.{◌≡◌, Bool, List, ◌&&◌, ◌||◌};
+ghost use Rattle.fhir_facets.specs.Unread.{Unread as Rule};
 ghost use Rattle.fhir_facets.specs.Views.{holding_under, IsCarried};
 
 use crate::unread::Unread;
@@ -21,17 +21,21 @@ impl<'a> Holding<'a> {
     /// What a test comes to.
     pub(crate) fn of(holds: bool) -> Holding<'a>
         ensures decided { (b : Bool) → holding_under b result ≡ holds }
-        ensures carried { (us : List Unread) → IsCarried us result }
+        ensures carried { (rules : List Rule) → IsCarried rules result }
     {
-        if holds { Holding::Holds } else { Holding::Fails }
+        if holds {
+            Holding::Holds
+        } else {
+            Holding::Fails
+        }
     }
 
     /// What two facets come to together, where both have to hold.
     pub(crate) fn and(self, other: Holding<'a>) -> Holding<'a>
         ensures both { (b : Bool) → holding_under b result
             ≡ (holding_under b self.entry && holding_under b other.entry) }
-        ensures carried { (us vs : List Unread) → IsCarried us self.entry → IsCarried vs other.entry
-            → IsCarried (us ++ vs) result }
+        ensures carried { (rules : List Rule) → IsCarried rules self.entry → IsCarried rules other.entry
+            → IsCarried rules result }
     {
         match (self, other) {
             (Holding::Fails, _) | (_, Holding::Fails) => Holding::Fails,
@@ -44,8 +48,8 @@ impl<'a> Holding<'a> {
     pub(crate) fn or(self, other: Holding<'a>) -> Holding<'a>
         ensures one { (b : Bool) → holding_under b result
             ≡ (holding_under b self.entry || holding_under b other.entry) }
-        ensures carried { (us vs : List Unread) → IsCarried us self.entry → IsCarried vs other.entry
-            → IsCarried (us ++ vs) result }
+        ensures carried { (rules : List Rule) → IsCarried rules self.entry → IsCarried rules other.entry
+            → IsCarried rules result }
     {
         match (self, other) {
             (Holding::Holds, _) | (_, Holding::Holds) => Holding::Holds,

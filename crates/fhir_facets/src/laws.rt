@@ -12,6 +12,11 @@ ghost use Rattle.fhir_facets.specs.Targets.{targets_hold, targets_narrower};
 ghost use Rattle.fhir_facets.specs.Unread.{Unread, Meaning};
 ghost use Rattle.fhir_facets.specs.Values.{fixed_holds, fixed_narrower, pattern_holds, pattern_narrower, fixed_fits, length_holds, length_narrower};
 
+use fhir_decimal::order_of_values;
+use fhir_matching::{equivalence, fitting};
+use fhir_prims::order_of_moments;
+use fhir_schema::covering_codes;
+
 /// What holds of a narrower facet holds of a wider one, whatever the unread rules mean.
 pub fn narrower_holds()
     ensures fixed { (value base : Tree) (x : Seen) → IsTrue (fixed_narrower value base)
@@ -28,7 +33,13 @@ pub fn narrower_holds()
         → IsTrue (targets_narrower s e base) → IsTrue (targets_hold s m e x) → IsTrue (targets_hold s m base x) }
     ensures count { (e base : Element) (n : ℕ) → IsTrue (count_narrower e base)
         → IsTrue (count_holds e n) → IsTrue (count_holds base n) }
-{}
+{
+    equivalence();
+    fitting();
+    order_of_values();
+    order_of_moments();
+    covering_codes();
+}
 
 /// Where more of the unread rules hold, no facet holds of less.
 pub fn positive()

@@ -1,6 +1,6 @@
 //! Bounds of values (FHIR R4, ElementDefinition, minValue[x] and maxValue[x]).
 
-ghost use Rattle.std.specs.Prelude.{◌≡◌, Bool};
+ghost use Rattle.std.specs.Prelude.{◌≡◌, Bool, true, []};
 ghost use Rattle.std.specs.Option.{option_map_or};
 ghost use Rattle.fhir_json.specs.Views.{property_seen};
 ghost use Rattle.fhir_facets.specs.Carried.{bound_unread};
@@ -79,6 +79,7 @@ impl<'a> Facet<'a, View<'_, '_>> for Range<'a> {
     }
 
     fn narrower(&self, base: &Self) -> bool {
-        side_narrower(Side::Least, self.least, base.least) && side_narrower(Side::Most, self.most, base.most)
+        side_narrower(Side::Least, self.least, base.least)
+            && side_narrower(Side::Most, self.most, base.most)
     }
 }

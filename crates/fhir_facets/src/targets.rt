@@ -1,6 +1,6 @@
 //! Targets of references (FHIR R4, ElementDefinition, type.targetProfile; References, literal references).
 
-ghost use Rattle.std.specs.Prelude.{◌≡◌, ◌<◌, Bool, List, [], map, length, string_bytes, option_map};
+ghost use Rattle.std.specs.Prelude.{◌≡◌, Bool, true, map, string_bytes};
 ghost use Rattle.std.specs.Option.{option_map_or};
 ghost use Rattle.std.specs.List.{list_any, list_all, flat_map};
 ghost use Rattle.fhir_json.specs.Views.{text_seen};
@@ -64,11 +64,7 @@ fn target_holds<'s>(schema: &'s Schema, type_name: &str, canonical: &'s str) -> 
     }
 }
 
-fn some_target_holds<'s>(
-    schema: &'s Schema,
-    type_name: &str,
-    targets: &'s [String],
-) -> Holding<'s>
+fn some_target_holds<'s>(schema: &'s Schema, type_name: &str, targets: &'s [String]) -> Holding<'s>
     ensures exact { (b : Bool) → holding_under b result
         ≡ list_any (target_holds schema.now (λ u. b) type_name.now) (map string_bytes targets.now) }
     ensures carried { IsCarried (flat_map (target_unread schema.now) (map string_bytes targets.now)) result }
@@ -76,6 +72,9 @@ fn some_target_holds<'s>(
     let mut found = Holding::Fails;
     for target in targets {
         found = found.or(target_holds(schema, type_name, target.as_str()));
+        if let Holding::Holds = found {
+            return found;
+        }
     }
     found
 }
@@ -152,6 +151,7 @@ impl<'s> Facet<'s, View<'_, '_>> for Targets<'s> {
         if !has_targets(base.entry) {
             return true;
         }
-        has_targets(self.entry) && are_targets_among(self.schema, self.entry.targets(), base.entry.targets())
+        has_targets(self.entry)
+            && are_targets_among(self.schema, self.entry.targets(), base.entry.targets())
     }
 }
