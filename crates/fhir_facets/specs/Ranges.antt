@@ -17,8 +17,8 @@ use Rattle.fhir_prims.specs.Values.{prim_of}
 use Rattle.fhir_prims.specs.Order.{Fields, moment_order}
 use Rattle.fhir_prims.specs.Reading.{fields_of}
 use Rattle.fhir_definition.specs.Bounds.{bound_type}
-use Rattle.fhir_facets.specs.declared.kind.Kind.{Kind}
-use Rattle.fhir_facets.specs.declared.kind.Kind.TheVariants.{Number, Moment, Time}
+use Rattle.fhir_facets.specs.declared.kinds.Kind.{Kind}
+use Rattle.fhir_facets.specs.declared.kinds.Kind.TheVariants.{Number, Moment, Time}
 use Rattle.fhir_facets.specs.Unread.{Meaning, range}
 use Rattle.fhir_facets.specs.Identity.{identical}
 use Rattle.fhir_facets.specs.Seen.{Seen}

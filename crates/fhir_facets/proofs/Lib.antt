@@ -1,0 +1,8 @@
+mod Parts
+mod Alike
+mod Ends
+mod Chains
+mod Keeping
+mod KeptBounds
+mod KeptTargets
+mod Among

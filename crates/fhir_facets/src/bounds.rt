@@ -1,0 +1,169 @@
+//! One bound of a value. A bound is read anew each time, which takes no memory: a decimal and a moment borrow from its text.
+
+ghost use Rattle.std.specs.Prelude.{◌≡◌, Bool, false};
+ghost use Rattle.std.specs.Option.{option_map, option_map_or};
+ghost use Rattle.fhir_json.specs.Views.{tree_of, property_of, tree_seen, property_seen};
+ghost use Rattle.fhir_decimal.specs.Reading.{parts};
+ghost use Rattle.fhir_decimal.specs.Value.{value_of};
+ghost use Rattle.fhir_decimal.specs.Views.{parts_seen};
+ghost use Rattle.fhir_prims.specs.Views.{fields_seen};
+ghost use Rattle.fhir_facets.specs.Carried.{bound_unread};
+ghost use Rattle.fhir_facets.specs.Ranges.{number_in, fields_in, number_order, field_order_of, order_of, is_beyond, kind_holds, bound_holds, is_same_bound, is_narrow_bound, bound_narrower, same_kind, kind_of_code, kind_of_bound};
+ghost use Rattle.fhir_facets.specs.Views.{side_test, holding_under, view_seen, IsCarried};
+
+use crate::holding::Holding;
+use crate::identity::identical;
+use crate::kinds::{Kind, kind_of_bound, kind_of_code, same_kind};
+use crate::unread::Unread;
+use crate::view::View;
+use fhir_decimal::Decimal;
+use fhir_json::{Json, Member};
+use fhir_prims::{Moment, cmp_moment};
+use std::cmp::Ordering;
+
+/// The side of a value that a bound is on.
+#[derive(Clone, Copy, Debug, PartialEq, Eq)]
+pub enum Side {
+    /// The lower side.
+    Least,
+    /// The upper side.
+    Most,
+}
+
+fn is_inside(side: Side, order: Ordering) -> bool
+    ensures { result ≡ side_test side order }
+{
+    match side {
+        Side::Least => order.is_ge(),
+        Side::Most => order.is_le(),
+    }
+}
+
+fn decimal_of(text: &str) -> Option<Decimal<'_>>
+    ensures { option_map parts_seen result ≡ parts text.now }
+{
+    fhir_decimal::grammar();
+    Decimal::of(text)
+}
+
+fn number_in<'t>(json: &'t Json<'_>) -> Option<Decimal<'t>>
+    ensures { option_map (λ d. value_of (parts_seen d)) result ≡ number_in (tree_of json.now) }
+{
+    match json.as_number() {
+        Some(text) => decimal_of(text),
+        None => None,
+    }
+}
+
+fn fields_in<'t>(json: &'t Json<'_>) -> Option<Moment<'t>>
+    ensures { option_map fields_seen result ≡ fields_in (tree_of json.now) }
+{
+    match json.as_text() {
+        Some(text) => Moment::of(text),
+        None => None,
+    }
+}
+
+fn number_order(left: &Json<'_>, right: &Json<'_>) -> Option<Ordering>
+    ensures { result ≡ number_order (tree_of left.now) (tree_of right.now) }
+{
+    match (number_in(left), number_in(right)) {
+        (Some(left), Some(right)) => Some(left.cmp(&right)),
+        _ => None,
+    }
+}
+
+fn field_order(left: &Json<'_>, right: &Json<'_>) -> Option<Ordering>
+    ensures { result ≡ field_order_of (tree_of left.now) (tree_of right.now) }
+{
+    match (fields_in(left), fields_in(right)) {
+        (Some(left), Some(right)) => cmp_moment(&left, &right),
+        _ => None,
+    }
+}
+
+fn order_of(kind: Kind, left: &Json<'_>, right: &Json<'_>) -> Option<Ordering>
+    ensures { result ≡ order_of kind (tree_of left.now) (tree_of right.now) }
+{
+    match kind {
+        Kind::Number => number_order(left, right),
+        Kind::Moment | Kind::Time => field_order(left, right),
+    }
+}
+
+fn is_beyond(side: Side, kind: Kind, value: &Json<'_>, bound: &Json<'_>) -> bool
+    ensures { result ≡ is_beyond (side_test side) kind (tree_of value.now) (tree_of bound.now) }
+{
+    match order_of(kind, value, bound) {
+        Some(order) => is_inside(side, order),
+        None => false,
+    }
+}
+
+fn has_kind(kind: Kind, code: &str) -> bool
+    ensures { result ≡ option_map_or (same_kind kind) (kind_of_code code.now) false }
+{
+    match kind_of_code(code) {
+        Some(other) => same_kind(kind, other),
+        None => false,
+    }
+}
+
+fn kind_holds(side: Side, bound: &Json<'_>, view: &View<'_, '_>, kind: Kind) -> bool
+    ensures { result ≡ kind_holds (side_test side) (tree_of bound.now) (view_seen view.now) kind }
+{
+    if !has_kind(kind, view.code) {
+        return true;
+    }
+    match view.json {
+        Some(value) => is_beyond(side, kind, value, bound),
+        None => true,
+    }
+}
+
+/// Whether a value isn't outside a bound; it hangs on the bound where that isn't compared.
+pub(crate) fn bound_holds<'a>(
+    side: Side,
+    bound: &'a Member<'static>,
+    view: &View<'_, '_>,
+) -> Holding<'a>
+    ensures exact { (b : Bool) → holding_under b result
+        ≡ bound_holds (side_test side) (λ u. b) (view_seen view.now) (property_of bound.now) }
+    ensures carried { IsCarried (bound_unread (property_of bound.now)) result }
+{
+    match kind_of_bound(bound.name.as_str()) {
+        Some(kind) => Holding::of(kind_holds(side, &bound.value, view, kind)),
+        None => Holding::Unread(Unread::Range(bound)),
+    }
+}
+
+fn is_same_bound(own: &Member<'_>, base: &Member<'_>) -> bool
+    ensures { result ≡ is_same_bound (property_of own.now) (property_of base.now) }
+{
+    own.name.as_str() == base.name.as_str() && identical(&own.value, &base.value)
+}
+
+fn has_kind_of_bound(kind: Kind, property: &str) -> bool
+    ensures { result ≡ option_map_or (same_kind kind) (kind_of_bound property.now) false }
+{
+    match kind_of_bound(property) {
+        Some(other) => same_kind(kind, other),
+        None => false,
+    }
+}
+
+fn is_narrow_bound(side: Side, own: &Member<'_>, base: &Json<'_>, kind: Kind) -> bool
+    ensures { result ≡ is_narrow_bound (side_test side) (property_of own.now) (tree_of base.now) kind }
+{
+    has_kind_of_bound(kind, own.name.as_str()) && is_beyond(side, kind, &own.value, base)
+}
+
+/// Whether a bound is as narrow as another of its side.
+pub(crate) fn bound_narrower(side: Side, own: &Member<'_>, base: &Member<'_>) -> bool
+    ensures { result ≡ bound_narrower (side_test side) (property_of own.now) (property_of base.now) }
+{
+    match kind_of_bound(base.name.as_str()) {
+        Some(kind) => is_narrow_bound(side, own, &base.value, kind),
+        None => is_same_bound(own, base),
+    }
+}

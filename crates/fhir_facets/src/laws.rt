@@ -1,0 +1,51 @@
+//! Laws: what the definitions say of one another.
+
+ghost use Rattle.std.specs.Prelude.{ℕ, ℤ, IsTrue};
+ghost use Rattle.fhir_json.specs.Tree.{Tree};
+ghost use Rattle.fhir_elements.specs.Element.{Element};
+ghost use Rattle.fhir_elements.specs.TypeEntry.{TypeEntry};
+ghost use Rattle.fhir_schema.specs.Schemas.{SchemaValue};
+ghost use Rattle.fhir_facets.specs.Counts.{count_holds, count_narrower};
+ghost use Rattle.fhir_facets.specs.Ranges.{Range, range_holds, range_narrower};
+ghost use Rattle.fhir_facets.specs.Seen.{Seen};
+ghost use Rattle.fhir_facets.specs.Targets.{targets_hold, targets_narrower};
+ghost use Rattle.fhir_facets.specs.Unread.{Unread, Meaning};
+ghost use Rattle.fhir_facets.specs.Values.{fixed_holds, fixed_narrower, pattern_holds, pattern_narrower, fixed_fits, length_holds, length_narrower};
+
+use fhir_decimal::order_of_values;
+use fhir_matching::{equivalence, fitting};
+use fhir_prims::order_of_moments;
+use fhir_schema::covering_codes;
+
+/// What holds of a narrower facet holds of a wider one, whatever the unread rules mean.
+pub fn narrower_holds()
+    ensures fixed { (value base : Tree) (x : Seen) → IsTrue (fixed_narrower value base)
+        → IsTrue (fixed_holds value x) → IsTrue (fixed_holds base x) }
+    ensures pattern { (pattern base : Tree) (x : Seen) → IsTrue (pattern_narrower pattern base)
+        → IsTrue (pattern_holds pattern x) → IsTrue (pattern_holds base x) }
+    ensures fitted { (value pattern : Tree) (x : Seen) → IsTrue (fixed_fits value pattern)
+        → IsTrue (fixed_holds value x) → IsTrue (pattern_holds pattern x) }
+    ensures length { (most base : ℤ) (x : Seen) → IsTrue (length_narrower most base)
+        → IsTrue (length_holds most x) → IsTrue (length_holds base x) }
+    ensures range { (m : Meaning) (r base : Range) (x : Seen) → IsTrue (range_narrower r base)
+        → IsTrue (range_holds m r x) → IsTrue (range_holds m base x) }
+    ensures targets { (s : SchemaValue) (m : Meaning) (e base : TypeEntry) (x : Seen)
+        → IsTrue (targets_narrower s e base) → IsTrue (targets_hold s m e x) → IsTrue (targets_hold s m base x) }
+    ensures count { (e base : Element) (n : ℕ) → IsTrue (count_narrower e base)
+        → IsTrue (count_holds e n) → IsTrue (count_holds base n) }
+{
+    equivalence();
+    fitting();
+    order_of_values();
+    order_of_moments();
+    covering_codes();
+}
+
+/// Where more of the unread rules hold, no facet holds of less.
+pub fn positive()
+    ensures range { (m larger : Meaning) (r : Range) (x : Seen) → ((u : Unread) → IsTrue (m u) → IsTrue (larger u))
+        → IsTrue (range_holds m r x) → IsTrue (range_holds larger r x) }
+    ensures targets { (s : SchemaValue) (m larger : Meaning) (e : TypeEntry) (x : Seen)
+        → ((u : Unread) → IsTrue (m u) → IsTrue (larger u))
+        → IsTrue (targets_hold s m e x) → IsTrue (targets_hold s larger e x) }
+{}

@@ -1,0 +1,157 @@
+//! Targets of references (FHIR R4, ElementDefinition, type.targetProfile; References, literal references).
+
+ghost use Rattle.std.specs.Prelude.{◌≡◌, Bool, true, map, string_bytes};
+ghost use Rattle.std.specs.Option.{option_map_or};
+ghost use Rattle.std.specs.List.{list_any, list_all, flat_map};
+ghost use Rattle.fhir_json.specs.Views.{text_seen};
+ghost use Rattle.fhir_facets.specs.Carried.{target_unread};
+ghost use Rattle.fhir_facets.specs.Targets.{has_targets, referred_type, target_type, target_holds, targets_hold, covers_known, target_narrower, targets_narrower};
+ghost use Rattle.fhir_facets.specs.Views.{target_rules, holding_under, view_seen, IsCarried};
+
+use crate::facet::Facet;
+use crate::holding::Holding;
+use crate::unread::Unread;
+use crate::view::View;
+use fhir_elements::TypeEntry;
+use fhir_names::relative_target;
+use fhir_schema::Schema;
+
+/// The targets that references of a type entry may have (FHIR R4, ElementDefinition, type.targetProfile). A target is judged
+/// by the type that a relative reference names, as `Patient/1` does; a reference of another form is passed over. A target
+/// profile that isn't there, or can't be used, is an unread rule.
+#[derive(Clone, Copy)]
+pub struct Targets<'s> {
+    /// The schema that the profiles are in.
+    pub schema: &'s Schema,
+    /// The type entry.
+    pub entry: &'s TypeEntry,
+}
+
+fn has_targets(entry: &TypeEntry) -> bool
+    ensures { result ≡ has_targets entry.now }
+{
+    entry.code() == "Reference" && !entry.targets().is_empty()
+}
+
+fn referred_type<'v>(view: &View<'v, '_>) -> Option<&'v str>
+    ensures { text_seen result ≡ referred_type (view_seen view.now) }
+{
+    let json = view.json?;
+    let reference = json.text_in("reference")?;
+    match relative_target(reference) {
+        Some((type_name, _)) => Some(type_name),
+        None => None,
+    }
+}
+
+fn target_type<'s>(schema: &'s Schema, canonical: &str) -> Option<&'s str>
+    ensures { text_seen result ≡ target_type schema.now canonical.now }
+{
+    match schema.loaded(canonical) {
+        Some(node) => Some(schema.type_code(node)),
+        None => None,
+    }
+}
+
+fn target_holds<'s>(schema: &'s Schema, type_name: &str, canonical: &'s str) -> Holding<'s>
+    ensures exact { (b : Bool) → holding_under b result
+        ≡ target_holds schema.now (λ u. b) type_name.now canonical.now }
+    ensures carried { IsCarried (target_unread schema.now canonical.now) result }
+{
+    match target_type(schema, canonical) {
+        Some(code) => Holding::of(schema.covers(code, type_name)),
+        None => Holding::Unread(Unread::Target(canonical)),
+    }
+}
+
+fn some_target_holds<'s>(schema: &'s Schema, type_name: &str, targets: &'s [String]) -> Holding<'s>
+    ensures exact { (b : Bool) → holding_under b result
+        ≡ list_any (target_holds schema.now (λ u. b) type_name.now) (map string_bytes targets.now) }
+    ensures carried { IsCarried (flat_map (target_unread schema.now) (map string_bytes targets.now)) result }
+{
+    let mut found = Holding::Fails;
+    for target in targets {
+        found = found.or(target_holds(schema, type_name, target.as_str()));
+        if let Holding::Holds = found {
+            return found;
+        }
+    }
+    found
+}
+
+impl<'s> Targets<'s> {
+    fn of_reference(&self, view: &View<'_, '_>) -> Holding<'s>
+        ensures exact { (b : Bool) → holding_under b result ≡ option_map_or
+            (λ type. list_any (target_holds self.now.schema.now (λ u. b) type) self.now.entry.now.targets)
+            (referred_type (view_seen view.now)) true }
+        ensures carried { IsCarried (flat_map (target_unread self.now.schema.now) self.now.entry.now.targets) result }
+    {
+        match referred_type(view) {
+            Some(type_name) => some_target_holds(self.schema, type_name, self.entry.targets()),
+            None => Holding::Holds,
+        }
+    }
+}
+
+fn covers_known(schema: &Schema, base: Option<&str>, own: Option<&str>) -> bool
+    ensures { result ≡ covers_known schema.now (text_seen base.entry) (text_seen own.entry) }
+{
+    match (base, own) {
+        (Some(base), Some(own)) => schema.covers(base, own),
+        _ => false,
+    }
+}
+
+fn target_narrower(schema: &Schema, own: &str, base: &str) -> bool
+    ensures { result ≡ target_narrower schema.now own.now base.now }
+{
+    own == base || covers_known(schema, target_type(schema, base), target_type(schema, own))
+}
+
+fn is_target_among(schema: &Schema, own: &str, bases: &[String]) -> bool
+    ensures { result ≡ list_any (target_narrower schema.now own.now) (map string_bytes bases.now) }
+{
+    for base in bases {
+        if target_narrower(schema, own, base.as_str()) {
+            return true;
+        }
+    }
+    false
+}
+
+fn are_targets_among(schema: &Schema, owns: &[String], bases: &[String]) -> bool
+    ensures { result ≡ list_all (λ t. list_any (target_narrower schema.now t) (map string_bytes bases.now))
+        (map string_bytes owns.now) }
+{
+    for own in owns {
+        if !is_target_among(schema, own.as_str(), bases) {
+            return false;
+        }
+    }
+    true
+}
+
+impl<'s> Facet<'s, View<'_, '_>> for Targets<'s> {
+    ghost meant = { λ m t view. targets_hold t.schema.now m t.entry.now (view_seen view) };
+
+    ghost unread_rules = { λ t. target_rules t.schema.now t.entry.now };
+
+    ghost is_narrower = { λ t base. targets_narrower t.schema.now t.entry.now base.entry.now };
+
+    fn holds(&self, asked: &View<'_, '_>) -> Holding<'s> {
+        if has_targets(self.entry) {
+            self.of_reference(asked)
+        } else {
+            Holding::Holds
+        }
+    }
+
+    /// Whether the targets are as narrow as those of another entry, by the schema of these.
+    fn narrower(&self, base: &Self) -> bool {
+        if !has_targets(base.entry) {
+            return true;
+        }
+        has_targets(self.entry)
+            && are_targets_among(self.schema, self.entry.targets(), base.entry.targets())
+    }
+}

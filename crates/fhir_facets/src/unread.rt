@@ -1,0 +1,29 @@
+//! Unread rules.
+
+use crate::compact::write_compact;
+use fhir_json::Member;
+use std::fmt;
+
+/// A rule that a definition has and that isn't judged here. `Display` prints what it says: `range`, its property and its
+/// compact value; or `target` and its canonical.
+#[derive(Clone, Copy, Debug)]
+pub enum Unread<'a> {
+    /// A bound of a type whose values aren't compared, as `minValueQuantity`.
+    Range(&'a Member<'static>),
+    /// A target profile that isn't there, or can't be used.
+    Target(&'a str),
+}
+
+impl fmt::Display for Unread<'_> {
+    fn fmt<W: fmt::Write>(&self, f: &mut fmt::Formatter<W>) -> fmt::Result {
+        match self {
+            Unread::Range(bound) => {
+                f.write_str("range ")?;
+                f.write_str(bound.name.as_str())?;
+                f.write_char(' ')?;
+                write_compact(f, &bound.value)
+            }
+            Unread::Target(canonical) => write!(f, "target {canonical}"),
+        }
+    }
+}
