@@ -1,17 +1,12 @@
 -- What contracts see of asks, of rules, of an index of children, and of what was judged.
-use Rattle.std.specs.Prelude.{◌≡◌, ℕ, List, [], map, Vec, Unit}
+use Rattle.std.specs.Prelude.{◌≡◌, ℕ, List, [], map, Vec}
 use Rattle.std.specs.declared.alloc.Global.{Global}
 use Rattle.std.specs.Borrow.{Bor}
 use Rattle.std.specs.Option.{option_map_or}
-use Rattle.std.specs.List.{Contains}
 use Rattle.std.specs.Map.{lookup}
 use Rattle.std.specs.Str.{bytes_eq}
 use Rattle.fhir_json.specs.Tree.{Text}
 use Rattle.fhir_instance.specs.Items.{Item}
-use Rattle.fhir_facets.specs.Unread.{Unread}
-use Rattle.fhir_facets.specs.Views.{unread_seen}
-use Rattle.fhir_facets.specs.declared.holding.Holding.{Holding}
-use Rattle.fhir_facets.specs.declared.holding.Holding.TheVariants as holdings
 use Rattle.fhir_slicing.specs.Asks.{RuleName, root_type, types, fixed, pattern, range, length_limit, too_few, too_many}
 use Rattle.fhir_slicing.specs.Asks.{own, root, child, places_of}
 use Rattle.fhir_slicing.specs.Asks.{Ask as Asked}
@@ -54,11 +49,3 @@ places_in places name = option_map_or (λ ps. ps) (lookup (bytes_eq name) places
 -- it has the positions of an item's children under each name
 abbrev pub IsIndexOf : Item → Places → Type 0
 IsIndexOf x places = (name : Text) → places_in places name ≡ places_of name x
-
--- ---- what was judged
-
--- an unread rule that leaves it open is one of these
-abbrev pub IsAmong : List Unread → Holding → Type 0
-IsAmong rules holdings.Holds = Unit {0}
-IsAmong rules holdings.Fails = Unit {0}
-IsAmong rules (holdings.Unread u) = Contains rules (unread_seen u)

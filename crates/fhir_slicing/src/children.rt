@@ -1,8 +1,9 @@
 //! The children of an item by their names.
 
-ghost use Rattle.std.specs.Prelude.{◌≡◌, IfOk};
+ghost use Rattle.std.specs.Prelude.{◌≡◌, ℕ, List, [], ◌∷◌, ◌++◌, if◌then◌else◌, IfOk, OnOk};
+ghost use Rattle.std.specs.Str.{bytes_eq};
 ghost use Rattle.fhir_instance.specs.View.{item_of};
-ghost use Rattle.fhir_slicing.specs.Views.{places_in, IsIndexOf};
+ghost use Rattle.fhir_slicing.specs.Views.{places_by_name, places_in, IsIndexOf};
 
 use fhir_instance::Typed;
 use fhir_json::NoMemory;
@@ -17,7 +18,7 @@ pub struct Children<'a> {
     places: BTreeMap<&'a str, Vec<usize>>,
 }
 
-impl Model for Children<'_> {
+impl<'a> Model for Children<'a> {
     ghost use Rattle.fhir_slicing.specs.Views.{Places, places_by_name};
 
     ghost Value = { Places };
@@ -25,18 +26,36 @@ impl Model for Children<'_> {
     ghost view = { λ c. places_by_name c.places.entries };
 }
 
+// Puts a position behind those under a name. The one refusal is want of memory.
+fn put<'a>(
+    alloc: Global,
+    places: &mut BTreeMap<&'a str, Vec<usize>>,
+    name: &'a str,
+    position: usize,
+) -> Result<(), NoMemory>
+    ensures { OnOk result ((other : List ℕ) → places_in (places_by_name places.new.entries) other
+        ≡ (if bytes_eq other name.now then places_in (places_by_name places.old.entries) other ++ position ∷ []
+            else places_in (places_by_name places.old.entries) other)) }
+{
+    let mut under = match places.remove(name) {
+        Some(under) => under,
+        None => Vec::new(alloc),
+    };
+    under.push(position)?;
+    places.insert(name, under)?;
+    Ok(())
+}
+
 impl<'a> Children<'a> {
     /// The children of an item, in time near linear in their number. The one refusal is want of memory.
     pub fn of(alloc: Global, item: &'a Typed<'_, '_>) -> Result<Children<'a>, NoMemory>
         ensures { IfOk result (λ children. IsIndexOf (item_of item.now) children) }
     {
-        let mut children = Children {
-            places: BTreeMap::new(alloc),
-        };
+        let mut places = BTreeMap::new(alloc);
         for (position, kid) in item.kids().iter().enumerate() {
-            children.add(alloc, kid.name(), position)?;
+            put(alloc, &mut places, kid.name(), position)?;
         }
-        Ok(children)
+        Ok(Children { places })
     }
 
     /// The positions of the children of a name among all children, in order.

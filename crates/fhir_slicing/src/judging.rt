@@ -1,11 +1,11 @@
 //! Whether a rule holds of an item.
 
 ghost use Rattle.std.specs.Prelude.{◌≡◌, Bool};
-ghost use Rattle.fhir_facets.specs.Views.{holding_under};
+ghost use Rattle.fhir_facets.specs.Views.{holding_under, IsCarried};
 ghost use Rattle.fhir_instance.specs.View.{item_of};
 ghost use Rattle.fhir_slicing.specs.Conformance.{rule_holds};
 ghost use Rattle.fhir_slicing.specs.Meeting.{unread_at};
-ghost use Rattle.fhir_slicing.specs.Views.{rule_name, IsIndexOf, IsAmong};
+ghost use Rattle.fhir_slicing.specs.Views.{rule_name, IsIndexOf};
 
 use crate::ask::Rule;
 use crate::children::Children;
@@ -25,7 +25,7 @@ pub fn judge<'s>(
     requires { IsIndexOf (item_of item.now) children.now }
     ensures exact { (b : Bool) → holding_under b result
         ≡ rule_holds schema.now (λ unread. b) (item_of item.now) (rule_name rule.entry) node }
-    ensures carried { IsAmong (unread_at schema.now (item_of item.now) node) result }
+    ensures carried { IsCarried (unread_at schema.now (item_of item.now) node) result }
 {
     Holding::Holds
 }

@@ -12,6 +12,8 @@ ghost use Rattle.fhir_slicing.specs.Conformance.{Interpretation, Around, outermo
 ghost use Rattle.fhir_slicing.specs.Meeting.{Met, unread_at};
 ghost use Rattle.fhir_slicing.specs.Example.{schema, bare, noted, unknown};
 
+use fhir_schema::roots_are_roots;
+
 /// Where unread rules mean more, no less conforms.
 pub fn positive()
     ensures items { (s : SchemaValue) (less more : Interpretation)
@@ -21,7 +23,9 @@ pub fn positive()
     ensures resources { (s : SchemaValue) (less more : Interpretation)
         → ((u : Unread) (o : Item) (p : Place) → IsTrue (less u o p) → IsTrue (more u o p))
         → (profile : Text) (t : Tree) → Conforms s less profile t → Conforms s more profile t }
-{}
+{
+    roots_are_roots();
+}
 
 /// Where no pair of node and item that is met carries an unread rule, all meanings agree.
 pub fn decided()
@@ -29,7 +33,9 @@ pub fn decided()
         → ((place : Place) (y : Item) (m : NodeRef) → Met s x n place y m → unread_at s y m ≡ [])
         → (one other : Interpretation)
         → conforms s one (outermost x) x n ≡ conforms s other (outermost x) x n }
-{}
+{
+    roots_are_roots();
+}
 
 /// A root asks for no root: whether all that it asks holds doesn't hang on which roots the item conforms to.
 pub fn roots_ask_no_root()
