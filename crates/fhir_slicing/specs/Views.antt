@@ -4,6 +4,9 @@ use Rattle.std.specs.declared.alloc.Global.{Global}
 use Rattle.std.specs.Borrow.{Bor}
 use Rattle.std.specs.Option.{option_map_or}
 use Rattle.std.specs.Map.{lookup}
+use Rattle.std.specs.BTreeMap.{BTreeMap, get_by}
+use Rattle.std.specs.Cmp.Lexicographic.{slice_cmp}
+use Rattle.std.specs.Ordering.{nat_cmp}
 use Rattle.std.specs.Str.{bytes_eq}
 use Rattle.fhir_json.specs.Tree.{Text}
 use Rattle.fhir_instance.specs.Items.{Item}
@@ -35,6 +38,10 @@ asks_seen asks = map ask_seen asks
 
 -- ---- an index of children
 
+-- the positions under a name
+abbrev pub places_at : Text → BTreeMap (Bor Text) (Vec ℕ Global) → List ℕ
+places_at name places = option_map_or (λ ps. ps.items) (get_by (λ key. slice_cmp nat_cmp name key.now) places) []
+
 -- names, each with the positions of the children that have it
 abbrev pub Places : Type 0
 Places = List (Text × List ℕ)
@@ -42,7 +49,6 @@ Places = List (Text × List ℕ)
 abbrev pub places_by_name : List (Bor Text × Vec ℕ Global) → Places
 places_by_name es = map (λ e. (e.0.now, e.1.items)) es
 
--- the positions under a name
 abbrev pub places_in : Places → Text → List ℕ
 places_in places name = option_map_or (λ ps. ps) (lookup (bytes_eq name) places) []
 

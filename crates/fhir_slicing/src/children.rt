@@ -2,10 +2,12 @@
 
 ghost use Rattle.std.specs.Prelude.{◌≡◌, ℕ, List, [], ◌∷◌, ◌++◌, if◌then◌else◌, IfOk, OnOk};
 ghost use Rattle.std.specs.Str.{bytes_eq};
-ghost use Rattle.fhir_instance.specs.View.{item_of};
-ghost use Rattle.fhir_slicing.specs.Views.{places_by_name, places_in, IsIndexOf};
+ghost use Rattle.fhir_instance.specs.Items.{kids_in};
+ghost use Rattle.fhir_instance.specs.View.{item_of, named_in};
+ghost use Rattle.fhir_slicing.specs.Asks.{places_from};
+ghost use Rattle.fhir_slicing.specs.Views.{places_at, places_in, IsIndexOf};
 
-use fhir_instance::Typed;
+use fhir_instance::{Kid, Typed};
 use fhir_json::NoMemory;
 use std::alloc::Global;
 use std::collections::BTreeMap;
@@ -26,24 +28,35 @@ impl<'a> Model for Children<'a> {
     ghost view = { λ c. places_by_name c.places.entries };
 }
 
-// Puts a position behind those under a name. The one refusal is want of memory.
+// Puts a position behind those under a name.
 fn put<'a>(
     alloc: Global,
     places: &mut BTreeMap<&'a str, Vec<usize>>,
     name: &'a str,
     position: usize,
 ) -> Result<(), NoMemory>
-    ensures { OnOk result ((other : List ℕ) → places_in (places_by_name places.new.entries) other
-        ≡ (if bytes_eq other name.now then places_in (places_by_name places.old.entries) other ++ position ∷ []
-            else places_in (places_by_name places.old.entries) other)) }
+    ensures { OnOk result ((other : List ℕ) → places_at other places.new
+        ≡ (if bytes_eq other name.now then places_at other places.old ++ position ∷ [] else places_at other places.old)) }
 {
-    let mut under = match places.remove(name) {
-        Some(under) => under,
-        None => Vec::new(alloc),
-    };
-    under.push(position)?;
-    places.insert(name, under)?;
+    places
+        .entry(name)?
+        .or_insert(Vec::new(alloc))
+        .push(position)?;
     Ok(())
+}
+
+fn places_of<'a>(
+    alloc: Global,
+    kids: &'a [Kid<'_, '_>],
+) -> Result<BTreeMap<&'a str, Vec<usize>>, NoMemory>
+    ensures { IfOk result (λ places. (name : List ℕ)
+        → places_at name places ≡ places_from 0 name (kids_in (named_in kids.now))) }
+{
+    let mut places = BTreeMap::new(alloc);
+    for (position, kid) in kids.iter().enumerate() {
+        put(alloc, &mut places, kid.name(), position)?;
+    }
+    Ok(places)
 }
 
 impl<'a> Children<'a> {
@@ -51,10 +64,7 @@ impl<'a> Children<'a> {
     pub fn of(alloc: Global, item: &'a Typed<'_, '_>) -> Result<Children<'a>, NoMemory>
         ensures { IfOk result (λ children. IsIndexOf (item_of item.now) children) }
     {
-        let mut places = BTreeMap::new(alloc);
-        for (position, kid) in item.kids().iter().enumerate() {
-            put(alloc, &mut places, kid.name(), position)?;
-        }
+        let places = places_of(alloc, item.kids())?;
         Ok(Children { places })
     }
 
