@@ -2,3 +2,5 @@ pub mod Lists
 pub mod Carrying
 pub mod Asked
 pub mod Stepping
+pub mod Placing
+pub mod Judged

@@ -71,7 +71,7 @@ module _ (s : SchemaValue) (are_roots : RootsAreRoots s) (M M' : Interpretation)
     (carried : (a : Around) (x : Item) (n : NodeRef) → Reach a x n → AreCarried (meaning_at M a) (meaning_at M' a) (unread_at s x n))
     (at_root : (a : Around) (x : Item) (n r : NodeRef) → Reach a x n → Contains (asks s x n) (root r) → Reach a x r)
     (at_child : (a : Around) (x : Item) (n k : NodeRef) (i : ℕ) (y : Item) → Reach a x n → Contains (asks s x n) (child i k)
-        → kid_at (kids_of x) i ≡ Some y → Reach (below (inside s a x) i) y k) where
+    → kid_at (kids_of x) i ≡ Some y → Reach (below (inside s a x) i) y k) where
   -- what is asked of each child is carried
   abbrev OfChildren : List (NodeRef → Bool) → List (NodeRef → Bool) → List Ask → Type 0
   OfChildren kids kids' all = (i : ℕ) (k : NodeRef) → Contains all (child i k) → IsTrue (get_or kids i (λ n. true) k) → IsTrue (get_or kids' i (λ n. true) k)
@@ -103,8 +103,8 @@ module _ (s : SchemaValue) (are_roots : RootsAreRoots s) (M M' : Interpretation)
         item_step a (item type json kids)
         (kid_tests s M (inside s a (item type json kids)) 0 kids) (kid_tests s M' (inside s a (item type json kids)) 0 kids)
         (λ n reach i k has.
-          kids_step (inside s a (item type json kids)) 0 kids i k
-          (λ y is. subst (λ j. Reach (below (inside s a (item type json kids)) j) y k) (sym (zero-add i)) (at_child a (item type json kids) n k i y reach has is)))
+        kids_step (inside s a (item type json kids)) 0 kids i k
+        (λ y is. subst (λ j. Reach (below (inside s a (item type json kids)) j) y k) (sym (zero-add i)) (at_child a (item type json kids) n k i y reach has is)))
         n reach
 
     kids_step : (a : Around) (start : ℕ) (kids : Kids) (i : ℕ) (k : NodeRef)

@@ -1,14 +1,14 @@
 //! Whether a rule holds of an item.
 
 ghost use Rattle.std.specs.Prelude.{◌≡◌, ◌++◌, ◌||◌, Bool, List, []};
-ghost use Rattle.std.specs.List.{list_any, flat_map};
+ghost use Rattle.std.specs.List.{Contains, list_any, flat_map};
 ghost use Rattle.std.specs.Option.{option_map_or};
 ghost use Rattle.fhir_schema.specs.Schemas.{types, element_at};
 ghost use Rattle.fhir_instance.specs.View.{item_of};
-ghost use Rattle.fhir_facets.specs.Unread.{Unread};
+ghost use Rattle.fhir_facets.specs.Unread.{Unread as UnreadRule};
 ghost use Rattle.fhir_facets.specs.Carried.{range_unread};
 ghost use Rattle.fhir_facets.specs.Counts.{are_enough, are_within};
-ghost use Rattle.fhir_facets.specs.Views.{view_seen, holding_under, IsCarried};
+ghost use Rattle.fhir_facets.specs.Views.{unread_seen, view_seen, holding_under, IsCarried};
 ghost use Rattle.fhir_slicing.specs.Conformance.{seen, count_of, fixed_at, pattern_at, range_at, length_at, at_element, entry_holds, types_hold, rule_holds};
 ghost use Rattle.fhir_slicing.specs.Meeting.{entry_unread, unread_at};
 ghost use Rattle.fhir_slicing.specs.Views.{rule_name, IsIndexOf};
@@ -17,7 +17,7 @@ use crate::ask::Rule;
 use crate::children::Children;
 use fhir_elements::TypeEntry;
 use fhir_facets::{
-    Facet, Fixed, Holding, Length, Pattern, Range, Targets, View, are_enough, are_within,
+    Facet, Fixed, Holding, Length, Pattern, Range, Targets, Unread, View, are_enough, are_within,
 };
 use fhir_instance::Typed;
 use fhir_schema::{NodeRef, Schema};
@@ -43,17 +43,28 @@ fn judged<'s>(holds: bool) -> Holding<'s>
     }
 }
 
+// This rule, unless an answer is that it holds.
+fn unless_holds<'s>(other: Holding<'s>, rule: Unread<'s>) -> Holding<'s>
+    ensures exact { (b : Bool) → holding_under b result ≡ (b || holding_under b other.entry) }
+    ensures carried { (us : List UnreadRule) → Contains us (unread_seen rule.entry) → IsCarried us result }
+{
+    match other {
+        Holding::Holds => Holding::Holds,
+        Holding::Fails | Holding::Unread(_) => Holding::Unread(rule),
+    }
+}
+
 // What two answers come to where one of them has to hold.
 fn either<'s>(one: Holding<'s>, other: Holding<'s>) -> Holding<'s>
     ensures exact { (b : Bool) → holding_under b result
         ≡ (holding_under b one.entry || holding_under b other.entry) }
-    ensures carried { (us vs : List Unread) → IsCarried us one.entry → IsCarried vs other.entry
+    ensures carried { (us vs : List UnreadRule) → IsCarried us one.entry → IsCarried vs other.entry
         → IsCarried (us ++ vs) result }
 {
-    match (one, other) {
-        (Holding::Holds, _) | (_, Holding::Holds) => Holding::Holds,
-        (Holding::Unread(rule), _) | (_, Holding::Unread(rule)) => Holding::Unread(rule),
-        _ => Holding::Fails,
+    match one {
+        Holding::Holds => Holding::Holds,
+        Holding::Fails => other,
+        Holding::Unread(rule) => unless_holds(other, rule),
     }
 }
 
