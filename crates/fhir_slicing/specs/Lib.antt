@@ -2,3 +2,4 @@ pub mod Asks
 pub mod Conformance
 pub mod Meeting
 pub mod Example
+pub mod Views

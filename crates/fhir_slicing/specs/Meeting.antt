@@ -1,17 +1,16 @@
 -- Which nodes a profile asks which items of a resource to conform to, and which unread rules stand there.
-use Rattle.std.specs.Prelude.{◌≡◌, ℕ, zero, suc, List, [], ◌∷◌, ◌++◌, Bool, Option, None, Some, if◌then◌else◌, ◌&&◌, is_none}
+use Rattle.std.specs.Prelude.{◌≡◌, ℕ, zero, suc, List, [], ◌∷◌, ◌++◌, Option, None, Some, if◌then◌else◌, ◌&&◌}
 use Rattle.std.specs.Option.{option_map_or}
 use Rattle.std.specs.List.{Contains, flat_map}
-use Rattle.fhir_json.specs.Tree.{Text, Property}
 use Rattle.fhir_elements.specs.TypeEntry.{TypeEntry}
 use Rattle.fhir_elements.specs.Element.{Element}
 use Rattle.fhir_schema.specs.declared.node.NodeRef.{NodeRef}
-use Rattle.fhir_schema.specs.Schemas.{SchemaValue, element_at, types, loaded}
+use Rattle.fhir_schema.specs.Schemas.{SchemaValue, element_at, types}
 use Rattle.fhir_schema.specs.Covers.{covers}
 use Rattle.fhir_instance.specs.Items.{Item, Kids, no_kids, kid, Place, kids_of, type_of}
-use Rattle.fhir_facets.specs.Unread.{Unread, range, target}
-use Rattle.fhir_facets.specs.Ranges.{kind_of_bound}
+use Rattle.fhir_facets.specs.Unread.{Unread}
 use Rattle.fhir_facets.specs.Targets.{has_targets}
+use Rattle.fhir_facets.specs.Carried.{range_unread, target_unread}
 use Rattle.fhir_slicing.specs.Asks.{root, child, asks}
 
 -- the item at a position among these
@@ -31,15 +30,6 @@ pub data Met (s : SchemaValue) (outermost : Item) (profile : NodeRef) : Place �
       → Met s outermost profile within y m
 
 -- ---- the unread rules that a node carries to an item
-
-abbrev pub bound_unread : Property → List Unread
-bound_unread p = if is_none (kind_of_bound p.0) then range p.0 p.1 ∷ [] else []
-
-abbrev pub range_unread : Element → List Unread
-range_unread e = option_map_or bound_unread e.min_value [] ++ option_map_or bound_unread e.max_value []
-
-abbrev pub target_unread : SchemaValue → Text → List Unread
-target_unread s canonical = if is_none (loaded s canonical) then target canonical ∷ [] else []
 
 -- a type entry's, where its code covers the item's type
 abbrev pub entry_unread : SchemaValue → Item → TypeEntry → List Unread

@@ -1,0 +1,6 @@
+pub mod Lists
+pub mod Carrying
+pub mod Asked
+pub mod Stepping
+pub mod Placing
+pub mod Judged

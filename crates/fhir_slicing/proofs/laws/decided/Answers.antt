@@ -1,0 +1,22 @@
+use Rattle.std.proofs.Common.{◌≡◌, Bool, true, false, [], IsTrue, refl, sym, subst}
+use Rattle.fhir_slicing.specs.Conformance.{Interpretation, meaning_at, outermost, conforms}
+use Rattle.fhir_slicing.specs.Meeting.{Met, first, at_item, at_child}
+use Rattle.fhir_slicing.proofs.Carrying.{AreCarried}
+use Rattle.fhir_slicing.proofs.Stepping.{conforms_step}
+use Rattle.fhir_slicing.proofs.laws.decided.Goals as goal
+
+same_bool : (a b : Bool) → (IsTrue a → IsTrue b) → (IsTrue b → IsTrue a) → a ≡ b
+same_bool true b f g = sym (f refl)
+same_bool false true f g = g refl
+same_bool false false f g = refl
+
+pub returns : goal.returns
+returns c s x n none one other = same_bool (conforms s one (outermost x) x n) (conforms s other (outermost x) x n) (go one other) (go other one)
+  where
+    go : (M M' : Interpretation) → IsTrue (conforms s M (outermost x) x n) → IsTrue (conforms s M' (outermost x) x n)
+    go M M' =
+        conforms_step s (c.roots_are_roots.ensures.of_type s) M M' (λ a y m. Met s x n a.place y m)
+        (λ a y m met. subst (AreCarried (meaning_at M a) (meaning_at M' a)) (sym (none a.place y m met)) tt)
+        (λ a y m r met has. at_item met has)
+        (λ a y m k i z met has is. at_child i met has is refl)
+        (outermost x) x n (first refl refl refl)

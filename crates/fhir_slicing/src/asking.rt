@@ -1,0 +1,156 @@
+//! What a node asks of an item.
+
+ghost use Rattle.std.specs.Prelude.{◌≡◌, ◌++◌, List, ℕ, map, OnOk};
+ghost use Rattle.std.specs.List.{flat_map};
+ghost use Rattle.fhir_json.specs.Memory.{Gives};
+ghost use Rattle.fhir_schema.specs.Schemas.{entry_of, type_root};
+ghost use Rattle.fhir_instance.specs.Items.{type_of};
+ghost use Rattle.fhir_instance.specs.View.{item_of};
+ghost use Rattle.fhir_slicing.specs.Asks.{child_ask, facet_asks, slot_asks, own_root, kids_asks, root_asks, inner_asks, asks};
+ghost use Rattle.fhir_slicing.specs.Views.{asks_seen, IsIndexOf};
+
+use crate::ask::{Ask, Rule};
+use crate::children::Children;
+use fhir_instance::Typed;
+use fhir_json::NoMemory;
+use fhir_schema::{NodeRef, Schema, Slot};
+use std::alloc::Global;
+
+fn put_facets(asked: &mut Vec<Ask<'_>>, node: NodeRef) -> Result<(), NoMemory>
+    ensures { OnOk result (asks_seen asked.new.items ≡ asks_seen asked.old.items ++ facet_asks node) }
+{
+    asked.push(Ask::Own(Rule::Fixed, node))?;
+    asked.push(Ask::Own(Rule::Pattern, node))?;
+    asked.push(Ask::Own(Rule::Range, node))?;
+    asked.push(Ask::Own(Rule::Length, node))?;
+    Ok(())
+}
+
+fn put_places(asked: &mut Vec<Ask<'_>>, entry: NodeRef, places: &[usize]) -> Result<(), NoMemory>
+    ensures { OnOk result (asks_seen asked.new.items ≡ asks_seen asked.old.items ++ map (child_ask entry) places.now) }
+{
+    for place in places {
+        asked.push(Ask::Child(*place, entry))?;
+    }
+    Ok(())
+}
+
+fn put_slot<'s>(
+    asked: &mut Vec<Ask<'s>>,
+    item: &Typed<'_, '_>,
+    children: &Children<'_>,
+    node: NodeRef,
+    slot: &'s Slot,
+) -> Result<(), NoMemory>
+    requires { IsIndexOf (item_of item.now) children.now }
+    ensures { OnOk result (asks_seen asked.new.items
+        ≡ asks_seen asked.old.items ++ slot_asks (item_of item.now) node slot.now) }
+{
+    let entry = NodeRef {
+        definition: node.definition,
+        element: slot.entry(),
+    };
+    asked.push(Ask::Own(Rule::TooFew(slot.name()), entry))?;
+    asked.push(Ask::Own(Rule::TooMany(slot.name()), entry))?;
+    put_places(asked, entry, children.places(slot.name()))
+}
+
+fn put_slots<'s>(
+    asked: &mut Vec<Ask<'s>>,
+    item: &Typed<'_, '_>,
+    children: &Children<'_>,
+    node: NodeRef,
+    slots: &'s [Slot],
+) -> Result<(), NoMemory>
+    requires { IsIndexOf (item_of item.now) children.now }
+    ensures { OnOk result (asks_seen asked.new.items
+        ≡ asks_seen asked.old.items ++ flat_map (slot_asks (item_of item.now) node) slots.now) }
+{
+    for slot in slots {
+        put_slot(asked, item, children, node, slot)?;
+    }
+    Ok(())
+}
+
+fn put_own_root(
+    asked: &mut Vec<Ask<'_>>,
+    schema: &Schema,
+    item: &Typed<'_, '_>,
+) -> Result<(), NoMemory>
+    ensures { OnOk result (asks_seen asked.new.items
+        ≡ asks_seen asked.old.items ++ own_root (type_root schema.now (type_of (item_of item.now)))) }
+{
+    if let Some(root) = schema.type_root(item.code()) {
+        asked.push(Ask::Root(root))?;
+    }
+    Ok(())
+}
+
+fn put_root_asks<'s>(
+    asked: &mut Vec<Ask<'s>>,
+    schema: &'s Schema,
+    item: &Typed<'_, '_>,
+    children: &Children<'_>,
+    root: NodeRef,
+) -> Result<(), NoMemory>
+    requires { IsIndexOf (item_of item.now) children.now }
+    ensures { OnOk result (asks_seen asked.new.items
+        ≡ asks_seen asked.old.items ++ root_asks schema.now (item_of item.now) root) }
+{
+    asked.push(Ask::Own(Rule::RootType, root))?;
+    put_facets(asked, root)?;
+    put_slots(asked, item, children, root, schema.slots(root))
+}
+
+fn put_inner_asks<'s>(
+    asked: &mut Vec<Ask<'s>>,
+    schema: &'s Schema,
+    item: &Typed<'_, '_>,
+    children: &Children<'_>,
+    node: NodeRef,
+) -> Result<(), NoMemory>
+    requires { IsIndexOf (item_of item.now) children.now }
+    ensures { OnOk result (asks_seen asked.new.items
+        ≡ asks_seen asked.old.items ++ inner_asks schema.now (item_of item.now) node) }
+{
+    asked.push(Ask::Own(Rule::Types, node))?;
+    put_facets(asked, node)?;
+    put_own_root(asked, schema, item)?;
+    put_slots(asked, item, children, node, schema.slots(node))
+}
+
+fn put_asks<'s>(
+    asked: &mut Vec<Ask<'s>>,
+    schema: &'s Schema,
+    item: &Typed<'_, '_>,
+    children: &Children<'_>,
+    node: NodeRef,
+) -> Result<(), NoMemory>
+    requires { IsIndexOf (item_of item.now) children.now }
+    ensures { OnOk result (asks_seen asked.new.items
+        ≡ asks_seen asked.old.items ++ asks schema.now (item_of item.now) node) }
+{
+    if schema.is_root(node) {
+        put_root_asks(asked, schema, item, children, node)
+    } else {
+        put_inner_asks(asked, schema, item, children, node)
+    }
+}
+
+/// What a node asks of an item, of which these are the children: the rules of its element, then those of the slots and
+/// what each child is asked. A node that is no root also asks that the item conforms to the definition of its own type,
+/// where that has a root (FHIR R4, ElementDefinition and StructureDefinition). The one refusal is want of memory.
+pub fn asks<'s>(
+    alloc: Global,
+    schema: &'s Schema,
+    item: &Typed<'_, '_>,
+    children: &Children<'_>,
+    node: NodeRef,
+) -> Result<Vec<Ask<'s>>, NoMemory>
+    requires { IsIndexOf (item_of item.now) children.now }
+    ensures { Gives (λ asked. asks_seen asked.items) result (asks schema.now (item_of item.now) node) }
+{
+    let mut asked: Vec<Ask<'s>> = Vec::new(alloc);
+    put_asks(&mut asked, schema, item, children, node)?;
+    Ok(asked)
+}

@@ -1,0 +1,209 @@
+//! Whether a rule holds of an item.
+
+ghost use Rattle.std.specs.Prelude.{◌≡◌, ◌++◌, ◌||◌, Bool, List, []};
+ghost use Rattle.std.specs.List.{Contains, list_any, flat_map};
+ghost use Rattle.std.specs.Option.{option_map_or};
+ghost use Rattle.fhir_schema.specs.Schemas.{types, element_at};
+ghost use Rattle.fhir_instance.specs.View.{item_of};
+ghost use Rattle.fhir_facets.specs.Unread.{Unread as UnreadRule};
+ghost use Rattle.fhir_facets.specs.Carried.{range_unread};
+ghost use Rattle.fhir_facets.specs.Counts.{are_enough, are_within};
+ghost use Rattle.fhir_facets.specs.Views.{unread_seen, view_seen, holding_under, IsCarried};
+ghost use Rattle.fhir_slicing.specs.Conformance.{seen, count_of, fixed_at, pattern_at, range_at, length_at, at_element, entry_holds, types_hold, rule_holds};
+ghost use Rattle.fhir_slicing.specs.Meeting.{entry_unread, unread_at};
+ghost use Rattle.fhir_slicing.specs.Views.{rule_name, IsIndexOf};
+
+use crate::ask::Rule;
+use crate::children::Children;
+use fhir_elements::TypeEntry;
+use fhir_facets::{
+    Facet, Fixed, Holding, Length, Pattern, Range, Targets, Unread, View, are_enough, are_within,
+};
+use fhir_instance::Typed;
+use fhir_schema::{NodeRef, Schema};
+
+fn view_of<'t, 'j>(item: &'t Typed<'_, 'j>) -> View<'t, 'j>
+    ensures { view_seen result ≡ seen (item_of item.now) }
+{
+    View {
+        code: item.code(),
+        json: item.json(),
+        has_kids: !item.kids().is_empty(),
+    }
+}
+
+fn judged<'s>(holds: bool) -> Holding<'s>
+    ensures exact { (b : Bool) → holding_under b result ≡ holds }
+    ensures decided { IsCarried [] result }
+{
+    if holds {
+        Holding::Holds
+    } else {
+        Holding::Fails
+    }
+}
+
+// This rule, unless an answer is that it holds.
+fn unless_holds<'s>(other: Holding<'s>, rule: Unread<'s>) -> Holding<'s>
+    ensures exact { (b : Bool) → holding_under b result ≡ (b || holding_under b other.entry) }
+    ensures carried { (us : List UnreadRule) → Contains us (unread_seen rule.entry) → IsCarried us result }
+{
+    match other {
+        Holding::Holds => Holding::Holds,
+        Holding::Fails | Holding::Unread(_) => Holding::Unread(rule),
+    }
+}
+
+// What two answers come to where one of them has to hold.
+fn either<'s>(one: Holding<'s>, other: Holding<'s>) -> Holding<'s>
+    ensures exact { (b : Bool) → holding_under b result
+        ≡ (holding_under b one.entry || holding_under b other.entry) }
+    ensures carried { (us vs : List UnreadRule) → IsCarried us one.entry → IsCarried vs other.entry
+        → IsCarried (us ++ vs) result }
+{
+    match one {
+        Holding::Holds => Holding::Holds,
+        Holding::Fails => other,
+        Holding::Unread(rule) => unless_holds(other, rule),
+    }
+}
+
+fn judge_entry<'s>(schema: &'s Schema, item: &Typed<'_, '_>, entry: &'s TypeEntry) -> Holding<'s>
+    ensures exact { (b : Bool) → holding_under b result
+        ≡ entry_holds schema.now (λ unread. b) (item_of item.now) entry.now }
+    ensures carried { IsCarried (entry_unread schema.now (item_of item.now) entry.now) result }
+{
+    if schema.covers(entry.code(), item.code()) {
+        Targets { schema, entry }.holds(&view_of(item))
+    } else {
+        Holding::Fails
+    }
+}
+
+fn judge_entries<'s>(
+    schema: &'s Schema,
+    item: &Typed<'_, '_>,
+    entries: &'s [TypeEntry],
+) -> Holding<'s>
+    ensures exact { (b : Bool) → holding_under b result
+        ≡ list_any (entry_holds schema.now (λ unread. b) (item_of item.now)) entries.now }
+    ensures carried { IsCarried (flat_map (entry_unread schema.now (item_of item.now)) entries.now) result }
+{
+    let mut found = Holding::Fails;
+    for entry in entries {
+        found = either(found, judge_entry(schema, item, entry));
+        if let Holding::Holds = found {
+            return Holding::Holds;
+        }
+    }
+    found
+}
+
+fn judge_types<'s>(schema: &'s Schema, item: &Typed<'_, '_>, node: NodeRef) -> Holding<'s>
+    ensures exact { (b : Bool) → holding_under b result
+        ≡ types_hold schema.now (λ unread. b) (item_of item.now) node }
+    ensures carried { IsCarried (flat_map (entry_unread schema.now (item_of item.now)) (types schema.now node)) result }
+{
+    let entries = schema.types(node);
+    if entries.is_empty() {
+        return Holding::Holds;
+    }
+    judge_entries(schema, item, entries)
+}
+
+fn judge_fixed<'s>(schema: &'s Schema, item: &Typed<'_, '_>, node: NodeRef) -> Holding<'s>
+    ensures exact { (b : Bool) → holding_under b result
+        ≡ at_element schema.now (fixed_at (item_of item.now)) node }
+    ensures decided { IsCarried [] result }
+{
+    let Some(element) = schema.element(node) else {
+        return Holding::Holds;
+    };
+    match element.fixed() {
+        Some(fixed) => Fixed(&fixed.value).holds(&view_of(item)),
+        None => Holding::Holds,
+    }
+}
+
+fn judge_pattern<'s>(schema: &'s Schema, item: &Typed<'_, '_>, node: NodeRef) -> Holding<'s>
+    ensures exact { (b : Bool) → holding_under b result
+        ≡ at_element schema.now (pattern_at (item_of item.now)) node }
+    ensures decided { IsCarried [] result }
+{
+    let Some(element) = schema.element(node) else {
+        return Holding::Holds;
+    };
+    match element.pattern() {
+        Some(pattern) => Pattern(&pattern.value).holds(&view_of(item)),
+        None => Holding::Holds,
+    }
+}
+
+fn judge_range<'s>(schema: &'s Schema, item: &Typed<'_, '_>, node: NodeRef) -> Holding<'s>
+    ensures exact { (b : Bool) → holding_under b result
+        ≡ at_element schema.now (range_at (λ unread. b) (item_of item.now)) node }
+    ensures carried { IsCarried (option_map_or range_unread (element_at schema.now node) []) result }
+{
+    match schema.element(node) {
+        Some(element) => Range::of(element).holds(&view_of(item)),
+        None => Holding::Holds,
+    }
+}
+
+fn judge_length<'s>(schema: &'s Schema, item: &Typed<'_, '_>, node: NodeRef) -> Holding<'s>
+    ensures exact { (b : Bool) → holding_under b result
+        ≡ at_element schema.now (length_at (item_of item.now)) node }
+    ensures decided { IsCarried [] result }
+{
+    let Some(element) = schema.element(node) else {
+        return Holding::Holds;
+    };
+    match element.max_length() {
+        Some(most) => Length(most).holds(&view_of(item)),
+        None => Holding::Holds,
+    }
+}
+
+fn has_enough(schema: &Schema, node: NodeRef, count: usize) -> bool
+    ensures { result ≡ at_element schema.now (λ e. are_enough e count) node }
+{
+    match schema.element(node) {
+        Some(element) => are_enough(element, count),
+        None => true,
+    }
+}
+
+fn has_no_more(schema: &Schema, node: NodeRef, count: usize) -> bool
+    ensures { result ≡ at_element schema.now (λ e. are_within e count) node }
+{
+    match schema.element(node) {
+        Some(element) => are_within(element, count),
+        None => true,
+    }
+}
+
+/// Whether a rule of a node's element holds of an item, of which these are the children (FHIR R4, ElementDefinition).
+/// Where unread rules decide it, it answers one of the node's. It takes no memory.
+pub fn judge<'s>(
+    schema: &'s Schema,
+    item: &Typed<'_, '_>,
+    children: &Children<'_>,
+    rule: Rule<'s>,
+    node: NodeRef,
+) -> Holding<'s>
+    requires { IsIndexOf (item_of item.now) children.now }
+    ensures exact { (b : Bool) → holding_under b result
+        ≡ rule_holds schema.now (λ unread. b) (item_of item.now) (rule_name rule.entry) node }
+    ensures carried { IsCarried (unread_at schema.now (item_of item.now) node) result }
+{
+    match rule {
+        Rule::RootType => judged(schema.covers(schema.type_code(node), item.code())),
+        Rule::Types => judge_types(schema, item, node),
+        Rule::Fixed => judge_fixed(schema, item, node),
+        Rule::Pattern => judge_pattern(schema, item, node),
+        Rule::Range => judge_range(schema, item, node),
+        Rule::Length => judge_length(schema, item, node),
+        Rule::TooFew(name) => judged(has_enough(schema, node, children.places(name).len())),
+        Rule::TooMany(name) => judged(has_no_more(schema, node, children.places(name).len())),
+    }
+}

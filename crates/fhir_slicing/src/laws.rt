@@ -1,0 +1,58 @@
+//! Laws: what the definitions say of one another.
+
+ghost use Rattle.std.specs.Prelude.{◌≡◌, List, [], Bool, IsTrue, codes};
+ghost use Rattle.std.specs.List.{list_all};
+ghost use Rattle.fhir_json.specs.Tree.{Text, Tree};
+ghost use Rattle.fhir_schema.specs.declared.node.NodeRef.{NodeRef};
+ghost use Rattle.fhir_schema.specs.Schemas.{SchemaValue};
+ghost use Rattle.fhir_instance.specs.Items.{Item, Place};
+ghost use Rattle.fhir_facets.specs.Unread.{Unread, Meaning};
+ghost use Rattle.fhir_slicing.specs.Asks.{root_asks};
+ghost use Rattle.fhir_slicing.specs.Conformance.{Interpretation, Around, outermost, ask_holds, conforms, Conforms};
+ghost use Rattle.fhir_slicing.specs.Meeting.{Met, unread_at};
+ghost use Rattle.fhir_slicing.specs.Example.{schema, bare, noted, unknown};
+
+use fhir_schema::roots_are_roots;
+
+/// Where unread rules mean more, no less conforms.
+pub fn positive()
+    ensures items { (s : SchemaValue) (less more : Interpretation)
+        → ((u : Unread) (o : Item) (p : Place) → IsTrue (less u o p) → IsTrue (more u o p))
+        → (around : Around) (x : Item) (n : NodeRef)
+        → IsTrue (conforms s less around x n) → IsTrue (conforms s more around x n) }
+    ensures resources { (s : SchemaValue) (less more : Interpretation)
+        → ((u : Unread) (o : Item) (p : Place) → IsTrue (less u o p) → IsTrue (more u o p))
+        → (profile : Text) (t : Tree) → Conforms s less profile t → Conforms s more profile t }
+{
+    roots_are_roots();
+}
+
+/// Where no pair of node and item that is met carries an unread rule, all meanings agree.
+pub fn decided()
+    ensures { (s : SchemaValue) (x : Item) (n : NodeRef)
+        → ((place : Place) (y : Item) (m : NodeRef) → Met s x n place y m → unread_at s y m ≡ [])
+        → (one other : Interpretation)
+        → conforms s one (outermost x) x n ≡ conforms s other (outermost x) x n }
+{
+    roots_are_roots();
+}
+
+/// A root asks for no root: whether all that it asks holds doesn't hang on which roots the item conforms to.
+pub fn roots_ask_no_root()
+    ensures { (s : SchemaValue) (meaning : Meaning) (x : Item) (kids : List (NodeRef → Bool))
+        → (some others : NodeRef → Bool) (r : NodeRef)
+        → list_all (ask_holds s meaning x kids some) (root_asks s x r)
+        ≡ list_all (ask_holds s meaning x kids others) (root_asks s x r) }
+{}
+
+/// The definitions at work, on a resource that may have a note, and profiles of it. One with a note conforms to a profile
+/// that asks for one. One without a note conforms to its type's own definition, and not to that profile. One with a
+/// property that the type doesn't have doesn't conform to the type's definition. `resourceType` is no element: a resource
+/// doesn't conform to a profile that asks for such an element.
+pub fn example()
+    ensures noted { (meaning : Interpretation) → Conforms schema meaning (codes "urn:noted") noted }
+    ensures own { (meaning : Interpretation) → Conforms schema meaning (codes "urn:Thing") bare }
+    ensures bare { (meaning : Interpretation) → ¬ Conforms schema meaning (codes "urn:noted") bare }
+    ensures named { (meaning : Interpretation) → ¬ Conforms schema meaning (codes "urn:named") bare }
+    ensures unknown { (meaning : Interpretation) → ¬ Conforms schema meaning (codes "urn:Thing") unknown }
+{}
