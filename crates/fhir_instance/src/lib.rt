@@ -1,4 +1,4 @@
-//! Items of resources: which item a JSON value is, and when an item conforms to a profile.
+//! Items of resources: which item a JSON value is.
 //!
 //! A value is typed by the type definitions of a schema, which say under which properties an object's elements stand and
 //! what each holds. Its item is the finite tree of typed values that FHIRPath and profiles speak of.
@@ -15,10 +15,9 @@
 //! ```
 //!
 //! The contract to read first is that of [`type_resource`]: a value has the item that it answers, and where it answers a
-//! misfit it has none. `specs/Items.antt` has items, `specs/Typing.antt` which item a tree is, and `specs/Conformance.antt`
-//! when an item conforms to a node and a resource to a profile; the contract of [`example`] shows the definitions at work
-//! on one small package, and that of [`accounted`] says what typing comes to. A function whose proof needs a law calls it,
-//! which does nothing.
+//! misfit it has none. `specs/Items.antt` has items, and `specs/Typing.antt` which item a tree is; the contract of
+//! [`typing_example`] shows the definitions at work on one small package, and that of [`accounted`] says what typing comes
+//! to. A function whose proof needs a law calls it, which does nothing.
 #![tactic(auto)]
 
 mod children;
@@ -35,7 +34,7 @@ mod spelled;
 mod typed;
 
 pub use examples::typing_example;
-pub use laws::{accounted, example, one_item};
+pub use laws::{accounted, one_item};
 pub use misfit::{Misfit, MisfitKind};
 pub use resource::type_resource;
 pub use typed::{Kid, Typed};

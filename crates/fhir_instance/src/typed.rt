@@ -57,6 +57,12 @@ impl<'a, 'j> Kid<'a, 'j> {
         self.form.name()
     }
 
+    /// Whether its element may stand several times in its type. This only serves the spelling of places, so no clause says
+    /// more: an item doesn't know it.
+    pub fn repeats(&self) -> bool {
+        self.form.repeats()
+    }
+
     /// The item that it is.
     pub fn item(&self) -> &Typed<'a, 'j>
         ensures { item_of result.now ≡ (named_of self.now).1 }
