@@ -7,3 +7,4 @@ pub mod Targets
 pub mod Counts
 pub mod Carried
 pub mod Views
+pub mod Example

@@ -17,6 +17,7 @@
 mod bounds;
 mod compact;
 mod counts;
+mod worked;
 mod facet;
 mod holding;
 mod identity;
@@ -29,6 +30,7 @@ mod values;
 mod view;
 
 pub use counts::{Cardinality, are_enough, are_within, is_forbidden};
+pub use worked::examples;
 pub use facet::Facet;
 pub use holding::Holding;
 pub use identity::identical;

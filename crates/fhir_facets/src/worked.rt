@@ -1,0 +1,34 @@
+//! Facets at work.
+
+ghost use Rattle.std.specs.Prelude.{◌≡◌, true, false, codes, pos};
+ghost use Rattle.fhir_json.specs.Tree.{number, string};
+ghost use Rattle.fhir_facets.specs.Unread.{Meaning, range};
+ghost use Rattle.fhir_facets.specs.Values.{fixed_holds, pattern_holds, length_holds};
+ghost use Rattle.fhir_facets.specs.Ranges.{range_holds};
+ghost use Rattle.fhir_facets.specs.Example.{plain, extended, valueless, decimal, date, date_time, from, to, one, one_metre};
+
+/// What facets say of single values. A decimal is compared by value with the least (`least`, `equal`) and with the greatest
+/// (`most`, `more`); a moment by its fields in UTC (`earlier`, `later`); two dates of which one goes further have no order
+/// (`coarser`). A bound asks nothing of another kind of value (`other`) and of no value (`valueless`), and one of another type
+/// is an unread rule (`unread`). A length counts characters (`short`, `long`). A fixed value is equal (`fixed`, `wider`) and
+/// stands alone (`extended`); a pattern may be fitted by more (`pattern`).
+pub fn examples()
+    ensures least { (m : Meaning) → range_holds m (from (codes "minValueDecimal") (number (codes "0.5"))) (decimal (codes "0.49")) ≡ false }
+    ensures equal { (m : Meaning) → range_holds m (from (codes "minValueDecimal") (number (codes "0.5"))) (decimal (codes "0.50")) ≡ true }
+    ensures most { (m : Meaning) → range_holds m (to (codes "maxValueInteger") (number (codes "3"))) (decimal (codes "3.5")) ≡ false }
+    ensures more { (m : Meaning) → range_holds m (from (codes "minValueInteger") (number (codes "3"))) (decimal (codes "3.5")) ≡ true }
+    ensures earlier { (m : Meaning) → range_holds m (from (codes "minValueDateTime") (string (codes "2020-01-01T00:00:00Z")))
+        (date_time (codes "2020-01-01T00:30:00+01:00")) ≡ false }
+    ensures later { (m : Meaning) → range_holds m (to (codes "maxValueInstant") (string (codes "2020-01-01T00:00:00Z")))
+        (date_time (codes "2020-01-01T00:30:00+01:00")) ≡ true }
+    ensures coarser { (m : Meaning) → range_holds m (from (codes "minValueDate") (string (codes "2020"))) (date (codes "2020-02")) ≡ false }
+    ensures other { (m : Meaning) → range_holds m (from (codes "minValueDate") (string (codes "2020"))) (decimal (codes "3")) ≡ true }
+    ensures valueless { (m : Meaning) → range_holds m (from (codes "minValueDate") (string (codes "2020"))) (valueless (codes "date")) ≡ true }
+    ensures unread { (m : Meaning) → range_holds m (to (codes "maxValueQuantity") one) (decimal (codes "3")) ≡ m (range (codes "maxValueQuantity") one) }
+    ensures short { length_holds (pos 3) (plain (codes "string") (string (codes "äöü"))) ≡ true }
+    ensures long { length_holds (pos 3) (plain (codes "string") (string (codes "abcd"))) ≡ false }
+    ensures fixed { fixed_holds one (plain (codes "Quantity") one) ≡ true }
+    ensures wider { fixed_holds one (plain (codes "Quantity") one_metre) ≡ false }
+    ensures extended { fixed_holds (string (codes "a")) (extended (codes "code") (string (codes "a"))) ≡ false }
+    ensures pattern { pattern_holds one (plain (codes "Quantity") one_metre) ≡ true }
+{}
