@@ -12,7 +12,7 @@ use Rattle.std.proofs.lemmas.Str.{is_utf8-from_IsUtf8, IsUtf8-from_is_utf8}
 use Rattle.fhir_json.specs.Tree.{Text}
 use Rattle.fhir_json.specs.Memory.{GivesOr}
 use Rattle.fhir_schema.specs.declared.node.NodeRef.{NodeRef}
-use Rattle.fhir_schema.specs.Schemas.{SchemaValue, has, root, node, is_flat_at}
+use Rattle.fhir_schema.specs.Schemas.{SchemaValue, has, root, node}
 use Rattle.fhir_certificate.specs.declared.fault.CertFault.{CertFault}
 use Rattle.fhir_certificate.specs.declared.fault.CertFault.TheVariants.{WrongFormat, UnknownNode, TooManyPairs, NoMemory}
 use Rattle.fhir_certificate.specs.declared.pair.NodePair.{NodePair}
@@ -21,7 +21,7 @@ use Rattle.fhir_certificate.specs.declared.pair.Pair.TheVariants.{Item, Kids}
 use Rattle.fhir_certificate.specs.Certificate.{CertificateValue, are_nodes, fits}
 use Rattle.fhir_certificate.specs.Format.{Name, Line, item, kids, Written, Spells}
 use Rattle.fhir_certificate.specs.Judging.{limit, node_of, pair_of, with_item, with_kids, with_lines}
-use Rattle.fhir_certificate.specs.Judging.{is_readable, are_readable, certificate_of, has_room, certificate_or_fault, Stands}
+use Rattle.fhir_certificate.specs.Judging.{are_usable, certificate_of, has_room, certificate_or_fault, Stands}
 use Rattle.fhir_certificate.specs.Faults.{is_no_memory, Means}
 use Rattle.fhir_certificate.specs.Reading.{written_of, reading}
 use Rattle.fhir_certificate.specs.Lines.{are_known, pairs_of, item_in, kids_in, LeadsTo}
@@ -77,19 +77,19 @@ both_tests : (a b : Bool) (x : CertificateValue) → (if a then (if b then Some 
 both_tests true b x = refl
 both_tests false b x = refl
 
-pub certificate_is : (s : SchemaValue) (w : Written) → certificate_of s w ≡ (if are_readable s w && are_known s w.lines then Some (built s w) else None)
+pub certificate_is : (s : SchemaValue) (w : Written) → certificate_of s w ≡ (if are_usable s w && are_known s w.lines then Some (built s w) else None)
 certificate_is s w =
-    ap (λ o. if are_readable s w then o else None)
+    ap (λ o. if are_usable s w then o else None)
     (lines_are s w.lines (record { derived = w.derived; base = w.base; items = []; kids = [] })
     ∙ ap (λ c. if are_known s w.lines then Some c else None) (filled_empty w.derived w.base (pairs_of s w.lines)))
-    ∙ both_tests (are_readable s w) (are_known s w.lines) (built s w)
+    ∙ both_tests (are_usable s w) (are_known s w.lines) (built s w)
 
 test_of : (b : Bool) (x : CertificateValue) → is_some (if b then Some x else None) ≡ b
 test_of true x = refl
 test_of false x = refl
 
-pub has_certificate : (s : SchemaValue) (w : Written) → (are_readable s w && are_known s w.lines) ≡ is_some (certificate_of s w)
-has_certificate s w = sym (ap is_some (certificate_is s w) ∙ test_of (are_readable s w && are_known s w.lines) (built s w))
+pub has_certificate : (s : SchemaValue) (w : Written) → (are_usable s w && are_known s w.lines) ≡ is_some (certificate_of s w)
+has_certificate s w = sym (ap is_some (certificate_is s w) ∙ test_of (are_usable s w && are_known s w.lines) (built s w))
 
 pub certificate_built : (s : SchemaValue) (w : Written) → is_some (certificate_of s w) ≡ true → certificate_of s w ≡ Some (built s w)
 certificate_built s w is = certificate_is s w ∙ cond-true _ _ _ (has_certificate s w ∙ is)
@@ -120,7 +120,7 @@ none_of (Some c) is = cc
 over : (n : ℕ) → limit < n → nat_le n limit ≡ false
 over n lt = grind (arith, nat_tests)
 
-module _ (s : SchemaValue) (w : Written) (so_far : LinesRead) (h : LeadsTo s (are_readable s w) so_far [] w.lines) where
+module _ (s : SchemaValue) (w : Written) (so_far : LinesRead) (h : LeadsTo s (are_usable s w) so_far [] w.lines) where
   lines_known : so_far.is_known ≡ is_some (certificate_of s w)
   lines_known = sym (and_true so_far.is_known) ∙ h.known ∙ has_certificate s w
 
@@ -291,14 +291,12 @@ some_is None c e = cc
 pub meant_fits : NamedNodes → (s : SchemaValue) (w : Written) (c : CertificateValue) → certificate_of s w ≡ Some c → fits s c ≡ true
 meant_fits named s w c e =
     let is = some_is (certificate_of s w) c e in
-    let parts = and_parts (are_readable s w) (are_known s w.lines) (has_certificate s w ∙ is) in
-    let readable = and_parts (is_readable s w.derived) (is_readable s w.base) parts.0 in
-    let derived = and_parts (is_some (root s w.derived)) (is_flat_at s w.derived) readable.0 in
-    let base = and_parts (is_some (root s w.base)) (is_flat_at s w.base) readable.1 in
+    let parts = and_parts (are_usable s w) (are_known s w.lines) (has_certificate s w ∙ is) in
+    let roots = and_parts (is_some (root s w.derived)) (is_some (root s w.base)) parts.0 in
     let b = certificate_built s w is in
     let same : built s w ≡ c = cc in
     let pairs = pairs_fit named s w.lines in
-    subst (λ (c : CertificateValue). fits s c ≡ true) same (rw (derived.0, base.0, pairs.0, pairs.1) refl)
+    subst (λ (c : CertificateValue). fits s c ≡ true) same (rw (roots.0, roots.1, pairs.0, pairs.1) refl)
 
 pub is_fit : NamedNodes → (s : SchemaValue) (bytes : Text) (r : Result CertificateValue CertFault) → GivesOr is_no_memory (λ c. c) r (reading s bytes)
     → IfOk r (λ c. IsTrue (fits s c))

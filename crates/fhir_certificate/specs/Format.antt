@@ -1,6 +1,6 @@
 -- The text of a certificate, format 1: what is written in it, and how. Lines end with a line feed, and their fields are
 -- parted by one tab.
-use Rattle.std.specs.Prelude.{◌≡◌, ℕ, List, [], ◌∷◌, ◌++◌, Bool, not, ◌==◌, ◌&&◌, IsUtf8, IsTrue, codes}
+use Rattle.std.specs.Prelude.{◌≡◌, List, [], ◌∷◌, ◌++◌, Bool, not, ◌==◌, ◌&&◌, IsUtf8, IsTrue, codes}
 use Rattle.std.specs.List.{list_all, flat_map}
 use Rattle.fhir_json.specs.Bytes.{tab, line_feed}
 use Rattle.fhir_json.specs.Tree.{Text}

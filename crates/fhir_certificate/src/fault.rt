@@ -13,8 +13,7 @@ use thiserror::Error;
 pub enum CertFault {
     /// `C1`: the bytes are not the text of a certificate.
     WrongFormat,
-    /// `C2`: a definition is missing or can't be used, or an element is not its definition's; or the derived profile or the base
-    /// isn't flat.
+    /// `C2`: a definition is missing or can't be used, or an element is not its definition's.
     UnknownNode,
     /// `C3`: there are more than 1,048,576 pair lines.
     TooManyPairs,

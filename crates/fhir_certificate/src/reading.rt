@@ -7,7 +7,7 @@ ghost use Rattle.fhir_schema.specs.Schemas.{SchemaValue};
 ghost use Rattle.fhir_certificate.specs.declared.fault.CertFault.TheVariants as faults;
 ghost use Rattle.fhir_certificate.specs.Certificate.{fits};
 ghost use Rattle.fhir_certificate.specs.Format.{Line, Written, Spells};
-ghost use Rattle.fhir_certificate.specs.Judging.{is_readable, are_readable, certificate_or_fault, Stands};
+ghost use Rattle.fhir_certificate.specs.Judging.{are_usable, certificate_or_fault, Stands};
 ghost use Rattle.fhir_certificate.specs.Faults.{is_no_memory, Means};
 ghost use Rattle.fhir_certificate.specs.Reading.{pairs_at, reading};
 ghost use Rattle.fhir_certificate.specs.Views.{written_with};
@@ -20,16 +20,10 @@ use crate::lines::{LinesRead, MAX_PAIRS, read_lines};
 use fhir_schema::{Schema, named_nodes};
 use std::alloc::Global;
 
-fn is_readable(schema: &Schema, url: &str) -> bool
-    ensures { result ≡ is_readable schema.now url.now }
+fn are_usable(schema: &Schema, head: Head<'_>) -> bool
+    ensures { result ≡ are_usable schema.now (written_with head.entry []) }
 {
-    schema.root(url).is_some() && schema.is_flat(url)
-}
-
-fn are_readable(schema: &Schema, head: Head<'_>) -> bool
-    ensures { result ≡ are_readable schema.now (written_with head.entry []) }
-{
-    is_readable(schema, head.derived) && is_readable(schema, head.base)
+    schema.root(head.derived).is_some() && schema.root(head.base).is_some()
 }
 
 // The certificate of what the lines say, all of which is known and within the limit.
@@ -58,7 +52,7 @@ fn certificate_with(
 
 fn judge(alloc: Global, head: Head<'_>, so_far: LinesRead) -> Result<Certificate, CertFault>
     ensures { (s : SchemaValue) (lines : List Line) → let w = written_with head.entry lines in
-        LeadsTo s (are_readable s w) so_far [] lines → GivesOr is_no_memory (λ c. c) result (certificate_or_fault s w) }
+        LeadsTo s (are_usable s w) so_far [] lines → GivesOr is_no_memory (λ c. c) result (certificate_or_fault s w) }
 {
     if !so_far.is_known {
         Err(CertFault::UnknownNode)
@@ -74,7 +68,7 @@ fn read_behind(alloc: Global, schema: &Schema, head: Head<'_>) -> Result<Certifi
         (option_map (written_with head.entry) (pairs_at head.entry.pairs.now))
         (Err faults.WrongFormat)) }
 {
-    let so_far = read_lines(alloc, schema, are_readable(schema, head), head.pairs)?;
+    let so_far = read_lines(alloc, schema, are_usable(schema, head), head.pairs)?;
     judge(alloc, head, so_far)
 }
 

@@ -1,4 +1,4 @@
-//! Questions on the schema of the case's package: `usable URL`, `flat URL`, `forms URL ID`, `property URL ID NAME`,
+//! Questions on the schema of the case's package: `usable URL`, `loaded CANONICAL`, `forms URL ID`, `property URL ID NAME`,
 //! `covers CODE OTHER`, `type_root CODE`; and of the definition `http://example.org/flat/one` `node ID`, `name ID`, `slot NAME`.
 
 use crate::packages::package_of;
@@ -43,7 +43,7 @@ fn answer_of_schema(
 ) -> Result<Option<String>, AllocError> {
     let told = match call {
         "usable" => usable(alloc, schema, argument)?,
-        "flat" => format!(in alloc; "{}", schema.is_flat(argument))?,
+        "loaded" => name_told(alloc, schema, schema.loaded(argument))?,
         "forms" => forms_at(alloc, schema, argument)?,
         "property" => property_at(alloc, schema, argument)?,
         "node" => node_told(alloc, schema, schema.node(PROFILE, argument))?,
