@@ -1,14 +1,14 @@
 -- What is on one side of a value that is on that side of another is on that side of the other.
-use Rattle.std.proofs.Common.{◌≡◌, Bool, true, false, Option, Some, None, refl, sym, ap, ◌∙◌}
+use Rattle.std.proofs.Common.{◌≡◌, Bool, true, Option, Some, None, refl, sym, ap, ◌∙◌}
 use Rattle.std.proofs.lemmas.Bool.{false≢true}
 use Rattle.std.specs.declared.cmp.Ordering.{Ordering}
 use Rattle.std.specs.declared.cmp.Ordering.TheVariants.{Less, Equal, Greater}
-use Rattle.std.specs.Ordering.{ordering_reverse, is_eq, is_le, is_ge, is_some_and, eq_by_cmp}
+use Rattle.std.specs.Ordering.{ordering_reverse, is_le, is_ge, is_some_and, eq_by_cmp}
 use Rattle.std.specs.Cmp.{IsPartialOrder, IsTotalOrder, po, po_right}
 use Rattle.std.specs.Option.{option_map, option_and_then}
 use Rattle.fhir_json.specs.Tree.{Tree}
-use Rattle.fhir_decimal.specs.Value.{Value, value_order}
-use Rattle.fhir_prims.specs.Order.{Fields, moment_order, is_same_moment}
+use Rattle.fhir_decimal.specs.Value.{value_order}
+use Rattle.fhir_prims.specs.Order.{moment_order, is_same_moment}
 use Rattle.fhir_facets.specs.declared.kinds.Kind.{Kind}
 use Rattle.fhir_facets.specs.declared.kinds.Kind.TheVariants.{Number, Moment, Time}
 use Rattle.fhir_facets.specs.Ranges.{number_in, fields_in, is_beyond}

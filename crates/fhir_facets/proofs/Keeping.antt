@@ -1,5 +1,5 @@
 -- What a narrower fixed value or pattern holds of, a wider one does.
-use Rattle.std.proofs.Common.{◌≡◌, Bool, true, false, ◌&&◌, Option, Some, None, if◌then◌else◌, IsTrue, refl}
+use Rattle.std.proofs.Common.{Bool, true, false, ◌&&◌, Option, Some, None, if◌then◌else◌, IsTrue, refl}
 use Rattle.std.specs.Option.{option_map_or}
 use Rattle.std.proofs.lemmas.Bool.{and_parts, and_from}
 use Rattle.fhir_json.specs.Tree.{Tree}

@@ -1,5 +1,5 @@
 -- A decimal that is read is the one that the grammar gives.
-use Rattle.std.proofs.Common.{◌≡◌, List, ℕ, Option, Some, None, refl, sym, ap}
+use Rattle.std.proofs.Common.{◌≡◌, List, ℕ, Option, Some, None, refl, sym}
 use Rattle.std.specs.Prelude.{MatchOption, option_map}
 use Rattle.fhir_decimal.specs.Text.{Parts, IsDecimal}
 use Rattle.fhir_decimal.specs.Reading.{parts}

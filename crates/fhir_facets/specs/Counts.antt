@@ -1,5 +1,5 @@
 -- How many items there may be (FHIR R4, ElementDefinition, min and max).
-use Rattle.std.specs.Prelude.{ℕ, Bool, true, false, ◌&&◌, nat_le, nat_eq, Option, None, Some}
+use Rattle.std.specs.Prelude.{ℕ, Bool, true, false, ◌&&◌, nat_le, nat_eq, Option}
 use Rattle.std.specs.Option.{option_map_or}
 use Rattle.fhir_elements.specs.declared.max.Max.{Max}
 use Rattle.fhir_elements.specs.declared.max.Max.TheVariants.{Unbounded, UpTo}

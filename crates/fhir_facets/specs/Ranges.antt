@@ -7,7 +7,6 @@ use Rattle.std.specs.declared.cmp.Ordering.{Ordering}
 use Rattle.std.specs.Str.{bytes_eq}
 use Rattle.fhir_json.specs.Tree.{Text, Tree, Property}
 use Rattle.fhir_json.specs.Fields.{as_text, as_number}
-use Rattle.fhir_decimal.specs.Text.{Parts}
 use Rattle.fhir_decimal.specs.Reading.{parts}
 use Rattle.fhir_decimal.specs.Value.{Value, value_of, value_order}
 use Rattle.fhir_prims.specs.declared.prim.PrimType.{PrimType}

@@ -1,10 +1,10 @@
 -- Targets of references (FHIR R4, ElementDefinition, type.targetProfile; References, literal references). A target is
 -- judged by the type that a relative reference names; a reference of another form is passed over.
-use Rattle.std.specs.Prelude.{List, length, Bool, true, false, not, ◌&&◌, ◌||◌, nat_eq, Option, codes}
+use Rattle.std.specs.Prelude.{Bool, true, false, not, ◌&&◌, ◌||◌, Option, codes}
 use Rattle.std.specs.Option.{option_map, option_map_or, option_and_then}
 use Rattle.std.specs.List.{list_any, list_all}
 use Rattle.std.specs.Str.{bytes_eq}
-use Rattle.fhir_json.specs.Tree.{Text, Tree}
+use Rattle.fhir_json.specs.Tree.{Text}
 use Rattle.fhir_json.specs.Bytes.{is_empty}
 use Rattle.fhir_json.specs.Fields.{text_in}
 use Rattle.fhir_names.specs.Targets.{relative_target}

@@ -1,5 +1,5 @@
 -- Values that an element asks for (FHIR R4, ElementDefinition, fixed[x], pattern[x] and maxLength).
-use Rattle.std.specs.Prelude.{ℤ, pos, length, Bool, true, false, not, ◌&&◌, ◌||◌, int_le, Option}
+use Rattle.std.specs.Prelude.{ℤ, pos, length, Bool, true, false, not, ◌&&◌, ◌||◌, int_le}
 use Rattle.std.specs.Option.{option_map_or, option_and_then}
 use Rattle.std.specs.Str.{chars}
 use Rattle.fhir_json.specs.Tree.{Text, Tree}
