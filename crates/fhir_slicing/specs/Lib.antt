@@ -2,4 +2,5 @@ pub mod Asks
 pub mod Conformance
 pub mod Meeting
 pub mod Example
+pub mod Letters
 pub mod Views

@@ -1,16 +1,17 @@
 //! Laws: what the definitions say of one another.
 
-ghost use Rattle.std.specs.Prelude.{◌≡◌, List, [], Bool, IsTrue, codes};
+ghost use Rattle.std.specs.Prelude.{◌≡◌, List, [], Bool, true, false, IsTrue, codes};
 ghost use Rattle.std.specs.List.{list_all};
-ghost use Rattle.fhir_json.specs.Tree.{Text, Tree};
+ghost use Rattle.fhir_json.specs.Tree.{Text, Tree, no_members};
 ghost use Rattle.fhir_schema.specs.declared.node.NodeRef.{NodeRef};
 ghost use Rattle.fhir_schema.specs.Schemas.{SchemaValue};
 ghost use Rattle.fhir_instance.specs.Items.{Item, Place};
 ghost use Rattle.fhir_facets.specs.Unread.{Unread, Meaning};
 ghost use Rattle.fhir_slicing.specs.Asks.{root_asks};
-ghost use Rattle.fhir_slicing.specs.Conformance.{Interpretation, Around, outermost, ask_holds, conforms, Conforms};
+ghost use Rattle.fhir_slicing.specs.Conformance.{Interpretation, constant, Around, outermost, ask_holds, conforms, Conforms};
 ghost use Rattle.fhir_slicing.specs.Meeting.{Met, unread_at};
 ghost use Rattle.fhir_slicing.specs.Example.{schema, bare, noted, unknown};
+ghost use Rattle.fhir_slicing.specs.Letters.{letters, given, title, from, answering, one_name, three_names};
 
 use fhir_schema::roots_are_roots;
 
@@ -55,4 +56,19 @@ pub fn example()
     ensures bare { (meaning : Interpretation) → ¬ Conforms schema meaning (codes "urn:noted") bare }
     ensures named { (meaning : Interpretation) → ¬ Conforms schema meaning (codes "urn:named") bare }
     ensures unknown { (meaning : Interpretation) → ¬ Conforms schema meaning (codes "urn:Thing") unknown }
+{}
+
+/// The definitions at work on letters, whose sender has one given name or two, and perhaps a title. The definition of letters
+/// says less of the names than that of their type, which is asked all the same: a sender with one name conforms (`own`), without
+/// one (`nameless`) and with three (`many`) not. A profile that asks for a title is asked of the sender itself (`titled`,
+/// `untitled`). A letter may answer a letter (`answer`), and what the rule of a profile that isn't there says (`other`).
+pub fn letters_example()
+    ensures own { (meaning : Interpretation) → Conforms letters meaning (codes "urn:Letter") (from (given one_name no_members)) }
+    ensures nameless { (meaning : Interpretation) → ¬ Conforms letters meaning (codes "urn:Letter") (from title) }
+    ensures many { (meaning : Interpretation) → ¬ Conforms letters meaning (codes "urn:Letter") (from (given three_names no_members)) }
+    ensures titled { (meaning : Interpretation) → Conforms letters meaning (codes "urn:titled") (from (given one_name title)) }
+    ensures untitled { (meaning : Interpretation) → ¬ Conforms letters meaning (codes "urn:titled") (from (given one_name no_members)) }
+    ensures answer { (meaning : Interpretation) → Conforms letters meaning (codes "urn:Letter") (answering (codes "Letter/1")) }
+    ensures other { ¬ Conforms letters (constant false) (codes "urn:Letter") (answering (codes "Person/1")) }
+    ensures open { Conforms letters (constant true) (codes "urn:Letter") (answering (codes "Person/1")) }
 {}

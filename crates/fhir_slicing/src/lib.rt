@@ -30,4 +30,4 @@ pub use ask::{Ask, Rule};
 pub use asking::asks;
 pub use children::Children;
 pub use judging::judge;
-pub use laws::{decided, example, positive, roots_ask_no_root};
+pub use laws::{decided, example, letters_example, positive, roots_ask_no_root};

@@ -1,0 +1,119 @@
+use Rattle.std.proofs.Common.{◌≡◌, refl, sym, subst, ◌∙◌, true, false, Some, IsTrue}
+use Rattle.std.specs.Prelude.{codes}
+use Rattle.std.proofs.lemmas.Bool.{false≢true}
+use Rattle.fhir_json.specs.Tree.{Text, Tree, string, object, Members, no_members, member}
+use Rattle.fhir_schema.specs.declared.node.NodeRef.{NodeRef}
+use Rattle.fhir_schema.specs.Schemas.{root}
+use Rattle.fhir_instance.specs.Items.{Item, item, Kids, kid, no_kids}
+use Rattle.fhir_instance.specs.Typing.{resource}
+use Rattle.fhir_slicing.specs.Conformance.{Interpretation, constant, outermost, conforms, Conforms}
+use Rattle.fhir_slicing.specs.Letters.{letters, given, title, from, answering, one_name, three_names}
+use Rattle.fhir_slicing.proofs.laws.letters_example.Goals as goal
+
+-- ---- the items
+
+leaf : Text → Item
+leaf text = item (codes "code") (Some (string text)) no_kids
+
+name : Text → Kids → Kids
+name text kids = kid (codes "given") (leaf text) kids
+
+with_title : Kids
+with_title = kid (codes "title") (leaf (codes "t")) no_kids
+
+letter_from : Members → Kids → Item
+letter_from sender kids =
+    item (codes "Letter") (Some (from sender)) (kid (codes "sender") (item (codes "Name") (Some (object sender)) kids) no_kids)
+
+-- ---- the roots
+
+letter_root titled_root : NodeRef
+letter_root = record { definition = 3; element = 0 }
+titled_root = record { definition = 4; element = 0 }
+
+-- what holds of what is there holds of what that is
+at_some : {A : Type 0} (P : A → Type 0) (x y : A) → Some x ≡ Some y → P y → P x
+at_some {A} P x y e h =
+    let same : x ≡ y = cc in
+    subst P (sym same) h
+
+refuted : (meaning : Interpretation) (profile : Text) (t : Tree) (x : Item) (n : NodeRef) → root letters profile ≡ Some n → resource letters t ≡ Some x
+    → conforms letters meaning (outermost x) x n ≡ false → Conforms letters meaning profile t → ⊥
+refuted meaning profile t x n usable typed fails h =
+    false≢true
+    (sym fails
+    ∙ at_some (λ y. IsTrue (conforms letters meaning (outermost y) y n)) x h.itself (sym typed ∙ h.typed)
+    (at_some (λ m. IsTrue (conforms letters meaning (outermost h.itself) h.itself m)) n h.node (sym usable ∙ h.usable) h.holds))
+
+-- ---- the clauses
+
+pub returns-clause-own : goal.returns-clause-own
+unfolding leaf name letter_from letter_root
+returns-clause-own c meaning = record {
+  node = letter_root;
+  itself = letter_from (given one_name no_members) (name (codes "a") no_kids);
+  usable = refl;
+  typed = refl;
+  holds = refl;
+}
+
+pub returns-clause-nameless : goal.returns-clause-nameless
+unfolding leaf with_title letter_from letter_root
+returns-clause-nameless c meaning =
+    refuted meaning (codes "urn:Letter") (from title) (letter_from title with_title) letter_root refl refl refl
+
+pub returns-clause-many : goal.returns-clause-many
+unfolding leaf name letter_from letter_root
+returns-clause-many c meaning =
+    refuted meaning (codes "urn:Letter") (from (given three_names no_members))
+    (letter_from (given three_names no_members) (name (codes "a") (name (codes "b") (name (codes "c") no_kids)))) letter_root refl refl refl
+
+pub returns-clause-titled : goal.returns-clause-titled
+unfolding leaf name with_title letter_from titled_root
+returns-clause-titled c meaning = record {
+  node = titled_root;
+  itself = letter_from (given one_name title) (name (codes "a") with_title);
+  usable = refl;
+  typed = refl;
+  holds = refl;
+}
+
+pub returns-clause-untitled : goal.returns-clause-untitled
+unfolding leaf name letter_from titled_root
+returns-clause-untitled c meaning =
+    refuted meaning (codes "urn:titled") (from (given one_name no_members)) (letter_from (given one_name no_members) (name (codes "a") no_kids))
+    titled_root refl refl refl
+
+answer : Text → Members → Item
+answer reference json =
+    item (codes "Letter") (Some (answering reference))
+    (kid (codes "answers") (item (codes "Reference") (Some (object json)) (kid (codes "reference") (leaf reference) no_kids)) no_kids)
+
+reference_to : Text → Members
+reference_to reference = member (codes "reference") (string reference) no_members
+
+pub returns-clause-answer : goal.returns-clause-answer
+unfolding leaf answer reference_to letter_root
+returns-clause-answer c meaning = record {
+  node = letter_root;
+  itself = answer (codes "Letter/1") (reference_to (codes "Letter/1"));
+  usable = refl;
+  typed = refl;
+  holds = refl;
+}
+
+pub returns-clause-other : goal.returns-clause-other
+unfolding leaf answer reference_to letter_root
+returns-clause-other c =
+    refuted (constant false) (codes "urn:Letter") (answering (codes "Person/1")) (answer (codes "Person/1") (reference_to (codes "Person/1")))
+    letter_root refl refl refl
+
+pub returns-clause-open : goal.returns-clause-open
+unfolding leaf answer reference_to letter_root
+returns-clause-open c = record {
+  node = letter_root;
+  itself = answer (codes "Person/1") (reference_to (codes "Person/1"));
+  usable = refl;
+  typed = refl;
+  holds = refl;
+}

@@ -1,0 +1,94 @@
+-- A package of letters, whose sender is of a complex type and whose addressee is a reference; a profile on them; and letters, to see
+-- which conform.
+use Rattle.std.specs.Prelude.{[], ◌∷◌, codes}
+use Rattle.fhir_json.specs.Tree.{Text, Tree, string, array, object, Items, no_items, item, Members, no_members, member}
+use Rattle.fhir_package.specs.Definitions.{Definitions}
+use Rattle.fhir_schema.specs.Schemas.{SchemaValue, schema_of}
+use Rattle.fhir_instance.specs.TypingExample.{element, definition, of_type, with_snapshot}
+
+-- ---- the definitions
+
+abbrev pub code_type : Tree
+code_type = definition (codes "primitive-type") (codes "code") (with_snapshot
+    (item (element (codes "code") (codes "0") (codes "*") no_members) no_items))
+
+-- one given name or two, and perhaps a title
+abbrev pub name_type : Tree
+name_type = definition (codes "complex-type") (codes "Name") (with_snapshot
+    (item (element (codes "Name") (codes "0") (codes "*") no_members)
+    (item (element (codes "Name.given") (codes "1") (codes "2") (of_type (codes "code")))
+    (item (element (codes "Name.title") (codes "0") (codes "1") (of_type (codes "code")))
+    no_items))))
+
+abbrev pub reference_type : Tree
+reference_type = definition (codes "complex-type") (codes "Reference") (with_snapshot
+    (item (element (codes "Reference") (codes "0") (codes "*") no_members)
+    (item (element (codes "Reference.reference") (codes "0") (codes "1") (of_type (codes "code")))
+    no_items)))
+
+-- references to letters, or to what another profile says
+abbrev pub to_letters : Members
+to_letters =
+    member (codes "type") (array (item (object
+    (member (codes "code") (string (codes "Reference"))
+    (member (codes "targetProfile") (array (item (string (codes "urn:Letter")) (item (string (codes "urn:other")) no_items)))
+    no_members))) no_items)) no_members
+
+abbrev pub snapshot_of_letters : Text → Members
+snapshot_of_letters titles = with_snapshot
+    (item (element (codes "Letter") (codes "0") (codes "*") no_members)
+    (item (element (codes "Letter.sender") (codes "0") (codes "1") (of_type (codes "Name")))
+    (item (element (codes "Letter.sender.given") (codes "0") (codes "*") (of_type (codes "code")))
+    (item (element (codes "Letter.sender.title") titles (codes "1") (of_type (codes "code")))
+    (item (element (codes "Letter.answers") (codes "0") (codes "1") to_letters)
+    no_items)))))
+
+abbrev pub letter_type : Tree
+letter_type = definition (codes "resource") (codes "Letter") (snapshot_of_letters (codes "0"))
+
+-- the sender has a title
+abbrev pub titled : Tree
+titled =
+    definition (codes "resource") (codes "Letter")
+    (member (codes "derivation") (string (codes "constraint"))
+    (member (codes "baseDefinition") (string (codes "urn:Letter")) (snapshot_of_letters (codes "1"))))
+
+abbrev pub definitions : Definitions
+definitions = record {
+  structure_definitions =
+      (codes "urn:code", code_type)
+      ∷ (codes "urn:Name", name_type)
+      ∷ (codes "urn:Reference", reference_type)
+      ∷ (codes "urn:Letter", letter_type)
+      ∷ (codes "urn:titled", titled)
+      ∷ [];
+  value_sets = [];
+  code_systems = [];
+}
+
+abbrev pub letters : SchemaValue
+letters = schema_of definitions
+
+-- ---- letters
+
+abbrev pub letter : Members → Tree
+letter more = object (member (codes "resourceType") (string (codes "Letter")) more)
+
+abbrev pub given : Items → Members → Members
+given names more = member (codes "given") (array names) more
+
+abbrev pub title : Members
+title = member (codes "title") (string (codes "t")) no_members
+
+abbrev pub from : Members → Tree
+from sender = letter (member (codes "sender") (object sender) no_members)
+
+abbrev pub answering : Text → Tree
+answering reference =
+    letter (member (codes "answers") (object (member (codes "reference") (string reference) no_members)) no_members)
+
+abbrev pub one_name : Items
+one_name = item (string (codes "a")) no_items
+
+abbrev pub three_names : Items
+three_names = item (string (codes "a")) (item (string (codes "b")) (item (string (codes "c")) no_items))
