@@ -8,6 +8,7 @@ pub mod KnownNodes
 pub mod Stepping
 pub mod Climbing
 pub mod Roots
+pub mod UsableRoots
 pub mod Capitals
 pub mod Spelled
 pub mod Meaning
