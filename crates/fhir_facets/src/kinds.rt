@@ -34,12 +34,7 @@ fn kind_of(prim: PrimType) -> Option<Kind>
 pub(crate) fn same_kind(left: Kind, right: Kind) -> bool
     ensures { result ≡ same_kind left right }
 {
-    match (left, right) {
-        (Kind::Number, Kind::Number) | (Kind::Moment, Kind::Moment) | (Kind::Time, Kind::Time) => {
-            true
-        }
-        _ => false,
-    }
+    left == right
 }
 
 /// The kind of the values of a type, by its code.

@@ -1,16 +1,18 @@
-//! What an element asks of a value, each by itself: fixed values, patterns, bounds, lengths, targets of references, and how
-//! many there may be (FHIR R4, ElementDefinition).
+//! What an element asks for, each facet by itself: a fixed value, a pattern, bounds, a length, targets of references, and how
+//! many items there may be (FHIR R4, ElementDefinition).
 //!
 //! ```
-//! /// Whether a value is the one that an element is fixed to.
-//! pub fn is_fixed_to(value: &Json<'static>, view: &View<'_, '_>) -> bool
-//!     ensures { result ≡ fixed_holds (tree_of value.now) (view_seen view.now) }
+//! /// Whether one pattern asks for all that another does; then what has the first has the other too.
+//! pub fn asks_for_all(pattern: &Json<'static>, other: &Json<'static>) -> bool
+//!     ensures { IsTrue result → (x : Seen) → IsTrue (pattern_holds (tree_of pattern.now) x)
+//!         → IsTrue (pattern_holds (tree_of other.now) x) }
 //! {
-//!     matches!(Fixed(value).holds(view), Holding::Holds)
+//!     narrower_holds();
+//!     Pattern(pattern).narrower(&Pattern(other))
 //! }
 //! ```
 //!
-//! Read first the contract of [`Facet`]: a facet holds, fails, or hangs on a rule that isn't read here; and then that of
+//! Read first the contract of [`Facet`]: a facet holds, fails, or hangs on a rule that isn't read here. Then read that of
 //! [`narrower_holds`]: what a narrower facet holds of, a wider one does.
 #![tactic(auto)]
 
