@@ -13,7 +13,7 @@ use Rattle.fhir_schema.specs.declared.node.NodeRef.{NodeRef}
 use Rattle.fhir_schema.specs.Schemas.{SchemaValue, element_at, types, loaded}
 use Rattle.fhir_schema.specs.Covers.{covers, type_at}
 use Rattle.fhir_instance.specs.Items.{Item, type_of}
-use Rattle.fhir_facets.specs.declared.kind.Kind.{Kind}
+use Rattle.fhir_facets.specs.declared.kinds.Kind.{Kind}
 use Rattle.fhir_facets.specs.Unread.{Unread, Meaning, range, target}
 use Rattle.fhir_facets.specs.Seen.{Seen}
 use Rattle.fhir_facets.specs.Ranges.{kind_of_bound, kind_holds, bound_holds, range_holds}

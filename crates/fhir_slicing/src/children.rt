@@ -45,7 +45,8 @@ fn put<'a>(
     Ok(())
 }
 
-fn places_of<'a>(
+// The positions of children under their names.
+fn places_by_name<'a>(
     alloc: Global,
     kids: &'a [Kid<'_, '_>],
 ) -> Result<BTreeMap<&'a str, Vec<usize>>, NoMemory>
@@ -64,7 +65,7 @@ impl<'a> Children<'a> {
     pub fn of(alloc: Global, item: &'a Typed<'_, '_>) -> Result<Children<'a>, NoMemory>
         ensures { IfOk result (λ children. IsIndexOf (item_of item.now) children) }
     {
-        let places = places_of(alloc, item.kids())?;
+        let places = places_by_name(alloc, item.kids())?;
         Ok(Children { places })
     }
 

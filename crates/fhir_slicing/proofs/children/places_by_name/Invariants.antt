@@ -3,7 +3,7 @@ use Rattle.fhir_instance.specs.Items.{kids_in}
 use Rattle.fhir_instance.specs.View.{named_in}
 use Rattle.fhir_slicing.specs.Asks.{places_from}
 use Rattle.fhir_slicing.specs.Views.{places_at}
-use Rattle.fhir_slicing.proofs.children.places_of.Given as goal
+use Rattle.fhir_slicing.proofs.children.places_by_name.Given as goal
 
 abbrev pub invariant-loop-position : goal.invariant-loop-position
 invariant-loop-position l =

@@ -1,6 +1,6 @@
 use Rattle.std.proofs.Common.{sym}
 use Rattle.fhir_slicing.proofs.Placing.{put_more}
-use Rattle.fhir_slicing.proofs.children.places_of.Goals as goal
+use Rattle.fhir_slicing.proofs.children.places_by_name.Goals as goal
 
 pub loop-position-preserved : goal.loop-position-preserved
 loop-position-preserved c =
