@@ -27,8 +27,10 @@ letter_from sender kids =
 
 -- ---- the roots
 
-letter_root titled_root : NodeRef
+letter_root : NodeRef
 letter_root = record { definition = 3; element = 0 }
+
+titled_root : NodeRef
 titled_root = record { definition = 4; element = 0 }
 
 -- what holds of what is there holds of what that is
