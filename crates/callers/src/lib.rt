@@ -31,7 +31,7 @@ ghost use Rattle.fhir_instance.specs.Typing.{Types};
 ghost use Rattle.fhir_certificate.specs.Certificate.{CertificateValue};
 ghost use Rattle.fhir_certificate.specs.Judging.{Stands};
 ghost use Rattle.fhir_cert_check.specs.Checking.{SpellsCertificate};
-ghost use Rattle.fhir_registry.specs.Replying.{Promise};
+ghost use Rattle.fhir_registry.specs.Replying.{RequestValue, Promise};
 
 use fhir_cert_check::{Answer, check_bytes};
 use fhir_certificate::CertFault;
@@ -44,7 +44,7 @@ use fhir_matching::{json_eq, matches};
 use fhir_names::{ElementId, front_of};
 use fhir_package::{FolderFile, FolderFiles, Kind, LoadFault, pack};
 use fhir_prims::{PrimType, lexical};
-use fhir_registry::{Request, Status, bytes_at, files_at, refuse, request_of, respond};
+use fhir_registry::{Status, bytes_at, files_at, refuse, request_of, respond};
 use fhir_schema::{Schema, Slot};
 use std::alloc::Global;
 use std::io;
@@ -173,15 +173,14 @@ pub fn status_of<R: Files + AllocGlobal + Clone + Drop, W: Write, E: Write>(
     err: &mut E,
 ) -> io::Result<Status>
     ensures { IfOk result (λ status. status ≡ Status.Yes
-        → (files : Result Files LoadFault) × (certificate : Option Text) × Promise files certificate) }
+        → (request : RequestValue) × (files : Result Files LoadFault) × (file : Option Text) × Promise request files file) }
 {
     let alloc = rt.alloc();
     let request = match request_of(alloc, words) {
         Ok(request) => request,
         Err(fault) => return Ok(refuse(fault, err)),
     };
-    let Request::Certify { folder, file } = request;
-    let files = files_at(rt, folder);
-    let file = bytes_at(rt, file)?;
+    let files = files_at(rt, request.folder());
+    let file = bytes_at(rt, request.file())?;
     Ok(respond(alloc, request, &files, file.as_deref(), out, err))
 }

@@ -7,7 +7,7 @@
 //! - `# NAME`: here begins a case.
 //! - `? WORD .. = STATUS OUT ERR`: a command, with the status and the bytes of each output that must come, these two as Rust
 //!   writes texts. The words are those behind the program's name. A folder or a file is one of `data/`. `full` as the first
-//!   word makes standard output take nothing, and isn't the program's.
+//!   word makes standard output take nothing, and isn't the program's. An outcome stands there as it is, without its line feed.
 #![tactic(auto)]
 
 use fhir_registry::{Request, Status, bytes_at, files_at, refuse, request_of, respond};
@@ -52,16 +52,24 @@ fn answer<R: Files + AllocGlobal + Clone + Drop, W: Write>(
     out: &mut W,
     err: &mut Vec<u8>,
 ) -> io::Result<Status> {
-    let Request::Certify { folder, file } = request;
-    let file = bytes_at(rt, file)?;
-    let files = files_at(rt, folder);
+    let file = bytes_at(rt, request.file())?;
+    let files = files_at(rt, request.folder());
     Ok(respond(rt.alloc(), request, &files, file.as_deref(), out, err))
 }
 
 fn line_of(alloc: Global, status: Status, out: &[u8], err: &[u8]) -> Result<String, AllocError> {
     let out = String::from_utf8_lossy(alloc, out)?;
     let err = String::from_utf8_lossy(alloc, err)?;
-    format!(in alloc; "{} {:?} {:?}", status.code(), out.as_str(), err.as_str())
+    match outcome_in(out.as_str()) {
+        Some(outcome) => format!(in alloc; "{} {outcome} {:?}", status.code(), err.as_str()),
+        None => format!(in alloc; "{} {:?} {:?}", status.code(), out.as_str(), err.as_str()),
+    }
+}
+
+// The outcome that an output is, without its line feed.
+fn outcome_in(out: &str) -> Option<&str> {
+    let line = out.strip_suffix("\n")?;
+    if line.starts_with("{") { Some(line) } else { None }
 }
 
 /// What becomes of a line.

@@ -1,1 +1,3 @@
 pub mod FaultsEnd
+pub mod Items
+pub mod Judging

@@ -1,3 +1,5 @@
+pub mod Outcomes
+pub mod Standing
 pub mod Status
 pub mod Telling
 pub mod Replying

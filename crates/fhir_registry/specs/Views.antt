@@ -4,8 +4,8 @@ use Rattle.std.specs.Borrow.{Bor}
 use Rattle.std.specs.Option.{option_map}
 use Rattle.fhir_json.specs.Tree.{Text}
 use Rattle.fhir_registry.specs.declared.request.Request.{Request}
-use Rattle.fhir_registry.specs.declared.request.Request.TheVariants.{Certify}
-use Rattle.fhir_registry.specs.Replying.{RequestValue, certify}
+use Rattle.fhir_registry.specs.declared.request.Request.TheVariants.{Certify, Validate}
+use Rattle.fhir_registry.specs.Replying.{RequestValue, certify, validate}
 
 -- the bytes of a file, or none where it can't be read
 abbrev pub bytes_seen : Option (Bor Text) → Option Text
@@ -13,3 +13,4 @@ bytes_seen file = option_map (λ bytes. bytes.now) file
 
 abbrev pub request_seen : Request → RequestValue
 request_seen (Certify folder file) = certify folder.now file.now
+request_seen (Validate folder profile file) = validate folder.now profile.now file.now

@@ -3,18 +3,31 @@ use Rattle.std.specs.Prelude.{List, [], ◌∷◌, Bool, not, ◌&&◌, nat_eq, 
 use Rattle.std.specs.List.{starts_with}
 use Rattle.std.specs.Str.{bytes_eq}
 use Rattle.fhir_json.specs.Tree.{Text}
-use Rattle.fhir_registry.specs.Replying.{RequestValue, certify}
+use Rattle.fhir_registry.specs.Replying.{RequestValue, certify, validate}
 
 abbrev pub is_option : Text → Bool
 is_option word = starts_with nat_eq word (codes "-")
 
--- a command and the words that it wants
-abbrev pub command_request : Text → Text → Text → Option RequestValue
-command_request command first second =
-    if bytes_eq command (codes "certify") && not (is_option first) && not (is_option second)
-    then Some (certify first second) else None
+-- neither is an option
+abbrev pub are_plain : Text → Text → Bool
+are_plain first second = not (is_option first) && not (is_option second)
+
+-- a command, and the words that it wants
+abbrev pub certify_request : Text → Text → Text → Option RequestValue
+certify_request command first second =
+    if bytes_eq command (codes "certify") && are_plain first second then Some (certify first second) else None
+
+abbrev pub validate_request : Text → Text → Text → Text → Option RequestValue
+validate_request command first second third =
+    if bytes_eq command (codes "validate") && not (is_option first) && are_plain second third
+    then Some (validate first second third) else None
+
+abbrev pub command_request : Text → List Text → Option RequestValue
+command_request command (first ∷ second ∷ []) = certify_request command first second
+command_request command (first ∷ second ∷ third ∷ []) = validate_request command first second third
+command_request command _ = None
 
 -- the same behind the program's name
 abbrev pub plain_request : List Text → Option RequestValue
-plain_request (program ∷ command ∷ first ∷ second ∷ []) = command_request command first second
+plain_request (program ∷ command ∷ words) = command_request command words
 plain_request _ = None

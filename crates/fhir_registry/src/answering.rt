@@ -1,31 +1,38 @@
 //! What is answered to a request, before anything is written.
 
-ghost use Rattle.std.specs.Prelude.{◌≡◌, IfOk, Result, Ok, Option};
+ghost use Rattle.std.specs.Prelude.{◌≡◌, [], IfOk, Result, Ok, Option, codes};
 ghost use Rattle.fhir_json.specs.Tree.{Text};
 ghost use Rattle.fhir_json.specs.Memory.{Gives};
 ghost use Rattle.fhir_package.specs.Definitions.{Definitions};
 ghost use Rattle.fhir_package.specs.Packing.{Refusal, pack_files};
 ghost use Rattle.fhir_package.specs.Faults.{IsRefused, failures_told};
 ghost use Rattle.fhir_schema.specs.Schemas.{schema_of};
-ghost use Rattle.fhir_cert_check.specs.Checking.{answer_of};
-ghost use Rattle.fhir_certificate.specs.Reading.{reading};
-ghost use Rattle.fhir_registry.specs.Replying.{answer_reply, certificate_reply, certify_reply, load_fault_reply, certify, answer_to, Promised, CertificatePromised, Promise};
+ghost use Rattle.fhir_registry.specs.Replying.{RequestValue, certify, certificate_reply, load_fault_reply, IsJudged, IsReply, bytes_answer, file_answer, package_answer, answer_to, Promised, FilePromised, Promise};
+ghost use Rattle.fhir_registry.specs.Standing.{AlwaysConforms};
+ghost use Rattle.fhir_registry.specs.Status.{verdict_status};
 ghost use Rattle.fhir_registry.specs.Telling.{load_subject};
-ghost use Rattle.fhir_registry.specs.Views.{bytes_seen};
+ghost use Rattle.fhir_registry.specs.Views.{bytes_seen, request_seen};
 
-use crate::reply::{Reply, fault_reply};
+use crate::outcomes::outcome;
+use crate::reply::{Reply, Status, fault_reply};
+use crate::request::Request;
 use crate::telling::wrong_reply;
 use fhir_cert_check::check_bytes;
 use fhir_certificate::CertFault;
-use fhir_json::NoMemory;
+use fhir_json::{NoMemory, write};
 use fhir_package::{FolderFiles, LoadFault, Package, pack};
 use fhir_schema::Schema;
+use fhir_validator::{Fault, Verdict, validate};
 use std::alloc::Global;
 
-fn bytes_reply(alloc: Global, name: &str, schema: &Schema, bytes: &[u8]) -> Result<Reply, NoMemory>
-    ensures told { Gives (λ r. r) result
-        (answer_reply name.now schema.now (answer_of (reading schema.now bytes.now) schema.now)) }
-    ensures promised { IfOk result (λ r. r.status ≡ 0 → Promised schema.now bytes.now) }
+fn certificate_reply(
+    alloc: Global,
+    name: &str,
+    schema: &Schema,
+    bytes: &[u8],
+) -> Result<Reply, NoMemory>
+    ensures told { Gives (λ r. r) result (certificate_reply name.now schema.now bytes.now) }
+    ensures promised { (folder : Text) → IfOk result (λ r. r.status ≡ 0 → Promised (certify folder name.now) schema.now bytes.now) }
 {
     match check_bytes(alloc, schema, bytes) {
         Ok(answer) => Ok(wrong_reply(alloc, schema, answer)?),
@@ -34,32 +41,79 @@ fn bytes_reply(alloc: Global, name: &str, schema: &Schema, bytes: &[u8]) -> Resu
     }
 }
 
-fn certificate_reply(
-    alloc: Global,
-    name: &str,
-    schema: &Schema,
-    certificate: Option<&[u8]>,
-) -> Result<Reply, NoMemory>
-    ensures told { Gives (λ r. r) result (certificate_reply name.now schema.now (bytes_seen certificate.entry)) }
-    ensures promised { IfOk result (λ r. r.status ≡ 0 → CertificatePromised schema.now (bytes_seen certificate.entry)) }
+fn status_of(validated: &Result<Verdict<'_>, Fault>) -> Status
+    ensures { result ≡ verdict_status validated.now }
 {
-    match certificate {
-        Some(bytes) => bytes_reply(alloc, name, schema, bytes),
-        None => Ok(fault_reply(alloc, "read", name)?),
+    match validated {
+        Ok(Verdict::Conforms) => Status::Yes,
+        Ok(Verdict::Violates(_)) => Status::No,
+        Ok(Verdict::Open(_)) => Status::Open,
+        Err(_) => Status::Fault,
+    }
+}
+
+fn resource_reply(
+    alloc: Global,
+    profile: &str,
+    schema: &Schema,
+    bytes: &[u8],
+) -> Result<Reply, NoMemory>
+    ensures told { IfOk result (λ r. IsJudged schema.now profile.now bytes.now r) }
+    ensures promised { IfOk result (λ r. r.status ≡ 0 → AlwaysConforms schema.now profile.now bytes.now) }
+{
+    let validated = validate(alloc, schema, profile, bytes);
+    let outcome = outcome(alloc, profile, &validated)?;
+    let mut out = write(alloc, &outcome)?;
+    out.push(b'\n')?;
+    Ok(Reply {
+        status: status_of(&validated),
+        out,
+        err: String::new(alloc),
+    })
+}
+
+fn bytes_reply(
+    alloc: Global,
+    request: Request<'_>,
+    schema: &Schema,
+    bytes: &[u8],
+) -> Result<Reply, NoMemory>
+    ensures told { IfOk result (λ r. IsReply (bytes_answer (request_seen request.entry) schema.now bytes.now) r) }
+    ensures promised { IfOk result (λ r. r.status ≡ 0 → Promised (request_seen request.entry) schema.now bytes.now) }
+{
+    match request {
+        Request::Certify { file, .. } => certificate_reply(alloc, file, schema, bytes),
+        Request::Validate { profile, .. } => resource_reply(alloc, profile, schema, bytes),
+    }
+}
+
+fn file_reply(
+    alloc: Global,
+    request: Request<'_>,
+    schema: &Schema,
+    file: Option<&[u8]>,
+) -> Result<Reply, NoMemory>
+    ensures told { IfOk result (λ r. IsReply (file_answer (request_seen request.entry) schema.now (bytes_seen file.entry)) r) }
+    ensures promised { IfOk result (λ r. r.status ≡ 0 → FilePromised (request_seen request.entry) schema.now (bytes_seen file.entry)) }
+{
+    match file {
+        Some(bytes) => bytes_reply(alloc, request, schema, bytes),
+        None => Ok(fault_reply(alloc, "read", request.file())?),
     }
 }
 
 fn package_reply(
     alloc: Global,
-    name: &str,
+    request: Request<'_>,
     loaded: &Package<'_>,
-    certificate: Option<&[u8]>,
+    file: Option<&[u8]>,
 ) -> Result<Reply, NoMemory>
-    ensures told { Gives (λ r. r) result (certificate_reply name.now (schema_of loaded.now) (bytes_seen certificate.entry)) }
-    ensures promised { IfOk result (λ r. r.status ≡ 0 → CertificatePromised (schema_of loaded.now) (bytes_seen certificate.entry)) }
+    ensures told { IfOk result (λ r. IsReply (file_answer (request_seen request.entry) (schema_of loaded.now) (bytes_seen file.entry)) r) }
+    ensures promised { IfOk result (λ r. r.status ≡ 0
+        → FilePromised (request_seen request.entry) (schema_of loaded.now) (bytes_seen file.entry)) }
 {
     let schema = Schema::build(alloc, loaded)?;
-    certificate_reply(alloc, name, &schema, certificate)
+    file_reply(alloc, request, &schema, file)
 }
 
 fn load_subject<'f>(folder: &'f str, fault: &'f LoadFault) -> &'f str
@@ -84,8 +138,8 @@ fn load_fault_reply(alloc: Global, folder: &str, fault: &LoadFault) -> Result<Re
 
 // What is answered where files are no package.
 fn refusal_reply(alloc: Global, fault: &LoadFault) -> Result<Reply, NoMemory>
-    ensures told { (answer : Result Definitions Refusal) (name : Text) (certificate : Option Text)
-        → failures_told fault.now ≡ 0 → IsRefused fault.now answer → Gives (λ r. r) result (certify_reply name answer certificate) }
+    ensures told { (answer : Result Definitions Refusal) (request : RequestValue) (file : Option Text)
+        → failures_told fault.now ≡ 0 → IsRefused fault.now answer → IfOk result (λ r. IsReply (package_answer request answer file) r) }
     ensures fault { IfOk result (λ r. r.status ≡ 3) }
 {
     load_fault_reply(alloc, "", fault)
@@ -93,34 +147,32 @@ fn refusal_reply(alloc: Global, fault: &LoadFault) -> Result<Reply, NoMemory>
 
 fn files_reply(
     alloc: Global,
-    name: &str,
+    request: Request<'_>,
     files: &FolderFiles,
-    certificate: Option<&[u8]>,
+    file: Option<&[u8]>,
 ) -> Result<Reply, NoMemory>
-    ensures told { Gives (λ r. r) result (certify_reply name.now (pack_files files.now) (bytes_seen certificate.entry)) }
-    ensures promised { IfOk result (λ r. r.status ≡ 0 → Promise (Ok files.now) (bytes_seen certificate.entry)) }
+    ensures told { IfOk result (λ r. IsReply (package_answer (request_seen request.entry) (pack_files files.now) (bytes_seen file.entry)) r) }
+    ensures promised { IfOk result (λ r. r.status ≡ 0 → Promise (request_seen request.entry) (Ok files.now) (bytes_seen file.entry)) }
 {
     match pack(alloc, files) {
-        Ok(package) => package_reply(alloc, name, &package, certificate),
+        Ok(package) => package_reply(alloc, request, &package, file),
         Err(fault) => refusal_reply(alloc, &fault),
     }
 }
 
-/// The answer to `certify`: of a folder and a certificate's file, of these names. The folder's files are these, or the fault
-/// says why there are none.
-pub fn certify(
+/// The answer to a request, of the files of the folder and the bytes of the file that it names. The folder's files are these, or
+/// the fault says why there are none; where the file can't be read it has no bytes.
+pub fn answer(
     alloc: Global,
-    folder_name: &str,
-    certificate_name: &str,
+    request: Request<'_>,
     files: &Result<FolderFiles, LoadFault>,
-    certificate: Option<&[u8]>,
+    file: Option<&[u8]>,
 ) -> Result<Reply, NoMemory>
-    ensures told { Gives (λ r. r) result
-        (answer_to (certify folder_name.now certificate_name.now) files.now (bytes_seen certificate.entry)) }
-    ensures promised { IfOk result (λ r. r.status ≡ 0 → Promise files.now (bytes_seen certificate.entry)) }
+    ensures told { IfOk result (λ r. IsReply (answer_to (request_seen request.entry) files.now (bytes_seen file.entry)) r) }
+    ensures promised { IfOk result (λ r. r.status ≡ 0 → Promise (request_seen request.entry) files.now (bytes_seen file.entry)) }
 {
     match files {
-        Ok(files) => files_reply(alloc, certificate_name, files, certificate),
-        Err(fault) => load_fault_reply(alloc, folder_name, fault),
+        Ok(files) => files_reply(alloc, request, files, file),
+        Err(fault) => load_fault_reply(alloc, request.folder(), fault),
     }
 }

@@ -1,14 +1,14 @@
 //! The engine: it does what is asked, and writes what is answered.
 
-ghost use Rattle.std.specs.Prelude.{◌≡◌, false, Err, IsTrue};
+ghost use Rattle.std.specs.Prelude.{◌≡◌, [], false, Err, IsTrue};
 ghost use Rattle.std.specs.Io.KnownBytes.{Appends};
 ghost use Rattle.fhir_package.specs.declared.fault.LoadFault.{LoadFault};
-ghost use Rattle.fhir_registry.specs.Replying.{answer_to, Promise};
-ghost use Rattle.fhir_registry.specs.Ending.{HasEnded, is_fault};
+ghost use Rattle.fhir_registry.specs.Replying.{ReplyValue, IsReply, answer_to, Promise};
+ghost use Rattle.fhir_registry.specs.Ending.{HasEnded, is_fault, tells_fault};
 ghost use Rattle.fhir_registry.specs.Status.{words_status};
 ghost use Rattle.fhir_registry.specs.Views.{bytes_seen, request_seen};
 
-use crate::answering::certify;
+use crate::answering::answer;
 use crate::reply::{Reply, Status};
 use crate::request::{Request, WordsFault};
 use fhir_json::NoMemory;
@@ -16,15 +16,15 @@ use fhir_package::{FolderFiles, LoadFault};
 use std::alloc::Global;
 use std::io::Write;
 
-fn is_written<W: Write>(end: &mut W, text: &str) -> bool
-    ensures { IsTrue result → Appends (W.contents end.old) (W.contents end.new) text.now }
+fn is_written<W: Write>(end: &mut W, bytes: &[u8]) -> bool
+    ensures { IsTrue result → Appends (W.contents end.old) (W.contents end.new) bytes.now }
 {
-    end.write_all(text.as_bytes()).is_ok()
+    end.write_all(bytes).is_ok()
 }
 
 // Writes a reply: a fault to standard error, which may fail, and all else to standard output.
 fn write_reply<W: Write, E: Write>(reply: &Reply, out: &mut W, err: &mut E) -> Status
-    requires { IsTrue (is_fault reply.now) → reply.now.status ≡ 3 }
+    requires { IsTrue (is_fault reply.now) → (reply.now.status ≡ 3) × (reply.now.out ≡ []) }
     ensures ended { HasEnded result (W.contents out.old) (W.contents out.new) reply.now }
     ensures fault { IsTrue (is_fault reply.now) → (result ≡ Status.Fault) × (out.new ≡ out.old) }
     ensures answer { is_fault reply.now ≡ false → err.new ≡ err.old }
@@ -32,7 +32,7 @@ fn write_reply<W: Write, E: Write>(reply: &Reply, out: &mut W, err: &mut E) -> S
     if !reply.err.is_empty() {
         return end_with(err, reply.err.as_str(), Status::Fault);
     }
-    if is_written(out, reply.out.as_str()) {
+    if is_written(out, &reply.out) {
         reply.status
     } else {
         Status::Unwritten
@@ -43,7 +43,7 @@ fn write_reply<W: Write, E: Write>(reply: &Reply, out: &mut W, err: &mut E) -> S
 fn end_with<E: Write>(err: &mut E, text: &str, status: Status) -> Status
     ensures { result ≡ status }
 {
-    let _ = is_written(err, text);
+    let _ = is_written(err, text.as_bytes());
     status
 }
 
@@ -58,28 +58,25 @@ pub fn respond<W: Write, E: Write>(
     out: &mut W,
     err: &mut E,
 ) -> Status
-    // The answer is the one that is stated.
-    ensures told { HasEnded result (W.contents out.old) (W.contents out.new)
-        (answer_to (request_seen request.entry) files.now (bytes_seen file.entry)) }
+    // The answer is the one that is stated, or one of those that are.
+    ensures told { (result ≡ Status.NoMemory → ⊥)
+        → (reply : ReplyValue) × IsReply (answer_to (request_seen request.entry) files.now (bytes_seen file.entry)) reply
+        × HasEnded result (W.contents out.old) (W.contents out.new) reply }
     // A fault is answered as such, and nothing is written to standard output; of any other answer nothing is written to
     // standard error.
     ensures fault { (result ≡ Status.NoMemory → ⊥)
-        → IsTrue (is_fault (answer_to (request_seen request.entry) files.now (bytes_seen file.entry)))
+        → IsTrue (tells_fault (answer_to (request_seen request.entry) files.now (bytes_seen file.entry)))
         → (result ≡ Status.Fault) × (out.new ≡ out.old) }
     ensures answer { (result ≡ Status.NoMemory → ⊥)
-        → is_fault (answer_to (request_seen request.entry) files.now (bytes_seen file.entry)) ≡ false
+        → tells_fault (answer_to (request_seen request.entry) files.now (bytes_seen file.entry)) ≡ false
         → err.new ≡ err.old }
     // Where the folder gave no files, the answer says so.
     ensures device { (fault : LoadFault) → files.now ≡ Err fault → (result ≡ Status.NoMemory → ⊥)
         → (result ≡ Status.Fault) × (out.new ≡ out.old) }
     // What a yes promises.
-    ensures promised { result ≡ Status.Yes → Promise files.now (bytes_seen file.entry) }
+    ensures promised { result ≡ Status.Yes → Promise (request_seen request.entry) files.now (bytes_seen file.entry) }
 {
-    let Request::Certify {
-        folder: folder_name,
-        file: file_name,
-    } = request;
-    match certify(alloc, folder_name, file_name, files, file) {
+    match answer(alloc, request, files, file) {
         Ok(reply) => write_reply(&reply, out, err),
         Err(NoMemory) => end_with(err, "no memory\n", Status::NoMemory),
     }

@@ -9,16 +9,15 @@
 //!     err: &mut E,
 //! ) -> io::Result<Status>
 //!     ensures { IfOk result (λ status. status ≡ Status.Yes
-//!         → (files : Result Files LoadFault) × (certificate : Option Text) × Promise files certificate) }
+//!         → (request : RequestValue) × (files : Result Files LoadFault) × (file : Option Text) × Promise request files file) }
 //! {
 //!     let alloc = rt.alloc();
 //!     let request = match request_of(alloc, words) {
 //!         Ok(request) => request,
 //!         Err(fault) => return Ok(refuse(fault, err)),
 //!     };
-//!     let Request::Certify { folder, file } = request;
-//!     let files = files_at(rt, folder);
-//!     let file = bytes_at(rt, file)?;
+//!     let files = files_at(rt, request.folder());
+//!     let file = bytes_at(rt, request.file())?;
 //!     Ok(respond(alloc, request, &files, file.as_deref(), out, err))
 //! }
 //! ```
@@ -30,12 +29,14 @@
 mod answering;
 mod directory;
 mod engine;
+mod outcomes;
 mod reply;
 mod request;
 mod telling;
 
-pub use answering::certify;
+pub use answering::answer;
 pub use directory::{bytes_at, files_at};
 pub use engine::{refuse, respond};
+pub use outcomes::outcome;
 pub use reply::{Reply, Status};
 pub use request::{Request, WordsFault, request_of};

@@ -15,6 +15,8 @@ pub enum Status {
     Yes,
     /// 1: no.
     No,
+    /// 2: it hangs on rules that aren't judged.
+    Open,
     /// 3: a fault of the input.
     Fault,
     /// 3: an output failed.
@@ -33,6 +35,7 @@ impl Status {
         match self {
             Status::Yes => 0,
             Status::No => 1,
+            Status::Open => 2,
             Status::Fault => 3,
             Status::Unwritten => 3,
             Status::Usage => 4,
@@ -57,7 +60,7 @@ impl From<Status> for ExitCode {
 #[derive(Debug, Drop)]
 pub struct Reply {
     pub(crate) status: Status,
-    pub(crate) out: String,
+    pub(crate) out: Vec<u8>,
     pub(crate) err: String,
 }
 
@@ -68,7 +71,7 @@ impl Model for Reply {
 
     ghost Value = { ReplyValue };
 
-    ghost view = { λ r. record { status = code_of r.status; out = string_bytes r.out; err = string_bytes r.err } };
+    ghost view = { λ r. record { status = code_of r.status; out = r.out.items; err = string_bytes r.err } };
 }
 
 // A fault of the input: its number, and what it is about.
@@ -82,7 +85,7 @@ pub(crate) fn fault_reply(alloc: Global, number: &str, subject: &str) -> Result<
     err.push_str("\n")?;
     Ok(Reply {
         status: Status::Fault,
-        out: String::new(alloc),
+        out: Vec::new(alloc),
         err,
     })
 }

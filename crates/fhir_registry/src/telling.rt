@@ -93,7 +93,7 @@ fn yes_reply(alloc: Global) -> Result<Reply, AllocError>
     let out = String::from_str(alloc, "yes\n")?;
     Ok(Reply {
         status: Status::Yes,
-        out,
+        out: out.into_bytes(),
         err: String::new(alloc),
     })
 }
@@ -104,7 +104,7 @@ fn no_reply(alloc: Global, schema: &Schema, pair: Pair, rule: Rule<'_>) -> Resul
     let out = no_text(alloc, schema, pair, rule)?;
     Ok(Reply {
         status: Status::No,
-        out,
+        out: out.into_bytes(),
         err: String::new(alloc),
     })
 }

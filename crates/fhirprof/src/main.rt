@@ -3,7 +3,7 @@
 
 ghost use Rattle.std.specs.Prelude.{◌≡◌};
 ghost use Rattle.std.specs.Process.{exit_status};
-ghost use Rattle.fhir_registry.specs.Replying.{answer_to, Promise};
+ghost use Rattle.fhir_registry.specs.Replying.{ReplyValue, IsReply, answer_to, Promise};
 ghost use Rattle.fhir_registry.specs.Views.{bytes_seen, request_seen};
 
 use fhir_package::{FolderFiles, LoadFault};
@@ -31,9 +31,9 @@ fn answer<W: Write, E: Write>(
     out: &mut W,
     err: &mut E,
 ) -> ExitCode
-    ensures promised { exit_status result ≡ 0 → Promise files.now (bytes_seen file.entry) }
-    ensures no { exit_status result ≡ 1
-        → (answer_to (request_seen request.entry) files.now (bytes_seen file.entry)).status ≡ 1 }
+    ensures promised { exit_status result ≡ 0 → Promise (request_seen request.entry) files.now (bytes_seen file.entry) }
+    ensures no { exit_status result ≡ 1 → (reply : ReplyValue)
+        × IsReply (answer_to (request_seen request.entry) files.now (bytes_seen file.entry)) reply × (reply.status ≡ 1) }
 {
     ExitCode::from(respond(alloc, request, files, file, out, err))
 }
@@ -55,9 +55,8 @@ fn exit_code<R: Files + Env + AllocGlobal + Print + Clone + Drop, E: Write>(
     let alloc = rt.alloc();
     let words = words_of(rt)?;
     let request = request_of(alloc, &words)?;
-    let Request::Certify { folder, file } = request;
-    let files = files_at(rt, folder);
-    let Ok(file) = bytes_at(rt, file) else {
+    let files = files_at(rt, request.folder());
+    let Ok(file) = bytes_at(rt, request.file()) else {
         return Err(WordsFault::NoMemory);
     };
     let mut out = io::writer(rt);

@@ -1,0 +1,268 @@
+//! What is said of a validation, as an OperationOutcome.
+
+ghost use Rattle.std.specs.Prelude.{◌≡◌, ◌<◌, ◌+◌, Some, Err, length, map, codes, IfOk, OnOk, IsTrue, if◌then◌else◌};
+ghost use Rattle.std.specs.BTreeSet.{btree_set_len};
+ghost use Rattle.fhir_json.specs.Tree.{string, array, object, items_of, members_of};
+ghost use Rattle.fhir_json.specs.Fields.{text_in, items_in};
+ghost use Rattle.fhir_json.specs.Views.{tree_of, property_of, trees_of};
+ghost use Rattle.fhir_validator.specs.declared.fault.Fault.TheVariants as faults;
+ghost use Rattle.fhir_registry.specs.Outcomes.{IsOutcome, is_explained};
+
+use fhir_instance::{Misfit, MisfitKind};
+use fhir_json::{Json, Member, NoMemory, write};
+use fhir_validator::{Fault, Finding, Issue, Rule, Site, Verdict};
+use std::alloc::{AllocError, Global};
+use std::borrow::CowStr;
+use std::collections::BTreeSet;
+
+/// What an issue says: one of `OperationOutcome.issue`.
+#[derive(Debug, Drop)]
+struct Said {
+    severity: &'static str,
+    code: &'static str,
+    diagnostics: String,
+    expression: Option<String>,
+}
+
+fn member(name: &'static str, value: Json<'static>) -> Member<'static>
+    ensures { property_of result ≡ (name.now, tree_of value.entry) }
+{
+    Member {
+        name: CowStr::Borrowed(name),
+        value,
+    }
+}
+
+fn word(text: &'static str) -> Json<'static>
+    ensures { tree_of result ≡ string text.now }
+{
+    Json::Str(CowStr::Borrowed(text))
+}
+
+fn text(text: String) -> Json<'static> {
+    Json::Str(CowStr::Owned(text))
+}
+
+fn array(items: Vec<Json<'static>>) -> Json<'static>
+    ensures { tree_of result ≡ array (items_of (trees_of items.entry.items)) }
+{
+    Json::Arr(items)
+}
+
+fn object(members: Vec<Member<'static>>) -> Json<'static>
+    ensures { tree_of result ≡ object (members_of (map property_of members.entry.items)) }
+{
+    Json::Obj(members)
+}
+
+impl Said {
+    fn into_json(self, alloc: Global) -> Result<Json<'static>, AllocError> {
+        let Said {
+            severity,
+            code,
+            diagnostics,
+            expression,
+        } = self;
+        let mut members = Vec::with_capacity(alloc, 4)?;
+        members.push(member("severity", word(severity)))?;
+        members.push(member("code", word(code)))?;
+        members.push(member("diagnostics", text(diagnostics)))?;
+        if let Some(place) = expression {
+            let places = vec![in alloc; text(place)]?;
+            members.push(member("expression", array(places)))?;
+        }
+        Ok(object(members))
+    }
+}
+
+fn conforming(alloc: Global) -> Result<Said, AllocError> {
+    Ok(Said {
+        severity: "information",
+        code: "informational",
+        diagnostics: String::from_str(alloc, "conforms")?,
+        expression: None,
+    })
+}
+
+fn misfit_code(kind: MisfitKind) -> &'static str {
+    match kind {
+        MisfitKind::WrongValue => "value",
+        _ => "structure",
+    }
+}
+
+fn misfit_said(alloc: Global, misfit: &Misfit) -> Result<Said, AllocError> {
+    let expression = match &misfit.place {
+        Some(place) => Some(String::from_str(alloc, place.as_str())?),
+        None => None,
+    };
+    Ok(Said {
+        severity: "error",
+        code: misfit_code(misfit.kind),
+        diagnostics: format!(in alloc; "{}", misfit.kind)?,
+        expression,
+    })
+}
+
+fn rule_code(rule: &Rule<'_>) -> &'static str {
+    match rule {
+        Rule::RootType(_) | Rule::Types | Rule::TooMany { .. } => "structure",
+        Rule::Fixed | Rule::Pattern | Rule::Range | Rule::Length => "value",
+        Rule::TooFew { .. } => "required",
+    }
+}
+
+fn finding_said(alloc: Global, finding: &Finding<'_>) -> Result<Said, AllocError> {
+    Ok(Said {
+        severity: "error",
+        code: rule_code(&finding.rule),
+        diagnostics: format!(in alloc; "{} ({}#{})", finding.rule, finding.url, finding.id)?,
+        expression: Some(format!(in alloc; "{}", finding.place)?),
+    })
+}
+
+fn issue_said(alloc: Global, issue: &Issue<'_>) -> Result<Said, AllocError> {
+    match issue {
+        Issue::Misfit(misfit) => misfit_said(alloc, misfit),
+        Issue::Broken(finding) => finding_said(alloc, finding),
+    }
+}
+
+fn site_said(alloc: Global, site: &Site<'_>) -> Result<Said, AllocError> {
+    Ok(Said {
+        severity: "warning",
+        code: "not-supported",
+        diagnostics: format!(in alloc; "unread {} ({}#{})", site.unread, site.url, site.id)?,
+        expression: Some(format!(in alloc; "{}", site.place)?),
+    })
+}
+
+fn fatal(code: &'static str, diagnostics: String) -> Said {
+    Said {
+        severity: "fatal",
+        code,
+        diagnostics,
+        expression: None,
+    }
+}
+
+fn fault_said(alloc: Global, profile: &str, fault: Fault) -> Result<Said, NoMemory>
+    ensures memory { IfOk result (λ said. fault ≡ faults.NoMemory → ⊥) }
+{
+    match fault {
+        Fault::Missing => Ok(fatal("not-found", format!(in alloc; "V1 {profile}")?)),
+        Fault::Unusable(reason) => Ok(fatal(
+            "not-supported",
+            format!(in alloc; "V2 {profile} {reason}")?,
+        )),
+        Fault::NotJson(fault) => Ok(fatal("structure", format!(in alloc; "V3 {fault}")?)),
+        Fault::NoMemory => Err(NoMemory),
+    }
+}
+
+// The issues of an outcome, each once, and the texts of those.
+#[derive(Drop)]
+struct Issues {
+    texts: BTreeSet<Vec<u8>>,
+    issues: Vec<Json<'static>>,
+}
+
+// Puts in a text, and says whether it wasn't there.
+fn is_new(texts: &mut BTreeSet<Vec<u8>>, text: Vec<u8>) -> Result<bool, NoMemory>
+    ensures counted { IfOk result (λ added. btree_set_len texts.new ≡ btree_set_len texts.old + (if added then 1 else 0)) }
+    ensures some { OnOk result (0 < btree_set_len texts.new) }
+{
+    Ok(texts.insert(text)?)
+}
+
+impl Issues {
+    fn new(alloc: Global) -> Issues
+        ensures { btree_set_len result.texts ≡ length result.issues.items }
+    {
+        Issues {
+            texts: BTreeSet::new(alloc),
+            issues: Vec::new(alloc),
+        }
+    }
+
+    // Puts an issue behind the others, if it isn't among them.
+    fn add(&mut self, alloc: Global, said: Said) -> Result<(), NoMemory>
+        ensures kept { btree_set_len self.old.texts ≡ length self.old.issues.items
+            → OnOk result (btree_set_len self.new.texts ≡ length self.new.issues.items) }
+        ensures some { OnOk result (0 < btree_set_len self.new.texts) }
+    {
+        let issue = said.into_json(alloc)?;
+        let text = write(alloc, &issue)?;
+        if is_new(&mut self.texts, text)? {
+            Ok(self.issues.push(issue)?)
+        } else {
+            Ok(())
+        }
+    }
+}
+
+fn one(alloc: Global, said: Said) -> Result<Vec<Json<'static>>, NoMemory>
+    ensures { IfOk result (λ all. 0 < length all.items) }
+{
+    let issue = said.into_json(alloc)?;
+    Ok(vec![in alloc; issue]?)
+}
+
+fn violations(alloc: Global, issues: &Vec<Issue<'_>>) -> Result<Vec<Json<'static>>, NoMemory>
+    ensures { IfOk result (λ all. 0 < length issues.now.items → 0 < length all.items) }
+{
+    let mut all = Issues::new(alloc);
+    for issue in issues {
+        all.add(alloc, issue_said(alloc, issue)?)?;
+    }
+    Ok(all.issues)
+}
+
+fn warnings(alloc: Global, sites: &Vec<Site<'_>>) -> Result<Vec<Json<'static>>, NoMemory>
+    ensures { IfOk result (λ all. 0 < length sites.now.items → 0 < length all.items) }
+{
+    let mut all = Issues::new(alloc);
+    for site in sites {
+        all.add(alloc, site_said(alloc, site)?)?;
+    }
+    Ok(all.issues)
+}
+
+fn issues_of(
+    alloc: Global,
+    profile: &str,
+    validated: &Result<Verdict<'_>, Fault>,
+) -> Result<Vec<Json<'static>>, NoMemory>
+    ensures some { IsTrue (is_explained validated.now) → IfOk result (λ all. 0 < length all.items) }
+    ensures memory { IfOk result (λ all. validated.now ≡ Err faults.NoMemory → ⊥) }
+{
+    match validated {
+        Ok(Verdict::Conforms) => one(alloc, conforming(alloc)?),
+        Ok(Verdict::Violates(issues)) => violations(alloc, issues),
+        Ok(Verdict::Open(sites)) => warnings(alloc, sites),
+        Err(fault) => one(alloc, fault_said(alloc, profile, *fault)?),
+    }
+}
+
+fn resource(alloc: Global, issues: Vec<Json<'static>>) -> Result<Json<'static>, AllocError>
+    ensures resource { IfOk result (λ json. text_in (codes "resourceType") (tree_of json) ≡ Some (codes "OperationOutcome")) }
+    ensures issues { IfOk result (λ json. items_in (codes "issue") (tree_of json) ≡ trees_of issues.entry.items) }
+{
+    let kind = member("resourceType", word("OperationOutcome"));
+    let issues = member("issue", array(issues));
+    Ok(object(vec![in alloc; kind, issues]?))
+}
+
+/// The OperationOutcome (FHIR R4) of what was answered on a resource and the profile at a url: its issues in their order, each
+/// once. It takes time near linear in their number. The one refusal is want of memory, also where the answer is that.
+pub fn outcome(
+    alloc: Global,
+    profile: &str,
+    validated: &Result<Verdict<'_>, Fault>,
+) -> Result<Json<'static>, NoMemory>
+    ensures outcome { IsTrue (is_explained validated.now) → IfOk result (λ json. IsOutcome (tree_of json)) }
+    ensures memory { IfOk result (λ json. validated.now ≡ Err faults.NoMemory → ⊥) }
+{
+    let issues = issues_of(alloc, profile, validated)?;
+    Ok(resource(alloc, issues)?)
+}
