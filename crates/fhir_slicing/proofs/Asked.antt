@@ -1,14 +1,13 @@
 -- What kinds of things a node asks.
-use Rattle.std.proofs.Common.{◌≡◌, ℕ, true, false, Bool, List, [], ◌∷◌, ◌++◌, map, Option, Some, None, refl}
-use Rattle.std.specs.Prelude.{if◌then◌else◌}
-use Rattle.std.specs.List.{flat_map, AllByRecursion}
+use Rattle.std.proofs.Common.{◌≡◌, ℕ, Option, Some, None, refl}
+use Rattle.std.specs.List.{AllByRecursion}
 use Rattle.fhir_json.specs.Tree.{Text}
 use Rattle.fhir_schema.specs.declared.node.NodeRef.{NodeRef}
 use Rattle.fhir_schema.specs.Slots.{Slot}
-use Rattle.fhir_schema.specs.Schemas.{SchemaValue, is_root_node, slots, entry_of, type_root}
+use Rattle.fhir_schema.specs.Schemas.{SchemaValue, slots, entry_of, type_root}
 use Rattle.fhir_instance.specs.Items.{Item, type_of}
-use Rattle.fhir_slicing.specs.Asks.{RuleName, root_type, types, fixed, pattern, range, length_limit, too_few, too_many}
-use Rattle.fhir_slicing.specs.Asks.{Ask, own, root, child, places_of, child_ask, slot_asks, own_root, kids_asks, root_asks, inner_asks, asks}
+use Rattle.fhir_slicing.specs.Asks.{root_type, types, fixed, pattern, range, length_limit, too_few, too_many}
+use Rattle.fhir_slicing.specs.Asks.{Ask, own, root, child, places_of, child_ask, slot_asks, own_root, kids_asks, root_asks, inner_asks}
 use Rattle.fhir_slicing.proofs.Lists.{all_of_each, all_join, all_gathered, all_mapped}
 
 -- of children, a node asks how many there are, and what each conforms to

@@ -16,10 +16,10 @@ use Rattle.fhir_instance.specs.Items.{Item, type_of}
 use Rattle.fhir_facets.specs.declared.kinds.Kind.{Kind}
 use Rattle.fhir_facets.specs.Unread.{Unread, Meaning, range, target}
 use Rattle.fhir_facets.specs.Seen.{Seen}
-use Rattle.fhir_facets.specs.Ranges.{kind_of_bound, kind_holds, bound_holds, range_holds}
+use Rattle.fhir_facets.specs.Ranges.{kind_of_bound, kind_holds, bound_holds}
 use Rattle.fhir_facets.specs.Targets.{has_targets, referred_type, target_holds}
 use Rattle.fhir_facets.specs.Carried.{bound_unread, range_unread, target_unread}
-use Rattle.fhir_slicing.specs.Conformance.{seen, entry_holds, types_hold, is_untyped, range_of, range_at, at_element}
+use Rattle.fhir_slicing.specs.Conformance.{seen, entry_holds, types_hold, is_untyped, range_at, at_element}
 use Rattle.fhir_slicing.specs.Meeting.{entry_unread, unread_at}
 use Rattle.fhir_slicing.proofs.Lists.{any_step, all_weaker, all_front, all_back, all_given}
 

@@ -1,5 +1,5 @@
 -- Conformance from one meaning to another, down an item.
-use Rattle.std.proofs.Common.{◌≡◌, ℕ, suc, zero, ◌+◌, Bool, true, false, List, [], ◌∷◌, Option, Some, get_or, refl, sym, ap, subst, IsTrue, add-zero, zero-add, arith}
+use Rattle.std.proofs.Common.{◌≡◌, ℕ, suc, zero, ◌+◌, Bool, true, false, List, [], ◌∷◌, Some, get_or, refl, sym, ap, subst, IsTrue, add-zero, zero-add, arith}
 use Rattle.std.specs.Prelude.{if◌then◌else◌}
 use Rattle.std.specs.List.{Contains, AllByRecursion, list_all}
 use Rattle.std.proofs.lemmas.Bool.{false≢true}
@@ -8,9 +8,9 @@ use Rattle.fhir_schema.specs.declared.node.NodeRef.{NodeRef}
 use Rattle.fhir_schema.specs.Schemas.{SchemaValue, is_root_node, type_root}
 use Rattle.fhir_instance.specs.Items.{Item, item, Kids, no_kids, kid, kids_of, type_of}
 use Rattle.fhir_facets.specs.Unread.{Meaning}
-use Rattle.fhir_slicing.specs.Asks.{RuleName, root_type, types, fixed, pattern, range, length_limit, too_few, too_many}
+use Rattle.fhir_slicing.specs.Asks.{root_type, types, fixed, pattern, range, length_limit, too_few, too_many}
 use Rattle.fhir_slicing.specs.Asks.{Ask, own, root, child, root_asks, inner_asks, asks}
-use Rattle.fhir_slicing.specs.Conformance.{Interpretation, Around, meaning_at, inside, below, ask_holds, rule_holds, root_holds, inner_holds, item_holds, conforms, kid_tests}
+use Rattle.fhir_slicing.specs.Conformance.{Interpretation, Around, meaning_at, inside, below, ask_holds, root_holds, inner_holds, item_holds, conforms, kid_tests}
 use Rattle.fhir_slicing.specs.Meeting.{kid_at, unread_at}
 use Rattle.fhir_slicing.proofs.Lists.{all_step}
 use Rattle.fhir_slicing.proofs.Carrying.{AreCarried, types_step, range_step}

@@ -1,6 +1,6 @@
 -- What a node asks of an item (FHIR R4, ElementDefinition and StructureDefinition, snapshot), as a list of single asks. Which
 -- they are hangs on the item's type and on the names of its children alone, and on no meaning of unread rules.
-use Rattle.std.specs.Prelude.{ℕ, suc, List, [], ◌∷◌, ◌++◌, map, length, Bool, Option, None, Some, if◌then◌else◌}
+use Rattle.std.specs.Prelude.{ℕ, suc, List, [], ◌∷◌, ◌++◌, map, Option, None, Some, if◌then◌else◌}
 use Rattle.std.specs.List.{flat_map}
 use Rattle.std.specs.Str.{bytes_eq}
 use Rattle.fhir_json.specs.Tree.{Text}

@@ -1,6 +1,6 @@
 -- When an item conforms to a node, and a resource to a profile (FHIR R4, Profiling and ElementDefinition): where all holds
 -- that the node asks of it. An item is folded into its test of nodes: what is asked of a child is asked of the child's test.
-use Rattle.std.specs.Prelude.{◌≡◌, ℕ, suc, List, [], ◌∷◌, ◌++◌, length, get_or, Bool, true, ◌&&◌, ◌||◌, nat_eq, Option, Some, IsTrue, if◌then◌else◌}
+use Rattle.std.specs.Prelude.{◌≡◌, ℕ, suc, List, [], ◌∷◌, ◌++◌, length, get_or, Bool, true, ◌&&◌, ◌||◌, nat_eq, Some, IsTrue, if◌then◌else◌}
 use Rattle.std.specs.Option.{option_map_or}
 use Rattle.std.specs.List.{list_all, list_any}
 use Rattle.fhir_json.specs.Tree.{Text, Tree}

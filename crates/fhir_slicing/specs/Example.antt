@@ -1,6 +1,6 @@
 -- A package of one resource with a few elements, and two profiles of it: what conforms, and what doesn't.
 use Rattle.std.specs.Prelude.{[], ◌∷◌, codes}
-use Rattle.fhir_json.specs.Tree.{Text, Tree, string, number, array, object, no_items, item, Members, no_members, member}
+use Rattle.fhir_json.specs.Tree.{Text, Tree, string, array, object, no_items, item, Members, no_members, member}
 use Rattle.fhir_package.specs.Definitions.{Definitions}
 use Rattle.fhir_schema.specs.Schemas.{SchemaValue, schema_of}
 use Rattle.fhir_instance.specs.TypingExample.{element, definition}

@@ -1,7 +1,7 @@
-use Rattle.std.proofs.Common.{◌≡◌, Bool, true, List, ◌++◌, ◌+◌, ◌||◌, take, sym, ap, ap₂, subst, ◌∙◌}
-use Rattle.std.specs.List.{list_any, flat_map}
+use Rattle.std.proofs.Common.{Bool, List, ◌+◌, ◌||◌, take, sym, ap₂, subst, ◌∙◌}
+use Rattle.std.specs.List.{flat_map}
 use Rattle.fhir_facets.specs.Unread.{Unread}
-use Rattle.fhir_facets.specs.Views.{holding_under, IsCarried}
+use Rattle.fhir_facets.specs.Views.{IsCarried}
 use Rattle.fhir_instance.specs.View.{item_of}
 use Rattle.fhir_slicing.specs.Conformance.{entry_holds}
 use Rattle.fhir_slicing.specs.Meeting.{entry_unread}

@@ -1,4 +1,4 @@
-use Rattle.std.proofs.Common.{◌≡◌, Bool, true, false, [], IsTrue, refl, sym, subst}
+use Rattle.std.proofs.Common.{◌≡◌, Bool, true, false, IsTrue, refl, sym, subst}
 use Rattle.fhir_slicing.specs.Conformance.{Interpretation, meaning_at, outermost, conforms}
 use Rattle.fhir_slicing.specs.Meeting.{Met, first, at_item, at_child}
 use Rattle.fhir_slicing.proofs.Carrying.{AreCarried}

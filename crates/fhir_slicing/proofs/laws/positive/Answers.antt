@@ -1,4 +1,4 @@
-use Rattle.std.proofs.Common.{IsTrue, refl}
+use Rattle.std.proofs.Common.{IsTrue}
 use Rattle.fhir_facets.specs.Unread.{Unread}
 use Rattle.fhir_slicing.specs.Conformance.{meaning_at, outermost}
 use Rattle.fhir_slicing.specs.Meeting.{unread_at}
