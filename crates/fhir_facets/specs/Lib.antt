@@ -5,5 +5,6 @@ pub mod Values
 pub mod Ranges
 pub mod Targets
 pub mod Counts
+pub mod Carried
 pub mod Views
 pub mod Example

@@ -1,0 +1,17 @@
+-- Which unread rules the bounds and the targets of an element are.
+use Rattle.std.specs.Prelude.{List, [], ◌∷◌, ◌++◌, if◌then◌else◌, is_none}
+use Rattle.std.specs.Option.{option_map_or}
+use Rattle.fhir_json.specs.Tree.{Text, Property}
+use Rattle.fhir_elements.specs.Element.{Element}
+use Rattle.fhir_schema.specs.Schemas.{SchemaValue, loaded}
+use Rattle.fhir_facets.specs.Unread.{Unread, range, target}
+use Rattle.fhir_facets.specs.Ranges.{kind_of_bound}
+
+abbrev pub bound_unread : Property → List Unread
+bound_unread p = if is_none (kind_of_bound p.0) then range p.0 p.1 ∷ [] else []
+
+abbrev pub range_unread : Element → List Unread
+range_unread e = option_map_or bound_unread e.min_value [] ++ option_map_or bound_unread e.max_value []
+
+abbrev pub target_unread : SchemaValue → Text → List Unread
+target_unread s canonical = if is_none (loaded s canonical) then target canonical ∷ [] else []
