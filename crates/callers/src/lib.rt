@@ -28,6 +28,11 @@ ghost use Rattle.fhir_schema.specs.Schemas.{root, slots};
 ghost use Rattle.std.specs.Str.{bytes_eq};
 ghost use Rattle.fhir_instance.specs.Items.{Item, type_of};
 ghost use Rattle.fhir_instance.specs.Typing.{Types};
+ghost use Rattle.fhir_instance.specs.View.{item_of};
+ghost use Rattle.fhir_facets.specs.Seen.{Seen};
+ghost use Rattle.fhir_facets.specs.Values.{pattern_holds};
+ghost use Rattle.fhir_slicing.specs.Asks.{asks};
+ghost use Rattle.fhir_slicing.specs.Conformance.{Interpretation, Conforms};
 ghost use Rattle.fhir_certificate.specs.Certificate.{CertificateValue};
 ghost use Rattle.fhir_certificate.specs.Judging.{Stands};
 ghost use Rattle.fhir_cert_check.specs.Checking.{SpellsCertificate};
@@ -38,14 +43,17 @@ use fhir_certificate::CertFault;
 use fhir_decimal::Decimal;
 use fhir_definition::Definition;
 use fhir_elements::{ElementDef, ElementFault};
-use fhir_instance::{Misfit, type_resource};
+use fhir_facets::{Facet, Pattern, narrower_holds};
+use fhir_instance::{Misfit, Typed, type_resource};
 use fhir_json::{Json, JsonFault, NoMemory};
 use fhir_matching::{json_eq, matches};
 use fhir_names::{ElementId, front_of};
 use fhir_package::{FolderFile, FolderFiles, Kind, LoadFault, pack};
 use fhir_prims::{PrimType, lexical};
 use fhir_registry::{Status, bytes_at, files_at, refuse, request_of, respond};
-use fhir_schema::{Schema, Slot};
+use fhir_schema::{NodeRef, Schema, Slot};
+use fhir_slicing::{Children, asks};
+use fhir_validator::{Fault, Verdict, validate};
 use std::alloc::Global;
 use std::io;
 use std::io::Write;
@@ -145,6 +153,24 @@ pub fn is_patient(alloc: Global, schema: &Schema, json: &Json<'_>) -> Result<boo
 {
     let item = type_resource(alloc, schema, json)?;
     Ok(item.code() == "Patient")
+}
+
+/// Whether one pattern asks for all that another does; then what has the first has the other too.
+pub fn asks_for_all(pattern: &Json<'static>, other: &Json<'static>) -> bool
+    ensures { IsTrue result → (x : Seen) → IsTrue (pattern_holds (tree_of pattern.now) x)
+        → IsTrue (pattern_holds (tree_of other.now) x) }
+{
+    narrower_holds();
+    Pattern(pattern).narrower(&Pattern(other))
+}
+
+/// How many things a node asks of an item.
+pub fn count_asks(alloc: Global, schema: &Schema, item: &Typed<'_, '_>, node: NodeRef) -> Result<usize, NoMemory>
+    ensures { Gives (λ n. n) result (length (asks schema.now (item_of item.now) node)) }
+{
+    let children = Children::of(alloc, item)?;
+    let asked = asks(alloc, schema, item, &children, node)?;
+    Ok(asked.len())
 }
 
 /// How many pairs of items a certificate has, or why the bytes are none.
