@@ -1,13 +1,13 @@
 -- What the pairs of a right certificate say holds at each item.
-use Rattle.std.proofs.Common.{◌≡◌, ℕ, zero, suc, ℤ, Bool, true, false, List, [], ◌∷◌, ◌++◌, map, Option, Some, None, refl, sym}
-use Rattle.std.proofs.Common.{subst, ◌∙◌, inl, inr, arith, ◌&&◌, ◌||◌, IsTrue, not, nat_eq, nat_le, length, cond, get_or}
+use Rattle.std.proofs.Common.{◌≡◌, ℕ, suc, ℤ, Bool, true, false, List, [], ◌∷◌, ◌++◌, map, Option, Some, None, refl, sym}
+use Rattle.std.proofs.Common.{subst, ◌∙◌, inl, inr, arith, ◌&&◌, IsTrue, not, nat_eq, length, cond}
 use Rattle.std.specs.Prelude.{if◌then◌else◌}
-use Rattle.std.specs.List.{list_all, list_any, flat_map, AllByRecursion}
+use Rattle.std.specs.List.{list_all, list_any, AllByRecursion}
 use Rattle.std.specs.Option.{option_map_or}
 use Rattle.std.specs.Str.{bytes_eq}
 use Rattle.std.specs.Cmp.Lexicographic.{bytes_decides}
 use Rattle.std.proofs.lemmas.Bool.{and_parts, and_from, or_cases, or_left, or_right, not-true, leb-true, eqb-true, false≢true, true≢false}
-use Rattle.fhir_json.specs.Tree.{Text, Tree, Property}
+use Rattle.fhir_json.specs.Tree.{Text, Tree}
 use Rattle.fhir_elements.specs.declared.max.Max.{Max}
 use Rattle.fhir_elements.specs.declared.max.Max.TheVariants.{Unbounded, UpTo}
 use Rattle.fhir_elements.specs.Max.{is_within}
@@ -25,10 +25,10 @@ use Rattle.fhir_facets.specs.Values.{fixed_holds, fixed_narrower, pattern_holds,
 use Rattle.fhir_facets.specs.Ranges.{Range, range_holds, range_narrower}
 use Rattle.fhir_facets.specs.Targets.{targets_hold, targets_narrower}
 use Rattle.fhir_facets.specs.Counts.{are_enough, are_within, count_holds, count_narrower, allows_none, is_forbidden}
-use Rattle.fhir_slicing.specs.Asks.{RuleName, root_type, types as of_types, fixed, pattern, range, length_limit, too_few, too_many}
-use Rattle.fhir_slicing.specs.Asks.{Ask, own, child, places_of, child_ask, facet_asks, slot_asks, own_root, kids_asks}
+use Rattle.fhir_slicing.specs.Asks.{root_type, types as of_types, fixed, pattern, range, length_limit, too_few, too_many}
+use Rattle.fhir_slicing.specs.Asks.{Ask, own, places_of, child_ask, facet_asks, slot_asks, own_root, kids_asks}
 use Rattle.fhir_slicing.specs.Conformance.{Interpretation, Around, seen, count_of, fixed_at, pattern_at, range_at, length_at, is_untyped, entry_holds}
-use Rattle.fhir_slicing.specs.Conformance.{types_hold, rule_holds, ask_holds, root_holds, inner_holds, item_holds, meaning_at, inside, below}
+use Rattle.fhir_slicing.specs.Conformance.{rule_holds, ask_holds, root_holds, inner_holds, item_holds, meaning_at, inside, below}
 use Rattle.fhir_slicing.specs.Conformance.{conforms, kid_tests}
 use Rattle.fhir_certificate.specs.declared.pair.Pair.{Pair}
 use Rattle.fhir_certificate.specs.declared.pair.Pair.TheVariants.{Item as ItemPair, Kids as KidsPair}

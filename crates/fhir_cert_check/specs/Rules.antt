@@ -1,8 +1,8 @@
 -- The rules of a certificate's pairs: when a pair is right by the certificate's others. A pair of items says that each
 -- item which conforms to its derived node conforms to its base node, and a pair of children the same of an item's
 -- children; no item occurs in the rules.
-use Rattle.std.specs.Prelude.{List, [], ◌∷◌, Bool, true, false, not, ◌&&◌, ◌||◌, length, nat_eq, Option, None, Some, if◌then◌else◌}
-use Rattle.std.specs.Option.{option_map_or, option_and_then}
+use Rattle.std.specs.Prelude.{List, [], ◌∷◌, Bool, true, false, not, ◌&&◌, ◌||◌, Option, None, Some, if◌then◌else◌}
+use Rattle.std.specs.Option.{option_map_or}
 use Rattle.std.specs.List.{flat_map}
 use Rattle.fhir_json.specs.Tree.{Text}
 use Rattle.fhir_elements.specs.TypeEntry.{TypeEntry}

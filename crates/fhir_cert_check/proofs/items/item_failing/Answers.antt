@@ -1,5 +1,4 @@
-use Rattle.std.proofs.Common.{◌≡◌, true, false, Some, None, [], ◌∷◌, ◌++◌, arith, ap, sym, ◌∙◌, option_map}
-use Rattle.fhir_elements.specs.Tests.{first_of}
+use Rattle.std.proofs.Common.{◌≡◌, None, [], ◌∷◌, ◌++◌, arith, ap, sym, ◌∙◌, option_map}
 use Rattle.fhir_cert_check.specs.Rule.{type, children}
 use Rattle.fhir_cert_check.specs.Rules.{type_answers, children_answer}
 use Rattle.fhir_cert_check.specs.Facets.{facet_rules}
