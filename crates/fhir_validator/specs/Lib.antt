@@ -1,3 +1,3 @@
 pub mod Answers
-pub mod Issues
-pub mod Verdicts
+pub mod Layouts
+pub mod Judging

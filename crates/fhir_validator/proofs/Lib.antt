@@ -1,0 +1,5 @@
+mod Asking
+mod Judged
+mod Measures
+mod Pairs
+mod Rows
