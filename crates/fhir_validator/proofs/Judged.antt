@@ -56,7 +56,7 @@ module _ (s : SchemaValue) (layout : Layout) (p : Pair) (position : ℕ) (n : No
   abbrev x : Item
   x = item_at layout p.item
 
-  asked_of : (b : Bool) (around : Around) (o : Option Item) → o ≡ kid_at (kids_of x) position
+  pub asked_of : (b : Bool) (around : Around) (o : Option Item) → o ≡ kid_at (kids_of x) position
       → get_or (kid_tests s (constant b) (inside s around x) 0 (kids_of x)) position (λ n. true) n
       ≡ option_map_or (λ y. conforms s (constant b) (below (inside s around x) (0 + position)) y n) o true
   asked_of b around o e =

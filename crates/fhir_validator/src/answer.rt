@@ -3,11 +3,12 @@
 ghost use Rattle.std.specs.Prelude.{◌≡◌, ◌&&◌, Bool};
 ghost use Rattle.fhir_facets.specs.Views.{holding_under};
 ghost use Rattle.fhir_validator.specs.Answers.{under};
+ghost use Rattle.fhir_validator.specs.Listing.{same_answer};
 
 use fhir_facets::Holding;
 
 /// Whether something holds of an item, where unread rules may mean anything.
-#[derive(Clone, Copy, Debug, PartialEq, Eq)]
+#[derive(Clone, Copy, Debug)]
 pub(crate) enum Answer {
     /// It holds, whatever they mean.
     Holds,
@@ -47,6 +48,17 @@ impl Answer {
             Answer::Holds => Answer::Open,
             Answer::Open => Answer::Open,
             Answer::Fails => Answer::Fails,
+        }
+    }
+
+    /// Whether it is that one.
+    pub(crate) fn is(self, other: Answer) -> bool
+        ensures { result ≡ same_answer self other }
+    {
+        match self {
+            Answer::Holds => matches!(other, Answer::Holds),
+            Answer::Open => matches!(other, Answer::Open),
+            Answer::Fails => matches!(other, Answer::Fails),
         }
     }
 }

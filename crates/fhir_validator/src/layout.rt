@@ -102,9 +102,8 @@ impl<'t, 'a, 'j> Layout<'t, 'a, 'j> {
 
     /// Its children by their names.
     pub(crate) fn children(&self, number: usize) -> &Children<'t>
-        requires laid { IsLayout self.now }
-        requires within { number < length self.now.stands.items }
-        ensures { IsIndexOf (item_at self.now number) result.now }
+        requires { number < length self.now.stands.items }
+        ensures { IsLayout self.now → IsIndexOf (item_at self.now number) result.now }
     {
         &self.stands[number].children
     }
@@ -122,5 +121,21 @@ impl<'t, 'a, 'j> Layout<'t, 'a, 'j> {
         } else {
             None
         }
+    }
+
+    /// The number of its parent, if it has one.
+    pub(crate) fn parent(&self, number: usize) -> Option<usize>
+        requires { number < length self.now.stands.items }
+        ensures { IfSome result (λ parent. parent < number) }
+    {
+        let parent = self.stands[number].parent;
+        if parent < number { Some(parent) } else { None }
+    }
+
+    /// Its position among all of its parent's children.
+    pub(crate) fn position(&self, number: usize) -> usize
+        requires { number < length self.now.stands.items }
+    {
+        self.stands[number].position
     }
 }
