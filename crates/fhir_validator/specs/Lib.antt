@@ -1,3 +1,6 @@
 pub mod Answers
 pub mod Issues
+pub mod Judging
+pub mod Layouts
+pub mod Listing
 pub mod Verdicts

@@ -1,9 +1,9 @@
 -- The three verdicts on a resource, and the faults that come before them.
-use Rattle.std.specs.Prelude.{◌≡◌, ◌<◌, ℕ, Bool, true, false, List, length, Some, IsSome}
+use Rattle.std.specs.Prelude.{◌≡◌, ◌<◌, ℕ, Bool, true, false, List, length, None, Some, IsSome}
 use Rattle.std.specs.List.{AllByRecursion}
 use Rattle.fhir_json.specs.Tree.{Text, Tree}
 use Rattle.fhir_json.specs.Grammar.{Reads}
-use Rattle.fhir_schema.specs.Schemas.{SchemaValue, is_loaded, unusable, root}
+use Rattle.fhir_schema.specs.Schemas.{SchemaValue, unusable, root}
 use Rattle.fhir_validator.specs.declared.issue.Issue.{Issue}
 use Rattle.fhir_validator.specs.declared.issue.Site.{Site}
 use Rattle.fhir_validator.specs.declared.verdict.Verdict.{Verdict}
@@ -39,9 +39,10 @@ IsExplained s profile t (Open sites) = AreSome (IsSite s profile t) sites.items
 
 -- ---- faults
 
--- The profile isn't there; or it can't be used; or it can, and the bytes are no JSON. Want of memory says nothing.
+-- The profile has no root, and no reason why it can't be used: it isn't there; or it can't be used; or it can, and the bytes
+-- are no JSON. Want of memory says nothing.
 abbrev pub Means : SchemaValue → Text → Text → Fault → Type 0
-Means s profile bytes Missing = is_loaded s profile ≡ false
+Means s profile bytes Missing = (root s profile ≡ None) × (unusable s profile ≡ None)
 Means s profile bytes (Unusable reason) = unusable s profile ≡ Some reason
 Means s profile bytes (NotJson fault) = IsSome (root s profile) × ((t : Tree) → Reads bytes t → ⊥)
 Means s profile bytes NoMemory = Unit {0}

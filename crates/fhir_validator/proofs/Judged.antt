@@ -1,0 +1,74 @@
+-- Answers to what a pair asks, and to the pair.
+use Rattle.std.proofs.Common.{◌≡◌, ◌<◌, ◌≤◌, ◌+◌, ℕ, zero, suc, Bool, true, false, List, [], ◌∷◌, map, length, take, get_or, refl, sym, ap, ◌∙◌, ◌&&◌, subst, arith, IsTrue, Option, Some, None}
+use Rattle.std.specs.Prelude.{Result, Ok, Err, IfOk}
+use Rattle.std.specs.Option.{option_map_or}
+use Rattle.std.specs.List.{list_all, AllByRecursion}
+use Rattle.std.proofs.lemmas.List.{take_all}
+use Rattle.std.proofs.lemmas.List.Folds.{list_all_more, list_all-map}
+use Rattle.fhir_schema.specs.declared.node.NodeRef.{NodeRef}
+use Rattle.fhir_schema.specs.Schemas.{SchemaValue}
+use Rattle.fhir_instance.specs.Items.{Item, kids_of}
+use Rattle.fhir_slicing.specs.Asks.{asks, child, root}
+use Rattle.fhir_slicing.specs.Conformance.{Interpretation, Around, constant, inside, below, conforms, kid_tests}
+use Rattle.fhir_slicing.specs.Meeting.{kid_at}
+use Rattle.fhir_slicing.specs.Views.{ask_seen, asks_seen}
+use Rattle.fhir_slicing.specs.declared.ask.Ask.{Ask}
+use Rattle.fhir_validator.specs.declared.answer.Answer.{Answer}
+use Rattle.fhir_validator.specs.declared.layout.Layout.{Layout}
+use Rattle.fhir_validator.specs.declared.pair.Pair.{Pair}
+use Rattle.fhir_validator.specs.Answers.{under}
+use Rattle.fhir_validator.specs.Layouts.{item_at}
+use Rattle.fhir_validator.specs.Judging.{IsRight, IsRightOf, IsOrdered, ask_conforms}
+use Rattle.fhir_validator.proofs.Asking.{IsOfType, are_ordered, conforms_to}
+use Rattle.fhir_validator.proofs.Rows.{test_at}
+
+pub weaker : {A E : Type 0} (P Q : A → Type 0) → ((a : A) → P a → Q a) → (r : Result A E) → IfOk r P → IfOk r Q
+weaker P Q f (Ok a) h = f a h
+weaker P Q f (Err e) h = h
+
+all_at : {A B : Type 0} (P : B → Type 0) (f : A → B) (xs : List A) (i : ℕ) (d : A) → i < length xs → AllByRecursion P (map f xs) → P (f (get_or xs i d))
+all_at P f [] i d h each = absurd (omega arith)
+all_at P f (x ∷ xs) zero d h each = each.0
+all_at P f (x ∷ xs) (suc i) d h each = all_at P f xs i d (omega arith) each.1
+
+pub ordered_at : (s : SchemaValue) (roots : IsOfType s) (x : Item) (n : NodeRef) (xs : List Ask) (i : ℕ) (d : Ask) → asks_seen xs ≡ asks s x n → i < length xs
+    → IsOrdered s n (ask_seen (get_or xs i d))
+ordered_at s roots x n xs i d e h =
+    all_at (IsOrdered s n) ask_seen xs i d h (subst (AllByRecursion (IsOrdered s n)) (sym e) (are_ordered s roots x n))
+
+-- one ask more is answered
+pub one_more : (p : Ask → Bool) (xs : List Ask) (i : ℕ) (d : Ask) (answer both one : Bool) → i < length xs
+    → both ≡ (answer && one) → answer ≡ list_all p (take i xs) → one ≡ p (get_or xs i d) → both ≡ list_all p (take (i + 1) xs)
+one_more p xs i d answer both one h is so_far here = is ∙ (λ j. so_far j && here j) ∙ sym (list_all_more p xs i d h)
+
+-- all asks are answered
+pub all_answered : (s : SchemaValue) (roots : IsOfType s) (meaning : Interpretation) (around : Around) (x : Item) (n : NodeRef) (xs : List Ask) (i : ℕ) (b : Bool)
+    → asks_seen xs ≡ asks s x n → length xs ≤ i → b ≡ list_all (λ ask. ask_conforms s meaning around x (ask_seen ask)) (take i xs)
+    → b ≡ conforms s meaning around x n
+all_answered s roots meaning around x n xs i b e h is =
+    is ∙ ap (list_all (λ ask. ask_conforms s meaning around x (ask_seen ask))) (take_all i xs h)
+    ∙ sym (list_all-map (ask_conforms s meaning around x) ask_seen xs)
+    ∙ ap (list_all (ask_conforms s meaning around x)) e
+    ∙ sym (conforms_to s roots meaning around x n)
+
+-- the answer of a child is the answer to what is asked of it
+module _ (s : SchemaValue) (layout : Layout) (p : Pair) (position : ℕ) (n : NodeRef) where
+  abbrev x : Item
+  x = item_at layout p.item
+
+  pub asked_of : (b : Bool) (around : Around) (o : Option Item) → o ≡ kid_at (kids_of x) position
+      → get_or (kid_tests s (constant b) (inside s around x) 0 (kids_of x)) position (λ n. true) n
+      ≡ option_map_or (λ y. conforms s (constant b) (below (inside s around x) (0 + position)) y n) o true
+  asked_of b around o e =
+      test_at s (constant b) (inside s around x) 0 (kids_of x) position n
+      ∙ ap (λ o. option_map_or (λ y. conforms s (constant b) (below (inside s around x) (0 + position)) y n) o true) (sym e)
+
+  pub of_kid : (q : Pair) → q.node ≡ n → Some (item_at layout q.item) ≡ kid_at (kids_of x) position → (a : Answer) → IsRight s layout q a → IsRightOf s layout p (child position n) a
+  of_kid q same e a right b around =
+      right b (below (inside s around x) (0 + position))
+      ∙ ap (conforms s (constant b) (below (inside s around x) (0 + position)) (item_at layout q.item)) same
+      ∙ sym (asked_of b around (Some (item_at layout q.item)) e)
+
+  pub of_none : None ≡ kid_at (kids_of x) position → (b : Bool) (around : Around)
+      → true ≡ get_or (kid_tests s (constant b) (inside s around x) 0 (kids_of x)) position (λ n. true) n
+  of_none e b around = sym (asked_of b around None e)

@@ -1,0 +1,138 @@
+-- What is listed of the pairs that fail, or of those that are open (used by private contracts alone).
+use Rattle.std.specs.Prelude.{◌≡◌, ◌<◌, ℕ, Bool, true, false, List, length, IsTrue, ◌⊎◌}
+use Rattle.std.specs.List.{AllByRecursion, Contains}
+use Rattle.fhir_json.specs.Tree.{Text, Tree}
+use Rattle.fhir_json.specs.Grammar.{Reads}
+use Rattle.fhir_schema.specs.declared.node.NodeRef.{NodeRef}
+use Rattle.fhir_schema.specs.Schemas.{SchemaValue}
+use Rattle.fhir_instance.specs.Items.{Item, Place}
+use Rattle.fhir_instance.specs.Typing.{Types}
+use Rattle.fhir_slicing.specs.Asks.{Ask, asks}
+use Rattle.fhir_slicing.specs.Conformance.{Around, constant, conforms}
+use Rattle.fhir_slicing.specs.Meeting.{Met}
+use Rattle.fhir_validator.specs.declared.answer.Answer.{Answer}
+use Rattle.fhir_validator.specs.declared.answer.Answer.TheVariants as answers
+use Rattle.fhir_validator.specs.declared.issue.Issue.{Issue}
+use Rattle.fhir_validator.specs.declared.issue.Issue.TheVariants.{Misfit, Broken}
+use Rattle.fhir_validator.specs.declared.issue.Site.{Site}
+use Rattle.fhir_validator.specs.declared.layout.Layout.{Layout}
+use Rattle.fhir_validator.specs.declared.listing.Listing.{Listing}
+use Rattle.fhir_validator.specs.declared.pair.Pair.{Pair}
+use Rattle.fhir_validator.specs.declared.verdict.Verdict.{Verdict}
+use Rattle.fhir_validator.specs.declared.verdict.Verdict.TheVariants.{Conforms as Conforming, Violates, Open as Undecided}
+use Rattle.fhir_validator.specs.declared.fault.Fault.{Fault}
+use Rattle.fhir_validator.specs.declared.fault.Fault.TheVariants.{Missing, Unusable, NotJson, NoMemory}
+use Rattle.fhir_validator.specs.Answers.{under}
+use Rattle.fhir_validator.specs.Verdicts.{AreSome}
+use Rattle.fhir_validator.specs.Layouts.{item_at}
+use Rattle.fhir_validator.specs.Judging.{ask_conforms}
+use Rattle.fhir_validator.specs.Issues.{IsBroken, IsOpenAt}
+
+abbrev pub same_answer : Answer → Answer → Bool
+same_answer answers.Holds answers.Holds = true
+same_answer answers.Holds answers.Open = false
+same_answer answers.Holds answers.Fails = false
+same_answer answers.Open answers.Holds = false
+same_answer answers.Open answers.Open = true
+same_answer answers.Open answers.Fails = false
+same_answer answers.Fails answers.Holds = false
+same_answer answers.Fails answers.Open = false
+same_answer answers.Fails answers.Fails = true
+
+-- what unread rules answer, where what has the answer doesn't hold
+abbrev pub side : Answer → Bool
+side answers.Holds = false
+side answers.Open = false
+side answers.Fails = true
+
+-- something is listed of what has the answer
+abbrev pub is_filled : Answer → List Issue → List Site → Type 0
+is_filled answers.Holds issues sites = Unit {0}
+is_filled answers.Open issues sites = 0 < length sites
+is_filled answers.Fails issues sites = 0 < length issues
+
+abbrev pub IsFilled : Answer → Listing → Type 0
+IsFilled wanted listing = is_filled wanted listing.issues.items listing.sites.items
+
+-- something is listed, if a pair is marked
+abbrev pub IsMarked : Answer → Listing → Type 0
+IsMarked wanted listing = 0 < length listing.marks.keys → IsFilled wanted listing
+
+-- where what is open is listed, nothing fails
+abbrev pub IsAllowed : Answer → Bool → Type 0
+IsAllowed answers.Holds holds = Unit {0}
+IsAllowed answers.Open holds = IsTrue holds
+IsAllowed answers.Fails holds = Unit {0}
+
+abbrev pub AskIsAllowed : SchemaValue → Layout → Answer → Pair → Ask → Type 0
+AskIsAllowed s layout wanted p ask =
+    (around : Around) × IsAllowed wanted (ask_conforms s (constant true) around (item_at layout p.item) ask)
+
+abbrev pub PairIsAllowed : SchemaValue → Layout → Answer → Pair → Type 0
+PairIsAllowed s layout wanted p =
+    (around : Around) × IsAllowed wanted (conforms s (constant true) around (item_at layout p.item) p.node)
+
+-- it holds, or something is listed
+abbrev pub AskIsTold : SchemaValue → Layout → Answer → Pair → Ask → Listing → Type 0
+AskIsTold s layout wanted p ask listing =
+    (around : Around) → IsTrue (ask_conforms s (constant (side wanted)) around (item_at layout p.item) ask) ⊎ IsFilled wanted listing
+
+abbrev pub PairIsTold : SchemaValue → Layout → Answer → Pair → Listing → Type 0
+PairIsTold s layout wanted p listing =
+    (around : Around) → IsTrue (conforms s (constant (side wanted)) around (item_at layout p.item) p.node) ⊎ IsFilled wanted listing
+
+-- what is listed is right
+abbrev pub IsFound : SchemaValue → Item → NodeRef → Issue → Type 0
+IsFound s outermost profile (Misfit misfit) = ⊥
+IsFound s outermost profile (Broken finding) = IsBroken s outermost profile finding
+
+abbrev pub AreFound : SchemaValue → Item → NodeRef → Listing → Type 0
+AreFound s outermost profile listing =
+    AllByRecursion (IsFound s outermost profile) listing.issues.items × AllByRecursion (IsOpenAt s outermost profile) listing.sites.items
+
+-- the pair asks for that
+abbrev pub IsAskedBy : SchemaValue → Layout → Pair → Ask → Type 0
+IsAskedBy s layout p ask = Contains (asks s (item_at layout p.item) p.node) ask
+
+-- what is right of the old listing is right of the new, if the pair is met
+abbrev pub KeepsFound : SchemaValue → Layout → Pair → Listing → Listing → Type 0
+KeepsFound s layout p old new =
+    (outermost : Item) (profile : NodeRef) (place : Place) → Met s outermost profile place (item_at layout p.item) p.node
+    → AreFound s outermost profile old → AreFound s outermost profile new
+
+-- ---- what a verdict lists
+
+abbrev pub IsListed : SchemaValue → Item → NodeRef → Verdict → Type 0
+IsListed s outermost profile Conforming = Unit {0}
+IsListed s outermost profile (Violates issues) = AreSome (IsFound s outermost profile) issues.items
+IsListed s outermost profile (Undecided sites) = AreSome (IsOpenAt s outermost profile) sites.items
+
+abbrev pub answer_in : Verdict → Answer
+answer_in Conforming = answers.Holds
+answer_in (Violates issues) = answers.Fails
+answer_in (Undecided sites) = answers.Open
+
+-- the verdict on an item at a root
+pub record IsVerdictAt (s : SchemaValue) (x : Item) (n : NodeRef) (v : Verdict) : Type 0 where
+  pub right : (b : Bool) (around : Around) → under b (answer_in v) ≡ conforms s (constant b) around x n
+  pub listed : IsListed s x n v
+
+abbrev pub IsOfMisfit : Issue → Type 0
+IsOfMisfit (Misfit misfit) = Unit {0}
+IsOfMisfit (Broken finding) = ⊥
+
+abbrev pub IsMisfitVerdict : Verdict → Type 0
+IsMisfitVerdict Conforming = ⊥
+IsMisfitVerdict (Violates issues) = AreSome IsOfMisfit issues.items
+IsMisfitVerdict (Undecided sites) = ⊥
+
+-- the verdict on a tree, which is an item or none
+abbrev pub IsVerdictOn : SchemaValue → NodeRef → Tree → Verdict → Type 0
+IsVerdictOn s n t v = ((x : Item) × Types s t x × IsVerdictAt s x n v) ⊎ (((x : Item) → Types s t x → ⊥) × IsMisfitVerdict v)
+
+-- a fault of the bytes
+abbrev pub IsOfBytes : Text → Fault → Type 0
+IsOfBytes bytes Missing = ⊥
+IsOfBytes bytes (Unusable reason) = ⊥
+IsOfBytes bytes (NotJson fault) = (t : Tree) → Reads bytes t → ⊥
+IsOfBytes bytes NoMemory = Unit {0}

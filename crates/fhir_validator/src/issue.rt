@@ -1,0 +1,46 @@
+//! What a verdict lists.
+
+use crate::place::Place;
+use crate::rule::Rule;
+use fhir_facets::Unread;
+use fhir_instance::Misfit;
+use fhir_schema::NodeRef;
+
+/// A rule that an item breaks, whatever unread rules mean.
+#[derive(Debug, Drop)]
+pub struct Finding<'s> {
+    /// What is broken.
+    pub rule: Rule<'s>,
+    /// The node whose element has the rule.
+    pub node: NodeRef,
+    /// The url of the node's definition.
+    pub url: &'s str,
+    /// The id of the node's element.
+    pub id: &'s str,
+    /// Where the item stands. Where items are too few or too many, the place that they share.
+    pub place: Place,
+}
+
+/// Why a resource doesn't conform.
+#[derive(Debug, Drop)]
+pub enum Issue<'s> {
+    /// It is no resource of the type that it names.
+    Misfit(Misfit),
+    /// An item of it breaks a rule.
+    Broken(Finding<'s>),
+}
+
+/// An unread rule that a verdict hangs on.
+#[derive(Debug, Drop)]
+pub struct Site<'s> {
+    /// The rule.
+    pub unread: Unread<'s>,
+    /// The node whose element has it.
+    pub node: NodeRef,
+    /// The url of the node's definition.
+    pub url: &'s str,
+    /// The id of the node's element.
+    pub id: &'s str,
+    /// Where the item stands.
+    pub place: Place,
+}

@@ -1,0 +1,43 @@
+//! Validation of resources against profiles.
+//!
+//! A resource conforms to a profile, violates it, or that is open, since it hangs on rules that aren't read. Each rule that
+//! the profile and its types have is judged at each item that it is asked of, whatever the unread rules mean.
+//!
+//! ```
+//! /// Whether a resource conforms to a profile, whatever unread rules mean.
+//! pub fn is_valid(alloc: Global, schema: &Schema, profile: &str, bytes: &[u8]) -> Result<bool, Fault>
+//!     ensures { (t : Tree) → Reads bytes.now t → IfOk result (λ valid.
+//!         IsTrue valid → (meaning : Interpretation) → Conforms schema.now meaning profile.now t) }
+//! {
+//!     match validate(alloc, schema, profile, bytes)? {
+//!         Verdict::Conforms => Ok(true),
+//!         _ => Ok(false),
+//!     }
+//! }
+//! ```
+//!
+//! The contract to read first is that of [`validate`]. `specs/Verdicts.antt` has what a verdict lists and what a fault means,
+//! and `specs/Issues.antt` when an issue is right.
+#![tactic(auto)]
+
+mod answer;
+mod explaining;
+mod fault;
+mod issue;
+mod judging;
+mod known;
+mod layout;
+mod listing;
+mod pair;
+mod place;
+mod rule;
+mod telling;
+mod validation;
+mod verdict;
+
+pub use fault::Fault;
+pub use issue::{Finding, Issue, Site};
+pub use place::Place;
+pub use rule::Rule;
+pub use validation::validate;
+pub use verdict::Verdict;

@@ -1,0 +1,62 @@
+//! Rules that are broken.
+
+use fhir_elements::Max;
+use std::fmt;
+
+/// A rule that an item breaks (FHIR R4, ElementDefinition and StructureDefinition). `Display` prints what it asks for, as an
+/// OperationOutcome says it.
+#[derive(Clone, Copy, Debug)]
+pub enum Rule<'s> {
+    /// The item is of that type, or of one that rests on it.
+    RootType(&'s str),
+    /// The item is of one of the element's types, and refers to one of that type's targets.
+    Types,
+    /// The item is the fixed value.
+    Fixed,
+    /// The item fits the pattern.
+    Pattern,
+    /// The item lies within the bounds.
+    Range,
+    /// The text has so many characters at most.
+    Length,
+    /// There are so many items of a name at least.
+    TooFew {
+        /// How many there must be.
+        min: u32,
+        /// How many there are.
+        found: usize,
+    },
+    /// There are so many items of a name at most.
+    TooMany {
+        /// How many there may be.
+        max: Option<Max>,
+        /// How many there are.
+        found: usize,
+    },
+}
+
+fn write_most<W: fmt::Write>(
+    f: &mut fmt::Formatter<W>,
+    max: Option<Max>,
+    found: usize,
+) -> fmt::Result {
+    match max {
+        Some(Max::UpTo(most)) => write!(f, "max {most}, found {found}"),
+        _ => write!(f, "max *, found {found}"),
+    }
+}
+
+impl fmt::Display for Rule<'_> {
+    fn fmt<W: fmt::Write>(&self, f: &mut fmt::Formatter<W>) -> fmt::Result {
+        match *self {
+            Rule::RootType(code) => write!(f, "type {code} expected"),
+            Rule::Types => f.write_str("no type entry holds"),
+            Rule::Fixed => f.write_str("fixed"),
+            Rule::Pattern => f.write_str("pattern"),
+            Rule::Range => f.write_str("range"),
+            Rule::Length => f.write_str("length"),
+            Rule::TooFew { min, found } => write!(f, "min {min}, found {found}"),
+            Rule::TooMany { max, found } => write_most(f, max, found),
+        }
+    }
+}

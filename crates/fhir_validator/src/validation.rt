@@ -1,0 +1,208 @@
+//! Validation of resources.
+
+ghost use Rattle.std.specs.Prelude.{◌≡◌, ◌↔◌, ◌<◌, Bool, false, true, length, None, IfOk, IfErr, IsTrue};
+ghost use Rattle.fhir_json.specs.Tree.{Text, Tree};
+ghost use Rattle.fhir_json.specs.Reading.{is_no_memory as is_fault_of_memory};
+ghost use Rattle.fhir_json.specs.Grammar.{Reads};
+ghost use Rattle.fhir_json.specs.Views.{tree_of};
+ghost use Rattle.fhir_schema.specs.Schemas.{root};
+ghost use Rattle.fhir_instance.specs.View.{item_of, is_no_memory};
+ghost use Rattle.fhir_slicing.specs.Conformance.{Interpretation, Conforms, constant};
+ghost use Rattle.fhir_validator.specs.Verdicts.{is_conforming, is_violating, IsExplained, Means};
+ghost use Rattle.fhir_validator.specs.Layouts.{IsLayout, item_at};
+ghost use Rattle.fhir_validator.specs.Judging.{IsRight, AreRight};
+ghost use Rattle.fhir_validator.specs.Listing.{IsFilled, AreFound, IsVerdictAt, IsMisfitVerdict, IsVerdictOn, IsOfBytes};
+
+use crate::answer::Answer;
+use crate::explaining::list_pair;
+use crate::fault::Fault;
+use crate::issue::{Issue, Site};
+use crate::judging::answer_of;
+use crate::known::Known;
+use crate::layout::Layout;
+use crate::listing::Listing;
+use crate::pair::Pair;
+use crate::verdict::Verdict;
+use fhir_instance::{Misfit, MisfitKind, Typed, type_resource};
+use fhir_json::{JsonFault, NoMemory, one_tree};
+use fhir_schema::{NodeRef, Schema};
+use fhir_slicing::positive;
+use std::alloc::Global;
+
+// What a pair of the outermost item rests on, which has that answer.
+fn listing_of<'s>(
+    alloc: Global,
+    schema: &'s Schema,
+    layout: &Layout<'_, '_, '_>,
+    known: &mut Known,
+    wanted: Answer,
+    pair: Pair,
+) -> Result<Listing<'s>, NoMemory>
+    requires laid { IsLayout layout.now }
+    requires within { pair.item < length layout.now.stands.items }
+    requires right { AreRight schema.now layout.now known.old }
+    requires wanted { IsRight schema.now layout.now pair wanted }
+    ensures filled { IfOk result (IsFilled wanted) }
+    ensures found { IfOk result (AreFound schema.now (item_at layout.now pair.item) pair.node) }
+{
+    let mut listing: Listing<'s> = Listing::new(alloc);
+    list_pair(alloc, schema, layout, known, wanted, &mut listing, pair)?;
+    Ok(listing)
+}
+
+fn issues_in(listing: Listing<'_>) -> Vec<Issue<'_>>
+    ensures { result.items ≡ listing.entry.issues.items }
+{
+    let Listing {
+        marks: _,
+        issues,
+        sites: _,
+    } = listing;
+    issues
+}
+
+fn sites_in(listing: Listing<'_>) -> Vec<Site<'_>>
+    ensures { result.items ≡ listing.entry.sites.items }
+{
+    let Listing {
+        marks: _,
+        issues: _,
+        sites,
+    } = listing;
+    sites
+}
+
+// The verdict on an item at a root.
+fn verdict_at<'s>(
+    alloc: Global,
+    schema: &'s Schema,
+    item: &Typed<'_, '_>,
+    node: NodeRef,
+) -> Result<Verdict<'s>, NoMemory>
+    ensures { IfOk result (IsVerdictAt schema.now (item_of item.now) node) }
+{
+    let layout = Layout::of(alloc, item)?;
+    let mut known = Known::new(alloc);
+    let pair = Pair { item: 0, node };
+    match answer_of(alloc, schema, &layout, &mut known, pair)? {
+        Answer::Holds => Ok(Verdict::Conforms),
+        Answer::Open => {
+            let listing = listing_of(alloc, schema, &layout, &mut known, Answer::Open, pair)?;
+            Ok(Verdict::Open(sites_in(listing)))
+        }
+        Answer::Fails => {
+            let listing = listing_of(alloc, schema, &layout, &mut known, Answer::Fails, pair)?;
+            Ok(Verdict::Violates(issues_in(listing)))
+        }
+    }
+}
+
+fn is_no_memory(misfit: &Misfit) -> bool
+    ensures { result ≡ is_no_memory misfit.now }
+{
+    match misfit.kind {
+        MisfitKind::UnknownProperty => false,
+        MisfitKind::UnwantedArray => false,
+        MisfitKind::MissingArray => false,
+        MisfitKind::Empty => false,
+        MisfitKind::WrongValue => false,
+        MisfitKind::Unparallel => false,
+        MisfitKind::UnknownType => false,
+        MisfitKind::NoMemory => true,
+    }
+}
+
+// The verdict on what has no item, unless memory ran out.
+fn misfit_verdict<'s>(alloc: Global, misfit: Misfit) -> Result<Verdict<'s>, NoMemory>
+    ensures verdict { IfOk result IsMisfitVerdict }
+    ensures decided { IfOk result (λ v. is_no_memory misfit ≡ false) }
+{
+    if is_no_memory(&misfit) {
+        return Err(NoMemory);
+    }
+    let mut issues = Vec::new(alloc);
+    issues.push(Issue::Misfit(misfit))?;
+    Ok(Verdict::Violates(issues))
+}
+
+fn fault_of(fault: JsonFault) -> Fault
+    ensures { (bytes : Text) → (is_fault_of_memory fault ≡ false → (t : Tree) → Reads bytes t → ⊥)
+        → IsOfBytes bytes result }
+{
+    match fault {
+        JsonFault::NotUtf8 => Fault::NotJson(fault),
+        JsonFault::Syntax => Fault::NotJson(fault),
+        JsonFault::RepeatedName => Fault::NotJson(fault),
+        JsonFault::LoneSurrogate => Fault::NotJson(fault),
+        JsonFault::TooDeep => Fault::NotJson(fault),
+        JsonFault::Trailing => Fault::NotJson(fault),
+        JsonFault::NoMemory => Fault::NoMemory,
+    }
+}
+
+// The verdict on bytes at a root.
+fn validate_at<'s>(
+    alloc: Global,
+    schema: &'s Schema,
+    node: NodeRef,
+    bytes: &[u8],
+) -> Result<Verdict<'s>, Fault>
+    ensures verdict { (t : Tree) → Reads bytes.now t → IfOk result (IsVerdictOn schema.now node t) }
+    ensures read { IfOk result (λ v. (t : Tree) × Reads bytes.now t) }
+    ensures refused { IfErr result (IsOfBytes bytes.now) }
+{
+    one_tree();
+    let json = match fhir_json::read(alloc, bytes) {
+        Ok(json) => json,
+        Err(fault) => return Err(fault_of(fault)),
+    };
+    match type_resource(alloc, schema, &json) {
+        Ok(item) => Ok(verdict_at(alloc, schema, &item, node)?),
+        Err(misfit) => Ok(misfit_verdict(alloc, misfit)?),
+    }
+}
+
+// Why the definition at a url has no root.
+fn unfound(schema: &Schema, url: &str) -> Fault
+    requires { root schema.now url.now ≡ None }
+    ensures { (bytes : Text) → Means schema.now url.now bytes result }
+{
+    match schema.unusable(url) {
+        Some(reason) => Fault::Unusable(reason),
+        None => Fault::Missing,
+    }
+}
+
+/// Whether a resource conforms to a profile (FHIR R4, Profiling and ElementDefinition). Where that hangs on rules that aren't
+/// read, it is open, and these are listed; where it fails whatever they mean, what fails is listed. The time is near linear in
+/// what the definitions ask of the resource: no pair of a node and an item is judged twice.
+///
+/// The refusals are those of [`Fault`]: a profile that isn't there, before one that can't be used, before bytes that aren't
+/// JSON; and want of memory.
+pub fn validate<'s>(
+    alloc: Global,
+    schema: &'s Schema,
+    profile: &str,
+    bytes: &[u8],
+) -> Result<Verdict<'s>, Fault>
+    // It conforms exactly where it does though each unread rule fails, and then whatever they mean.
+    ensures conforms { (t : Tree) → Reads bytes.now t → IfOk result (λ v.
+        IsTrue (is_conforming v) ↔ Conforms schema.now (constant false) profile.now t) }
+    ensures always { (t : Tree) → Reads bytes.now t → IfOk result (λ v.
+        IsTrue (is_conforming v) → (meaning : Interpretation) → Conforms schema.now meaning profile.now t) }
+    // It violates exactly where it doesn't conform though each unread rule holds, and then whatever they mean.
+    ensures violates { (t : Tree) → Reads bytes.now t → IfOk result (λ v.
+        IsTrue (is_violating v) ↔ ¬ Conforms schema.now (constant true) profile.now t) }
+    ensures never { (t : Tree) → Reads bytes.now t → IfOk result (λ v.
+        IsTrue (is_violating v) → (meaning : Interpretation) → ¬ Conforms schema.now meaning profile.now t) }
+    // Something is listed, and all that is listed is right.
+    ensures explained { (t : Tree) → Reads bytes.now t → IfOk result (IsExplained schema.now profile.now t) }
+    ensures read { IfOk result (λ v. (t : Tree) × Reads bytes.now t) }
+    ensures refused { IfErr result (Means schema.now profile.now bytes.now) }
+{
+    positive();
+    match schema.root(profile) {
+        Some(node) => validate_at(alloc, schema, node, bytes),
+        None => Err(unfound(schema, profile)),
+    }
+}
