@@ -173,6 +173,17 @@ pub fn count_asks(alloc: Global, schema: &Schema, item: &Typed<'_, '_>, node: No
     Ok(asked.len())
 }
 
+/// Whether a resource conforms to a profile, whatever unread rules mean.
+pub fn is_valid(alloc: Global, schema: &Schema, profile: &str, bytes: &[u8]) -> Result<bool, Fault>
+    ensures { (t : Tree) → Reads bytes.now t → IfOk result (λ valid.
+        IsTrue valid → (meaning : Interpretation) → Conforms schema.now meaning profile.now t) }
+{
+    match validate(alloc, schema, profile, bytes)? {
+        Verdict::Conforms => Ok(true),
+        _ => Ok(false),
+    }
+}
+
 /// How many pairs of items a certificate has, or why the bytes are none.
 pub fn items_in(alloc: Global, schema: &Schema, bytes: &[u8]) -> Result<usize, CertFault>
     ensures { IfOk result (λ n. (c : CertificateValue) × Stands schema.now bytes.now c × (n ≡ length c.items)) }
