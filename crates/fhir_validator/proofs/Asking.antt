@@ -4,7 +4,7 @@ use Rattle.std.specs.List.{flat_map, list_all, AllByRecursion}
 use Rattle.fhir_schema.specs.declared.node.NodeRef.{NodeRef}
 use Rattle.fhir_schema.specs.Slots.{Slot}
 use Rattle.fhir_schema.specs.Schemas.{SchemaValue, is_root_node, slots, entry_of, type_root}
-use Rattle.fhir_instance.specs.Items.{Item, item, type_of, kids_of}
+use Rattle.fhir_instance.specs.Items.{Item, item, type_of}
 use Rattle.fhir_slicing.specs.Asks.{Ask, own, root, child, child_ask, facet_asks, slot_asks, own_root, kids_asks, root_asks, inner_asks, asks, places_of}
 use Rattle.fhir_slicing.specs.Asks.{types, root_type, fixed, pattern, range, length_limit, too_few, too_many}
 use Rattle.fhir_slicing.specs.Conformance.{Interpretation, Around, meaning_at, inside, ask_holds, root_holds, conforms, kid_tests}

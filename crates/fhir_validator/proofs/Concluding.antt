@@ -1,5 +1,5 @@
 -- What the verdict on a tree says of the profile.
-use Rattle.std.proofs.Common.{◌≡◌, ◌<◌, ◌↔◌, Bool, true, false, List, [], ◌∷◌, length, refl, sym, ap, ◌∙◌, subst, IsTrue, Option, Some, None, ◌⊎◌, inl, inr}
+use Rattle.std.proofs.Common.{◌≡◌, ◌↔◌, true, false, List, [], ◌∷◌, refl, sym, ◌∙◌, subst, IsTrue, Some, inl, inr}
 use Rattle.std.specs.Prelude.{Result, Ok, Err, IfErr, IsSome}
 use Rattle.std.specs.List.{AllByRecursion}
 use Rattle.std.proofs.lemmas.Bool.{false≢true}
@@ -10,18 +10,15 @@ use Rattle.fhir_instance.specs.Items.{Item, Place}
 use Rattle.fhir_instance.specs.Typing.{Types}
 use Rattle.fhir_facets.specs.Unread.{Unread}
 use Rattle.fhir_slicing.specs.Conformance.{Interpretation, Around, Conforms, conforms, constant, outermost}
-use Rattle.fhir_validator.specs.declared.answer.Answer.{Answer}
 use Rattle.fhir_validator.specs.declared.issue.Issue.{Issue}
 use Rattle.fhir_validator.specs.declared.issue.Issue.TheVariants.{Misfit, Broken}
-use Rattle.fhir_validator.specs.declared.issue.Site.{Site}
 use Rattle.fhir_validator.specs.declared.verdict.Verdict.{Verdict}
 use Rattle.fhir_validator.specs.declared.verdict.Verdict.TheVariants.{Conforms as Conforming, Violates, Open as Undecided}
 use Rattle.fhir_validator.specs.declared.fault.Fault.{Fault}
 use Rattle.fhir_validator.specs.declared.fault.Fault.TheVariants.{Missing, Unusable, NotJson, NoMemory}
-use Rattle.fhir_validator.specs.Answers.{under}
 use Rattle.fhir_validator.specs.Issues.{IsIssue, IsSite, IsOpenAt}
 use Rattle.fhir_validator.specs.Verdicts.{AreSome, IsExplained, Means, is_conforming, is_violating}
-use Rattle.fhir_validator.specs.Listing.{IsVerdictAt, IsVerdictOn, IsMisfitVerdict, IsListed, IsFound, IsOfMisfit, IsOfBytes, answer_in}
+use Rattle.fhir_validator.specs.Listing.{IsVerdictAt, IsVerdictOn, IsMisfitVerdict, IsListed, IsFound, IsOfMisfit, IsOfBytes}
 
 all_weaker : {A : Type 0} (P Q : A → Type 0) → ((x : A) → P x → Q x) → (xs : List A) → AllByRecursion P xs → AllByRecursion Q xs
 all_weaker P Q f [] each = tt
@@ -56,15 +53,18 @@ module _ (s : SchemaValue) (profile : Text) (t : Tree) (n : NodeRef) (usable : r
         × (IsTrue (is_violating v) → (M : Interpretation) → ¬ Conforms s M profile t)
     at_item x typed Conforming h =
         let all : (M : Interpretation) → Conforms s M profile t =
-            λ M. of_item x typed M (positive (constant false) M (λ u o p e. absurd (false≢true e)) (outermost x) x n (sym (h.right false (outermost x)))) in
+        λ M. of_item x typed M (positive (constant false) M (λ u o p e. absurd (false≢true e)) (outermost x) x n (sym (h.right false (outermost x)))) in
         ((λ e. all (constant false), λ c. refl), λ e. all, (λ e. absurd (false≢true e), λ never. absurd (never (all (constant true)))), λ e. absurd (false≢true e))
     at_item x typed (Violates issues) h =
         let none : (M : Interpretation) → ¬ Conforms s M profile t =
-            λ M c. false≢true (h.right true (outermost x) ∙ positive M (constant true) (λ u o p e. refl) (outermost x) x n (to_item x typed M c)) in
+        λ M c. false≢true (h.right true (outermost x) ∙ positive M (constant true) (λ u o p e. refl) (outermost x) x n (to_item x typed M c)) in
         ((λ e. absurd (false≢true e), λ c. absurd (none (constant false) c)), λ e. absurd (false≢true e), (λ e. none (constant true), λ never. refl), λ e. none)
-    at_item x typed (Undecided sites) h =
-        ((λ e. absurd (false≢true e), λ c. absurd (false≢true (h.right false (outermost x) ∙ to_item x typed (constant false) c))), λ e. absurd (false≢true e)
-        , (λ e. absurd (false≢true e), λ never. absurd (never (of_item x typed (constant true) (sym (h.right true (outermost x)))))), λ e. absurd (false≢true e))
+    at_item x typed (Undecided sites) h = (
+      (λ e. absurd (false≢true e), λ c. absurd (false≢true (h.right false (outermost x) ∙ to_item x typed (constant false) c))),
+      λ e. absurd (false≢true e),
+      (λ e. absurd (false≢true e), λ never. absurd (never (of_item x typed (constant true) (sym (h.right true (outermost x)))))),
+      λ e. absurd (false≢true e),
+    )
 
     at_none : ((x : Item) → Types s t x → ⊥) → (v : Verdict) → IsMisfitVerdict v
         → (IsTrue (is_conforming v) ↔ Conforms s (constant false) profile t)

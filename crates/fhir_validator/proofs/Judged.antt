@@ -1,5 +1,5 @@
 -- Answers to what a pair asks, and to the pair.
-use Rattle.std.proofs.Common.{◌≡◌, ◌<◌, ◌≤◌, ◌+◌, ℕ, zero, suc, Bool, true, false, List, [], ◌∷◌, map, length, take, get_or, refl, sym, ap, ◌∙◌, ◌&&◌, subst, arith, IsTrue, Option, Some, None}
+use Rattle.std.proofs.Common.{◌≡◌, ◌<◌, ◌≤◌, ◌+◌, ℕ, zero, suc, Bool, true, List, [], ◌∷◌, map, length, take, get_or, sym, ap, ◌∙◌, ◌&&◌, subst, arith, Option, Some, None}
 use Rattle.std.specs.Prelude.{Result, Ok, Err, IfOk}
 use Rattle.std.specs.Option.{option_map_or}
 use Rattle.std.specs.List.{list_all, AllByRecursion}
@@ -8,7 +8,7 @@ use Rattle.std.proofs.lemmas.List.Folds.{list_all_more, list_all-map}
 use Rattle.fhir_schema.specs.declared.node.NodeRef.{NodeRef}
 use Rattle.fhir_schema.specs.Schemas.{SchemaValue}
 use Rattle.fhir_instance.specs.Items.{Item, kids_of}
-use Rattle.fhir_slicing.specs.Asks.{asks, child, root}
+use Rattle.fhir_slicing.specs.Asks.{asks, child}
 use Rattle.fhir_slicing.specs.Conformance.{Interpretation, Around, constant, inside, below, conforms, kid_tests}
 use Rattle.fhir_slicing.specs.Meeting.{kid_at}
 use Rattle.fhir_slicing.specs.Views.{ask_seen, asks_seen}
@@ -16,7 +16,6 @@ use Rattle.fhir_slicing.specs.declared.ask.Ask.{Ask}
 use Rattle.fhir_validator.specs.declared.answer.Answer.{Answer}
 use Rattle.fhir_validator.specs.declared.layout.Layout.{Layout}
 use Rattle.fhir_validator.specs.declared.pair.Pair.{Pair}
-use Rattle.fhir_validator.specs.Answers.{under}
 use Rattle.fhir_validator.specs.Layouts.{item_at}
 use Rattle.fhir_validator.specs.Judging.{IsRight, IsRightOf, IsOrdered, ask_conforms}
 use Rattle.fhir_validator.proofs.Asking.{IsOfType, are_ordered, conforms_to}

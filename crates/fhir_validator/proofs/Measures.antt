@@ -1,6 +1,5 @@
 -- What a pair weighs: a root less than another node at its item, and any less at an item that stands behind.
-use Rattle.std.proofs.Common.{◌≡◌, ◌<◌, ◌≤◌, ◌+◌, ◌-◌, ◌*◌, ℕ, Bool, true, false, length, arith, ap, cond, IsTrue}
-use Rattle.fhir_schema.specs.declared.node.NodeRef.{NodeRef}
+use Rattle.std.proofs.Common.{◌≡◌, ◌<◌, ◌≤◌, ◌+◌, ◌-◌, ◌*◌, ℕ, Bool, true, false, length, arith, ap, IsTrue}
 use Rattle.fhir_schema.specs.Schemas.{SchemaValue, is_root_node}
 use Rattle.fhir_validator.specs.declared.layout.Layout.{Layout}
 use Rattle.fhir_validator.specs.declared.pair.Pair.{Pair}

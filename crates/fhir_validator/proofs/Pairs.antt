@@ -1,5 +1,5 @@
 -- The order of pairs, by which a map finds them, answers `Equal` on equal pairs alone.
-use Rattle.std.proofs.Common.{◌≡◌, ℕ, Bool, true, false, refl, sym, ap, cond, ◌&&◌, ◌∙◌, subst, nat_eq, IsTrue, Option, Some, None}
+use Rattle.std.proofs.Common.{◌≡◌, Bool, true, false, refl, sym, ap, cond, ◌&&◌, ◌∙◌, subst, nat_eq, IsTrue, Some}
 use Rattle.std.specs.BTreeMap.{BTreeMap, get, is_at, Updates}
 use Rattle.std.specs.Cmp.{both_tied, unsigned_tied}
 use Rattle.std.proofs.lemmas.Bool.{and_parts, eqb-true}

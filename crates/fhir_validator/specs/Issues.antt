@@ -1,6 +1,6 @@
 -- What an issue says, and when it is right: its rule fails at a pair of node and item that the resource meets, whatever unread
 -- rules mean. And when a site is: an unread rule that such a pair's node carries, of a rule that hangs on it.
-use Rattle.std.specs.Prelude.{◌≡◌, ℕ, List, Bool, true, false, Option, Some, IsTrue}
+use Rattle.std.specs.Prelude.{◌≡◌, ℕ, List, true, false, Option, Some, IsTrue}
 use Rattle.std.specs.Option.{option_map_or, option_and_then}
 use Rattle.std.specs.List.{Contains}
 use Rattle.fhir_json.specs.Tree.{Text, Tree}

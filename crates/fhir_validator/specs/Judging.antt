@@ -1,7 +1,6 @@
 -- Pairs of a node and an item, and what is right of their answers (used by private contracts alone).
-use Rattle.std.specs.Prelude.{◌≡◌, Bool, false, List, Some, Option, IsTrue}
+use Rattle.std.specs.Prelude.{◌≡◌, Bool, false, Some, Option, IsTrue}
 use Rattle.std.specs.BTreeMap.{get}
-use Rattle.fhir_json.specs.Tree.{Text}
 use Rattle.fhir_schema.specs.declared.node.NodeRef.{NodeRef}
 use Rattle.fhir_schema.specs.Schemas.{SchemaValue, is_root_node}
 use Rattle.fhir_instance.specs.Items.{Item, kids_of}

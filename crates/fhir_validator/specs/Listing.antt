@@ -1,5 +1,5 @@
 -- What is listed of the pairs that fail, or of those that are open (used by private contracts alone).
-use Rattle.std.specs.Prelude.{◌≡◌, ◌<◌, ℕ, Bool, true, false, List, length, IsTrue, ◌⊎◌}
+use Rattle.std.specs.Prelude.{◌≡◌, ◌<◌, Bool, true, false, List, length, IsTrue, ◌⊎◌}
 use Rattle.std.specs.List.{AllByRecursion, Contains}
 use Rattle.fhir_json.specs.Tree.{Text, Tree}
 use Rattle.fhir_json.specs.Grammar.{Reads}

@@ -1,11 +1,9 @@
 -- The three verdicts on a resource, and the faults that come before them.
-use Rattle.std.specs.Prelude.{◌≡◌, ◌<◌, ℕ, Bool, true, false, List, length, None, Some, IsSome}
+use Rattle.std.specs.Prelude.{◌≡◌, ◌<◌, Bool, true, false, List, length, None, Some, IsSome}
 use Rattle.std.specs.List.{AllByRecursion}
 use Rattle.fhir_json.specs.Tree.{Text, Tree}
 use Rattle.fhir_json.specs.Grammar.{Reads}
 use Rattle.fhir_schema.specs.Schemas.{SchemaValue, unusable, root}
-use Rattle.fhir_validator.specs.declared.issue.Issue.{Issue}
-use Rattle.fhir_validator.specs.declared.issue.Site.{Site}
 use Rattle.fhir_validator.specs.declared.verdict.Verdict.{Verdict}
 use Rattle.fhir_validator.specs.declared.verdict.Verdict.TheVariants.{Conforms as Conforming, Violates, Open}
 use Rattle.fhir_validator.specs.declared.fault.Fault.{Fault}

@@ -108,7 +108,9 @@ fn list_rule<'s>(
         Holding::Holds => Ok(()),
         Holding::Fails => list_broken(alloc, schema, layout, wanted, listing, pair, rule, node),
         Holding::Unread(unread) => {
-            list_open(alloc, schema, layout, wanted, listing, pair, rule, node, unread)
+            list_open(
+                alloc, schema, layout, wanted, listing, pair, rule, node, unread,
+            )
         }
     }
 }
@@ -202,10 +204,20 @@ fn list_ask<'s>(
         }
         Ask::Root(node) => {
             let item = pair.item;
-            list_same(alloc, schema, layout, known, wanted, listing, Pair { item, node })
+            list_same(
+                alloc,
+                schema,
+                layout,
+                known,
+                wanted,
+                listing,
+                Pair { item, node },
+            )
         }
         Ask::Child(position, node) => {
-            list_kid(alloc, schema, layout, known, wanted, listing, pair, position, node)
+            list_kid(
+                alloc, schema, layout, known, wanted, listing, pair, position, node,
+            )
         }
     }
 }
@@ -235,7 +247,15 @@ fn list_kid<'s>(
     ensures found { OnOk result (KeepsFound schema.now layout.now pair listing.old listing.new) }
 {
     match layout.kid(pair.item, position) {
-        Some(item) => list_same(alloc, schema, layout, known, wanted, listing, Pair { item, node }),
+        Some(item) => list_same(
+            alloc,
+            schema,
+            layout,
+            known,
+            wanted,
+            listing,
+            Pair { item, node },
+        ),
         None => Ok(()),
     }
 }

@@ -38,12 +38,7 @@ fn most_of(schema: &Schema, node: NodeRef) -> Option<Max>
 }
 
 // What is to be said of a rule of a node, at the item that has these children.
-fn said<'s>(
-    schema: &'s Schema,
-    children: &Children<'_>,
-    rule: Asked<'s>,
-    node: NodeRef,
-) -> Rule<'s>
+fn said<'s>(schema: &'s Schema, children: &Children<'_>, rule: Asked<'s>, node: NodeRef) -> Rule<'s>
     ensures { (x : Item) → IsIndexOf x children.now
         → rule_said result ≡ says schema.now x (rule_name rule.entry) node }
 {

@@ -1,9 +1,9 @@
-use Rattle.std.proofs.Common.{◌≡◌, ◌<◌, ◌+◌, ◌*◌, ℕ, Bool, true, length, get_or, arith, refl, sym, ap, ◌∙◌, subst, IsTrue, Option, Some, ◌⊎◌, inl, inr}
+use Rattle.std.proofs.Common.{◌≡◌, ◌<◌, ◌+◌, true, arith, refl, sym, ap, ◌∙◌, subst, IsTrue, Some, ◌⊎◌, inl}
 use Rattle.std.specs.Prelude.{OnOk}
 use Rattle.std.specs.List.{list_all}
 use Rattle.std.proofs.lemmas.List.Folds.{list_all-map}
-use Rattle.fhir_slicing.specs.Asks.{asks, child, root}
-use Rattle.fhir_slicing.specs.Conformance.{Around, constant, conforms, inside, below, outermost}
+use Rattle.fhir_slicing.specs.Asks.{asks, child}
+use Rattle.fhir_slicing.specs.Conformance.{constant, conforms, inside, below, outermost}
 use Rattle.fhir_slicing.specs.Meeting.{at_item, at_child}
 use Rattle.fhir_slicing.specs.Views.{ask_seen, asks_seen}
 use Rattle.fhir_validator.specs.declared.pair.Pair.{Pair}
@@ -26,7 +26,7 @@ list_ask-list_same-requires t c =
     let q : Pair = record { item = c.args.pair.item; node = c.in-Root.node } in
     let ordered = subst (λ a. IsOrdered c.args.schema.now c.args.pair.node (ask_seen a)) c.in-Root.is c.requires.ordered in
     let h : weight c.args.schema.now c.args.layout.now q < weight c.args.schema.now c.args.layout.now c.args.pair =
-        lighter_root c.args.schema.now c.args.layout.now c.args.pair q refl ordered.0 ordered.1 in
+    lighter_root c.args.schema.now c.args.layout.now c.args.pair q refl ordered.0 ordered.1 in
     let allowed = subst (λ a. AskIsAllowed c.args.schema.now c.args.layout.now c.args.wanted c.args.pair (ask_seen a)) c.in-Root.is c.requires.allowed in
     (omega (arith, h, c.decreases), (c.requires.laid, (c.requires.within, (c.requires.right, (c.requires.marked, allowed)))))
 
@@ -58,12 +58,29 @@ list_asks-list_ask-requires t c =
     let roots = c.roots_are_roots.ensures.of_type s in
     let e : asks_seen xs ≡ asks s x n = ap asks_seen c.deref-ask-items.ensures.value ∙ c.in_ok-asked.ensures ∙ ap (λ y. asks s y n) c.item-item.ensures in
     let all : under true c.args.wanted ≡ list_all (λ ask. ask_conforms s (constant true) (outermost x) x (ask_seen ask)) xs =
-        c.requires.wanted true (outermost x) ∙ conforms_to s roots (constant true) (outermost x) x n
-        ∙ ap (list_all (ask_conforms s (constant true) (outermost x) x)) (sym e) ∙ list_all-map (ask_conforms s (constant true) (outermost x) x) ask_seen xs in
-    (omega (arith, c.decreases), (c.requires.laid, (c.requires.within, (c.loop-ask.invariant.right, (c.loop-ask.invariant.marked,
-    (asked_at s x n xs c.loop-ask.ask-index _ e c.loop-ask-test.true,
-    ((outermost x, allowed_at c.args.wanted (λ ask. ask_conforms s (constant true) (outermost x) x (ask_seen ask)) xs c.loop-ask.ask-index _ c.loop-ask-test.true all),
-    ordered_at s roots x n xs c.loop-ask.ask-index _ e c.loop-ask-test.true)))))))
+    c.requires.wanted true (outermost x) ∙ conforms_to s roots (constant true) (outermost x) x n
+    ∙ ap (list_all (ask_conforms s (constant true) (outermost x) x)) (sym e) ∙ list_all-map (ask_conforms s (constant true) (outermost x) x) ask_seen xs in (
+      omega (arith, c.decreases),
+      (
+        c.requires.laid,
+        (
+          c.requires.within,
+          (
+            c.loop-ask.invariant.right,
+            (
+              c.loop-ask.invariant.marked,
+              (
+                asked_at s x n xs c.loop-ask.ask-index _ e c.loop-ask-test.true,
+                (
+                  (outermost x, allowed_at c.args.wanted (λ ask. ask_conforms s (constant true) (outermost x) x (ask_seen ask)) xs c.loop-ask.ask-index _ c.loop-ask-test.true all),
+                  ordered_at s roots x n xs c.loop-ask.ask-index _ e c.loop-ask-test.true,
+                ),
+              ),
+            ),
+          ),
+        ),
+      ),
+    )
 
 pub list_asks-loop-ask-preserved : goal.list_asks-loop-ask-preserved
 list_asks-loop-ask-preserved t c =
@@ -98,10 +115,10 @@ list_kid-list_same-requires t c =
     let q : Pair = record { item = c.in-Some.item; node = c.args.node } in
     let x = item_at c.args.layout.now c.args.pair.item in
     let h : weight s c.args.layout.now q < weight s c.args.layout.now c.args.pair =
-        lighter_kid s c.args.layout.now c.args.pair q c.in-Some.ensures.behind c.in-Some.ensures.within in
+    lighter_kid s c.args.layout.now c.args.pair q c.in-Some.ensures.behind c.in-Some.ensures.within in
     let around = c.requires.allowed.0 in
     let allowed = subst (IsAllowed c.args.wanted)
-        (asked_of s c.args.layout.now c.args.pair c.args.position c.args.node true around (Some (item_at c.args.layout.now q.item)) c.in-Some.ensures.kid) c.requires.allowed.1 in
+    (asked_of s c.args.layout.now c.args.pair c.args.position c.args.node true around (Some (item_at c.args.layout.now q.item)) c.in-Some.ensures.kid) c.requires.allowed.1 in
     (omega (arith, h, c.decreases), (c.requires.laid, (c.in-Some.ensures.within, (c.requires.right, (c.requires.marked, (below (inside s around x) (0 + c.args.position), allowed))))))
 
 pub list_kid-returns-in-Some-clause-told : goal.list_kid-returns-in-Some-clause-told

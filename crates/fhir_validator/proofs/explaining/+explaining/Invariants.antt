@@ -1,4 +1,4 @@
-use Rattle.std.proofs.Common.{◌≡◌, ◌+◌, ◌*◌, ℕ, length, take, IsTrue, ◌⊎◌}
+use Rattle.std.proofs.Common.{◌+◌, ◌*◌, take, IsTrue, ◌⊎◌}
 use Rattle.std.specs.List.{list_all}
 use Rattle.fhir_slicing.specs.Views.{ask_seen}
 use Rattle.fhir_slicing.specs.Conformance.{Around, constant}

@@ -1,4 +1,4 @@
-use Rattle.std.proofs.Common.{◌≡◌, Bool, true, sym, subst}
+use Rattle.std.proofs.Common.{true, sym, subst}
 use Rattle.std.specs.List.{AllByRecursion}
 use Rattle.fhir_slicing.specs.Conformance.{rule_holds}
 use Rattle.fhir_slicing.specs.Views.{rule_name}
@@ -18,8 +18,7 @@ returns-clause-told c = λ around.
 pub returns-clause-found : goal.returns-clause-found
 returns-clause-found c = λ outermost profile place met before.
     let P = IsFound c.args.schema.now outermost profile in
-    let x = item_at c.args.layout.now c.args.pair.item in
-    (
+    let x = item_at c.args.layout.now c.args.pair.item in (
       subst (AllByRecursion P) (sym c.in_ok-push.ensures.items)
           (all_pushed P c.args.listing.now.issues.items (Broken c.in_ok-finding.finding) before.0
           (broken_at c.args.schema.now outermost profile place x c.args.pair.node c.args.node met (rule_name c.args.rule) c.requires.asked

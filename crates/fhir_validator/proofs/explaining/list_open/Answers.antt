@@ -1,4 +1,4 @@
-use Rattle.std.proofs.Common.{◌≡◌, Bool, sym, ◌∙◌, subst}
+use Rattle.std.proofs.Common.{sym, ◌∙◌, subst}
 use Rattle.std.specs.List.{AllByRecursion}
 use Rattle.fhir_slicing.specs.Conformance.{rule_holds}
 use Rattle.fhir_slicing.specs.Views.{rule_name}
@@ -11,8 +11,7 @@ use Rattle.fhir_validator.proofs.explaining.list_open.Goals as goal
 pub returns-in_ok-push-clause-found : goal.returns-in_ok-push-clause-found
 returns-in_ok-push-clause-found c = λ outermost profile place met before.
     let P = IsOpenAt c.args.schema.now outermost profile in
-    let x = item_at c.args.layout.now c.args.pair.item in
-    (
+    let x = item_at c.args.layout.now c.args.pair.item in (
       before.0,
       subst (AllByRecursion P) (sym c.in_ok-push.ensures.items)
           (all_pushed P c.args.listing.now.sites.items c.in_ok-site.site before.1

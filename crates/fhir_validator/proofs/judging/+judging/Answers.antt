@@ -1,6 +1,4 @@
-use Rattle.std.proofs.Common.{◌≡◌, ◌<◌, ◌≤◌, ◌+◌, ◌*◌, ℕ, Bool, length, get_or, arith, refl, sym, ap, ◌∙◌, subst, Option, Some}
-use Rattle.std.specs.Prelude.{IfOk}
-use Rattle.fhir_schema.specs.declared.node.NodeRef.{NodeRef}
+use Rattle.std.proofs.Common.{◌≡◌, ◌<◌, arith, refl, ap, ◌∙◌, subst}
 use Rattle.fhir_slicing.specs.Asks.{asks, child}
 use Rattle.fhir_slicing.specs.Conformance.{constant}
 use Rattle.fhir_slicing.specs.Views.{ask_seen, asks_seen}

@@ -1,11 +1,7 @@
-use Rattle.std.proofs.Common.{◌≡◌, ◌+◌, ◌-◌, ◌*◌, ℕ, Bool, length, take, if◌then◌else◌}
+use Rattle.std.proofs.Common.{◌≡◌, ◌+◌, ◌*◌, Bool, take}
 use Rattle.std.specs.List.{list_all}
-use Rattle.fhir_schema.specs.declared.node.NodeRef.{NodeRef}
-use Rattle.fhir_schema.specs.Schemas.{SchemaValue, is_root_node}
 use Rattle.fhir_slicing.specs.Views.{ask_seen}
 use Rattle.fhir_slicing.specs.Conformance.{Around, constant}
-use Rattle.fhir_validator.specs.declared.layout.Layout.{Layout}
-use Rattle.fhir_validator.specs.declared.pair.Pair.{Pair}
 use Rattle.fhir_validator.specs.Answers.{under}
 use Rattle.fhir_validator.specs.Layouts.{item_at}
 use Rattle.fhir_validator.specs.Judging.{AreRight, ask_conforms}

@@ -1,4 +1,4 @@
-use Rattle.std.proofs.Common.{ap, ◌∙◌, ◌≡◌}
+use Rattle.std.proofs.Common.{ap, ◌∙◌}
 use Rattle.fhir_slicing.specs.Views.{rule_name}
 use Rattle.fhir_slicing.specs.Conformance.{rule_holds}
 use Rattle.fhir_validator.proofs.judging.rule_answer.Goals as goal

@@ -1,8 +1,8 @@
-use Rattle.std.proofs.Common.{◌≡◌, ◌<◌, ◌++◌, ◌∷◌, [], ℕ, List, length, map, take, get_or, arith, sym, ap, ◌∙◌, subst}
+use Rattle.std.proofs.Common.{map, arith, sym, ap, ◌∙◌, subst}
 use Rattle.std.specs.List.{AllByRecursion}
 use Rattle.fhir_instance.specs.View.{item_of}
 use Rattle.fhir_validator.specs.Layouts.{item_in, IsStand}
-use Rattle.fhir_validator.proofs.Rows.{item_of_kid, put_next, put_all, all_pushed}
+use Rattle.fhir_validator.proofs.Rows.{put_next, put_all, all_pushed}
 use Rattle.fhir_validator.proofs.layout.put_kids.Goals as goal
 
 pub loop-position-preserved : goal.loop-position-preserved

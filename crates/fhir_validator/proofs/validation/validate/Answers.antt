@@ -1,5 +1,4 @@
-use Rattle.std.proofs.Common.{◌≡◌, ◌↔◌, true, false, IsTrue, Some, sym}
-use Rattle.fhir_schema.specs.Schemas.{root}
+use Rattle.std.proofs.Common.{◌↔◌, true, false, IsTrue, sym}
 use Rattle.fhir_slicing.specs.Conformance.{Interpretation, Conforms, constant}
 use Rattle.fhir_validator.specs.Verdicts.{is_conforming, is_violating, IsExplained, Means}
 use Rattle.fhir_validator.specs.Listing.{IsVerdictOn, IsOfBytes}

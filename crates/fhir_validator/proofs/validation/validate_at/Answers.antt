@@ -1,4 +1,4 @@
-use Rattle.std.proofs.Common.{◌≡◌, subst, inl, inr}
+use Rattle.std.proofs.Common.{subst, inl, inr}
 use Rattle.fhir_json.specs.Reading.{is_no_memory as is_fault_of_memory}
 use Rattle.fhir_json.specs.Views.{tree_of}
 use Rattle.fhir_instance.specs.Typing.{resource}
@@ -22,5 +22,7 @@ returns-clause-verdict c = λ t reads.
     let v = c.in_ok-misfit_verdict-in-Err-type_resource.field-0 in
     let m = c.in-Err-type_resource.misfit in
     subst (λ t. IsVerdictOn c.args.schema.now c.args.node t v) (c.one_tree.ensures c.args.bytes.now (tree_of c.in-Ok.json) t c.in-Ok.ensures.found reads)
-    (inr (not_typed (is_no_memory m) (resource c.args.schema.now (tree_of c.in-Ok.json)) c.in_ok-misfit_verdict-in-Err-type_resource.ensures.decided c.in-Err-type_resource.ensures.misfit,
-    c.in_ok-misfit_verdict-in-Err-type_resource.ensures.verdict))
+    (inr (
+      not_typed (is_no_memory m) (resource c.args.schema.now (tree_of c.in-Ok.json)) c.in_ok-misfit_verdict-in-Err-type_resource.ensures.decided c.in-Err-type_resource.ensures.misfit,
+      c.in_ok-misfit_verdict-in-Err-type_resource.ensures.verdict,
+    ))

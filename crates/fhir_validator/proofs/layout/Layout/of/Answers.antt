@@ -1,8 +1,7 @@
-use Rattle.std.proofs.Common.{◌≡◌, ◌<◌, ◌≤◌, ◌+◌, ◌++◌, ◌∷◌, [], ℕ, List, length, map, arith, sym, ap, ◌∙◌, subst}
+use Rattle.std.proofs.Common.{◌≡◌, ◌<◌, ◌≤◌, ◌+◌, ◌++◌, ◌∷◌, [], length, map, arith, ap, ◌∙◌}
 use Rattle.std.proofs.lemmas.List.{length-map, length-append}
-use Rattle.fhir_instance.specs.Items.{Item, kids_of}
-use Rattle.fhir_instance.specs.View.{item_of}
-use Rattle.fhir_validator.specs.Layouts.{item_in, items_in, kids_at, numbered, AreLaid}
+use Rattle.fhir_instance.specs.Items.{kids_of}
+use Rattle.fhir_validator.specs.Layouts.{item_in, items_in, numbered}
 use Rattle.fhir_validator.proofs.Rows.{laid_more, longer, item_read, numbered_left}
 use Rattle.fhir_validator.proofs.layout.Layout.of.Goals as goal
 
