@@ -165,7 +165,12 @@ pub fn asks_for_all(pattern: &Json<'static>, other: &Json<'static>) -> bool
 }
 
 /// How many things a node asks of an item.
-pub fn count_asks(alloc: Global, schema: &Schema, item: &Typed<'_, '_>, node: NodeRef) -> Result<usize, NoMemory>
+pub fn count_asks(
+    alloc: Global,
+    schema: &Schema,
+    item: &Typed<'_, '_>,
+    node: NodeRef,
+) -> Result<usize, NoMemory>
     ensures { Gives (λ n. n) result (length (asks schema.now (item_of item.now) node)) }
 {
     let children = Children::of(alloc, item)?;

@@ -69,7 +69,11 @@ fn line_of(alloc: Global, status: Status, out: &[u8], err: &[u8]) -> Result<Stri
 // The outcome that an output is, without its line feed.
 fn outcome_in(out: &str) -> Option<&str> {
     let line = out.strip_suffix("\n")?;
-    if line.starts_with("{") { Some(line) } else { None }
+    if line.starts_with("{") {
+        Some(line)
+    } else {
+        None
+    }
 }
 
 /// What becomes of a line.

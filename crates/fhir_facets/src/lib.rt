@@ -19,7 +19,6 @@
 mod bounds;
 mod compact;
 mod counts;
-mod worked;
 mod facet;
 mod holding;
 mod identity;
@@ -30,9 +29,9 @@ mod targets;
 mod unread;
 mod values;
 mod view;
+mod worked;
 
 pub use counts::{Cardinality, are_enough, are_within, is_forbidden};
-pub use worked::examples;
 pub use facet::Facet;
 pub use holding::Holding;
 pub use identity::identical;
@@ -42,3 +41,4 @@ pub use targets::Targets;
 pub use unread::Unread;
 pub use values::{Fixed, Length, Pattern, fixed_fits};
 pub use view::View;
+pub use worked::examples;
