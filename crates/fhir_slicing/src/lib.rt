@@ -5,7 +5,12 @@
 //!
 //! ```
 //! /// How many things a node asks of an item.
-//! pub fn count_asks(alloc: Global, schema: &Schema, item: &Typed<'_, '_>, node: NodeRef) -> Result<usize, NoMemory>
+//! pub fn count_asks(
+//!     alloc: Global,
+//!     schema: &Schema,
+//!     item: &Typed<'_, '_>,
+//!     node: NodeRef,
+//! ) -> Result<usize, NoMemory>
 //!     ensures { Gives (λ n. n) result (length (asks schema.now (item_of item.now) node)) }
 //! {
 //!     let children = Children::of(alloc, item)?;
