@@ -1,17 +1,14 @@
--- What is supported so far of a definition by itself: its elements say how many there may be, which values they have, of
--- which types they are and what references may refer to, and no more.
-use Rattle.std.specs.Prelude.{Bool, true, false, not, ◌&&◌, ◌||◌, is_some, is_none}
+-- What is supported so far of a definition by itself: its elements say how many there may be, which values and codes they
+-- have, of which types they are and what references may refer to, and no more.
+use Rattle.std.specs.Prelude.{Bool, true, false, not, ◌&&◌, ◌||◌, is_none}
 use Rattle.std.specs.Option.{option_map_or}
 use Rattle.std.specs.List.{list_all, list_any}
 use Rattle.fhir_json.specs.Bytes.{is_empty}
 use Rattle.fhir_elements.specs.declared.constraint.Severity.{Severity}
 use Rattle.fhir_elements.specs.declared.constraint.Severity.TheVariants as severities
-use Rattle.fhir_elements.specs.declared.binding.Strength.{Strength}
-use Rattle.fhir_elements.specs.declared.binding.Strength.TheVariants as strengths
 use Rattle.fhir_names.specs.Parents.{slice_of}
 use Rattle.fhir_elements.specs.TypeEntry.{TypeEntry}
 use Rattle.fhir_elements.specs.Constraint.{Constraint}
-use Rattle.fhir_elements.specs.Binding.{Binding}
 use Rattle.fhir_elements.specs.Element.{Element}
 use Rattle.fhir_definition.specs.Snapshot.{is_root}
 
@@ -19,24 +16,13 @@ abbrev pub is_error : Severity → Bool
 is_error severities.Error = true
 is_error severities.Warning = false
 
-abbrev pub is_required : Strength → Bool
-is_required strengths.Required = true
-is_required strengths.Extensible = false
-is_required strengths.Preferred = false
-is_required strengths.Example = false
-
 -- a constraint that is judged
 abbrev pub must_hold : Constraint → Bool
 must_hold c = option_map_or is_error c.severity false
 
--- a binding that is judged
-abbrev pub binds : Binding → Bool
-binds b = option_map_or is_required b.strength false && is_some b.value_set
-
 abbrev pub has_plain_rules : Element → Bool
 has_plain_rules e =
-    not (option_map_or binds e.binding false)
-    && not (list_any must_hold e.constraints)
+    not (list_any must_hold e.constraints)
     && is_none e.slicing
     && is_none e.content_reference
 

@@ -1,12 +1,11 @@
 //! What is supported so far of a definition by itself.
 
-ghost use Rattle.std.specs.Prelude.{◌≡◌, false};
-ghost use Rattle.std.specs.Option.{option_map_or};
+ghost use Rattle.std.specs.Prelude.{◌≡◌};
 ghost use Rattle.std.specs.List.{list_all, list_any};
-ghost use Rattle.fhir_definition.specs.Supported.{is_error, is_required, must_hold, binds, has_plain_rules, is_bare, is_plain_child, is_plain_element};
+ghost use Rattle.fhir_definition.specs.Supported.{is_error, must_hold, has_plain_rules, is_bare, is_plain_child, is_plain_element};
 
 use crate::by_id::is_root;
-use fhir_elements::{BindingDef, ConstraintDef, ElementDef, Severity, Strength, TypeEntry};
+use fhir_elements::{ConstraintDef, ElementDef, Severity, TypeEntry};
 use fhir_names::slice_of;
 
 fn is_error(severity: Severity) -> bool
@@ -15,17 +14,6 @@ fn is_error(severity: Severity) -> bool
     match severity {
         Severity::Error => true,
         Severity::Warning => false,
-    }
-}
-
-fn is_required(strength: Strength) -> bool
-    ensures { result ≡ is_required strength }
-{
-    match strength {
-        Strength::Required => true,
-        Strength::Extensible => false,
-        Strength::Preferred => false,
-        Strength::Example => false,
     }
 }
 
@@ -43,34 +31,10 @@ fn has_judged(constraints: &[ConstraintDef]) -> bool
     constraints.iter().any(|constraint| must_hold(constraint))
 }
 
-fn has_required(binding: &BindingDef) -> bool
-    ensures { result ≡ option_map_or is_required binding.now.strength false }
-{
-    binding
-        .strength()
-        .is_some_and(|strength| is_required(strength))
-}
-
-fn binds(binding: &BindingDef) -> bool
-    ensures { result ≡ binds binding.now }
-{
-    has_required(binding) && binding.value_set().is_some()
-}
-
-fn has_binding(element: &ElementDef) -> bool
-    ensures { result ≡ option_map_or binds element.now.binding false }
-{
-    match element.binding() {
-        Some(binding) => binds(binding),
-        None => false,
-    }
-}
-
 fn has_plain_rules(element: &ElementDef) -> bool
     ensures { result ≡ has_plain_rules element.now }
 {
-    !has_binding(element)
-        && !has_judged(element.constraints())
+    !has_judged(element.constraints())
         && element.slicing().is_none()
         && element.content_reference().is_none()
 }

@@ -1,5 +1,6 @@
 -- The binding of an element (FHIR R4, ElementDefinition, binding).
-use Rattle.std.specs.Prelude.{Bool, ◌&&◌, Option, codes, None, Some, if◌then◌else◌}
+use Rattle.std.specs.Prelude.{Bool, true, false, ◌&&◌, Option, codes, None, Some, if◌then◌else◌}
+use Rattle.std.specs.Option.{option_map_or}
 use Rattle.std.specs.Str.{bytes_eq}
 use Rattle.fhir_json.specs.Tree.{Text, Tree}
 use Rattle.fhir_json.specs.Fields.{is_object, text_in, allows_text}
@@ -26,3 +27,13 @@ binding_of t = record {
   strength = code_in strength_of (codes "strength") t;
   value_set = text_in (codes "valueSet") t;
 }
+
+abbrev pub is_required : Strength → Bool
+is_required strengths.Required = true
+is_required strengths.Extensible = false
+is_required strengths.Preferred = false
+is_required strengths.Example = false
+
+-- the value set that an item's codes have to be in (FHIR R4, Terminologies, required)
+abbrev pub required_set : Binding → Option Text
+required_set b = if option_map_or is_required b.strength false then b.value_set else None

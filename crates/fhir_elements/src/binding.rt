@@ -1,7 +1,8 @@
 //! Bindings (FHIR R4, ElementDefinition, binding).
 
-ghost use Rattle.std.specs.Prelude.{◌≡◌, ◌<◌, Option, IfOk};
-ghost use Rattle.fhir_elements.specs.Binding.{strength_of, is_binding, binding_of};
+ghost use Rattle.std.specs.Prelude.{◌≡◌, ◌<◌, false, Option, IfOk};
+ghost use Rattle.std.specs.Option.{option_map_or};
+ghost use Rattle.fhir_elements.specs.Binding.{strength_of, is_binding, binding_of, is_required, required_set};
 ghost use Rattle.fhir_json.specs.Views.{tree_of, text_seen};
 
 use crate::codes::{Code, allows_code, code_in};
@@ -37,6 +38,17 @@ impl Code for Strength {
     }
 }
 
+fn is_required(strength: Strength) -> bool
+    ensures { result ≡ is_required strength }
+{
+    match strength {
+        Strength::Required => true,
+        Strength::Extensible => false,
+        Strength::Preferred => false,
+        Strength::Example => false,
+    }
+}
+
 /// To which codes an element is bound.
 #[derive(Debug, Drop)]
 pub struct BindingDef {
@@ -67,6 +79,26 @@ impl BindingDef {
         ensures { text_seen result ≡ self.now.value_set }
     {
         text_of(&self.value_set)
+    }
+
+    fn is_required(&self) -> bool
+        ensures { result ≡ option_map_or is_required self.now.strength false }
+    {
+        match self.strength {
+            Some(strength) => is_required(strength),
+            None => false,
+        }
+    }
+
+    /// The url of the value set that an item's codes have to be in, if it binds so (FHIR R4, Terminologies, required).
+    pub fn required_set(&self) -> Option<&str>
+        ensures { text_seen result ≡ required_set self.now }
+    {
+        if self.is_required() {
+            self.value_set()
+        } else {
+            None
+        }
     }
 }
 
