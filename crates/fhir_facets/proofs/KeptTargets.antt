@@ -14,13 +14,13 @@ use Rattle.fhir_facets.specs.Unread.{Unread, Meaning, target}
 use Rattle.fhir_facets.proofs.Alike.{text_is}
 use Rattle.fhir_facets.proofs.Keeping.{mapped}
 
-either : {A : Type 0} (b c : Bool) → (b ≡ true → A) → (c ≡ true → A) → (b || c) ≡ true → A
+pub either : {A : Type 0} (b c : Bool) → (b ≡ true → A) → (c ≡ true → A) → (b || c) ≡ true → A
 either true c f g h = f refl
 either false c f g h = g h
 
 -- ---- one of several
 
-some_more : {A : Type 0} (p q : A → Bool) → ((a : A) → IsTrue (p a) → IsTrue (q a)) → (xs : List A) → IsTrue (list_any p xs) → IsTrue (list_any q xs)
+pub some_more : {A : Type 0} (p q : A → Bool) → ((a : A) → IsTrue (p a) → IsTrue (q a)) → (xs : List A) → IsTrue (list_any p xs) → IsTrue (list_any q xs)
 some_more p q f [] h = h
 some_more p q f (x ∷ xs) h =
     either (p x) (list_any p xs) (λ k. or_left (q x) (list_any q xs) (f x k)) (λ k. or_right (q x) (list_any q xs) (some_more p q f xs k)) h

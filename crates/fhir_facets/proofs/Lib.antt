@@ -5,4 +5,5 @@ mod Chains
 mod Keeping
 mod KeptBounds
 mod KeptTargets
+mod KeptBindings
 mod Among

@@ -1,6 +1,8 @@
 -- Values that the examples of facets are asked of.
 use Rattle.std.specs.Prelude.{Bool, true, false, Option, None, Some, codes}
-use Rattle.fhir_json.specs.Tree.{Text, Tree, number, string, object, no_members, member, Property}
+use Rattle.fhir_json.specs.Tree.{Text, Tree, number, string, array, object, Items, no_items, item, no_members, member, Property}
+use Rattle.fhir_codes.specs.Concepts.{Concepts}
+use Rattle.fhir_facets.specs.Bindings.{Binding}
 use Rattle.fhir_facets.specs.Seen.{Seen}
 use Rattle.fhir_facets.specs.Ranges.{Range}
 
@@ -39,3 +41,23 @@ one = object (member (codes "value") (number (codes "1")) no_members)
 -- `{"unit": "m", "value": 1}`
 abbrev pub one_metre : Tree
 one_metre = object (member (codes "unit") (string (codes "m")) (member (codes "value") (number (codes "1")) no_members))
+
+-- ---- codes
+
+-- `{"system": "urn:s", "code": ..}`
+abbrev pub coding : Text → Tree
+coding code = object (member (codes "system") (string (codes "urn:s")) (member (codes "code") (string code) no_members))
+
+-- the same without a system
+abbrev pub no_coding : Text → Tree
+no_coding code = object (member (codes "code") (string code) no_members)
+
+abbrev pub concept_of : Items → Tree
+concept_of codings = object (member (codes "coding") (array codings) no_members)
+
+-- bindings to a set that is known, and to one that isn't
+abbrev pub known : Concepts → Binding
+known s = record { canonical = codes "urn:set"; concepts = Some s }
+
+abbrev pub unknown : Binding
+unknown = record { canonical = codes "urn:set"; concepts = None }

@@ -4,6 +4,7 @@ pub mod Identity
 pub mod Values
 pub mod Ranges
 pub mod Targets
+pub mod Bindings
 pub mod Counts
 pub mod Carried
 pub mod Views

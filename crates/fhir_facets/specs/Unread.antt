@@ -8,11 +8,14 @@ pub data Unread : Type 0 where
   range : (property : List ℕ) → Tree → Unread
   -- a target profile that isn't there, or can't be used
   target : (canonical : List ℕ) → Unread
+  -- a required binding to a value set that can't be read, or of an item that isn't looked up in one
+  binding : (canonical : List ℕ) → Unread
 
 -- as a message says it
 abbrev pub unread_text : Unread → Text
 unread_text (range property value) = codes "range " ++ property ++ codes " " ++ compact value
 unread_text (target canonical) = codes "target " ++ canonical
+unread_text (binding canonical) = codes "binding " ++ canonical
 
 -- What the unread rules mean of one item: whether each holds. Any test may be meant.
 abbrev pub Meaning : Type 0

@@ -1,29 +1,33 @@
--- What contracts see of unread rules, views, bounds and answers.
+-- What contracts see of unread rules, views, bounds, bindings and answers.
 use Rattle.std.specs.Prelude.{List, [], ◌++◌, Bool, true, false, if◌then◌else◌}
 use Rattle.std.specs.declared.cmp.Ordering.{Ordering}
 use Rattle.std.specs.List.{Contains, flat_map}
 use Rattle.std.specs.Option.{option_map_or}
 use Rattle.std.specs.Ordering.{is_le, is_ge}
 use Rattle.fhir_json.specs.Views.{tree_seen, property_of, property_seen}
+use Rattle.fhir_codes.specs.Views.{concepts_seen}
 use Rattle.fhir_elements.specs.TypeEntry.{TypeEntry}
 use Rattle.fhir_schema.specs.Schemas.{SchemaValue}
 use Rattle.fhir_facets.specs.declared.unread.Unread.{Unread as UnreadRule}
-use Rattle.fhir_facets.specs.declared.unread.Unread.TheVariants.{Range as UnreadRange, Target as UnreadTarget}
+use Rattle.fhir_facets.specs.declared.unread.Unread.TheVariants.{Range as UnreadRange, Target as UnreadTarget, Binding as UnreadBinding}
 use Rattle.fhir_facets.specs.declared.view.View.{View}
 use Rattle.fhir_facets.specs.declared.holding.Holding.{Holding}
 use Rattle.fhir_facets.specs.declared.holding.Holding.TheVariants.{Holds, Fails, Unread as Undecided}
 use Rattle.fhir_facets.specs.declared.bounds.Side.{Side}
 use Rattle.fhir_facets.specs.declared.bounds.Side.TheVariants.{Least, Most}
 use Rattle.fhir_facets.specs.declared.ranges.Range.{Range as RangeOf}
-use Rattle.fhir_facets.specs.Unread.{Unread, range, target}
+use Rattle.fhir_facets.specs.declared.bindings.Binding.{Binding as BindingOf}
+use Rattle.fhir_facets.specs.Unread.{Unread, range, target, binding}
 use Rattle.fhir_facets.specs.Seen.{Seen}
 use Rattle.fhir_facets.specs.Ranges.{Range}
 use Rattle.fhir_facets.specs.Targets.{has_targets}
+use Rattle.fhir_facets.specs.Bindings.{Binding}
 use Rattle.fhir_facets.specs.Carried.{bound_unread, target_unread}
 
 abbrev pub unread_seen : UnreadRule → Unread
 unread_seen (UnreadRange p) = range (property_of p.now).0 (property_of p.now).1
 unread_seen (UnreadTarget canonical) = target canonical.now
+unread_seen (UnreadBinding canonical) = binding canonical.now
 
 abbrev pub view_seen : View → Seen
 view_seen v = record { type = v.code.now; json = tree_seen v.json; has_kids = v.has_kids }
@@ -57,3 +61,8 @@ range_rules r = option_map_or bound_unread r.least [] ++ option_map_or bound_unr
 -- those that the targets of a type entry are
 abbrev pub target_rules : SchemaValue → TypeEntry → List Unread
 target_rules s e = if has_targets e then flat_map (target_unread s) e.targets else []
+
+-- ---- a binding
+
+abbrev pub binding_seen : BindingOf → Binding
+binding_seen b = record { canonical = b.canonical.now; concepts = concepts_seen b.concepts }

@@ -80,7 +80,7 @@ fn most_narrower(own: Option<Max>, base: Option<Max>) -> bool
 impl<'a> Facet<'a, usize> for Cardinality<'_> {
     ghost meant = { λ m bounds count. count_holds bounds.0.now count };
 
-    ghost unread_rules = { λ bounds. [] };
+    ghost unread_rules = { λ bounds asked. [] };
 
     ghost is_narrower = { λ bounds base. count_narrower bounds.0.now base.0.now };
 

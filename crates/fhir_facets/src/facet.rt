@@ -11,8 +11,8 @@ pub trait Facet<'a, Asked> {
     /// Whether it holds of what is asked, where unread rules mean so.
     ghost meant: { Meaning → Self → Asked → Bool };
 
-    /// The unread rules that it may hang on.
-    ghost unread_rules: { Self → List Rule };
+    /// The unread rules that it may hang on, asked so.
+    ghost unread_rules: { Self → Asked → List Rule };
 
     /// Whether the first is as narrow as the second.
     ghost is_narrower: { Self → Self → Bool };
@@ -20,7 +20,7 @@ pub trait Facet<'a, Asked> {
     /// Whether it holds, whatever the unread rules mean; or the first unread rule that it hangs on.
     fn holds(&self, asked: &Asked) -> Holding<'a>
         ensures exact { (b : Bool) → holding_under b result ≡ meant (λ u. b) self.now asked.now }
-        ensures carried { IsCarried (unread_rules self.now) result };
+        ensures carried { IsCarried (unread_rules self.now asked.now) result };
 
     /// Whether it is as narrow as another: that one holds wherever this one does.
     fn narrower(&self, base: &Self) -> bool

@@ -1,10 +1,11 @@
 //! Laws: what the definitions say of one another.
 
-ghost use Rattle.std.specs.Prelude.{ℕ, ℤ, IsTrue};
-ghost use Rattle.fhir_json.specs.Tree.{Tree};
+ghost use Rattle.std.specs.Prelude.{ℕ, ℤ, Bool, IsTrue};
+ghost use Rattle.fhir_json.specs.Tree.{Text, Tree};
 ghost use Rattle.fhir_elements.specs.Element.{Element};
 ghost use Rattle.fhir_elements.specs.TypeEntry.{TypeEntry};
 ghost use Rattle.fhir_schema.specs.Schemas.{SchemaValue};
+ghost use Rattle.fhir_facets.specs.Bindings.{Binding, binding_to, binding_holds, binding_narrower, IsFair};
 ghost use Rattle.fhir_facets.specs.Counts.{count_holds, count_narrower};
 ghost use Rattle.fhir_facets.specs.Ranges.{Range, range_holds, range_narrower};
 ghost use Rattle.fhir_facets.specs.Seen.{Seen};
@@ -12,6 +13,7 @@ ghost use Rattle.fhir_facets.specs.Targets.{targets_hold, targets_narrower};
 ghost use Rattle.fhir_facets.specs.Unread.{Unread, Meaning};
 ghost use Rattle.fhir_facets.specs.Values.{fixed_holds, fixed_narrower, pattern_holds, pattern_narrower, fixed_fits, length_holds, length_narrower};
 
+use fhir_codes::subsets;
 use fhir_decimal::order_of_values;
 use fhir_matching::{equivalence, fitting};
 use fhir_prims::order_of_moments;
@@ -31,6 +33,10 @@ pub fn narrower_holds()
         → IsTrue (range_holds m r x) → IsTrue (range_holds m base x) }
     ensures targets { (s : SchemaValue) (m : Meaning) (e base : TypeEntry) (x : Seen)
         → IsTrue (targets_narrower s e base) → IsTrue (targets_hold s m e x) → IsTrue (targets_hold s m base x) }
+    // A binding, where the unread rules mean something fair.
+    ensures binding { (s : SchemaValue) (m : Meaning) (own base : Text) (x : Seen) → IsFair s m
+        → IsTrue (binding_narrower (binding_to s own) (binding_to s base))
+        → IsTrue (binding_holds m (binding_to s own) x) → IsTrue (binding_holds m (binding_to s base) x) }
     ensures count { (e base : Element) (n : ℕ) → IsTrue (count_narrower e base)
         → IsTrue (count_holds e n) → IsTrue (count_holds base n) }
 {
@@ -39,6 +45,7 @@ pub fn narrower_holds()
     order_of_values();
     order_of_moments();
     covering_codes();
+    subsets();
 }
 
 /// Where more of the unread rules hold, no facet holds of less.
@@ -48,4 +55,11 @@ pub fn positive()
     ensures targets { (s : SchemaValue) (m larger : Meaning) (e : TypeEntry) (x : Seen)
         → ((u : Unread) → IsTrue (m u) → IsTrue (larger u))
         → IsTrue (targets_hold s m e x) → IsTrue (targets_hold s larger e x) }
+    ensures binding { (m larger : Meaning) (b : Binding) (x : Seen) → ((u : Unread) → IsTrue (m u) → IsTrue (larger u))
+        → IsTrue (binding_holds m b x) → IsTrue (binding_holds larger b x) }
+{}
+
+/// Meanings by which each unread rule holds, or none does, are fair.
+pub fn fair_meanings()
+    ensures { (s : SchemaValue) (b : Bool) → IsFair s (λ u. b) }
 {}

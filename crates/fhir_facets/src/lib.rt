@@ -1,5 +1,5 @@
-//! What an element asks for, each facet by itself: a fixed value, a pattern, bounds, a length, targets of references, and how
-//! many items there may be (FHIR R4, ElementDefinition).
+//! What an element asks for, each facet by itself: a fixed value, a pattern, bounds, a length, targets of references, codes of
+//! a value set, and how many items there may be (FHIR R4, ElementDefinition).
 //!
 //! ```
 //! /// Whether one pattern asks for all that another does; then what has the first has the other too.
@@ -16,6 +16,7 @@
 //! [`narrower_holds`]: what a narrower facet holds of, a wider one does.
 #![tactic(auto)]
 
+mod bindings;
 mod bounds;
 mod compact;
 mod counts;
@@ -24,6 +25,7 @@ mod holding;
 mod identity;
 mod kinds;
 mod laws;
+mod lookup;
 mod ranges;
 mod targets;
 mod unread;
@@ -31,14 +33,16 @@ mod values;
 mod view;
 mod worked;
 
+pub use bindings::Binding;
 pub use counts::{Cardinality, are_enough, are_within, is_forbidden};
 pub use facet::Facet;
 pub use holding::Holding;
 pub use identity::identical;
-pub use laws::{narrower_holds, positive};
+pub use laws::{fair_meanings, narrower_holds, positive};
+pub use lookup::Lookup;
 pub use ranges::Range;
 pub use targets::Targets;
 pub use unread::Unread;
 pub use values::{Fixed, Length, Pattern, fixed_fits};
 pub use view::View;
-pub use worked::examples;
+pub use worked::{examples, examples_of_bindings};

@@ -70,7 +70,7 @@ fn side_narrower(side: Side, own: Option<&Member<'_>>, base: Option<&Member<'_>>
 impl<'a> Facet<'a, View<'_, '_>> for Range<'a> {
     ghost meant = { λ m range view. range_holds m (range_seen range) (view_seen view) };
 
-    ghost unread_rules = { λ range. range_rules (range_seen range) };
+    ghost unread_rules = { λ range asked. range_rules (range_seen range) };
 
     ghost is_narrower = { λ range base. range_narrower (range_seen range) (range_seen base) };
 

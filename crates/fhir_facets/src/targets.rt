@@ -134,7 +134,7 @@ fn are_targets_among(schema: &Schema, owns: &[String], bases: &[String]) -> bool
 impl<'s> Facet<'s, View<'_, '_>> for Targets<'s> {
     ghost meant = { λ m t view. targets_hold t.schema.now m t.entry.now (view_seen view) };
 
-    ghost unread_rules = { λ t. target_rules t.schema.now t.entry.now };
+    ghost unread_rules = { λ t asked. target_rules t.schema.now t.entry.now };
 
     ghost is_narrower = { λ t base. targets_narrower t.schema.now t.entry.now base.entry.now };
 

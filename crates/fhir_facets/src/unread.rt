@@ -5,13 +5,15 @@ use fhir_json::Member;
 use std::fmt;
 
 /// A rule that a definition has and that isn't judged here. `Display` prints what it says: `range`, its property and its
-/// compact value; or `target` and its canonical.
+/// compact value; or `target` or `binding` and its canonical.
 #[derive(Clone, Copy, Debug)]
 pub enum Unread<'a> {
     /// A bound of a type whose values aren't compared, as `minValueQuantity`.
     Range(&'a Member<'static>),
     /// A target profile that isn't there, or can't be used.
     Target(&'a str),
+    /// A required binding to a value set that can't be read, or of an item that isn't looked up in one.
+    Binding(&'a str),
 }
 
 impl fmt::Display for Unread<'_> {
@@ -24,6 +26,7 @@ impl fmt::Display for Unread<'_> {
                 write_compact(f, &bound.value)
             }
             Unread::Target(canonical) => write!(f, "target {canonical}"),
+            Unread::Binding(canonical) => write!(f, "binding {canonical}"),
         }
     }
 }

@@ -77,7 +77,7 @@ fn has_length(most: i32, view: &View<'_, '_>) -> bool
 impl<'a> Facet<'a, View<'_, '_>> for Fixed<'a> {
     ghost meant = { λ m fixed view. fixed_holds (tree_of fixed.0.now) (view_seen view) };
 
-    ghost unread_rules = { λ fixed. [] };
+    ghost unread_rules = { λ fixed asked. [] };
 
     ghost is_narrower = { λ fixed base. fixed_narrower (tree_of fixed.0.now) (tree_of base.0.now) };
 
@@ -93,7 +93,7 @@ impl<'a> Facet<'a, View<'_, '_>> for Fixed<'a> {
 impl<'a> Facet<'a, View<'_, '_>> for Pattern<'a> {
     ghost meant = { λ m pattern view. pattern_holds (tree_of pattern.0.now) (view_seen view) };
 
-    ghost unread_rules = { λ pattern. [] };
+    ghost unread_rules = { λ pattern asked. [] };
 
     ghost is_narrower = { λ pattern base. pattern_narrower (tree_of pattern.0.now) (tree_of base.0.now) };
 
@@ -109,7 +109,7 @@ impl<'a> Facet<'a, View<'_, '_>> for Pattern<'a> {
 impl<'a> Facet<'a, View<'_, '_>> for Length {
     ghost meant = { λ m most view. length_holds most.0 (view_seen view) };
 
-    ghost unread_rules = { λ most. [] };
+    ghost unread_rules = { λ most asked. [] };
 
     ghost is_narrower = { λ most base. length_narrower most.0 base.0 };
 

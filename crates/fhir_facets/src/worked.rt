@@ -1,11 +1,14 @@
 //! Facets at work.
 
-ghost use Rattle.std.specs.Prelude.{◌≡◌, true, false, codes, pos};
-ghost use Rattle.fhir_json.specs.Tree.{number, string};
-ghost use Rattle.fhir_facets.specs.Unread.{Meaning, range};
+ghost use Rattle.std.specs.Prelude.{◌≡◌, ◌||◌, true, false, codes, pos};
+ghost use Rattle.std.specs.FinSet as set;
+ghost use Rattle.fhir_json.specs.Tree.{number, string, item, no_items};
+ghost use Rattle.fhir_codes.specs.Concepts.{Concepts, concept, has_code};
+ghost use Rattle.fhir_facets.specs.Bindings.{binding_holds};
+ghost use Rattle.fhir_facets.specs.Unread.{Meaning, range, binding};
 ghost use Rattle.fhir_facets.specs.Values.{fixed_holds, pattern_holds, length_holds};
 ghost use Rattle.fhir_facets.specs.Ranges.{range_holds};
-ghost use Rattle.fhir_facets.specs.Example.{plain, extended, valueless, decimal, date, date_time, from, to, one, one_metre};
+ghost use Rattle.fhir_facets.specs.Example.{plain, extended, valueless, decimal, date, date_time, from, to, one, one_metre, coding, no_coding, concept_of, known, unknown};
 
 /// What facets say of single values. A decimal is compared by value with the least (`least`, `equal`) and with the greatest
 /// (`most`, `more`); a moment by its fields in UTC (`earlier`, `later`); two dates of which one goes further have no order
@@ -31,4 +34,22 @@ pub fn examples()
     ensures wider { fixed_holds one (plain (codes "Quantity") one_metre) ≡ false }
     ensures extended { fixed_holds (string (codes "a")) (extended (codes "code") (string (codes "a"))) ≡ false }
     ensures pattern { pattern_holds one (plain (codes "Quantity") one_metre) ≡ true }
+{}
+
+/// What a required binding says of single values. A code is looked up by itself (`code`), a Coding by its system and code
+/// (`coding`), and of a CodeableConcept one coding is enough (`concept`). A Coding without a system is in no set (`systemless`),
+/// and where there is no value nothing is judged (`valueless`). A number, and an item of another type, hang on the unread rule
+/// (`number`, `quantity`), as all items do where the set isn't known (`unknown`).
+pub fn examples_of_bindings()
+    ensures code { (m : Meaning) (s : Concepts) → binding_holds m (known s) (plain (codes "code") (string (codes "a"))) ≡ has_code (codes "a") s }
+    ensures coding { (m : Meaning) (s : Concepts) → binding_holds m (known s) (plain (codes "Coding") (coding (codes "a")))
+        ≡ set.contains s (concept (codes "urn:s") (codes "a")) }
+    ensures concept { (m : Meaning) (s : Concepts) → binding_holds m (known s)
+        (plain (codes "CodeableConcept") (concept_of (item (coding (codes "a")) (item (coding (codes "b")) no_items))))
+        ≡ (set.contains s (concept (codes "urn:s") (codes "a")) || (set.contains s (concept (codes "urn:s") (codes "b")) || false)) }
+    ensures systemless { (m : Meaning) (s : Concepts) → binding_holds m (known s) (plain (codes "Coding") (no_coding (codes "a"))) ≡ false }
+    ensures valueless { (m : Meaning) (s : Concepts) → binding_holds m (known s) (valueless (codes "code")) ≡ true }
+    ensures number { (m : Meaning) (s : Concepts) → binding_holds m (known s) (decimal (codes "3")) ≡ m (binding (codes "urn:set")) }
+    ensures quantity { (m : Meaning) (s : Concepts) → binding_holds m (known s) (plain (codes "Quantity") one) ≡ m (binding (codes "urn:set")) }
+    ensures unknown { (m : Meaning) → binding_holds m unknown (plain (codes "code") (string (codes "a"))) ≡ m (binding (codes "urn:set")) }
 {}

@@ -16,6 +16,7 @@ use Rattle.fhir_schema.specs.Tables.{ArePlaced}
 use Rattle.fhir_schema.specs.Usability.{IsClosed}
 use Rattle.fhir_schema.specs.Settling.{reason_at, url_place, types_are_usable, fault_of, is_well_formed, lasting_tests, tests, all_reasons}
 use Rattle.fhir_schema.specs.Forms.{spells_apart}
+use Rattle.fhir_codes.specs.Expanding.{Expansions}
 use Rattle.fhir_schema.specs.Schemas.{schema_with, is_loaded, unusable, root, root_in}
 
 -- ---- what is found under a url
@@ -82,9 +83,9 @@ module _ (ds : List Definition) where
   mapped_some f (Some a) e = refl
   mapped_some f None e = cc
 
-  module _ (is_placed : ArePlaced ds) (is_closed : IsClosed ds (all_reasons ds)) where
+  module _ (sets : Expansions) (is_placed : ArePlaced ds) (is_closed : IsClosed ds (all_reasons ds)) where
     root_there : (d : Definition) (place : ℕ) → slice_get ds place ≡ Some d → reason_at (all_reasons ds) place ≡ None
-        → IsSome (root_in (schema_with ds) place)
+        → IsSome (root_in (schema_with ds sets) place)
     root_there d place at none =
         let is : d.place ≡ place = is_placed place d at in
         let held = is_closed d (ap (slice_get ds) is ∙ at) (ap (reason_at (all_reasons ds)) is ∙ none) in
@@ -92,7 +93,7 @@ module _ (ds : List Definition) where
         rw (none, at) (mapped_some _ (root_place d.elements) some)
 
     root_found : (url : Text) (o : Option ℕ) → url_place ds url ≡ o → is_some o ≡ true → option_and_then (reason_at (all_reasons ds)) o ≡ None
-        → IsSome (option_and_then (root_in (schema_with ds)) o)
+        → IsSome (option_and_then (root_in (schema_with ds sets)) o)
     root_found url None is some none = cc
     root_found url (Some place) is some none =
         let there = found ds url place is in
@@ -100,5 +101,5 @@ module _ (ds : List Definition) where
         let same : there.1 ≡ place = sym (is_placed there.1 d there.2) ∙ there.3 in
         root_there d place (ap (slice_get ds) (sym same) ∙ there.2) none
 
-    pub usable_root : (url : Text) → IsTrue (is_loaded (schema_with ds) url) → unusable (schema_with ds) url ≡ None → IsSome (root (schema_with ds) url)
+    pub usable_root : (url : Text) → IsTrue (is_loaded (schema_with ds sets) url) → unusable (schema_with ds sets) url ≡ None → IsSome (root (schema_with ds sets) url)
     usable_root url some none = root_found url (url_place ds url) refl some none

@@ -1,10 +1,12 @@
--- The schema of a package: its definitions, which of them can be used, and the nodes of those.
+-- The schema of a package: its definitions, which of them can be used, the nodes of those, and the concepts of its value sets.
 use Rattle.std.specs.Prelude.{ℕ, List, [], length, get_or, map, Bool, false, not, ◌&&◌, nat_lt, nat_eq, Option, None, Some, is_some, is_none, if◌then◌else◌}
 use Rattle.std.specs.Option.{option_map, option_map_or, option_and_then}
 use Rattle.std.specs.List.{slice_get, find}
 use Rattle.std.specs.Str.{bytes_eq}
 use Rattle.fhir_json.specs.Tree.{Text}
 use Rattle.fhir_package.specs.Definitions.{Definitions}
+use Rattle.fhir_codes.specs.Concepts.{Concepts}
+use Rattle.fhir_codes.specs.Expanding.{Expansions, expansions_of, concepts_in}
 use Rattle.fhir_elements.specs.declared.reason.Reason.{Reason}
 use Rattle.fhir_elements.specs.TypeEntry.{TypeEntry}
 use Rattle.fhir_elements.specs.Element.{Element}
@@ -21,12 +23,17 @@ pub record SchemaValue : Type 0 where
   pub definitions : List Definition
   -- why each can't be used
   pub reasons : Reasons
+  pub value_sets : Expansions
 
-abbrev pub schema_with : List Definition → SchemaValue
-schema_with ds = record { definitions = ds; reasons = all_reasons ds }
+abbrev pub schema_with : List Definition → Expansions → SchemaValue
+schema_with ds sets = record { definitions = ds; reasons = all_reasons ds; value_sets = sets }
 
 abbrev pub schema_of : Definitions → SchemaValue
-schema_of p = schema_with (definitions_from 0 p.structure_definitions)
+schema_of p = schema_with (definitions_from 0 p.structure_definitions) (expansions_of p)
+
+-- the concepts of the value set that a canonical names, if they can be read
+abbrev pub concepts_at : SchemaValue → Text → Option Concepts
+concepts_at s canonical = concepts_in s.value_sets canonical
 
 -- why the definition at a url can't be used, if it is there and can't
 abbrev pub unusable : SchemaValue → Text → Option Reason

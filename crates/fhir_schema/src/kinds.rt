@@ -76,7 +76,7 @@ pub(crate) fn primitive_of(table: &Table, code: &str) -> Option<PrimType>
 }
 
 /// Whether a code is that of one of FHIRPath's own types.
-pub(crate) fn is_system(code: &str) -> bool
+pub fn is_system(code: &str) -> bool
     ensures { result ≡ is_system code.now }
 {
     code.as_bytes()

@@ -3,16 +3,19 @@
 ghost use Rattle.std.specs.Prelude.{◌≡◌, ◌↔◌, ◌<◌, ℕ, List, length, false, Some, is_some, IsTrue};
 ghost use Rattle.std.specs.List.{slice_get, Contains, list_any};
 ghost use Rattle.fhir_package.specs.Definitions.{Definitions};
+ghost use Rattle.fhir_codes.specs.ValueSets.{concepts_of};
 ghost use Rattle.fhir_definition.specs.Definition.{Definition};
 ghost use Rattle.fhir_schema.specs.Settling.{Reasons};
 ghost use Rattle.fhir_schema.specs.Usability.{AllApply, IsClosed, IsWithin};
 ghost use Rattle.fhir_json.specs.Tree.{Text};
 ghost use Rattle.fhir_schema.specs.declared.node.NodeRef.{NodeRef};
-ghost use Rattle.fhir_schema.specs.Schemas.{SchemaValue, schema_of, has, node, root, is_root_node, type_root, forms};
+ghost use Rattle.fhir_schema.specs.Schemas.{SchemaValue, schema_of, has, node, root, is_root_node, type_root, forms, concepts_at};
 ghost use Rattle.fhir_schema.specs.declared.form.Property.{Property};
 ghost use Rattle.fhir_schema.specs.Forms.{Form, are_apart, spells, spellings, property_of};
 ghost use Rattle.fhir_schema.specs.Types.{names_resource};
 ghost use Rattle.fhir_schema.specs.Covers.{covers};
+
+use fhir_codes::resolved;
 
 /// The definitions that can't be used are the least closed set: no reason applies to any other, each of them has one
 /// that applies, and no smaller set is closed.
@@ -58,3 +61,10 @@ pub fn one_meaning()
     ensures speller { (fs : List Form) (name : Text) (a : Property) (f : Form) → property_of fs name ≡ Some a
         → slice_get fs a.form ≡ Some f → IsTrue (spells f name) }
 {}
+
+/// The concepts that a schema has of a value set are those that the package gives it (FHIR R4, ValueSet, compose).
+pub fn concepts_of_package()
+    ensures { (p : Definitions) (canonical : Text) → concepts_at (schema_of p) canonical ≡ concepts_of p canonical }
+{
+    resolved();
+}

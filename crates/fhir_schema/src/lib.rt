@@ -1,4 +1,5 @@
-//! The schema of a package: which definitions can be used, their nodes, and what stands below each.
+//! The schema of a package: which definitions can be used, their nodes, what stands below each, and the concepts of its value
+//! sets.
 //!
 //! ```
 //! /// The slots of a profile's root, where the profile can be used.
@@ -37,7 +38,8 @@ mod table;
 mod types;
 
 pub use form::{Content, Form, Property};
-pub use laws::{covering_codes, least_closed, named_nodes, one_meaning, roots_are_roots};
+pub use kinds::is_system;
+pub use laws::{concepts_of_package, covering_codes, least_closed, named_nodes, one_meaning, roots_are_roots};
 pub use node::NodeRef;
 pub use rooted::usable_roots;
 pub use schema::Schema;

@@ -3,7 +3,8 @@
 ghost use Rattle.std.specs.Prelude.{◌≡◌, false, IsTrue};
 ghost use Rattle.std.specs.Option.{option_copied, option_map_or};
 ghost use Rattle.fhir_json.specs.Memory.{Gives};
-ghost use Rattle.fhir_schema.specs.Schemas.{schema_of, unusable, is_usable, elements_at, has, element_at, url_at, id_of_node, is_root_node, node_in, root_element, root, node_with, node, slots, slot_named, holder, types, forms, property, type_root, resource_root, is_concrete, is_loaded, loaded};
+ghost use Rattle.fhir_codes.specs.Views.{concepts_seen};
+ghost use Rattle.fhir_schema.specs.Schemas.{schema_of, unusable, is_usable, elements_at, has, element_at, url_at, id_of_node, is_root_node, node_in, root_element, root, node_with, node, slots, slot_named, holder, types, forms, property, type_root, resource_root, is_concrete, is_loaded, loaded, concepts_at};
 ghost use Rattle.fhir_schema.specs.Types.{type_of_code};
 ghost use Rattle.fhir_schema.specs.Forms.{are_apart};
 ghost use Rattle.fhir_schema.specs.Covers.{type_at, covers};
@@ -19,13 +20,14 @@ use crate::settling::all_reasons;
 use crate::slots::Slot;
 use crate::table::Table;
 use crate::types::{canonical_place, reason_at};
+use fhir_codes::{ConceptSet, ValueSets};
 use fhir_elements::{ElementDef, Reason, TypeEntry};
 use fhir_json::NoMemory;
 use fhir_package::Package;
 use std::alloc::Global;
 use std::marker::Model;
 
-/// The schema of a package: its definitions, why some can't be used, and the nodes of the others.
+/// The schema of a package: its definitions, why some can't be used, the nodes of the others, and its value sets.
 #[derive(Drop)]
 pub struct Schema {
     table: Table,
@@ -33,6 +35,7 @@ pub struct Schema {
     reasons: Vec<Option<Reason>>,
     nodes: Nodes,
     forms: NodeForms,
+    value_sets: ValueSets,
 }
 
 impl Model for Schema {
@@ -41,15 +44,16 @@ impl Model for Schema {
     ghost Value = { SchemaValue };
 
     ghost use Rattle.fhir_json.specs.Coding.{tree_code};
+    ghost use Rattle.fhir_codes.specs.Coding.{concepts_code};
     ghost use Rattle.std.specs.Coded.{codes};
 
-    ghost coded = { Prim.hlevel (codes, tree_code) };
+    ghost coded = { Prim.hlevel (codes, tree_code, concepts_code) };
 
     ghost use Rattle.std.specs.Prelude.{◌≡◌};
     ghost use Rattle.fhir_schema.specs.Schemas.{all_slots, all_forms};
     ghost use Rattle.fhir_schema.specs.Lineages.{IsLineage};
 
-    ghost view = { λ s. record { definitions = s.table; reasons = s.reasons.items } };
+    ghost view = { λ s. record { definitions = s.table; reasons = s.reasons.items; value_sets = s.value_sets } };
 
     ghost invariant = { λ s. (s.nodes ≡ all_slots s.table) × (s.forms.forms ≡ all_forms s.table) × IsLineage s.table s.lineage };
 }
@@ -64,12 +68,14 @@ impl Schema {
         let nodes = Nodes::of(alloc, &table)?;
         let forms = NodeForms::of(alloc, &table, &nodes)?;
         let reasons = all_reasons(alloc, &table, forms.are_apart())?;
+        let value_sets = ValueSets::of(alloc, from)?;
         Ok(Schema {
             table,
             lineage,
             reasons,
             nodes,
             forms,
+            value_sets,
         })
     }
 
@@ -182,6 +188,14 @@ impl Schema {
             Some(place) => self.node_in(place, self.root_element(place)),
             None => None,
         }
+    }
+
+    /// The concepts of the value set that a canonical names (FHIR R4, ValueSet). One that isn't there, or can't be read, has
+    /// none.
+    pub fn concepts(&self, canonical: &str) -> Option<&ConceptSet>
+        ensures { concepts_seen result ≡ concepts_at self.now canonical.now }
+    {
+        self.value_sets.concepts(canonical)
     }
 
     fn node_with(&self, id: &str, place: usize) -> Option<NodeRef>

@@ -6,7 +6,7 @@ use Rattle.fhir_schema.specs.declared.node.NodeRef.{NodeRef}
 use Rattle.fhir_schema.specs.Slots.{Slot}
 use Rattle.fhir_schema.specs.Schemas.{SchemaValue, slots, entry_of, type_root}
 use Rattle.fhir_instance.specs.Items.{Item, type_of}
-use Rattle.fhir_slicing.specs.Asks.{root_type, types, fixed, pattern, range, length_limit, too_few, too_many}
+use Rattle.fhir_slicing.specs.Asks.{root_type, types, fixed, pattern, range, length_limit, binding, too_few, too_many}
 use Rattle.fhir_slicing.specs.Asks.{Ask, own, root, child, places_of, child_ask, slot_asks, own_root, kids_asks, root_asks, inner_asks}
 use Rattle.fhir_slicing.proofs.Lists.{all_of_each, all_join, all_gathered, all_mapped}
 
@@ -30,6 +30,7 @@ IsOf s x n (own fixed m) = Unit {0}
 IsOf s x n (own pattern m) = Unit {0}
 IsOf s x n (own range m) = m ≡ n
 IsOf s x n (own length_limit m) = Unit {0}
+IsOf s x n (own binding m) = m ≡ n
 IsOf s x n (own (too_few name) m) = Unit {0}
 IsOf s x n (own (too_many name) m) = Unit {0}
 IsOf s x n (root r) = type_root s (type_of x) ≡ Some r
@@ -40,7 +41,7 @@ module _ (s : SchemaValue) (x : Item) (n : NodeRef) where
   kids_are_of = of_kids (IsOf s x n) (λ name m. tt) (λ name m. tt) (λ i m. tt) s x n
 
   pub root_asks_are_of : AllByRecursion (IsOf s x n) (root_asks s x n)
-  root_asks_are_of = (tt, (tt, (tt, (refl, (tt, kids_are_of)))))
+  root_asks_are_of = (tt, (tt, (tt, (refl, (tt, (refl, kids_are_of))))))
 
   own_root_is_of : (o : Option NodeRef) → type_root s (type_of x) ≡ o → AllByRecursion (IsOf s x n) (own_root o)
   own_root_is_of None is = tt
@@ -48,7 +49,7 @@ module _ (s : SchemaValue) (x : Item) (n : NodeRef) where
 
   pub inner_asks_are_of : AllByRecursion (IsOf s x n) (inner_asks s x n)
   inner_asks_are_of =
-      (refl, (tt, (tt, (refl, (tt, all_join (IsOf s x n) (own_root (type_root s (type_of x))) (kids_asks s x n) (own_root_is_of (type_root s (type_of x)) refl) kids_are_of)))))
+      (refl, (tt, (tt, (refl, (tt, (refl, all_join (IsOf s x n) (own_root (type_root s (type_of x))) (kids_asks s x n) (own_root_is_of (type_root s (type_of x)) refl) kids_are_of))))))
 
 -- no ask of a root is a root
 abbrev pub IsNoRoot : Ask → Type 0
@@ -58,4 +59,4 @@ IsNoRoot (child i m) = Unit {0}
 
 pub root_asks_no_root : (s : SchemaValue) (x : Item) (r : NodeRef) → AllByRecursion IsNoRoot (root_asks s x r)
 root_asks_no_root s x r =
-    (tt, (tt, (tt, (tt, (tt, of_kids IsNoRoot (λ name m. tt) (λ name m. tt) (λ i m. tt) s x r)))))
+    (tt, (tt, (tt, (tt, (tt, (tt, of_kids IsNoRoot (λ name m. tt) (λ name m. tt) (λ i m. tt) s x r))))))

@@ -1,5 +1,5 @@
 -- What an element asks hangs on its unread rules alone, and where they mean more no less holds.
-use Rattle.std.proofs.Common.{Bool, true, false, List, [], ◌∷◌, Option, Some, None, is_none, inl, inr, ◌&&◌, ◌||◌, IsTrue, not}
+use Rattle.std.proofs.Common.{Bool, true, false, List, [], ◌∷◌, Option, Some, None, is_some, is_none, inl, inr, ◌&&◌, ◌||◌, IsTrue, not}
 use Rattle.std.specs.Prelude.{if◌then◌else◌}
 use Rattle.std.specs.Option.{option_map, option_map_or}
 use Rattle.std.specs.List.{list_any, flat_map, AllByRecursion}
@@ -14,13 +14,14 @@ use Rattle.fhir_schema.specs.Schemas.{SchemaValue, element_at, types, loaded}
 use Rattle.fhir_schema.specs.Covers.{covers, type_at}
 use Rattle.fhir_instance.specs.Items.{Item, type_of}
 use Rattle.fhir_facets.specs.declared.kinds.Kind.{Kind}
-use Rattle.fhir_facets.specs.Unread.{Unread, Meaning, range, target}
+use Rattle.fhir_facets.specs.Unread.{Unread, Meaning, range, target, binding}
 use Rattle.fhir_facets.specs.Seen.{Seen}
 use Rattle.fhir_facets.specs.Ranges.{kind_of_bound, kind_holds, bound_holds}
 use Rattle.fhir_facets.specs.Targets.{has_targets, referred_type, target_holds}
-use Rattle.fhir_facets.specs.Carried.{bound_unread, range_unread, target_unread}
-use Rattle.fhir_slicing.specs.Conformance.{seen, entry_holds, types_hold, is_untyped, range_at, at_element}
-use Rattle.fhir_slicing.specs.Meeting.{entry_unread, unread_at}
+use Rattle.fhir_facets.specs.Bindings.{binding_to, decided, binding_holds}
+use Rattle.fhir_facets.specs.Carried.{bound_unread, range_unread, target_unread, binding_unread}
+use Rattle.fhir_slicing.specs.Conformance.{seen, set_of, entry_holds, types_hold, is_untyped, range_at, binding_at, at_element}
+use Rattle.fhir_slicing.specs.Meeting.{entry_unread, set_unread, element_unread, unread_at}
 use Rattle.fhir_slicing.proofs.Lists.{any_step, all_weaker, all_front, all_back, all_given}
 
 -- what one meaning says of these rules, the other does
@@ -66,7 +67,7 @@ module _ (s : SchemaValue) (m m' : Meaning) where
           all_weaker (λ e. AreCarried m m' (entry_unread s x e)) (λ e. IsTrue (entry_holds s m x e) → IsTrue (entry_holds s m' x e))
           (entry_step x) (types s n)
           (all_given (λ u. IsTrue (m u) → IsTrue (m' u)) (entry_unread s x) (types s n)
-          (all_front (λ u. IsTrue (m u) → IsTrue (m' u)) (flat_map (entry_unread s x) (types s n)) (option_map_or range_unread (element_at s n) []) each))
+          (all_front (λ u. IsTrue (m u) → IsTrue (m' u)) (flat_map (entry_unread s x) (types s n)) (option_map_or (element_unread s x) (element_at s n) []) each))
 
   bound_step : (side : Ordering → Bool) (x : Seen) (o : Option Property) → AreCarried m m' (option_map_or bound_unread o [])
       → IsTrue (option_map_or (bound_holds side m x) o true) → IsTrue (option_map_or (bound_holds side m' x) o true)
@@ -87,8 +88,30 @@ module _ (s : SchemaValue) (m m' : Meaning) where
 
   pub range_step : (x : Item) (n : NodeRef) → AreCarried m m' (unread_at s x n) → IsTrue (at_element s (range_at m x) n) → IsTrue (at_element s (range_at m' x) n)
   range_step x n each =
-      by_case (element_at s n) (all_back (λ u. IsTrue (m u) → IsTrue (m' u)) (flat_map (entry_unread s x) (types s n)) (option_map_or range_unread (element_at s n) []) each)
+      by_case (element_at s n) (all_back (λ u. IsTrue (m u) → IsTrue (m' u)) (flat_map (entry_unread s x) (types s n)) (option_map_or (element_unread s x) (element_at s n) []) each)
     where
-      by_case : (o : Option Element) → AreCarried m m' (option_map_or range_unread o []) → IsTrue (option_map_or (range_at m x) o true) → IsTrue (option_map_or (range_at m' x) o true)
+      by_case : (o : Option Element) → AreCarried m m' (option_map_or (element_unread s x) o []) → IsTrue (option_map_or (range_at m x) o true) → IsTrue (option_map_or (range_at m' x) o true)
       by_case None each holds = holds
-      by_case (Some e) each holds = element_step x e each holds
+      by_case (Some e) each holds = element_step x e (all_front (λ u. IsTrue (m u) → IsTrue (m' u)) (range_unread e) (set_unread s x e) each) holds
+
+  decided_step : (x : Seen) (canonical : Text) (o : Option Bool) → AreCarried m m' (if is_some o then [] else binding canonical ∷ [])
+      → IsTrue (option_map_or (λ holds. holds) o (m (binding canonical))) → IsTrue (option_map_or (λ holds. holds) o (m' (binding canonical)))
+  decided_step x canonical None each holds = each.0 holds
+  decided_step x canonical (Some b) each holds = holds
+
+  set_step : (x : Item) (o : Option Text) → AreCarried m m' (option_map_or (λ canonical. binding_unread (binding_to s canonical) (seen x)) o [])
+      → IsTrue (option_map_or (λ canonical. binding_holds m (binding_to s canonical) (seen x)) o true)
+      → IsTrue (option_map_or (λ canonical. binding_holds m' (binding_to s canonical) (seen x)) o true)
+  set_step x None each holds = holds
+  set_step x (Some canonical) each holds = decided_step (seen x) canonical (decided (binding_to s canonical) (seen x)) each holds
+
+  pub binding_step : (x : Item) (n : NodeRef) → AreCarried m m' (unread_at s x n) → IsTrue (at_element s (binding_at s m x) n)
+      → IsTrue (at_element s (binding_at s m' x) n)
+  binding_step x n each =
+      by_case (element_at s n) (all_back (λ u. IsTrue (m u) → IsTrue (m' u)) (flat_map (entry_unread s x) (types s n)) (option_map_or (element_unread s x) (element_at s n) []) each)
+    where
+      by_case : (o : Option Element) → AreCarried m m' (option_map_or (element_unread s x) o [])
+          → IsTrue (option_map_or (binding_at s m x) o true) → IsTrue (option_map_or (binding_at s m' x) o true)
+      by_case None each holds = holds
+      by_case (Some e) each holds =
+          set_step x (set_of e) (all_back (λ u. IsTrue (m u) → IsTrue (m' u)) (range_unread e) (set_unread s x e) each) holds

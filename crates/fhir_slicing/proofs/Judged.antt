@@ -1,17 +1,22 @@
 -- What facets see of items, and answers of judging.
-use Rattle.std.proofs.Common.{◌≡◌, ℕ, ◌==◌, Bool, true, false, not, List, [], ◌∷◌, ◌++◌, length, take, drop, get_or, ◌+◌, ◌<◌, ◌||◌, Option, refl, sym, ap, ◌∙◌, arith}
+use Rattle.std.proofs.Common.{◌≡◌, ℕ, ◌==◌, Bool, true, false, not, List, [], ◌∷◌, ◌++◌, length, take, drop, get_or, ◌+◌, ◌<◌, ◌||◌, Option, Some, None, refl, sym, ap, ◌∙◌, arith}
 use Rattle.std.specs.List.{list_any, flat_map}
 use Rattle.std.proofs.lemmas.Bool.{or_left}
 use Rattle.std.proofs.lemmas.List.{append-nil, take_more, take-append-drop}
 use Rattle.std.proofs.lemmas.List.Concat.{flat_map-append}
 use Rattle.std.proofs.lemmas.List.Folds.{list_any-append}
 use Rattle.std.proofs.lemmas.List.Elements.{Contains-append_left, Contains-append_right}
+use Rattle.std.specs.Option.{option_map_or}
 use Rattle.fhir_json.specs.Tree.{Text, Tree}
+use Rattle.fhir_elements.specs.Element.{Element}
+use Rattle.fhir_schema.specs.Schemas.{SchemaValue}
 use Rattle.fhir_instance.specs.Items.{Item, item, no_kids, kid, kids_of, kids_in, has_kids}
 use Rattle.fhir_instance.specs.View.{named_in}
 use Rattle.fhir_instance.specs.declared.typed.Kid.{Kid}
 use Rattle.fhir_facets.specs.Unread.{Unread}
 use Rattle.fhir_facets.specs.Seen.{Seen}
+use Rattle.fhir_facets.specs.Carried.{range_unread}
+use Rattle.fhir_slicing.specs.Meeting.{set_unread, element_unread}
 use Rattle.fhir_facets.specs.Views.{unread_seen, IsCarried}
 use Rattle.fhir_facets.specs.declared.holding.Holding.{Holding}
 use Rattle.fhir_facets.specs.declared.holding.Holding.TheVariants.{Holds, Fails, Unread as Undecided}
@@ -43,6 +48,17 @@ pub carried_behind : (us vs : List Unread) (h : Holding) → IsCarried vs h → 
 carried_behind us vs Holds is = tt
 carried_behind us vs Fails is = tt
 carried_behind us vs (Undecided u) is = Contains-append_right us vs (unread_seen u) is
+
+-- what is carried by the bounds or by the binding of an element is by the element
+pub of_range : (s : SchemaValue) (x : Item) (o : Option Element) (h : Holding) → IsCarried (option_map_or range_unread o []) h
+    → IsCarried (option_map_or (element_unread s x) o []) h
+of_range s x None h is = is
+of_range s x (Some e) h is = carried_in_front (range_unread e) (set_unread s x e) h is
+
+pub of_set : (s : SchemaValue) (x : Item) (o : Option Element) (h : Holding) → IsCarried (option_map_or (set_unread s x) o []) h
+    → IsCarried (option_map_or (element_unread s x) o []) h
+of_set s x None h is = is
+of_set s x (Some e) h is = carried_behind (range_unread e) (set_unread s x e) h is
 
 -- ---- one element more
 

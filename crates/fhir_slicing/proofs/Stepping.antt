@@ -8,12 +8,12 @@ use Rattle.fhir_schema.specs.declared.node.NodeRef.{NodeRef}
 use Rattle.fhir_schema.specs.Schemas.{SchemaValue, is_root_node, type_root}
 use Rattle.fhir_instance.specs.Items.{Item, item, Kids, no_kids, kid, kids_of, type_of}
 use Rattle.fhir_facets.specs.Unread.{Meaning}
-use Rattle.fhir_slicing.specs.Asks.{root_type, types, fixed, pattern, range, length_limit, too_few, too_many}
+use Rattle.fhir_slicing.specs.Asks.{root_type, types, fixed, pattern, range, length_limit, binding, too_few, too_many}
 use Rattle.fhir_slicing.specs.Asks.{Ask, own, root, child, root_asks, inner_asks, asks}
 use Rattle.fhir_slicing.specs.Conformance.{Interpretation, Around, meaning_at, inside, below, ask_holds, root_holds, inner_holds, item_holds, conforms, kid_tests}
 use Rattle.fhir_slicing.specs.Meeting.{kid_at, unread_at}
 use Rattle.fhir_slicing.proofs.Lists.{all_step}
-use Rattle.fhir_slicing.proofs.Carrying.{AreCarried, types_step, range_step}
+use Rattle.fhir_slicing.proofs.Carrying.{AreCarried, types_step, range_step, binding_step}
 use Rattle.fhir_slicing.proofs.Asked.{IsOf, root_asks_are_of, inner_asks_are_of}
 
 -- from a fact of each element to one of each by membership
@@ -40,6 +40,8 @@ module _ (s : SchemaValue) (m m' : Meaning) (x : Item) (kids kids' : List (NodeR
   ask_step n carried all of_root of_child (own range k) has is =
       subst (λ k. IsStep (own range k)) (sym is) (range_step s m m' x n carried)
   ask_step n carried all of_root of_child (own length_limit k) has is = λ h. h
+  ask_step n carried all of_root of_child (own binding k) has is =
+      subst (λ k. IsStep (own binding k)) (sym is) (binding_step s m m' x n carried)
   ask_step n carried all of_root of_child (own (too_few name) k) has is = λ h. h
   ask_step n carried all of_root of_child (own (too_many name) k) has is = λ h. h
   ask_step n carried all of_root of_child (root r) has is = of_root r has is

@@ -13,7 +13,7 @@ use Rattle.fhir_instance.specs.Items.{Item, Kids, no_kids, kid, kids_of, type_of
 pub data RuleName : Type 0 where
   -- the item is of the type that the root's definition defines or constrains; of one of the node's types
   root_type types : RuleName
-  fixed pattern range length_limit : RuleName
+  fixed pattern range length_limit binding : RuleName
   -- the children of a name are enough, and not too many
   too_few too_many : (name : List ℕ) → RuleName
 
@@ -39,7 +39,7 @@ places_of name x = places_from 0 name (kids_of x)
 -- ---- asks
 
 abbrev pub facet_asks : NodeRef → List Ask
-facet_asks n = own fixed n ∷ own pattern n ∷ own range n ∷ own length_limit n ∷ []
+facet_asks n = own fixed n ∷ own pattern n ∷ own range n ∷ own length_limit n ∷ own binding n ∷ []
 
 abbrev pub child_ask : NodeRef → ℕ → Ask
 child_ask n i = child i n

@@ -1,10 +1,11 @@
 -- When an item conforms to a node, and a resource to a profile (FHIR R4, Profiling and ElementDefinition): where all holds
 -- that the node asks of it. An item is folded into its test of nodes: what is asked of a child is asked of the child's test.
-use Rattle.std.specs.Prelude.{◌≡◌, ℕ, suc, List, [], ◌∷◌, ◌++◌, length, get_or, Bool, true, ◌&&◌, ◌||◌, nat_eq, Some, IsTrue, if◌then◌else◌}
-use Rattle.std.specs.Option.{option_map_or}
+use Rattle.std.specs.Prelude.{◌≡◌, ℕ, suc, List, [], ◌∷◌, ◌++◌, length, get_or, Bool, true, ◌&&◌, ◌||◌, nat_eq, Option, Some, IsTrue, if◌then◌else◌}
+use Rattle.std.specs.Option.{option_map_or, option_and_then}
 use Rattle.std.specs.List.{list_all, list_any}
 use Rattle.fhir_json.specs.Tree.{Text, Tree}
 use Rattle.fhir_elements.specs.TypeEntry.{TypeEntry}
+use Rattle.fhir_elements.specs.Binding.{required_set}
 use Rattle.fhir_elements.specs.Element.{Element}
 use Rattle.fhir_schema.specs.declared.node.NodeRef.{NodeRef}
 use Rattle.fhir_schema.specs.Types.{names_resource}
@@ -17,8 +18,9 @@ use Rattle.fhir_facets.specs.Seen.{Seen}
 use Rattle.fhir_facets.specs.Values.{fixed_holds, pattern_holds, length_holds}
 use Rattle.fhir_facets.specs.Ranges.{Range, range_holds}
 use Rattle.fhir_facets.specs.Targets.{targets_hold}
+use Rattle.fhir_facets.specs.Bindings.{binding_to, binding_holds, IsFair}
 use Rattle.fhir_facets.specs.Counts.{are_enough, are_within}
-use Rattle.fhir_slicing.specs.Asks.{RuleName, root_type, types as of_types, fixed, pattern, range, length_limit, too_few, too_many}
+use Rattle.fhir_slicing.specs.Asks.{RuleName, root_type, types as of_types, fixed, pattern, range, length_limit, binding, too_few, too_many}
 use Rattle.fhir_slicing.specs.Asks.{Ask, own, root as as_root, child, places_of, root_asks, inner_asks}
 
 abbrev pub seen : Item → Seen
@@ -44,6 +46,13 @@ range_at m x e = range_holds m (range_of e) (seen x)
 abbrev pub length_at : Item → Element → Bool
 length_at x e = option_map_or (λ most. length_holds most (seen x)) e.max_length true
 
+-- the value set that the element's codes have to be in, if it says so
+abbrev pub set_of : Element → Option Text
+set_of e = option_and_then required_set e.binding
+
+abbrev pub binding_at : SchemaValue → Meaning → Item → Element → Bool
+binding_at s m x e = option_map_or (λ canonical. binding_holds m (binding_to s canonical) (seen x)) (set_of e) true
+
 -- the element of a node passes a test; what is no node asks for nothing
 abbrev pub at_element : SchemaValue → (Element → Bool) → NodeRef → Bool
 at_element s test n = option_map_or test (element_at s n) true
@@ -68,6 +77,7 @@ module _ (s : SchemaValue) (m : Meaning) (x : Item) where
   rule_holds pattern n = at_element s (pattern_at x) n
   rule_holds range n = at_element s (range_at m x) n
   rule_holds length_limit n = at_element s (length_at x) n
+  rule_holds binding n = at_element s (binding_at s m x) n
   rule_holds (too_few name) n = at_element s (λ e. are_enough e (count_of name x)) n
   rule_holds (too_many name) n = at_element s (λ e. are_within e (count_of name x)) n
 
@@ -143,6 +153,10 @@ outermost x = record { outermost = x; place = []; nearest = x }
 -- each unread rule holds everywhere, or none does anywhere
 abbrev pub constant : Bool → Interpretation
 constant b rule outermost place = b
+
+-- What unread rules mean is fair at each place: where a binding holds, so does one to a larger set.
+abbrev pub IsFairEverywhere : SchemaValue → Interpretation → Type 0
+IsFairEverywhere s meaning = (outermost : Item) (place : Place) → IsFair s (λ rule. meaning rule outermost place)
 
 -- A resource conforms to a profile: its item conforms to the profile's root.
 pub record Conforms (s : SchemaValue) (meaning : Interpretation) (profile : Text) (t : Tree) : Type 0 where

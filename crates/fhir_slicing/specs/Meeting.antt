@@ -3,14 +3,17 @@ use Rattle.std.specs.Prelude.{◌≡◌, ℕ, zero, suc, List, [], ◌∷◌, �
 use Rattle.std.specs.Option.{option_map_or}
 use Rattle.std.specs.List.{Contains, flat_map}
 use Rattle.fhir_elements.specs.TypeEntry.{TypeEntry}
+use Rattle.fhir_elements.specs.Element.{Element}
 use Rattle.fhir_schema.specs.declared.node.NodeRef.{NodeRef}
 use Rattle.fhir_schema.specs.Schemas.{SchemaValue, element_at, types}
 use Rattle.fhir_schema.specs.Covers.{covers}
 use Rattle.fhir_instance.specs.Items.{Item, Kids, no_kids, kid, Place, kids_of, type_of}
 use Rattle.fhir_facets.specs.Unread.{Unread}
 use Rattle.fhir_facets.specs.Targets.{has_targets}
-use Rattle.fhir_facets.specs.Carried.{range_unread, target_unread}
+use Rattle.fhir_facets.specs.Bindings.{binding_to}
+use Rattle.fhir_facets.specs.Carried.{range_unread, target_unread, binding_unread}
 use Rattle.fhir_slicing.specs.Asks.{root, child, asks}
+use Rattle.fhir_slicing.specs.Conformance.{seen, set_of}
 
 -- the item at a position among these
 abbrev pub kid_at : Kids → ℕ → Option Item
@@ -34,6 +37,13 @@ pub data Met (s : SchemaValue) (outermost : Item) (profile : NodeRef) : Place �
 abbrev pub entry_unread : SchemaValue → Item → TypeEntry → List Unread
 entry_unread s x e = if covers s e.code (type_of x) && has_targets e then flat_map (target_unread s) e.targets else []
 
+-- that of an element's binding
+abbrev pub set_unread : SchemaValue → Item → Element → List Unread
+set_unread s x e = option_map_or (λ canonical. binding_unread (binding_to s canonical) (seen x)) (set_of e) []
+
+abbrev pub element_unread : SchemaValue → Item → Element → List Unread
+element_unread s x e = range_unread e ++ set_unread s x e
+
 abbrev pub unread_at : SchemaValue → Item → NodeRef → List Unread
 unread_at s x n =
-    flat_map (entry_unread s x) (types s n) ++ option_map_or range_unread (element_at s n) []
+    flat_map (entry_unread s x) (types s n) ++ option_map_or (element_unread s x) (element_at s n) []

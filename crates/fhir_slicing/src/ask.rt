@@ -17,6 +17,8 @@ pub enum Rule<'s> {
     Range,
     /// The item's text has so many characters at most.
     Length,
+    /// The item's codes are in the value set of a required binding.
+    Binding,
     /// The children of that name are enough.
     TooFew(&'s str),
     /// The children of that name aren't too many.

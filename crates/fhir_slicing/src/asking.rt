@@ -23,6 +23,7 @@ fn put_facets(asked: &mut Vec<Ask<'_>>, node: NodeRef) -> Result<(), NoMemory>
     asked.push(Ask::Own(Rule::Pattern, node))?;
     asked.push(Ask::Own(Rule::Range, node))?;
     asked.push(Ask::Own(Rule::Length, node))?;
+    asked.push(Ask::Own(Rule::Binding, node))?;
     Ok(())
 }
 

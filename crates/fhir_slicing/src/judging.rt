@@ -3,21 +3,22 @@
 ghost use Rattle.std.specs.Prelude.{◌≡◌, ◌++◌, ◌||◌, Bool, List, []};
 ghost use Rattle.std.specs.List.{Contains, list_any, flat_map};
 ghost use Rattle.std.specs.Option.{option_map_or};
+ghost use Rattle.fhir_json.specs.Views.{text_seen};
 ghost use Rattle.fhir_schema.specs.Schemas.{types, element_at};
 ghost use Rattle.fhir_instance.specs.View.{item_of};
 ghost use Rattle.fhir_facets.specs.Unread.{Unread as UnreadRule};
 ghost use Rattle.fhir_facets.specs.Carried.{range_unread};
 ghost use Rattle.fhir_facets.specs.Counts.{are_enough, are_within};
 ghost use Rattle.fhir_facets.specs.Views.{unread_seen, view_seen, holding_under, IsCarried};
-ghost use Rattle.fhir_slicing.specs.Conformance.{seen, count_of, fixed_at, pattern_at, range_at, length_at, at_element, entry_holds, types_hold, rule_holds};
-ghost use Rattle.fhir_slicing.specs.Meeting.{entry_unread, unread_at};
+ghost use Rattle.fhir_slicing.specs.Conformance.{seen, count_of, fixed_at, pattern_at, range_at, length_at, set_of, binding_at, at_element, entry_holds, types_hold, rule_holds};
+ghost use Rattle.fhir_slicing.specs.Meeting.{entry_unread, set_unread, unread_at};
 ghost use Rattle.fhir_slicing.specs.Views.{rule_name, IsIndexOf};
 
 use crate::ask::Rule;
 use crate::children::Children;
-use fhir_elements::TypeEntry;
+use fhir_elements::{ElementDef, TypeEntry};
 use fhir_facets::{
-    Facet, Fixed, Holding, Length, Pattern, Range, Targets, Unread, View, are_enough, are_within,
+    Binding, Facet, Fixed, Holding, Length, Pattern, Range, Targets, Unread, View, are_enough, are_within,
 };
 use fhir_instance::Typed;
 use fhir_schema::{NodeRef, Schema};
@@ -164,6 +165,41 @@ fn judge_length<'s>(schema: &'s Schema, item: &Typed<'_, '_>, node: NodeRef) -> 
     }
 }
 
+fn required_set(element: &ElementDef) -> Option<&str>
+    ensures { text_seen result ≡ set_of element.now }
+{
+    match element.binding() {
+        Some(binding) => binding.required_set(),
+        None => None,
+    }
+}
+
+fn judge_set<'s>(
+    schema: &'s Schema,
+    item: &Typed<'_, '_>,
+    element: &'s ElementDef,
+) -> Holding<'s>
+    ensures exact { (b : Bool) → holding_under b result
+        ≡ binding_at schema.now (λ unread. b) (item_of item.now) element.now }
+    ensures carried { IsCarried (set_unread schema.now (item_of item.now) element.now) result }
+{
+    match required_set(element) {
+        Some(canonical) => Binding::of(schema, canonical).holds(&view_of(item)),
+        None => Holding::Holds,
+    }
+}
+
+fn judge_binding<'s>(schema: &'s Schema, item: &Typed<'_, '_>, node: NodeRef) -> Holding<'s>
+    ensures exact { (b : Bool) → holding_under b result
+        ≡ at_element schema.now (binding_at schema.now (λ unread. b) (item_of item.now)) node }
+    ensures carried { IsCarried (option_map_or (set_unread schema.now (item_of item.now)) (element_at schema.now node) []) result }
+{
+    match schema.element(node) {
+        Some(element) => judge_set(schema, item, element),
+        None => Holding::Holds,
+    }
+}
+
 fn has_enough(schema: &Schema, node: NodeRef, count: usize) -> bool
     ensures { result ≡ at_element schema.now (λ e. are_enough e count) node }
 {
@@ -203,6 +239,7 @@ pub fn judge<'s>(
         Rule::Pattern => judge_pattern(schema, item, node),
         Rule::Range => judge_range(schema, item, node),
         Rule::Length => judge_length(schema, item, node),
+        Rule::Binding => judge_binding(schema, item, node),
         Rule::TooFew(name) => judged(has_enough(schema, node, children.places(name).len())),
         Rule::TooMany(name) => judged(has_no_more(schema, node, children.places(name).len())),
     }

@@ -8,7 +8,7 @@ ghost use Rattle.fhir_schema.specs.Schemas.{SchemaValue};
 ghost use Rattle.fhir_instance.specs.Items.{Item, Place};
 ghost use Rattle.fhir_facets.specs.Unread.{Unread, Meaning};
 ghost use Rattle.fhir_slicing.specs.Asks.{root_asks};
-ghost use Rattle.fhir_slicing.specs.Conformance.{Interpretation, constant, Around, outermost, ask_holds, conforms, Conforms};
+ghost use Rattle.fhir_slicing.specs.Conformance.{Interpretation, constant, Around, outermost, ask_holds, conforms, IsFairEverywhere, Conforms};
 ghost use Rattle.fhir_slicing.specs.Meeting.{Met, unread_at};
 ghost use Rattle.fhir_slicing.specs.Example.{schema, bare, noted, unknown};
 ghost use Rattle.fhir_slicing.specs.Letters.{letters, given, title, from, answering, one_name, three_names};
@@ -27,6 +27,11 @@ pub fn positive()
 {
     roots_are_roots();
 }
+
+/// Meanings by which each unread rule holds everywhere, or none does anywhere, are fair.
+pub fn fair_meanings()
+    ensures { (s : SchemaValue) (b : Bool) → IsFairEverywhere s (constant b) }
+{}
 
 /// Where no pair of node and item that is met carries an unread rule, all meanings agree.
 pub fn decided()

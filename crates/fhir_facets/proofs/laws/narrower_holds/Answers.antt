@@ -2,6 +2,7 @@ use Rattle.fhir_facets.proofs.Chains.{le_chained, ge_chained}
 use Rattle.fhir_facets.proofs.Keeping.{fixed_kept, pattern_kept, fitted_kept}
 use Rattle.fhir_facets.proofs.KeptBounds.{range_kept}
 use Rattle.fhir_facets.proofs.KeptTargets.{targets_kept}
+use Rattle.fhir_facets.proofs.KeptBindings.{binding_kept}
 use Rattle.fhir_facets.proofs.laws.narrower_holds.Goals as goal
 
 pub returns-clause-fixed : goal.returns-clause-fixed
@@ -19,3 +20,7 @@ returns-clause-range c =
 
 pub returns-clause-targets : goal.returns-clause-targets
 returns-clause-targets c s m = targets_kept s m (c.covering_codes.ensures.transitive s)
+
+pub returns-clause-binding : goal.returns-clause-binding
+returns-clause-binding c s m own base x fair =
+    binding_kept (λ a b. (c.subsets.ensures.concepts a b).0) c.subsets.ensures.codes s m fair x own base

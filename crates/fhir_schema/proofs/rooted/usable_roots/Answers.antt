@@ -1,3 +1,4 @@
+use Rattle.fhir_codes.specs.Expanding.{expansions_of}
 use Rattle.fhir_definition.specs.Definition.{definitions_from}
 use Rattle.fhir_schema.proofs.Settles.{placed, closed}
 use Rattle.fhir_schema.proofs.UsableRoots.{usable_root}
@@ -6,4 +7,4 @@ use Rattle.fhir_schema.proofs.rooted.usable_roots.Goals as goal
 pub returns : goal.returns
 returns c p url some none =
     let ds = definitions_from 0 p.structure_definitions in
-    usable_root ds (placed p.structure_definitions) (closed ds (placed p.structure_definitions)) url some none
+    usable_root ds (expansions_of p) (placed p.structure_definitions) (closed ds (placed p.structure_definitions)) url some none
