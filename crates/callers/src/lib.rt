@@ -32,6 +32,7 @@ ghost use Rattle.fhir_instance.specs.View.{item_of};
 ghost use Rattle.fhir_facets.specs.Seen.{Seen};
 ghost use Rattle.fhir_facets.specs.Values.{pattern_holds};
 ghost use Rattle.fhir_slicing.specs.Asks.{asks};
+ghost use Rattle.fhir_slicing.specs.Conformance.{Interpretation, Conforms};
 ghost use Rattle.fhir_certificate.specs.Certificate.{CertificateValue};
 ghost use Rattle.fhir_certificate.specs.Judging.{Stands};
 ghost use Rattle.fhir_cert_check.specs.Checking.{SpellsCertificate};
@@ -52,6 +53,7 @@ use fhir_prims::{PrimType, lexical};
 use fhir_registry::{Status, bytes_at, files_at, refuse, request_of, respond};
 use fhir_schema::{NodeRef, Schema, Slot};
 use fhir_slicing::{Children, asks};
+use fhir_validator::{Fault, validate};
 use std::alloc::Global;
 use std::io;
 use std::io::Write;
@@ -174,6 +176,15 @@ pub fn count_asks(
     let children = Children::of(alloc, item)?;
     let asked = asks(alloc, schema, item, &children, node)?;
     Ok(asked.len())
+}
+
+/// Whether a resource conforms to a profile, whatever unread rules mean.
+pub fn is_valid(alloc: Global, schema: &Schema, profile: &str, bytes: &[u8]) -> Result<bool, Fault>
+    ensures { (t : Tree) → Reads bytes.now t → IfOk result (λ valid.
+        IsTrue valid → (meaning : Interpretation) → Conforms schema.now meaning profile.now t) }
+{
+    let verdict = validate(alloc, schema, profile, bytes)?;
+    Ok(verdict.is_conforming())
 }
 
 /// How many pairs of items a certificate has, or why the bytes are none.

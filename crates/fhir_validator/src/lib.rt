@@ -9,10 +9,8 @@
 //!     ensures { (t : Tree) → Reads bytes.now t → IfOk result (λ valid.
 //!         IsTrue valid → (meaning : Interpretation) → Conforms schema.now meaning profile.now t) }
 //! {
-//!     match validate(alloc, schema, profile, bytes)? {
-//!         Verdict::Conforms => Ok(true),
-//!         _ => Ok(false),
-//!     }
+//!     let verdict = validate(alloc, schema, profile, bytes)?;
+//!     Ok(verdict.is_conforming())
 //! }
 //! ```
 //!

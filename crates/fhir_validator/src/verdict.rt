@@ -12,3 +12,22 @@ pub enum Verdict<'s> {
     /// It does where each of these unread rules holds, and doesn't where none does.
     Open(Vec<Site<'s>>),
 }
+
+impl Verdict<'_> {
+    ghost use Rattle.std.specs.Prelude.{◌≡◌};
+    ghost use Rattle.fhir_validator.specs.Verdicts.{is_conforming, is_violating};
+
+    /// Whether the resource conforms, whatever the unread rules mean.
+    pub fn is_conforming(&self) -> bool
+        ensures { result ≡ is_conforming self.now }
+    {
+        matches!(self, Verdict::Conforms)
+    }
+
+    /// Whether the resource violates the profile, whatever the unread rules mean.
+    pub fn is_violating(&self) -> bool
+        ensures { result ≡ is_violating self.now }
+    {
+        matches!(self, Verdict::Violates(_))
+    }
+}
