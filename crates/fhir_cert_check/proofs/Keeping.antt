@@ -17,6 +17,7 @@ use Rattle.fhir_elements.specs.Tests.{all_hold}
 use Rattle.fhir_schema.specs.declared.node.NodeRef.{NodeRef}
 use Rattle.fhir_schema.specs.Slots.{Slot}
 use Rattle.fhir_schema.specs.Schemas.{SchemaValue, element_at, is_root_node, slots, slot_named, entry_of, types, type_root}
+use Rattle.fhir_schema.specs.Types.{names_resource}
 use Rattle.fhir_schema.specs.Covers.{covers, type_at}
 use Rattle.fhir_instance.specs.Items.{Item, item, Kids, no_kids, kid, type_of}
 use Rattle.fhir_facets.specs.Unread.{Meaning}
@@ -24,22 +25,23 @@ use Rattle.fhir_facets.specs.Seen.{Seen}
 use Rattle.fhir_facets.specs.Values.{fixed_holds, fixed_narrower, pattern_holds, pattern_narrower, fixed_fits, length_holds, length_narrower}
 use Rattle.fhir_facets.specs.Ranges.{Range, range_holds, range_narrower}
 use Rattle.fhir_facets.specs.Targets.{targets_hold, targets_narrower}
+use Rattle.fhir_facets.specs.Bindings.{binding_to, binding_holds, binding_narrower, IsFair}
 use Rattle.fhir_facets.specs.Counts.{are_enough, are_within, count_holds, count_narrower, allows_none, is_forbidden}
-use Rattle.fhir_slicing.specs.Asks.{root_type, types as of_types, fixed, pattern, range, length_limit, too_few, too_many}
-use Rattle.fhir_slicing.specs.Asks.{Ask, own, places_of, child_ask, facet_asks, slot_asks, own_root, kids_asks}
-use Rattle.fhir_slicing.specs.Conformance.{Interpretation, Around, seen, count_of, fixed_at, pattern_at, range_at, length_at, is_untyped, entry_holds}
+use Rattle.fhir_slicing.specs.Asks.{root_type, types as of_types, fixed, pattern, range, length_limit, binding, too_few, too_many}
+use Rattle.fhir_slicing.specs.Asks.{Ask, own, places_of, child_ask, facet_asks, slot_asks, own_root, kids_asks, root_asks}
+use Rattle.fhir_slicing.specs.Conformance.{Interpretation, Around, seen, count_of, fixed_at, pattern_at, range_at, length_at, set_of, binding_at, is_untyped, entry_holds}
 use Rattle.fhir_slicing.specs.Conformance.{rule_holds, ask_holds, root_holds, inner_holds, item_holds, meaning_at, inside, below}
-use Rattle.fhir_slicing.specs.Conformance.{conforms, kid_tests}
+use Rattle.fhir_slicing.specs.Conformance.{conforms, kid_tests, IsFairEverywhere}
 use Rattle.fhir_certificate.specs.declared.pair.Pair.{Pair}
 use Rattle.fhir_certificate.specs.declared.pair.Pair.TheVariants.{Item as ItemPair, Kids as KidsPair}
 use Rattle.fhir_cert_check.specs.Rule.{entry, children}
 use Rattle.fhir_cert_check.specs.Rules.{entry_answers, types_answer, roots_answer, type_answers, is_answered, fixed_answers, pattern_answers}
-use Rattle.fhir_cert_check.specs.Rules.{range_answers, length_answers, elements_answer, is_forbidden_at, has_item_pair, has_kids_pair}
-use Rattle.fhir_cert_check.specs.Rules.{children_answer, entry_rules, own_slot_rules, slot_rules}
+use Rattle.fhir_cert_check.specs.Rules.{range_answers, length_answers, binding_answers, elements_answer, is_forbidden_at, has_item_pair, has_kids_pair}
+use Rattle.fhir_cert_check.specs.Rules.{own_children_answer, entry_children_answer, type_children_answer, children_answer, entry_rules, own_slot_rules, slot_rules}
 use Rattle.fhir_cert_check.specs.Facets.{facet_rules}
 use Rattle.fhir_cert_check.specs.Checking.{IsRight}
 use Rattle.fhir_cert_check.specs.Inclusion.{IncludesItems}
-use Rattle.fhir_cert_check.proofs.Answered.{cases_if, answers_any, all_map, all_append, all_behind, all_given, all_taken, all_moved, found_passes, none_of_length, each_at, answered, answered_by_both}
+use Rattle.fhir_cert_check.proofs.Answered.{cases_if, any_with_all, answers_any, all_map, all_append, all_joined, all_given, all_taken, all_moved, found_passes, none_of_length, each_at, answered, answered_by_both}
 
 same_text : (a b : Text) → IsTrue (bytes_eq a b) → a ≡ b
 same_text a b h = (bytes_decides a b).0 h
@@ -86,12 +88,23 @@ pub record AreNarrow (s : SchemaValue) : Type 0 where
   pub fits_is : (p q : Tree) (x : Seen) → IsTrue (fixed_fits p q) → IsTrue (fixed_holds p x) → IsTrue (pattern_holds q x)
   pub range_is : (m : Meaning) (p q : Range) (x : Seen) → IsTrue (range_narrower p q) → IsTrue (range_holds m p x) → IsTrue (range_holds m q x)
   pub length_is : (p q : ℤ) (x : Seen) → IsTrue (length_narrower p q) → IsTrue (length_holds p x) → IsTrue (length_holds q x)
+  pub binding_is : (m : Meaning) (own base : Text) (x : Seen) → IsFair s m → IsTrue (binding_narrower (binding_to s own) (binding_to s base))
+      → IsTrue (binding_holds m (binding_to s own) x) → IsTrue (binding_holds m (binding_to s base) x)
   pub count_is : (e f : Element) (n : ℕ) → IsTrue (count_narrower e f) → IsTrue (count_holds e n) → IsTrue (count_holds f n)
   pub targets_are : (m : Meaning) (e f : TypeEntry) (x : Seen) → IsTrue (targets_narrower s e f) → IsTrue (targets_hold s m e x)
       → IsTrue (targets_hold s m f x)
   pub covers_on : (a b c : Text) → IsTrue (covers s a b) → IsTrue (covers s b c) → IsTrue (covers s a c)
 
-module _ (s : SchemaValue) (narrow : AreNarrow s) where
+-- a code that isn't of resources covers itself alone
+abbrev pub CoversAlone : SchemaValue → Type 0
+CoversAlone s = (a b : Text) → names_resource s.definitions a ≡ false → IsTrue (covers s a b) → a ≡ b
+
+-- what a root asks doesn't hang on other roots
+abbrev pub AsksNoRoot : SchemaValue → Type 0
+AsksNoRoot s = (m : Meaning) (x : Item) (kids : List (NodeRef → Bool)) (some others : NodeRef → Bool) (r : NodeRef)
+    → list_all (ask_holds s m x kids some) (root_asks s x r) ≡ list_all (ask_holds s m x kids others) (root_asks s x r)
+
+module _ (s : SchemaValue) (narrow : AreNarrow s) (alone : CoversAlone s) (asks_no_root : AsksNoRoot s) where
   -- ---- what is asked of an item itself
 
   module _ (m : Meaning) (x : Item) where
@@ -132,6 +145,16 @@ module _ (s : SchemaValue) (narrow : AreNarrow s) where
     length_step : (n k : NodeRef) → IsTrue (elements_answer length_answers s n k) → IsTrue (rule_holds s m x length_limit n)
         → IsTrue (rule_holds s m x length_limit k)
     length_step n k = answered length_answers (length_at x) (length_at x) length_of_elements (element_at s n) (element_at s k)
+
+    binding_of_elements : IsFair s m → (e f : Element) → IsTrue (binding_answers s e f) → IsTrue (binding_at s m x e) → IsTrue (binding_at s m x f)
+    binding_of_elements fair e f =
+        answered (λ own base. binding_narrower (binding_to s own) (binding_to s base)) (λ own. binding_holds m (binding_to s own) (seen x))
+        (λ base. binding_holds m (binding_to s base) (seen x)) (λ own base. narrow.binding_is m own base (seen x) fair) (set_of e) (set_of f)
+
+    binding_step : IsFair s m → (n k : NodeRef) → IsTrue (elements_answer (binding_answers s) s n k) → IsTrue (rule_holds s m x binding n)
+        → IsTrue (rule_holds s m x binding k)
+    binding_step fair n k =
+        answered (binding_answers s) (binding_at s m x) (binding_at s m x) (binding_of_elements fair) (element_at s n) (element_at s k)
 
     root_type_step : (n k : NodeRef) → IsTrue (covers s (type_at s k) (type_at s n)) → IsTrue (rule_holds s m x root_type n) → IsTrue (rule_holds s m x root_type k)
     root_type_step n k covered holds = narrow.covers_on (type_at s k) (type_at s n) (type_of x) covered holds
@@ -184,7 +207,7 @@ module _ (s : SchemaValue) (narrow : AreNarrow s) where
     abbrev EachKeeps : List (NodeRef → Bool) → Type 0
     EachKeeps tests = AllByRecursion Keeps tests
 
-    module _ (m : Meaning) (x : Item) (kids : List (NodeRef → Bool)) (keeps : EachKeeps kids) where
+    module _ (m : Meaning) (fair : IsFair s m) (x : Item) (kids : List (NodeRef → Bool)) (keeps : EachKeeps kids) where
       module _ (roots : NodeRef → Bool) where
         abbrev holds : Ask → Bool
         holds ask = ask_holds s m x kids roots ask
@@ -236,18 +259,32 @@ module _ (s : SchemaValue) (narrow : AreNarrow s) where
             (λ b rules. slot_step n k b each rules) (slots s k)
             (all_given (λ rule. rule.0) (slot_rules pairs s n k) (slots s k) (right (KidsPair (record { derived = n; base = k })) pair)))
 
-        children_step : (n k : NodeRef) → IsTrue (children_answer pairs s n k) → IsTrue (list_all holds (kids_asks s x n))
-            → IsTrue (list_all holds (kids_asks s x k))
-        children_step n k answers each =
-            go (nat_eq (length (slots s k)) 0) refl (nat_eq (length (slots s n)) 0) answers
+        children_step : (n k : NodeRef) → IsTrue (children_answer pairs s n k)
+            → (IsTrue (type_children_answer pairs s n k) → IsTrue (list_all holds (kids_asks s x k)))
+            → IsTrue (list_all holds (kids_asks s x n)) → IsTrue (list_all holds (kids_asks s x k))
+        children_step n k answers of_types each =
+            go (nat_eq (length (slots s k)) 0) refl answers
           where
-            go : (b : Bool) → nat_eq (length (slots s k)) 0 ≡ b → (a : Bool)
-                → IsTrue (option_map_or (λ base. option_map_or (λ derived. has_kids_pair pairs derived base) (cond a None (Some n)) false)
-                (cond b None (Some k)) true)
+            own : (a : Bool) → IsTrue (option_map_or (λ derived. has_kids_pair pairs derived k) (cond a None (Some n)) false)
                 → IsTrue (list_all holds (kids_asks s x k))
-            go true leaf a h = rw (none_of_length (slots s k) leaf) refl
-            go false is true h = absurd (false≢true h)
-            go false is false h = kids_step n k h each
+            own true h = absurd (false≢true h)
+            own false h = kids_step n k h each
+
+            go : (b : Bool) → nat_eq (length (slots s k)) 0 ≡ b
+                → IsTrue (option_map_or (λ base. own_children_answer pairs s n base || type_children_answer pairs s n base) (cond b None (Some k)) true)
+                → IsTrue (list_all holds (kids_asks s x k))
+            go true leaf h = rw (none_of_length (slots s k) leaf) refl
+            go false is h =
+                elim (or_cases (own_children_answer pairs s n k) (type_children_answer pairs s n k) h) [
+                  | inl by_own ↦ own (nat_eq (length (slots s n)) 0) by_own
+                  | inr by_types ↦ of_types by_types
+                ]
+
+        -- the children of an item that conforms to the definition of its type
+        root_children : (r : NodeRef) → IsTrue (root_holds s m x kids r) → IsTrue (list_all holds (kids_asks s x r))
+        root_children r each =
+            let asked : IsTrue (list_all holds (root_asks s x r)) = sym (asks_no_root m x kids (λ r. true) roots r) ∙ each in
+            (all_append holds (facet_asks r) (kids_asks s x r) (and_parts (rule_holds s m x root_type r) _ asked).1).1
 
         -- the facets, and what follows them
         facets_step : (n k : NodeRef) (after more : List Ask) → IsTrue (all_hold (facet_rules s n k)) → (IsTrue (list_all holds after) → IsTrue (list_all holds more))
@@ -256,22 +293,66 @@ module _ (s : SchemaValue) (narrow : AreNarrow s) where
             let fixed_answer = and_parts (elements_answer fixed_answers s n k) _ answers in
             let pattern_answer = and_parts (elements_answer pattern_answers s n k) _ fixed_answer.1 in
             let range_answer = and_parts (elements_answer range_answers s n k) _ pattern_answer.1 in
-            let length_answer = and_parts (elements_answer length_answers s n k) true range_answer.1 in
+            let length_answer = and_parts (elements_answer length_answers s n k) _ range_answer.1 in
+            let binding_answer = and_parts (elements_answer (binding_answers s) s n k) true length_answer.1 in
             let by_fixed = and_parts (rule_holds s m x fixed n) _ each in
             let by_pattern = and_parts (rule_holds s m x pattern n) _ by_fixed.1 in
             let by_range = and_parts (rule_holds s m x range n) _ by_pattern.1 in
-            let by_length = and_parts (rule_holds s m x length_limit n) (list_all holds after) by_range.1 in
+            let by_length = and_parts (rule_holds s m x length_limit n) _ by_range.1 in
+            let by_binding = and_parts (rule_holds s m x binding n) (list_all holds after) by_length.1 in
             and_from (rule_holds s m x fixed k) _ (fixed_step m x n k fixed_answer.0 by_fixed.0)
             (and_from (rule_holds s m x pattern k) _ (pattern_step m x n k pattern_answer.0 by_fixed.0 by_pattern.0)
             (and_from (rule_holds s m x range k) _ (range_step m x n k range_answer.0 by_range.0)
-            (and_from (rule_holds s m x length_limit k) (list_all holds more) (length_step m x n k length_answer.0 by_length.0) (rest by_length.1))))
+            (and_from (rule_holds s m x length_limit k) _ (length_step m x n k length_answer.0 by_length.0)
+            (and_from (rule_holds s m x binding k) (list_all holds more) (binding_step m x fair n k binding_answer.0 by_binding.0) (rest by_binding.1)))))
 
-      root_step : (n k : NodeRef) → IsTrue (covers s (type_at s k) (type_at s n)) → IsTrue (all_hold (facet_rules s n k)) → IsTrue (children_answer pairs s n k)
+      -- of a node that names types, each entry of which has its definition's children answered
+      entry_children : (k : NodeRef) (e : TypeEntry) → IsTrue (list_all (ask_holds s m x kids (root_holds s m x kids)) (own_root (type_root s (type_of x))))
+          → IsTrue (entry_holds s m x e) → IsTrue (entry_children_answer pairs s k e)
+          → IsTrue (list_all (ask_holds s m x kids (root_holds s m x kids)) (kids_asks s x k))
+      entry_children k e own_type holds answers =
+          let covered = (and_parts (covers s e.code (type_of x)) (targets_hold s m e (seen x)) holds).0 in
+          let parts = and_parts (not (names_resource s.definitions e.code)) _ answers in
+          let same : e.code ≡ type_of x = alone e.code (type_of x) (not-true (names_resource s.definitions e.code) parts.0) covered in
+          go (type_root s (type_of x))
+          (subst (λ code. IsTrue (option_map_or (λ r. has_kids_pair pairs r k) (type_root s code) false)) same parts.1) own_type
+        where
+          go : (o : Option NodeRef) → IsTrue (option_map_or (λ r. has_kids_pair pairs r k) o false)
+              → IsTrue (list_all (ask_holds s m x kids (root_holds s m x kids)) (own_root o))
+              → IsTrue (list_all (ask_holds s m x kids (root_holds s m x kids)) (kids_asks s x k))
+          go None pair own_type = absurd (false≢true pair)
+          go (Some r) pair own_type =
+              kids_step (root_holds s m x kids) r k pair
+              (root_children (root_holds s m x kids) r (and_parts (root_holds s m x kids r) true own_type).0)
+
+      type_children : (n k : NodeRef) → IsTrue (rule_holds s m x of_types n)
+          → IsTrue (list_all (ask_holds s m x kids (root_holds s m x kids)) (own_root (type_root s (type_of x))))
+          → IsTrue (type_children_answer pairs s n k) → IsTrue (list_all (ask_holds s m x kids (root_holds s m x kids)) (kids_asks s x k))
+      type_children n k typed own_type answers =
+          let parts = and_parts (not (is_untyped s n)) (list_all (entry_children_answer pairs s k) (types s n)) answers in
+          elim (or_cases (is_untyped s n) (list_any (entry_holds s m x) (types s n)) typed) [
+            | inl untyped ↦ absurd (true≢false (sym untyped ∙ not-true (is_untyped s n) parts.0))
+            | inr some ↦
+                any_with_all (entry_holds s m x) (entry_children_answer pairs s k)
+                (IsTrue (list_all (ask_holds s m x kids (root_holds s m x kids)) (kids_asks s x k)))
+                (λ e. entry_children k e own_type) (types s n) some parts.1
+          ]
+
+      -- a root names no types
+      root_types : (n k : NodeRef) → is_root_node s n ≡ true → IsTrue (type_children_answer pairs s n k) → ⊥
+      root_types n k is answers = go (is_root_node s n) is (and_parts (not (is_untyped s n)) _ answers).0
+        where
+          go : (b : Bool) → b ≡ true → IsTrue (not (nat_eq (length (cond b [] (option_map_or (λ e. e.types) (element_at s n) []))) 0)) → ⊥
+          go true is h = false≢true h
+          go false is h = false≢true is
+
+      root_step : (n k : NodeRef) → is_root_node s n ≡ true → IsTrue (covers s (type_at s k) (type_at s n)) → IsTrue (all_hold (facet_rules s n k)) → IsTrue (children_answer pairs s n k)
           → IsTrue (root_holds s m x kids n) → IsTrue (root_holds s m x kids k)
-      root_step n k covered facets answers each =
+      root_step n k is covered facets answers each =
           let type = and_parts (rule_holds s m x root_type n) _ each in
           and_from (rule_holds s m x root_type k) _ (root_type_step m x n k covered type.0)
-          (facets_step (λ r. true) n k (kids_asks s x n) (kids_asks s x k) facets (children_step (λ r. true) n k answers) type.1)
+          (facets_step (λ r. true) n k (kids_asks s x n) (kids_asks s x k) facets
+          (children_step (λ r. true) n k answers (λ by_types. absurd (root_types n k is by_types))) type.1)
 
       inner_step : (n k : NodeRef) → IsTrue (types_answer s n k) → IsTrue (all_hold (facet_rules s n k)) → IsTrue (children_answer pairs s n k)
           → IsTrue (inner_holds s m x kids n) → IsTrue (inner_holds s m x kids k)
@@ -281,7 +362,10 @@ module _ (s : SchemaValue) (narrow : AreNarrow s) where
           let type = and_parts (rule_holds s m x of_types n) _ each in
           and_from (rule_holds s m x of_types k) _ (types_step m x n k typed type.0)
           (facets_step roots n k (own_type ++ kids_asks s x n) (own_type ++ kids_asks s x k) facets
-          (all_behind (ask_holds s m x kids roots) own_type (kids_asks s x n) (kids_asks s x k) (children_step roots n k answers)) type.1)
+          (λ each.
+          let both = all_append (ask_holds s m x kids roots) own_type (kids_asks s x n) each in
+          all_joined (ask_holds s m x kids roots) own_type (kids_asks s x k) both.0
+          (children_step roots n k answers (type_children n k type.0 both.0) both.1)) type.1)
 
       facets_and_children : (n k : NodeRef) → IsTrue (all_hold (facet_rules s n k ++ (children_answer pairs s n k, children) ∷ []))
           → IsTrue (all_hold (facet_rules s n k)) × IsTrue (children_answer pairs s n k)
@@ -298,7 +382,7 @@ module _ (s : SchemaValue) (narrow : AreNarrow s) where
             | inl root ↦
                 let r = and_parts (is_root_node s k) (covers s (type_at s k) (type_at s n)) root.1 in
                 as_true (is_root_node s k) (root_holds s m x kids k) (inner_holds s m x kids k) r.0
-                (root_step n k r.1 parts.0 parts.1 (of_true (is_root_node s n) (root_holds s m x kids n) (inner_holds s m x kids n) root.0 each))
+                (root_step n k root.0 r.1 parts.0 parts.1 (of_true (is_root_node s n) (root_holds s m x kids n) (inner_holds s m x kids n) root.0 each))
             | inr inner ↦
                 let r = and_parts (not (is_root_node s k)) (types_answer s n k) inner.1 in
                 as_false (is_root_node s k) (root_holds s m x kids k) (inner_holds s m x kids k) (not-true (is_root_node s k) r.0)
@@ -306,14 +390,17 @@ module _ (s : SchemaValue) (narrow : AreNarrow s) where
           ]
 
     mutual
-      keeps : (meaning : Interpretation) (around : Around) (x : Item) → Keeps (conforms s meaning around x)
-      keeps meaning around (item type json kids) =
-          item_step (meaning_at meaning around) (item type json kids) (kid_tests s meaning (inside s around (item type json kids)) 0 kids)
-          (each_keeps meaning (inside s around (item type json kids)) 0 kids)
+      keeps : (meaning : Interpretation) → IsFairEverywhere s meaning → (around : Around) (x : Item) → Keeps (conforms s meaning around x)
+      keeps meaning fair around (item type json kids) =
+          item_step (meaning_at meaning around) (fair around.outermost around.place) (item type json kids)
+          (kid_tests s meaning (inside s around (item type json kids)) 0 kids)
+          (each_keeps meaning fair (inside s around (item type json kids)) 0 kids)
 
-      each_keeps : (meaning : Interpretation) (around : Around) (position : ℕ) (kids : Kids) → EachKeeps (kid_tests s meaning around position kids)
-      each_keeps meaning around position no_kids = tt
-      each_keeps meaning around position (kid name x kids) = (keeps meaning (below around position) x, each_keeps meaning around (suc position) kids)
+      each_keeps : (meaning : Interpretation) → IsFairEverywhere s meaning → (around : Around) (position : ℕ) (kids : Kids)
+          → EachKeeps (kid_tests s meaning around position kids)
+      each_keeps meaning fair around position no_kids = tt
+      each_keeps meaning fair around position (kid name x kids) =
+          (keeps meaning fair (below around position) x, each_keeps meaning fair around (suc position) kids)
 
     pub includes : (n m : NodeRef) → IsTrue (has_item_pair pairs n m) → IncludesItems s n m
-    includes n m pair meaning around x = keeps meaning around x n m pair
+    includes n m pair meaning fair around x = keeps meaning fair around x n m pair

@@ -67,10 +67,10 @@ module _ (s : SchemaValue) (c : CertificateValue)
       (subst (λ k. IncludesItems s cert.roots.derived k) (same_Some cert.roots.base m (sym parts.1 ∙ is_m)) of_roots)
 
   pub promised : Includes s c.derived c.base
-  promised meaning t conforming = record {
+  promised meaning fair t conforming = record {
     node = cert.roots.base;
     itself = conforming.itself;
     usable = parts.1;
     typed = conforming.typed;
-    holds = items_promised conforming.node cert.roots.base conforming.usable parts.1 meaning (outermost conforming.itself) conforming.itself conforming.holds;
+    holds = items_promised conforming.node cert.roots.base conforming.usable parts.1 meaning fair (outermost conforming.itself) conforming.itself conforming.holds;
   }

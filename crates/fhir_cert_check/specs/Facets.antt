@@ -3,15 +3,16 @@ use Rattle.std.specs.Prelude.{List, [], ◌∷◌, Bool}
 use Rattle.fhir_elements.specs.Element.{Element}
 use Rattle.fhir_schema.specs.declared.node.NodeRef.{NodeRef}
 use Rattle.fhir_schema.specs.Schemas.{SchemaValue}
-use Rattle.fhir_cert_check.specs.Rule.{RuleName, fixed, pattern, range, length_limit}
-use Rattle.fhir_cert_check.specs.Rules.{fixed_answers, pattern_answers, range_answers, length_answers, elements_answer}
+use Rattle.fhir_cert_check.specs.Rule.{RuleName, fixed, pattern, range, length_limit, binding}
+use Rattle.fhir_cert_check.specs.Rules.{fixed_answers, pattern_answers, range_answers, length_answers, binding_answers, elements_answer}
 
-abbrev pub element_rules : Element → Element → List (Bool × RuleName)
-element_rules e f =
+abbrev pub element_rules : SchemaValue → Element → Element → List (Bool × RuleName)
+element_rules s e f =
     (fixed_answers e f, fixed)
     ∷ (pattern_answers e f, pattern)
     ∷ (range_answers e f, range)
     ∷ (length_answers e f, length_limit)
+    ∷ (binding_answers s e f, binding)
     ∷ []
 
 abbrev pub facet_rules : SchemaValue → NodeRef → NodeRef → List (Bool × RuleName)
@@ -20,4 +21,5 @@ facet_rules s n m =
     ∷ (elements_answer pattern_answers s n m, pattern)
     ∷ (elements_answer range_answers s n m, range)
     ∷ (elements_answer length_answers s n m, length_limit)
+    ∷ (elements_answer (binding_answers s) s n m, binding)
     ∷ []

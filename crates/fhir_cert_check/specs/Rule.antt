@@ -5,7 +5,7 @@ use Rattle.fhir_json.specs.Tree.{Text}
 
 -- a rule, with the name of the slot that it is about
 pub data RuleName : Type 0 where
-  root type fixed pattern range length_limit children : RuleName
+  root type fixed pattern range length_limit binding children : RuleName
   slot cardinality entry : List ℕ → RuleName
 
 abbrev pub word_of : RuleName → Text
@@ -15,6 +15,7 @@ word_of fixed = codes "fixed"
 word_of pattern = codes "pattern"
 word_of range = codes "range"
 word_of length_limit = codes "length"
+word_of binding = codes "binding"
 word_of children = codes "children"
 word_of (slot name) = codes "slot"
 word_of (cardinality name) = codes "cardinality"

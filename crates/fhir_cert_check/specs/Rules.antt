@@ -3,23 +3,25 @@
 -- children; no item occurs in the rules.
 use Rattle.std.specs.Prelude.{List, [], ◌∷◌, Bool, true, false, not, ◌&&◌, ◌||◌, Option, None, Some, if◌then◌else◌}
 use Rattle.std.specs.Option.{option_map_or}
-use Rattle.std.specs.List.{flat_map}
+use Rattle.std.specs.List.{list_all, flat_map}
 use Rattle.fhir_json.specs.Tree.{Text}
 use Rattle.fhir_elements.specs.TypeEntry.{TypeEntry}
 use Rattle.fhir_elements.specs.Element.{Element}
 use Rattle.fhir_elements.specs.Tests.{first_of, all_hold}
 use Rattle.fhir_schema.specs.declared.node.NodeRef.{NodeRef}
 use Rattle.fhir_schema.specs.Slots.{Slot}
-use Rattle.fhir_schema.specs.Schemas.{SchemaValue, element_at, entry_of, is_root_node, slots, slot_named, holder, types}
+use Rattle.fhir_schema.specs.Schemas.{SchemaValue, element_at, entry_of, is_root_node, slots, slot_named, holder, types, type_root}
+use Rattle.fhir_schema.specs.Types.{names_resource}
 use Rattle.fhir_schema.specs.Covers.{covers, type_at}
 use Rattle.fhir_facets.specs.Values.{fixed_narrower, pattern_narrower, fixed_fits, length_narrower}
 use Rattle.fhir_facets.specs.Ranges.{range_narrower}
 use Rattle.fhir_facets.specs.Targets.{targets_narrower}
+use Rattle.fhir_facets.specs.Bindings.{binding_to, binding_narrower}
 use Rattle.fhir_facets.specs.Counts.{count_narrower, is_forbidden}
-use Rattle.fhir_slicing.specs.Conformance.{range_of, is_untyped}
+use Rattle.fhir_slicing.specs.Conformance.{range_of, set_of, is_untyped}
 use Rattle.fhir_certificate.specs.declared.pair.Pair.{Pair}
 use Rattle.fhir_certificate.specs.declared.pair.Pair.TheVariants.{Item, Kids}
-use Rattle.fhir_cert_check.specs.Rule.{RuleName, type, fixed, pattern, range, length_limit, children, slot, cardinality, entry}
+use Rattle.fhir_cert_check.specs.Rule.{RuleName, type, fixed, pattern, range, length_limit, binding, children, slot, cardinality, entry}
 use Rattle.fhir_cert_check.specs.Lists.{each_answers}
 
 -- ---- types
@@ -57,6 +59,10 @@ range_answers e f = range_narrower (range_of e) (range_of f)
 abbrev pub length_answers : Element → Element → Bool
 length_answers e f = is_answered length_narrower e.max_length f.max_length
 
+-- by a required binding to the same value set, or to one within
+abbrev pub binding_answers : SchemaValue → Element → Element → Bool
+binding_answers s e f = is_answered (λ own base. binding_narrower (binding_to s own) (binding_to s base)) (set_of e) (set_of f)
+
 -- the elements of two nodes are so; what is no node asks for nothing
 abbrev pub elements_answer : (Element → Element → Bool) → SchemaValue → NodeRef → NodeRef → Bool
 elements_answer answers s n m = is_answered answers (element_at s n) (element_at s m)
@@ -74,10 +80,23 @@ module _ (pairs : Pair → Bool) where
   has_kids_pair n m = pairs (Kids (record { derived = n; base = m }))
 
   module _ (s : SchemaValue) where
-    -- the base node has no children, or there is a pair of the two nodes that have the children
+    -- the children of the derived node
+    abbrev pub own_children_answer : NodeRef → NodeRef → Bool
+    own_children_answer n base = option_map_or (λ derived. has_kids_pair derived base) (holder s n) false
+
+    -- those that the definition of an entry's type has: its items are of that very type, unless it is of resources
+    abbrev pub entry_children_answer : NodeRef → TypeEntry → Bool
+    entry_children_answer base e =
+        not (names_resource s.definitions e.code) && option_map_or (λ root. has_kids_pair root base) (type_root s e.code) false
+
+    -- those of each type that the derived node names
+    abbrev pub type_children_answer : NodeRef → NodeRef → Bool
+    type_children_answer n base = not (is_untyped s n) && list_all (entry_children_answer base) (types s n)
+
+    -- The base node has no children; or there is a pair for them with the node that has the derived one's, or with the
+    -- definition of each type that the derived node names.
     abbrev pub children_answer : NodeRef → NodeRef → Bool
-    children_answer n m =
-        option_map_or (λ base. option_map_or (λ derived. has_kids_pair derived base) (holder s n) false) (holder s m) true
+    children_answer n m = option_map_or (λ base. own_children_answer n base || type_children_answer n base) (holder s m) true
 
     abbrev pub item_rules : NodeRef → NodeRef → List (Bool × RuleName)
     item_rules n m =
@@ -86,6 +105,7 @@ module _ (pairs : Pair → Bool) where
         ∷ (elements_answer pattern_answers s n m, pattern)
         ∷ (elements_answer range_answers s n m, range)
         ∷ (elements_answer length_answers s n m, length_limit)
+        ∷ (elements_answer (binding_answers s) s n m, binding)
         ∷ (children_answer n m, children)
         ∷ []
 

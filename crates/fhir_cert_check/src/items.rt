@@ -1,14 +1,19 @@
 //! The rules of a pair of items.
 
-ghost use Rattle.std.specs.Prelude.{◌≡◌, option_map};
-ghost use Rattle.std.specs.List.{list_any};
+ghost use Rattle.std.specs.Prelude.{◌≡◌, false, option_map};
+ghost use Rattle.std.specs.List.{list_all, list_any};
+ghost use Rattle.std.specs.Option.{option_map_or};
+ghost use Rattle.fhir_json.specs.Views.{text_seen};
 ghost use Rattle.fhir_elements.specs.Tests.{first_of};
+ghost use Rattle.fhir_schema.specs.Schemas.{type_root};
+ghost use Rattle.fhir_facets.specs.Bindings.{binding_to, binding_narrower};
 ghost use Rattle.fhir_facets.specs.Targets.{targets_narrower};
 ghost use Rattle.fhir_facets.specs.Values.{fixed_fits, pattern_narrower};
-ghost use Rattle.fhir_slicing.specs.Conformance.{is_untyped};
+ghost use Rattle.fhir_slicing.specs.Conformance.{set_of, is_untyped};
 ghost use Rattle.fhir_cert_check.specs.Lists.{each_answers};
-ghost use Rattle.fhir_cert_check.specs.Rules.{entry_answers, types_answer, roots_answer, type_answers, children_answer, item_rules};
-ghost use Rattle.fhir_cert_check.specs.Rules.{is_answered, fixed_answers, pattern_answers, range_answers, length_answers};
+ghost use Rattle.fhir_cert_check.specs.Rules.{entry_answers, types_answer, roots_answer, type_answers, item_rules};
+ghost use Rattle.fhir_cert_check.specs.Rules.{has_kids_pair, own_children_answer, entry_children_answer, type_children_answer, children_answer};
+ghost use Rattle.fhir_cert_check.specs.Rules.{is_answered, fixed_answers, pattern_answers, range_answers, length_answers, binding_answers};
 ghost use Rattle.fhir_cert_check.specs.Facets.{element_rules, facet_rules};
 ghost use Rattle.fhir_cert_check.specs.Views.{rule_name};
 ghost use Rattle.fhir_cert_check.specs.PairSet.{has_in};
@@ -17,7 +22,7 @@ use crate::pair_set::PairSet;
 use crate::rule::Rule;
 use fhir_certificate::{NodePair, Pair};
 use fhir_elements::{ElementDef, TypeEntry};
-use fhir_facets::{Facet, Fixed, Length, Pattern, Range, Targets, fixed_fits};
+use fhir_facets::{Binding, Facet, Fixed, Length, Pattern, Range, Targets, fixed_fits};
 use fhir_schema::{NodeRef, Schema};
 
 fn targets_answer(schema: &Schema, entry: &TypeEntry, base: &TypeEntry) -> bool
@@ -139,8 +144,39 @@ fn length_answers(own: &ElementDef, base: &ElementDef) -> bool
     }
 }
 
-fn element_failing<'s>(own: &ElementDef, base: &ElementDef) -> Option<Rule<'s>>
-    ensures { option_map rule_name result ≡ first_of (element_rules own.now base.now) }
+fn required_set(element: &ElementDef) -> Option<&str>
+    ensures { text_seen result ≡ set_of element.now }
+{
+    match element.binding() {
+        Some(binding) => binding.required_set(),
+        None => None,
+    }
+}
+
+fn sets_answer(schema: &Schema, own: &str, base: &str) -> bool
+    ensures { result ≡ binding_narrower (binding_to schema.now own.now) (binding_to schema.now base.now) }
+{
+    Binding::of(schema, own).narrower(&Binding::of(schema, base))
+}
+
+fn binding_answers(schema: &Schema, own: &ElementDef, base: &ElementDef) -> bool
+    ensures { result ≡ binding_answers schema.now own.now base.now }
+{
+    let Some(base) = required_set(base) else {
+        return true;
+    };
+    match required_set(own) {
+        Some(own) => sets_answer(schema, own, base),
+        None => false,
+    }
+}
+
+fn element_failing<'s>(
+    schema: &Schema,
+    own: &ElementDef,
+    base: &ElementDef,
+) -> Option<Rule<'s>>
+    ensures { option_map rule_name result ≡ first_of (element_rules schema.now own.now base.now) }
 {
     if !fixed_answers(own, base) {
         return Some(Rule::Fixed);
@@ -154,6 +190,9 @@ fn element_failing<'s>(own: &ElementDef, base: &ElementDef) -> Option<Rule<'s>>
     if !length_answers(own, base) {
         return Some(Rule::Length);
     }
+    if !binding_answers(schema, own, base) {
+        return Some(Rule::Binding);
+    }
     None
 }
 
@@ -165,18 +204,68 @@ fn facet_failing<'s>(schema: &Schema, n: NodeRef, m: NodeRef) -> Option<Rule<'s>
         return None;
     };
     match schema.element(n) {
-        Some(own) => element_failing(own, base),
+        Some(own) => element_failing(schema, own, base),
         None => Some(Rule::Fixed),
     }
+}
+
+fn own_children_answer(schema: &Schema, pairs: &PairSet, n: NodeRef, base: NodeRef) -> bool
+    ensures { result ≡ own_children_answer (has_in pairs.now) schema.now n base }
+{
+    match schema.holder(n) {
+        Some(derived) => pairs.has(Pair::Kids(NodePair { derived, base })),
+        None => false,
+    }
+}
+
+fn has_root_pair(schema: &Schema, pairs: &PairSet, code: &str, base: NodeRef) -> bool
+    ensures { result ≡ option_map_or (λ root. has_kids_pair (has_in pairs.now) root base) (type_root schema.now code.now) false }
+{
+    match schema.type_root(code) {
+        Some(derived) => pairs.has(Pair::Kids(NodePair { derived, base })),
+        None => false,
+    }
+}
+
+fn entry_children_answer(
+    schema: &Schema,
+    pairs: &PairSet,
+    base: NodeRef,
+    entry: &TypeEntry,
+) -> bool
+    ensures { result ≡ entry_children_answer (has_in pairs.now) schema.now base entry.now }
+{
+    !schema.is_resource(entry.code()) && has_root_pair(schema, pairs, entry.code(), base)
+}
+
+fn each_entry_answers(
+    schema: &Schema,
+    pairs: &PairSet,
+    base: NodeRef,
+    entries: &[TypeEntry],
+) -> bool
+    ensures { result ≡ list_all (entry_children_answer (has_in pairs.now) schema.now base) entries.now }
+{
+    entries
+        .iter()
+        .all(|entry| entry_children_answer(schema, pairs, base, entry))
+}
+
+fn type_children_answer(schema: &Schema, pairs: &PairSet, n: NodeRef, base: NodeRef) -> bool
+    ensures { result ≡ type_children_answer (has_in pairs.now) schema.now n base }
+{
+    !is_untyped(schema, n) && each_entry_answers(schema, pairs, base, schema.types(n))
 }
 
 fn children_answer(schema: &Schema, pairs: &PairSet, n: NodeRef, m: NodeRef) -> bool
     ensures { result ≡ children_answer (has_in pairs.now) schema.now n m }
 {
-    match (schema.holder(m), schema.holder(n)) {
-        (None, _) => true,
-        (Some(_), None) => false,
-        (Some(base), Some(derived)) => pairs.has(Pair::Kids(NodePair { derived, base })),
+    match schema.holder(m) {
+        Some(base) => {
+            own_children_answer(schema, pairs, n, base)
+                || type_children_answer(schema, pairs, n, base)
+        }
+        None => true,
     }
 }
 

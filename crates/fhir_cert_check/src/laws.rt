@@ -10,13 +10,15 @@ ghost use Rattle.fhir_cert_check.specs.Inclusion.{IncludesItems};
 
 use fhir_facets::narrower_holds;
 use fhir_schema::covering_codes;
+use fhir_slicing::roots_ask_no_root;
 
 /// Where each pair of a set is right by the set, an item that conforms to the derived node of one of its pairs conforms
-/// to the base node, wherever it stands and whatever unread rules mean.
+/// to the base node, wherever it stands and whatever unread rules mean that is fair.
 pub fn inclusion()
     ensures { (s : SchemaValue) (pairs : Pair → Bool) → IsRight s pairs
         → (n m : NodeRef) → IsTrue (has_item_pair pairs n m) → IncludesItems s n m }
 {
     covering_codes();
     narrower_holds();
+    roots_ask_no_root();
 }

@@ -26,7 +26,11 @@ pub enum Rule<'s> {
     Range,
     /// `length`: the derived node allows no longer a text than the base node (ElementDefinition, maxLength).
     Length,
-    /// `children`: the base node has no children, or there is a pair for them.
+    /// `binding`: the derived node's required binding is to the base node's value set, or to one within (ElementDefinition,
+    /// binding).
+    Binding,
+    /// `children`: the base node has no children, or there is a pair for them, with the children of the derived node or with
+    /// those of each type that it names.
     Children,
     /// `slot`: the derived node has a slot of the base node's name.
     Slot(&'s str),
@@ -49,6 +53,7 @@ impl<'s> Rule<'s> {
             Rule::Pattern => "pattern",
             Rule::Range => "range",
             Rule::Length => "length",
+            Rule::Binding => "binding",
             Rule::Children => "children",
             Rule::Slot(_) => "slot",
             Rule::Cardinality(_) => "cardinality",
@@ -68,6 +73,7 @@ impl<'s> Rule<'s> {
             | Rule::Pattern
             | Rule::Range
             | Rule::Length
+            | Rule::Binding
             | Rule::Children => None,
         }
     }

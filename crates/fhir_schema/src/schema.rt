@@ -5,13 +5,13 @@ ghost use Rattle.std.specs.Option.{option_copied, option_map_or};
 ghost use Rattle.fhir_json.specs.Memory.{Gives};
 ghost use Rattle.fhir_codes.specs.Views.{concepts_seen};
 ghost use Rattle.fhir_schema.specs.Schemas.{schema_of, unusable, is_usable, elements_at, has, element_at, url_at, id_of_node, is_root_node, node_in, root_element, root, node_with, node, slots, slot_named, holder, types, forms, property, type_root, resource_root, is_concrete, is_loaded, loaded, concepts_at};
-ghost use Rattle.fhir_schema.specs.Types.{type_of_code};
+ghost use Rattle.fhir_schema.specs.Types.{names_resource, type_of_code};
 ghost use Rattle.fhir_schema.specs.Forms.{are_apart};
 ghost use Rattle.fhir_schema.specs.Covers.{type_at, covers};
 
 use crate::covering::covers;
 use crate::form::{Form, Property};
-use crate::kinds::{is_resource, type_of_code};
+use crate::kinds::{is_resource, names_resource, type_of_code};
 use crate::lineage::Lineage;
 use crate::node::NodeRef;
 use crate::node_forms::NodeForms;
@@ -334,6 +334,13 @@ impl Schema {
         ensures { IsTrue (are_apart (forms self.now node)) }
     {
         self.forms.forms_are_apart(node)
+    }
+
+    /// Whether a code is of a type of resources (FHIR R4, StructureDefinition, kind).
+    pub fn is_resource(&self, code: &str) -> bool
+        ensures { result ≡ names_resource self.now.definitions code.now }
+    {
+        names_resource(&self.table, code)
     }
 
     /// Whether a type code covers another: it is that one, or it is of a resource from which the other derives by its

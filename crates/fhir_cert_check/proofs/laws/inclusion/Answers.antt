@@ -11,6 +11,7 @@ returns c s pairs right n m pair =
       fits_is = narrow.fitted;
       length_is = narrow.length;
       range_is = narrow.range;
+      binding_is = narrow.binding s;
       targets_are = narrow.targets s;
       count_is = narrow.count;
-    }) pairs right n m pair
+    }) (c.covering_codes.ensures.alone s) (c.roots_ask_no_root.ensures s) pairs right n m pair
