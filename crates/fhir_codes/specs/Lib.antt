@@ -1,0 +1,6 @@
+pub mod Concepts
+pub mod CodeSystems
+pub mod ValueSets
+pub mod Expanding
+pub mod Coding
+pub mod Views
