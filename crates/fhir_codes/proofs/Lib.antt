@@ -1,2 +1,5 @@
 mod Searching
 mod Members
+mod Looping
+mod Wholes
+mod Taking

@@ -1,5 +1,5 @@
 -- Concepts, their order, and sets of them by what they have.
-use Rattle.std.proofs.Common.{◌≡◌, ℕ, ◌<◌, ◌+◌, List, [], ◌∷◌, ◌++◌, map, length, get_or, filter, Bool, true, false, not, cond, ◌||◌, ◌&&◌, refl, sym, ◌∙◌, ap, inl, inr, arith}
+use Rattle.std.proofs.Common.{◌≡◌, ℕ, zero, suc, ◌<◌, ◌+◌, List, [], ◌∷◌, ◌++◌, map, length, get_or, filter, Bool, true, false, not, cond, ◌||◌, ◌&&◌, refl, sym, ◌∙◌, ap, inl, inr, arith}
 use Rattle.std.specs.List.{list_any, list_all, Contains, dedup}
 use Rattle.std.specs.List.Sorted.{IsSorted}
 use Rattle.std.specs.declared.cmp.Ordering.{Ordering}
@@ -19,7 +19,7 @@ use Rattle.std.proofs.lemmas.Map.Text.{is_eq-slice_cmp}
 use Rattle.std.proofs.lemmas.Map.Views.{Contains-from_any}
 use mathlib.Core.Bool.{false≢true}
 use Rattle.fhir_json.specs.Tree.{Text}
-use Rattle.fhir_codes.specs.Concepts.{Concept, Concepts, concept, concept_cmp, has_code}
+use Rattle.fhir_codes.specs.Concepts.{Concept, Concepts, concept, concept_cmp, united, common, has_code}
 
 -- ---- the order
 
@@ -162,3 +162,96 @@ deduped_sorted xs s k d low high =
 -- lists with the same concepts make one set
 pub list_set : (xs ys : List Concept) → ((x : Concept) → list_any (same x) xs ≡ list_any (same x) ys) → set_of xs ≡ set_of ys
 list_set xs ys h = one_set (set_of xs) (set_of ys) (λ c. has-list xs c ∙ h c ∙ sym (has-list ys c))
+
+-- ---- set algebra on lists
+
+pub has-append : (xs ys : List Concept) (c : Concept) → has (set_of (xs ++ ys)) c ≡ (has (set_of xs) c || has (set_of ys) c)
+has-append xs ys c =
+    has-list (xs ++ ys) c ∙ list_any-append (same c) xs ys
+    ∙ ap (λ b. b || list_any (same c) ys) (sym (has-list xs c)) ∙ ap (λ b. has (set_of xs) c || b) (sym (has-list ys c))
+
+one_kept : (p : Concept → Bool) (x c : Concept) (rest : Bool) → (cond (p x) (same c x || (rest && p c)) (rest && p c)) ≡ ((same c x || rest) && p c)
+one_kept p x c rest =
+    elim (same c x) as (λ b. same c x ≡ b → cond (p x) (b || (rest && p c)) (rest && p c) ≡ ((b || rest) && p c)) [
+      | true ↦ λ e. chosen (p x) (p c) rest (ap p (sym (one_concept c x e)))
+      | false ↦ λ e. either (p x) (rest && p c)
+    ] refl
+  where
+    either : (b r : Bool) → cond b r r ≡ r
+    either true r = refl
+    either false r = refl
+
+    chosen : (a b r : Bool) → a ≡ b → cond a true (r && b) ≡ b
+    chosen true true r e = refl
+    chosen false true r e = absurd (false≢true e)
+    chosen true false r e = absurd (false≢true (sym e))
+    chosen false false true e = refl
+    chosen false false false e = refl
+
+any_filter : (p : Concept → Bool) (xs : List Concept) (c : Concept) → list_any (same c) (filter p xs) ≡ (list_any (same c) xs && p c)
+any_filter p [] c = refl
+any_filter p (x ∷ xs) c =
+    pushed (p x) (filter p xs)
+    ∙ ap (λ b. cond (p x) (same c x || b) b) (any_filter p xs c)
+    ∙ one_kept p x c (list_any (same c) xs)
+  where
+    pushed : (b : Bool) (ys : List Concept) → list_any (same c) (cond b (x ∷ ys) ys) ≡ cond b (same c x || list_any (same c) ys) (list_any (same c) ys)
+    pushed true ys = refl
+    pushed false ys = refl
+
+pub has-filter : (p : Concept → Bool) (xs : List Concept) (c : Concept) → has (set_of (filter p xs)) c ≡ (has (set_of xs) c && p c)
+has-filter p xs c = has-list (filter p xs) c ∙ any_filter p xs c ∙ ap (λ b. b && p c) (sym (has-list xs c))
+
+pub filter_difference : (xs : List Concept) (t : Concepts) → set_of (filter (λ c. not (set.contains t c)) xs) ≡ set.difference (set_of xs) t
+filter_difference xs t =
+    one_set (set_of (filter (λ c. not (set.contains t c)) xs)) (set.difference (set_of xs) t)
+    (λ c. has-filter (λ c. not (set.contains t c)) xs c ∙ sym (set.contains-difference concept_total (set_of xs) t c))
+
+and_true : (b : Bool) → b ≡ (b && true)
+and_true true = refl
+and_true false = refl
+
+pub difference_none : (s t : Concepts) → t ≡ set.empty → s ≡ set.difference s t
+difference_none s t none =
+    one_set s (set.difference s t)
+    (λ c. and_true (has s c) ∙ ap (λ b. has s c && not b) (sym (ap (λ u. has u c) none ∙ set.contains-empty concept_cmp c)) ∙ sym (set.contains-difference concept_total s t c))
+
+-- ---- many sets
+
+pub has-united : (ss : List Concepts) (c : Concept) → has (united ss) c ≡ list_any (λ s. has s c) ss
+has-united [] c = set.contains-empty concept_cmp c
+has-united (s ∷ ss) c = set.contains-union concept_total s (united ss) c ∙ ap (λ b. has s c || b) (has-united ss c)
+
+pub has-common : (s : Concepts) (ss : List Concepts) (c : Concept) → has (common (s ∷ ss)) c ≡ list_all (λ s. has s c) (s ∷ ss)
+has-common s [] c = and_true (has s c)
+has-common s (t ∷ ss) c = set.contains-intersection concept_total s (common (t ∷ ss)) c ∙ ap (λ b. has s c && b) (has-common t ss c)
+
+or_false : (b : Bool) → b ≡ (b || false)
+or_false true = refl
+or_false false = refl
+
+pub united_one : (s : Concepts) → s ≡ united (s ∷ [])
+united_one s = one_set s (united (s ∷ [])) (λ c. or_false (has s c) ∙ sym (has-united (s ∷ []) c))
+
+pub is_united : (s : Concepts) (ss : List Concepts) → ((c : Concept) → has s c ≡ list_any (λ s. has s c) ss) → s ≡ united ss
+is_united s ss h = one_set s (united ss) (λ c. h c ∙ sym (has-united ss c))
+
+all_or : (a b : Bool) → (b ≡ true → a ≡ true) → (a && b) ≡ b
+all_or true b h = refl
+all_or false true h = h refl
+all_or false false h = refl
+
+get_in_all : (p : Concepts → Bool) (ss : List Concepts) (k : ℕ) (d : Concepts) → k < length ss → list_all p ss ≡ true → p (get_or ss k d) ≡ true
+get_in_all p [] k d lt all = absurd (omega arith)
+get_in_all p (s ∷ ss) zero d lt all = (and_parts (p s) (list_all p ss) all).0
+get_in_all p (s ∷ ss) (suc k) d lt all = get_in_all p ss k d (omega arith) (and_parts (p s) (list_all p ss) all).1
+
+-- what is in one of them and in all of them is in all of them
+pub filter_common : (xs : List Concept) (ss : List Concepts) (k : ℕ) (d : Concepts) → k < length ss → set_of xs ≡ get_or ss k d → set_of (filter (λ c. list_all (λ s. set.contains s c) ss) xs) ≡ common ss
+filter_common xs [] k d lt is = absurd (omega arith)
+filter_common xs (s ∷ ss) k d lt is =
+    one_set (set_of (filter (λ c. list_all (λ s. set.contains s c) (s ∷ ss)) xs)) (common (s ∷ ss)) (λ c.
+        has-filter (λ c. list_all (λ s. set.contains s c) (s ∷ ss)) xs c
+        ∙ ap (λ u. has u c && list_all (λ s. has s c) (s ∷ ss)) is
+        ∙ all_or (has (get_or (s ∷ ss) k d) c) (list_all (λ s. has s c) (s ∷ ss)) (get_in_all (λ s. has s c) (s ∷ ss) k d lt)
+        ∙ sym (has-common s ss c))

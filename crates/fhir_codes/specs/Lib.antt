@@ -3,4 +3,5 @@ pub mod CodeSystems
 pub mod ValueSets
 pub mod Expanding
 pub mod Coding
+pub mod Placing
 pub mod Views

@@ -1,6 +1,6 @@
 //! Sets of concepts.
 
-ghost use Rattle.std.specs.Prelude.{◌≡◌};
+ghost use Rattle.std.specs.Prelude.{◌≡◌, IsTrue};
 ghost use Rattle.std.specs.List.{list_all};
 ghost use Rattle.std.specs.FinSet as set;
 ghost use Rattle.fhir_json.specs.Memory.{Gives};
@@ -83,6 +83,20 @@ impl ConceptSet {
         ensures { result ≡ set.contains self.now concept.now }
     {
         self.contains(concept.system(), concept.code())
+    }
+
+    /// The concepts, in order.
+    pub(crate) fn concepts(&self) -> &[SharedConcept]
+        ensures { set.from_list result.now ≡ self.now }
+    {
+        self.table.as_slice()
+    }
+
+    /// Whether the set has no concept.
+    pub(crate) fn is_empty(&self) -> bool
+        ensures { IsTrue result → self.now ≡ set.empty }
+    {
+        self.table.as_slice().is_empty()
     }
 
     /// Whether each concept of this set is one of the other: a binary search for each.

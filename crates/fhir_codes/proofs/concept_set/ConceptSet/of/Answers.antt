@@ -1,7 +1,6 @@
 use Rattle.std.proofs.Common.{◌∙◌, ap, sym, rules}
 use Rattle.std.proofs.lemmas.Fn.{dedup_same}
 use Rattle.std.proofs.lemmas.List.Sorted.{answers_always, ranks_by, list_any-IsPermutation}
-use Rattle.std.specs.List.{list_any}
 use Rattle.std.specs.Ordering.{is_lt}
 use Rattle.fhir_codes.specs.Concepts.{concept_cmp}
 use Rattle.fhir_codes.proofs.Members.{concept_total, deduped_any, deduped_sorted, list_set, set_of, same}
