@@ -2,4 +2,5 @@ mod Searching
 mod Members
 mod Looping
 mod Wholes
+mod Parts
 mod Taking

@@ -251,7 +251,7 @@ pub filter_common : (xs : List Concept) (ss : List Concepts) (k : ℕ) (d : Conc
 filter_common xs [] k d lt is = absurd (omega arith)
 filter_common xs (s ∷ ss) k d lt is =
     one_set (set_of (filter (λ c. list_all (λ s. set.contains s c) (s ∷ ss)) xs)) (common (s ∷ ss)) (λ c.
-        has-filter (λ c. list_all (λ s. set.contains s c) (s ∷ ss)) xs c
-        ∙ ap (λ u. has u c && list_all (λ s. has s c) (s ∷ ss)) is
-        ∙ all_or (has (get_or (s ∷ ss) k d) c) (list_all (λ s. has s c) (s ∷ ss)) (get_in_all (λ s. has s c) (s ∷ ss) k d lt)
-        ∙ sym (has-common s ss c))
+    has-filter (λ c. list_all (λ s. set.contains s c) (s ∷ ss)) xs c
+    ∙ ap (λ u. has u c && list_all (λ s. has s c) (s ∷ ss)) is
+    ∙ all_or (has (get_or (s ∷ ss) k d) c) (list_all (λ s. has s c) (s ∷ ss)) (get_in_all (λ s. has s c) (s ∷ ss) k d lt)
+    ∙ sym (has-common s ss c))

@@ -4,6 +4,7 @@
 mod algebra;
 mod code_set;
 mod code_systems;
+mod composing;
 mod concept_set;
 mod includes;
 mod shared_concept;

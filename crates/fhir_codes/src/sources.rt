@@ -101,7 +101,10 @@ impl<'p, 'a> Sources<'p, 'a> {
     pub(crate) fn place(&self, canonical: &str) -> Option<usize>
         ensures { result ≡ place_named self.now canonical.now }
     {
-        match (self.from.get(Kind::ValueSet, canonical), Canonical::parse(canonical)) {
+        match (
+            self.from.get(Kind::ValueSet, canonical),
+            Canonical::parse(canonical),
+        ) {
             (Some(_tree), Ok(canonical)) => self.place_at(canonical.url()),
             _ => None,
         }

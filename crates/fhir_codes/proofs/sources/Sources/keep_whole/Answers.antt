@@ -9,11 +9,10 @@ use Rattle.fhir_codes.proofs.sources.Sources.keep_whole.Goals as goal
 pub invariant_of-self-in_err-put : goal.invariant_of-self-in_err-put
 invariant_of-self-in_err-put c =
     let p = c.self.inside.from.now in
-    let before = c.self.inside.whole.items in
-    (
+    let before = c.self.inside.whole.items in (
       c.self.invariant.0,
       subst (λ urls. AreWhole p urls c.push.new.self.items) (sym c.in_err-put.ensures.unchanged)
-      (subst (AreWhole p c.self.inside.systems) (sym c.in_ok-push.ensures.items) (whole_pushed p c.self.inside.systems before c.args.concepts c.self.invariant.1)),
+          (subst (AreWhole p c.self.inside.systems) (sym c.in_ok-push.ensures.items) (whole_pushed p c.self.inside.systems before c.args.concepts c.self.invariant.1)),
     )
 
 pub invariant_of-self-2 : goal.invariant_of-self-2
