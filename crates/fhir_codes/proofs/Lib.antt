@@ -2,5 +2,10 @@ mod Searching
 mod Members
 mod Looping
 mod Wholes
+mod Rounds
+mod Places
+mod Settled
+mod Listed
+mod Alike
 mod Parts
 mod Taking

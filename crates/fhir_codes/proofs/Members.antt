@@ -19,7 +19,7 @@ use Rattle.std.proofs.lemmas.Map.Text.{is_eq-slice_cmp}
 use Rattle.std.proofs.lemmas.Map.Views.{Contains-from_any}
 use mathlib.Core.Bool.{false≢true}
 use Rattle.fhir_json.specs.Tree.{Text}
-use Rattle.fhir_codes.specs.Concepts.{Concept, Concepts, concept, concept_cmp, united, common, has_code}
+use Rattle.fhir_codes.specs.Concepts.{Concept, Concepts, concept, concept_cmp, of_system, united, common, has_code}
 
 -- ---- the order
 
@@ -255,3 +255,33 @@ filter_common xs (s ∷ ss) k d lt is =
     ∙ ap (λ u. has u c && list_all (λ s. has s c) (s ∷ ss)) is
     ∙ all_or (has (get_or (s ∷ ss) k d) c) (list_all (λ s. has s c) (s ∷ ss)) (get_in_all (λ s. has s c) (s ∷ ss) k d lt)
     ∙ sym (has-common s ss c))
+
+-- ---- a system's codes
+
+same_parts : (x y : Concept) → same x y ≡ (bytes_eq x.code y.code && bytes_eq x.system y.system)
+same_parts x y =
+    is_eq_then (slice_cmp nat_cmp x.code y.code) (slice_cmp nat_cmp x.system y.system)
+    ∙ ap (λ b. b && is_eq (slice_cmp nat_cmp x.system y.system)) (is_eq-slice_cmp x.code y.code)
+    ∙ ap (λ b. bytes_eq x.code y.code && b) (is_eq-slice_cmp x.system y.system)
+  where
+    is_eq_then : (a b : Ordering) → is_eq (ordering_then a b) ≡ (is_eq a && is_eq b)
+    is_eq_then Less b = refl
+    is_eq_then Equal b = refl
+    is_eq_then Greater b = refl
+
+any_of_system : (a : Bool) (c : Concept) (system : Text) (cs : List Text) → bytes_eq c.system system ≡ a → list_any (same c) (map (concept system) cs) ≡ (a && list_any (bytes_eq c.code) cs)
+any_of_system true c system [] is = refl
+any_of_system false c system [] is = refl
+any_of_system true c system (k ∷ ks) is =
+    ap (λ b. b || list_any (same c) (map (concept system) ks)) (same_parts c (concept system k) ∙ ap (λ b. bytes_eq c.code k && b) is ∙ sym (and_true (bytes_eq c.code k)))
+    ∙ ap (λ b. bytes_eq c.code k || b) (any_of_system true c system ks is)
+any_of_system false c system (k ∷ ks) is =
+    ap (λ b. b || list_any (same c) (map (concept system) ks)) (same_parts c (concept system k) ∙ ap (λ b. bytes_eq c.code k && b) is ∙ and_none (bytes_eq c.code k))
+    ∙ any_of_system false c system ks is
+  where
+    and_none : (b : Bool) → (b && false) ≡ false
+    and_none true = refl
+    and_none false = refl
+
+pub has-of_system : (system : Text) (cs : List Text) (c : Concept) → has (of_system system cs) c ≡ (bytes_eq c.system system && list_any (bytes_eq c.code) cs)
+has-of_system system cs c = has-list (map (concept system) cs) c ∙ any_of_system (bytes_eq c.system system) c system cs refl

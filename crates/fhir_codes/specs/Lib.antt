@@ -4,4 +4,5 @@ pub mod ValueSets
 pub mod Expanding
 pub mod Coding
 pub mod Placing
+pub mod Least
 pub mod Views

@@ -10,7 +10,7 @@ ghost use Rattle.fhir_codes.specs.Concepts.{of_system};
 ghost use Rattle.fhir_codes.specs.ValueSets.{sets_named, part_in, includes, excludes, is_compose, named, codes_taken, is_plain_include, of_set, of_include, composed, is_read};
 ghost use Rattle.fhir_codes.specs.Placing.{found_at, known, is_known, names_known};
 
-use crate::algebra::{common, united, without};
+use crate::combining::{common, united, without};
 use crate::concept_set::ConceptSet;
 use crate::sources::Sources;
 use fhir_json::{Json, NoMemory};

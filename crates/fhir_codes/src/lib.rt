@@ -1,14 +1,16 @@
 //! Value sets: the concepts that each has.
 #![tactic(auto)]
 
-mod algebra;
 mod code_set;
 mod code_systems;
+mod combining;
 mod composing;
 mod concept_set;
 mod includes;
+mod laws;
 mod shared_concept;
 mod sources;
 
 pub use code_set::{CodeSet, subset};
 pub use concept_set::ConceptSet;
+pub use laws::{algebra, any_order, least_closed, resolved, subsets};

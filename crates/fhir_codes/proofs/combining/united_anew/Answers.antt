@@ -4,7 +4,7 @@ use Rattle.std.proofs.lemmas.Grind.{common_steps}
 use Rattle.fhir_codes.specs.Concepts.{united}
 use Rattle.fhir_codes.proofs.Looping.{any_more, gives_as}
 use Rattle.fhir_codes.proofs.Members.{has, has-list, has-append, is_united, set_of}
-use Rattle.fhir_codes.proofs.algebra.united_anew.Goals as goal
+use Rattle.fhir_codes.proofs.combining.united_anew.Goals as goal
 
 pub loop-one-init : goal.loop-one-init
 loop-one-init c x = ap (λ xs. has (set_of xs) x) c.new-all.ensures.items ∙ has-list [] x

@@ -2,7 +2,7 @@ use Rattle.std.proofs.Common.{◌∙◌}
 use Rattle.fhir_codes.specs.Concepts.{common}
 use Rattle.fhir_codes.proofs.Looping.{gives_as}
 use Rattle.fhir_codes.proofs.Members.{filter_common}
-use Rattle.fhir_codes.proofs.algebra.common_anew.Goals as goal
+use Rattle.fhir_codes.proofs.combining.common_anew.Goals as goal
 
 pub returns : goal.returns
 returns c =

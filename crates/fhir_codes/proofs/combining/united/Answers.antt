@@ -3,7 +3,7 @@ use Rattle.std.proofs.lemmas.Grind.{common_steps}
 use Rattle.fhir_codes.specs.Concepts.{united}
 use Rattle.fhir_codes.proofs.Looping.{gives_as}
 use Rattle.fhir_codes.proofs.Members.{united_one}
-use Rattle.fhir_codes.proofs.algebra.united.Goals as goal
+use Rattle.fhir_codes.proofs.combining.united.Goals as goal
 
 pub returns-in-len1 : goal.returns-in-len1
 returns-in-len1 c =

@@ -2,7 +2,7 @@ use Rattle.std.proofs.Common.{◌<◌, length, arith}
 use Rattle.std.specs.List.{list_all}
 use Rattle.std.specs.FinSet as set
 use Rattle.fhir_codes.proofs.Looping.{keep_more}
-use Rattle.fhir_codes.proofs.algebra.kept_in_all.Goals as goal
+use Rattle.fhir_codes.proofs.combining.kept_in_all.Goals as goal
 
 pub loop-concept-preserved : goal.loop-concept-preserved
 loop-concept-preserved c =

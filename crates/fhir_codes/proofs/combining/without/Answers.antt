@@ -2,7 +2,7 @@ use Rattle.std.proofs.Common.{◌∙◌, ap}
 use Rattle.std.specs.FinSet as set
 use Rattle.fhir_codes.proofs.Looping.{gives_as}
 use Rattle.fhir_codes.proofs.Members.{difference_none, filter_difference}
-use Rattle.fhir_codes.proofs.algebra.without.Goals as goal
+use Rattle.fhir_codes.proofs.combining.without.Goals as goal
 
 pub returns-then-is_empty : goal.returns-then-is_empty
 returns-then-is_empty c =
