@@ -7,5 +7,6 @@ mod Places
 mod Settled
 mod Listed
 mod Alike
+mod Finding
 mod Parts
 mod Taking

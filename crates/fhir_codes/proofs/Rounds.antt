@@ -48,11 +48,11 @@ map_agree r f g h (x ∷ xs) all =
 
 -- ---- one value set
 
-guarded : (b : Bool) (x s : Concepts) → (if b then Some x else None) ≡ Some s → (b ≡ true) × (x ≡ s)
+pub guarded : (b : Bool) (x s : Concepts) → (if b then Some x else None) ≡ Some s → (b ≡ true) × (x ≡ s)
 guarded true x s e = (refl, one_some x s e)
 guarded false x s e = no_some s e
 
-chosen : (b : Bool) (x : Concepts) → b ≡ true → (if b then Some x else None) ≡ Some x
+pub chosen : (b : Bool) (x : Concepts) → b ≡ true → (if b then Some x else None) ≡ Some x
 chosen true x is = refl
 chosen false x is = absurd (let bad : false ≡ true = is in cc)
 

@@ -82,7 +82,7 @@ then_none : {A B : Type 0} (f : A → Option B) → ((x : A) → f x ≡ None) �
 then_none f h None = refl
 then_none f h (Some x) = sym (h x)
 
-then_then : {A B C : Type 0} (f : B → Option C) (g : A → Option B) (o : Option A) → option_and_then f (option_and_then g o) ≡ option_and_then (λ x. option_and_then f (g x)) o
+pub then_then : {A B C : Type 0} (f : B → Option C) (g : A → Option B) (o : Option A) → option_and_then f (option_and_then g o) ≡ option_and_then (λ x. option_and_then f (g x)) o
 then_then f g None = refl
 then_then f g (Some x) = refl
 

@@ -5,4 +5,6 @@ pub mod Expanding
 pub mod Coding
 pub mod Placing
 pub mod Least
+pub mod Filled
+pub mod Listing
 pub mod Views

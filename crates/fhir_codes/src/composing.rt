@@ -35,13 +35,15 @@ fn part_in<'t, 'j>(json: &'t Json<'j>, name: &str) -> &'t [Json<'j>]
     }
 }
 
-fn includes<'t, 'j>(json: &'t Json<'j>) -> &'t [Json<'j>]
+/// Its includes.
+pub(crate) fn includes<'t, 'j>(json: &'t Json<'j>) -> &'t [Json<'j>]
     ensures { trees_of result.now ≡ includes (tree_of json.now) }
 {
     part_in(json, "include")
 }
 
-fn excludes<'t, 'j>(json: &'t Json<'j>) -> &'t [Json<'j>]
+/// Its excludes.
+pub(crate) fn excludes<'t, 'j>(json: &'t Json<'j>) -> &'t [Json<'j>]
     ensures { trees_of result.now ≡ excludes (tree_of json.now) }
 {
     part_in(json, "exclude")

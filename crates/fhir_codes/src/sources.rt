@@ -9,7 +9,7 @@ ghost use Rattle.fhir_names.specs.Places.{Finds};
 ghost use Rattle.fhir_package.specs.declared.kind.Kind.TheVariants.{CodeSystem};
 ghost use Rattle.fhir_package.specs.Definitions.{at_url};
 ghost use Rattle.fhir_codes.specs.Concepts.{Concepts};
-ghost use Rattle.fhir_codes.specs.Placing.{place_at, place_named, whole_of, AreWhole};
+ghost use Rattle.fhir_codes.specs.Placing.{place_at, place_named, tree_at, whole_of, AreWhole};
 
 use crate::code_systems::concepts_defined;
 use crate::concept_set::ConceptSet;
@@ -89,6 +89,36 @@ impl<'p, 'a> Sources<'p, 'a> {
         ensures { result.now ≡ self.now }
     {
         self.from
+    }
+
+    /// The places of the value sets under their urls.
+    pub(crate) fn into_places(self) -> Index
+        ensures { Finds result (keys_of self.entry.value_sets) }
+    {
+        let Sources {
+            from: _,
+            value_sets,
+            whole: _,
+            systems: _,
+        } = self;
+        value_sets
+    }
+
+    /// How many value sets there are.
+    pub(crate) fn len(&self) -> usize
+        ensures { result ≡ length self.now.value_sets }
+    {
+        self.from.len(Kind::ValueSet)
+    }
+
+    /// The value set at a place.
+    pub(crate) fn tree(&self, place: usize) -> Option<&'p Json<'a>>
+        ensures { tree_seen result ≡ tree_at self.now place }
+    {
+        match self.from.at(Kind::ValueSet, place) {
+            Some((_url, json)) => Some(json),
+            None => None,
+        }
     }
 
     fn place_at(&self, url: &str) -> Option<usize>
