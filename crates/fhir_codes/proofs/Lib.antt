@@ -1,0 +1,12 @@
+mod Searching
+mod Members
+mod Looping
+mod Wholes
+mod Rounds
+mod Places
+mod Settled
+mod Listed
+mod Alike
+mod Finding
+mod Parts
+mod Taking

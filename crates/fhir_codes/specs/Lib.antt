@@ -1,0 +1,10 @@
+pub mod Concepts
+pub mod CodeSystems
+pub mod ValueSets
+pub mod Expanding
+pub mod Coding
+pub mod Placing
+pub mod Least
+pub mod Filled
+pub mod Listing
+pub mod Views
