@@ -1,5 +1,6 @@
 mod Searching
 mod Members
+mod CodesKept
 mod Looping
 mod Wholes
 mod Rounds

@@ -101,7 +101,7 @@ all_each p (y ∷ ys) h x c =
       | inr rest ↦ all_each p ys parts.1 x rest
     ]
 
-each_all : (p : Concept → Bool) (xs : List Concept) → ((x : Concept) → list_any (same x) xs ≡ true → p x ≡ true) → list_all p xs ≡ true
+pub each_all : (p : Concept → Bool) (xs : List Concept) → ((x : Concept) → list_any (same x) xs ≡ true → p x ≡ true) → list_all p xs ≡ true
 each_all p [] h = refl
 each_all p (y ∷ ys) h =
     let first : p y ≡ true = h y (or_left (same y y) (list_any (same y) ys) (same_itself y)) in

@@ -9,7 +9,7 @@ ghost use Rattle.fhir_json.specs.Tree.{Text};
 ghost use Rattle.fhir_package.specs.declared.kind.Kind.TheVariants.{ValueSet, CodeSystem};
 ghost use Rattle.fhir_package.specs.Definitions.{Definitions, at_url};
 ghost use Rattle.fhir_package.specs.Canonical.{named_by};
-ghost use Rattle.fhir_codes.specs.Concepts.{Concept, Concepts, of_system, united, common};
+ghost use Rattle.fhir_codes.specs.Concepts.{Concept, Concepts, of_system, united, common, has_code};
 ghost use Rattle.fhir_codes.specs.ValueSets.{expansion, concepts_of};
 ghost use Rattle.fhir_codes.specs.Expanding.{expansions_of, concepts_in};
 ghost use Rattle.fhir_codes.specs.Least.{IsClosed};
@@ -40,6 +40,11 @@ pub fn any_order()
 pub fn subsets()
     ensures { (a b : Concepts) → (IsTrue (set.is_subset a b)
         ↔ ((c : Concept) → IsTrue (set.contains a c) → IsTrue (set.contains b c))) }
+{}
+
+/// A code that some concept of a subset has, some concept of the set has.
+pub fn codes_of_subset()
+    ensures { (a b : Concepts) (code : Text) → IsTrue (set.is_subset a b) → IsTrue (has_code code a) → IsTrue (has_code code b) }
 {}
 
 /// Which concepts are in a union, in an intersection, and in the set of a system's codes.

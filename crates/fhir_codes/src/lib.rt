@@ -16,5 +16,5 @@ mod value_sets;
 
 pub use code_set::{CodeSet, subset};
 pub use concept_set::ConceptSet;
-pub use laws::{algebra, any_order, least_closed, resolved, subsets};
+pub use laws::{algebra, any_order, codes_of_subset, least_closed, resolved, subsets};
 pub use value_sets::{ValueSets, expand};

@@ -2,10 +2,9 @@
 use Rattle.std.specs.Prelude.{List, [], ◌++◌, Bool, true, false, if◌then◌else◌}
 use Rattle.std.specs.declared.cmp.Ordering.{Ordering}
 use Rattle.std.specs.List.{Contains, flat_map}
-use Rattle.std.specs.Option.{option_map_or}
+use Rattle.std.specs.Option.{option_copied, option_map_or}
 use Rattle.std.specs.Ordering.{is_le, is_ge}
 use Rattle.fhir_json.specs.Views.{tree_seen, property_of, property_seen}
-use Rattle.fhir_codes.specs.Views.{concepts_seen}
 use Rattle.fhir_elements.specs.TypeEntry.{TypeEntry}
 use Rattle.fhir_schema.specs.Schemas.{SchemaValue}
 use Rattle.fhir_facets.specs.declared.unread.Unread.{Unread as UnreadRule}
@@ -65,4 +64,4 @@ target_rules s e = if has_targets e then flat_map (target_unread s) e.targets el
 -- ---- a binding
 
 abbrev pub binding_seen : BindingOf → Binding
-binding_seen b = record { canonical = b.canonical.now; concepts = concepts_seen b.concepts }
+binding_seen b = record { canonical = b.canonical.now; concepts = option_copied b.concepts }

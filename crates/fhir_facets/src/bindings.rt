@@ -1,8 +1,7 @@
 //! Bindings to value sets (FHIR R4, ElementDefinition, binding; Terminologies, required).
 
-ghost use Rattle.std.specs.Prelude.{◌≡◌, false};
-ghost use Rattle.std.specs.Option.{option_map_or};
-ghost use Rattle.fhir_codes.specs.Views.{concepts_seen};
+ghost use Rattle.std.specs.Prelude.{◌≡◌};
+ghost use Rattle.std.specs.Option.{option_copied};
 ghost use Rattle.fhir_facets.specs.Bindings.{binding_to, decided, binding_holds, lies_within, binding_narrower};
 ghost use Rattle.fhir_facets.specs.Carried.{binding_unread};
 ghost use Rattle.fhir_facets.specs.Views.{binding_seen, holding_under, view_seen, IsCarried};
@@ -48,7 +47,7 @@ impl<'s> Binding<'s> {
 }
 
 fn lies_within(own: Option<&ConceptSet>, base: Option<&ConceptSet>) -> bool
-    ensures { result ≡ lies_within (concepts_seen own.entry) (concepts_seen base.entry) }
+    ensures { result ≡ lies_within (option_copied own.entry) (option_copied base.entry) }
 {
     match (own, base) {
         (Some(own), Some(base)) => own.is_subset(base),

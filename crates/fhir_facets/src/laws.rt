@@ -13,7 +13,7 @@ ghost use Rattle.fhir_facets.specs.Targets.{targets_hold, targets_narrower};
 ghost use Rattle.fhir_facets.specs.Unread.{Unread, Meaning};
 ghost use Rattle.fhir_facets.specs.Values.{fixed_holds, fixed_narrower, pattern_holds, pattern_narrower, fixed_fits, length_holds, length_narrower};
 
-use fhir_codes::subsets;
+use fhir_codes::{codes_of_subset, subsets};
 use fhir_decimal::order_of_values;
 use fhir_matching::{equivalence, fitting};
 use fhir_prims::order_of_moments;
@@ -45,6 +45,7 @@ pub fn narrower_holds()
     order_of_values();
     order_of_moments();
     covering_codes();
+    codes_of_subset();
     subsets();
 }
 

@@ -3,7 +3,6 @@
 ghost use Rattle.std.specs.Prelude.{◌≡◌, false, IsTrue};
 ghost use Rattle.std.specs.Option.{option_copied, option_map_or};
 ghost use Rattle.fhir_json.specs.Memory.{Gives};
-ghost use Rattle.fhir_codes.specs.Views.{concepts_seen};
 ghost use Rattle.fhir_schema.specs.Schemas.{schema_of, unusable, is_usable, elements_at, has, element_at, url_at, id_of_node, is_root_node, node_in, root_element, root, node_with, node, slots, slot_named, holder, types, forms, property, type_root, resource_root, is_concrete, is_loaded, loaded, concepts_at};
 ghost use Rattle.fhir_schema.specs.Types.{names_resource, type_of_code};
 ghost use Rattle.fhir_schema.specs.Forms.{are_apart};
@@ -193,7 +192,7 @@ impl Schema {
     /// The concepts of the value set that a canonical names (FHIR R4, ValueSet). One that isn't there, or can't be read, has
     /// none.
     pub fn concepts(&self, canonical: &str) -> Option<&ConceptSet>
-        ensures { concepts_seen result ≡ concepts_at self.now canonical.now }
+        ensures { option_copied result ≡ concepts_at self.now canonical.now }
     {
         self.value_sets.concepts(canonical)
     }

@@ -23,4 +23,4 @@ returns-clause-targets c s m = targets_kept s m (c.covering_codes.ensures.transi
 
 pub returns-clause-binding : goal.returns-clause-binding
 returns-clause-binding c s m own base x fair =
-    binding_kept (λ a b. (c.subsets.ensures.concepts a b).0) c.subsets.ensures.codes s m fair x own base
+    binding_kept (λ a b. (c.subsets.ensures a b).0) c.codes_of_subset.ensures s m fair x own base
