@@ -12,7 +12,7 @@ use Rattle.fhir_elements.specs.declared.max.Max.{Max}
 use Rattle.fhir_elements.specs.declared.max.Max.TheVariants.{Unbounded, UpTo}
 use Rattle.fhir_elements.specs.Max.{is_within}
 use Rattle.fhir_elements.specs.TypeEntry.{TypeEntry}
-use Rattle.fhir_elements.specs.Element.{Element}
+use Rattle.fhir_elements.specs.Element.{Element, required_value_set}
 use Rattle.fhir_elements.specs.Tests.{all_hold}
 use Rattle.fhir_schema.specs.declared.node.NodeRef.{NodeRef}
 use Rattle.fhir_schema.specs.Slots.{Slot}
@@ -29,7 +29,7 @@ use Rattle.fhir_facets.specs.Bindings.{binding_to, binding_holds, binding_narrow
 use Rattle.fhir_facets.specs.Counts.{are_enough, are_within, count_holds, count_narrower, allows_none, is_forbidden}
 use Rattle.fhir_slicing.specs.Asks.{root_type, types as of_types, fixed, pattern, range, length_limit, binding, too_few, too_many}
 use Rattle.fhir_slicing.specs.Asks.{Ask, own, places_of, child_ask, facet_asks, slot_asks, own_root, kids_asks, root_asks}
-use Rattle.fhir_slicing.specs.Conformance.{Interpretation, Around, seen, count_of, fixed_at, pattern_at, range_at, length_at, set_of, binding_at, is_untyped, entry_holds}
+use Rattle.fhir_slicing.specs.Conformance.{Interpretation, Around, seen, count_of, fixed_at, pattern_at, range_at, length_at, binding_at, is_untyped, entry_holds}
 use Rattle.fhir_slicing.specs.Conformance.{rule_holds, ask_holds, root_holds, inner_holds, item_holds, meaning_at, inside, below}
 use Rattle.fhir_slicing.specs.Conformance.{conforms, kid_tests, IsFairEverywhere}
 use Rattle.fhir_certificate.specs.declared.pair.Pair.{Pair}
@@ -149,7 +149,7 @@ module _ (s : SchemaValue) (narrow : AreNarrow s) (alone : CoversAlone s) (asks_
     binding_of_elements : IsFair s m → (e f : Element) → IsTrue (binding_answers s e f) → IsTrue (binding_at s m x e) → IsTrue (binding_at s m x f)
     binding_of_elements fair e f =
         answered (λ own base. binding_narrower (binding_to s own) (binding_to s base)) (λ own. binding_holds m (binding_to s own) (seen x))
-        (λ base. binding_holds m (binding_to s base) (seen x)) (λ own base. narrow.binding_is m own base (seen x) fair) (set_of e) (set_of f)
+        (λ base. binding_holds m (binding_to s base) (seen x)) (λ own base. narrow.binding_is m own base (seen x) fair) (required_value_set e) (required_value_set f)
 
     binding_step : IsFair s m → (n k : NodeRef) → IsTrue (elements_answer (binding_answers s) s n k) → IsTrue (rule_holds s m x binding n)
         → IsTrue (rule_holds s m x binding k)

@@ -6,7 +6,7 @@ use Rattle.std.specs.Option.{option_map_or}
 use Rattle.std.specs.List.{list_all, flat_map}
 use Rattle.fhir_json.specs.Tree.{Text}
 use Rattle.fhir_elements.specs.TypeEntry.{TypeEntry}
-use Rattle.fhir_elements.specs.Element.{Element}
+use Rattle.fhir_elements.specs.Element.{Element, required_value_set}
 use Rattle.fhir_elements.specs.Tests.{first_of, all_hold}
 use Rattle.fhir_schema.specs.declared.node.NodeRef.{NodeRef}
 use Rattle.fhir_schema.specs.Slots.{Slot}
@@ -18,7 +18,7 @@ use Rattle.fhir_facets.specs.Ranges.{range_narrower}
 use Rattle.fhir_facets.specs.Targets.{targets_narrower}
 use Rattle.fhir_facets.specs.Bindings.{binding_to, binding_narrower}
 use Rattle.fhir_facets.specs.Counts.{count_narrower, is_forbidden}
-use Rattle.fhir_slicing.specs.Conformance.{range_of, set_of, is_untyped}
+use Rattle.fhir_slicing.specs.Conformance.{range_of, is_untyped}
 use Rattle.fhir_certificate.specs.declared.pair.Pair.{Pair}
 use Rattle.fhir_certificate.specs.declared.pair.Pair.TheVariants.{Item, Kids}
 use Rattle.fhir_cert_check.specs.Rule.{RuleName, type, fixed, pattern, range, length_limit, binding, children, slot, cardinality, entry}
@@ -61,7 +61,7 @@ length_answers e f = is_answered length_narrower e.max_length f.max_length
 
 -- by a required binding to the same value set, or to one within
 abbrev pub binding_answers : SchemaValue → Element → Element → Bool
-binding_answers s e f = is_answered (λ own base. binding_narrower (binding_to s own) (binding_to s base)) (set_of e) (set_of f)
+binding_answers s e f = is_answered (λ own base. binding_narrower (binding_to s own) (binding_to s base)) (required_value_set e) (required_value_set f)
 
 -- the elements of two nodes are so; what is no node asks for nothing
 abbrev pub elements_answer : (Element → Element → Bool) → SchemaValue → NodeRef → NodeRef → Bool

@@ -3,13 +3,12 @@
 ghost use Rattle.std.specs.Prelude.{◌≡◌, false, option_map};
 ghost use Rattle.std.specs.List.{list_all, list_any};
 ghost use Rattle.std.specs.Option.{option_map_or};
-ghost use Rattle.fhir_json.specs.Views.{text_seen};
 ghost use Rattle.fhir_elements.specs.Tests.{first_of};
 ghost use Rattle.fhir_schema.specs.Schemas.{type_root};
 ghost use Rattle.fhir_facets.specs.Bindings.{binding_to, binding_narrower};
 ghost use Rattle.fhir_facets.specs.Targets.{targets_narrower};
 ghost use Rattle.fhir_facets.specs.Values.{fixed_fits, pattern_narrower};
-ghost use Rattle.fhir_slicing.specs.Conformance.{set_of, is_untyped};
+ghost use Rattle.fhir_slicing.specs.Conformance.{is_untyped};
 ghost use Rattle.fhir_cert_check.specs.Lists.{each_answers};
 ghost use Rattle.fhir_cert_check.specs.Rules.{entry_answers, types_answer, roots_answer, type_answers, item_rules};
 ghost use Rattle.fhir_cert_check.specs.Rules.{has_kids_pair, own_children_answer, entry_children_answer, type_children_answer, children_answer};
@@ -144,15 +143,6 @@ fn length_answers(own: &ElementDef, base: &ElementDef) -> bool
     }
 }
 
-fn required_set(element: &ElementDef) -> Option<&str>
-    ensures { text_seen result ≡ set_of element.now }
-{
-    match element.binding() {
-        Some(binding) => binding.required_set(),
-        None => None,
-    }
-}
-
 fn sets_answer(schema: &Schema, own: &str, base: &str) -> bool
     ensures { result ≡ binding_narrower (binding_to schema.now own.now) (binding_to schema.now base.now) }
 {
@@ -162,10 +152,10 @@ fn sets_answer(schema: &Schema, own: &str, base: &str) -> bool
 fn binding_answers(schema: &Schema, own: &ElementDef, base: &ElementDef) -> bool
     ensures { result ≡ binding_answers schema.now own.now base.now }
 {
-    let Some(base) = required_set(base) else {
+    let Some(base) = base.required_value_set() else {
         return true;
     };
-    match required_set(own) {
+    match own.required_value_set() {
         Some(own) => sets_answer(schema, own, base),
         None => false,
     }

@@ -20,7 +20,7 @@ use Rattle.fhir_elements.specs.TypeEntry.{TypeEntry, is_type_entry, type_entry_o
 use Rattle.fhir_elements.specs.Constraint.{Constraint, is_constraint, constraint_of}
 use Rattle.fhir_elements.specs.Binding.{Binding}
 use Rattle.fhir_elements.specs.Slicing.{Slicing}
-use Rattle.fhir_elements.specs.Binding.{is_binding, binding_of}
+use Rattle.fhir_elements.specs.Binding.{is_binding, binding_of, required_set}
 use Rattle.fhir_elements.specs.Slicing.{is_slicing, slicing_of}
 
 -- The fields of an element. A choice, as `fixed[x]`, is its whole name, as `fixedCode`, with its value.
@@ -40,6 +40,10 @@ pub record Element : Type 0 where
   pub binding : Option Binding
   pub constraints : List Constraint
   pub slicing : Option Slicing
+
+-- the value set that an item's codes have to be in, if the element says so
+abbrev pub required_value_set : Element → Option Text
+required_value_set e = option_and_then required_set e.binding
 
 -- ---- whether a tree is an element
 

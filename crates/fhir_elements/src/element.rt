@@ -9,7 +9,7 @@ ghost use Rattle.fhir_elements.specs.TypeEntry.{is_type_entry};
 ghost use Rattle.fhir_elements.specs.Constraint.{is_constraint};
 ghost use Rattle.fhir_elements.specs.Binding.{is_binding, binding_of};
 ghost use Rattle.fhir_elements.specs.Slicing.{is_slicing, slicing_of};
-ghost use Rattle.fhir_elements.specs.Element.{allows_part, allows_parts, has_right_texts, has_right_numbers, has_right_choices, has_right_parts, has_right_fields, has_right_bounds, has_readable_id, element_fault, fields_of, element_of, is_no_memory};
+ghost use Rattle.fhir_elements.specs.Element.{allows_part, allows_parts, has_right_texts, has_right_numbers, has_right_choices, has_right_parts, has_right_fields, has_right_bounds, has_readable_id, element_fault, fields_of, element_of, is_no_memory, required_value_set};
 
 use crate::binding::{BindingDef, binding_of, is_binding};
 use crate::codes::{allows_code, code_in};
@@ -363,6 +363,16 @@ impl ElementDef {
         ensures { option_map (λ b. b.now) result ≡ self.now.binding }
     {
         self.binding.as_ref()
+    }
+
+    /// The url of the value set that an item's codes have to be in, if the element says so (FHIR R4, Terminologies, required).
+    pub fn required_value_set(&self) -> Option<&str>
+        ensures { text_seen result ≡ required_value_set self.now }
+    {
+        match &self.binding {
+            Some(binding) => binding.required_set(),
+            None => None,
+        }
     }
 
     /// Its constraints.

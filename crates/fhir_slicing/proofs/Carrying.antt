@@ -8,7 +8,7 @@ use Rattle.std.specs.declared.cmp.Ordering.{Ordering}
 use Rattle.std.proofs.lemmas.Bool.{and_parts, and_from, or_cases, or_left, or_right}
 use Rattle.fhir_json.specs.Tree.{Text, Property}
 use Rattle.fhir_elements.specs.TypeEntry.{TypeEntry}
-use Rattle.fhir_elements.specs.Element.{Element}
+use Rattle.fhir_elements.specs.Element.{Element, required_value_set}
 use Rattle.fhir_schema.specs.declared.node.NodeRef.{NodeRef}
 use Rattle.fhir_schema.specs.Schemas.{SchemaValue, element_at, types, loaded}
 use Rattle.fhir_schema.specs.Covers.{covers, type_at}
@@ -20,7 +20,7 @@ use Rattle.fhir_facets.specs.Ranges.{kind_of_bound, kind_holds, bound_holds}
 use Rattle.fhir_facets.specs.Targets.{has_targets, referred_type, target_holds}
 use Rattle.fhir_facets.specs.Bindings.{binding_to, decided, binding_holds}
 use Rattle.fhir_facets.specs.Carried.{bound_unread, range_unread, target_unread, binding_unread}
-use Rattle.fhir_slicing.specs.Conformance.{seen, set_of, entry_holds, types_hold, is_untyped, range_at, binding_at, at_element}
+use Rattle.fhir_slicing.specs.Conformance.{seen, entry_holds, types_hold, is_untyped, range_at, binding_at, at_element}
 use Rattle.fhir_slicing.specs.Meeting.{entry_unread, set_unread, element_unread, unread_at}
 use Rattle.fhir_slicing.proofs.Lists.{any_step, all_weaker, all_front, all_back, all_given}
 
@@ -114,4 +114,4 @@ module _ (s : SchemaValue) (m m' : Meaning) where
           → IsTrue (option_map_or (binding_at s m x) o true) → IsTrue (option_map_or (binding_at s m' x) o true)
       by_case None each holds = holds
       by_case (Some e) each holds =
-          set_step x (set_of e) (all_back (λ u. IsTrue (m u) → IsTrue (m' u)) (range_unread e) (set_unread s x e) each) holds
+          set_step x (required_value_set e) (all_back (λ u. IsTrue (m u) → IsTrue (m' u)) (range_unread e) (set_unread s x e) each) holds

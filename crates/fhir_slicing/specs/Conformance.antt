@@ -1,12 +1,11 @@
 -- When an item conforms to a node, and a resource to a profile (FHIR R4, Profiling and ElementDefinition): where all holds
 -- that the node asks of it. An item is folded into its test of nodes: what is asked of a child is asked of the child's test.
-use Rattle.std.specs.Prelude.{◌≡◌, ℕ, suc, List, [], ◌∷◌, ◌++◌, length, get_or, Bool, true, ◌&&◌, ◌||◌, nat_eq, Option, Some, IsTrue, if◌then◌else◌}
-use Rattle.std.specs.Option.{option_map_or, option_and_then}
+use Rattle.std.specs.Prelude.{◌≡◌, ℕ, suc, List, [], ◌∷◌, ◌++◌, length, get_or, Bool, true, ◌&&◌, ◌||◌, nat_eq, Some, IsTrue, if◌then◌else◌}
+use Rattle.std.specs.Option.{option_map_or}
 use Rattle.std.specs.List.{list_all, list_any}
 use Rattle.fhir_json.specs.Tree.{Text, Tree}
 use Rattle.fhir_elements.specs.TypeEntry.{TypeEntry}
-use Rattle.fhir_elements.specs.Binding.{required_set}
-use Rattle.fhir_elements.specs.Element.{Element}
+use Rattle.fhir_elements.specs.Element.{Element, required_value_set}
 use Rattle.fhir_schema.specs.declared.node.NodeRef.{NodeRef}
 use Rattle.fhir_schema.specs.Types.{names_resource}
 use Rattle.fhir_schema.specs.Schemas.{SchemaValue, element_at, is_root_node, root, types}
@@ -46,12 +45,8 @@ range_at m x e = range_holds m (range_of e) (seen x)
 abbrev pub length_at : Item → Element → Bool
 length_at x e = option_map_or (λ most. length_holds most (seen x)) e.max_length true
 
--- the value set that the element's codes have to be in, if it says so
-abbrev pub set_of : Element → Option Text
-set_of e = option_and_then required_set e.binding
-
 abbrev pub binding_at : SchemaValue → Meaning → Item → Element → Bool
-binding_at s m x e = option_map_or (λ canonical. binding_holds m (binding_to s canonical) (seen x)) (set_of e) true
+binding_at s m x e = option_map_or (λ canonical. binding_holds m (binding_to s canonical) (seen x)) (required_value_set e) true
 
 -- the element of a node passes a test; what is no node asks for nothing
 abbrev pub at_element : SchemaValue → (Element → Bool) → NodeRef → Bool

@@ -3,7 +3,7 @@ use Rattle.std.specs.Prelude.{◌≡◌, ℕ, zero, suc, List, [], ◌∷◌, �
 use Rattle.std.specs.Option.{option_map_or}
 use Rattle.std.specs.List.{Contains, flat_map}
 use Rattle.fhir_elements.specs.TypeEntry.{TypeEntry}
-use Rattle.fhir_elements.specs.Element.{Element}
+use Rattle.fhir_elements.specs.Element.{Element, required_value_set}
 use Rattle.fhir_schema.specs.declared.node.NodeRef.{NodeRef}
 use Rattle.fhir_schema.specs.Schemas.{SchemaValue, element_at, types}
 use Rattle.fhir_schema.specs.Covers.{covers}
@@ -13,7 +13,7 @@ use Rattle.fhir_facets.specs.Targets.{has_targets}
 use Rattle.fhir_facets.specs.Bindings.{binding_to}
 use Rattle.fhir_facets.specs.Carried.{range_unread, target_unread, binding_unread}
 use Rattle.fhir_slicing.specs.Asks.{root, child, asks}
-use Rattle.fhir_slicing.specs.Conformance.{seen, set_of}
+use Rattle.fhir_slicing.specs.Conformance.{seen}
 
 -- the item at a position among these
 abbrev pub kid_at : Kids → ℕ → Option Item
@@ -39,7 +39,7 @@ entry_unread s x e = if covers s e.code (type_of x) && has_targets e then flat_m
 
 -- that of an element's binding
 abbrev pub set_unread : SchemaValue → Item → Element → List Unread
-set_unread s x e = option_map_or (λ canonical. binding_unread (binding_to s canonical) (seen x)) (set_of e) []
+set_unread s x e = option_map_or (λ canonical. binding_unread (binding_to s canonical) (seen x)) (required_value_set e) []
 
 abbrev pub element_unread : SchemaValue → Item → Element → List Unread
 element_unread s x e = range_unread e ++ set_unread s x e

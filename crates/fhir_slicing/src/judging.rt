@@ -3,14 +3,13 @@
 ghost use Rattle.std.specs.Prelude.{◌≡◌, ◌++◌, ◌||◌, Bool, List, []};
 ghost use Rattle.std.specs.List.{Contains, list_any, flat_map};
 ghost use Rattle.std.specs.Option.{option_map_or};
-ghost use Rattle.fhir_json.specs.Views.{text_seen};
 ghost use Rattle.fhir_schema.specs.Schemas.{types, element_at};
 ghost use Rattle.fhir_instance.specs.View.{item_of};
 ghost use Rattle.fhir_facets.specs.Unread.{Unread as UnreadRule};
 ghost use Rattle.fhir_facets.specs.Carried.{range_unread};
 ghost use Rattle.fhir_facets.specs.Counts.{are_enough, are_within};
 ghost use Rattle.fhir_facets.specs.Views.{unread_seen, view_seen, holding_under, IsCarried};
-ghost use Rattle.fhir_slicing.specs.Conformance.{seen, count_of, fixed_at, pattern_at, range_at, length_at, set_of, binding_at, at_element, entry_holds, types_hold, rule_holds};
+ghost use Rattle.fhir_slicing.specs.Conformance.{seen, count_of, fixed_at, pattern_at, range_at, length_at, binding_at, at_element, entry_holds, types_hold, rule_holds};
 ghost use Rattle.fhir_slicing.specs.Meeting.{entry_unread, set_unread, unread_at};
 ghost use Rattle.fhir_slicing.specs.Views.{rule_name, IsIndexOf};
 
@@ -165,15 +164,6 @@ fn judge_length<'s>(schema: &'s Schema, item: &Typed<'_, '_>, node: NodeRef) -> 
     }
 }
 
-fn required_set(element: &ElementDef) -> Option<&str>
-    ensures { text_seen result ≡ set_of element.now }
-{
-    match element.binding() {
-        Some(binding) => binding.required_set(),
-        None => None,
-    }
-}
-
 fn judge_set<'s>(
     schema: &'s Schema,
     item: &Typed<'_, '_>,
@@ -183,7 +173,7 @@ fn judge_set<'s>(
         ≡ binding_at schema.now (λ unread. b) (item_of item.now) element.now }
     ensures carried { IsCarried (set_unread schema.now (item_of item.now) element.now) result }
 {
-    match required_set(element) {
+    match element.required_value_set() {
         Some(canonical) => Binding::of(schema, canonical).holds(&view_of(item)),
         None => Holding::Holds,
     }

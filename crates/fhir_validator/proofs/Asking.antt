@@ -6,7 +6,7 @@ use Rattle.fhir_schema.specs.Slots.{Slot}
 use Rattle.fhir_schema.specs.Schemas.{SchemaValue, is_root_node, slots, entry_of, type_root}
 use Rattle.fhir_instance.specs.Items.{Item, item, type_of}
 use Rattle.fhir_slicing.specs.Asks.{Ask, own, root, child, child_ask, facet_asks, slot_asks, own_root, kids_asks, root_asks, inner_asks, asks, places_of}
-use Rattle.fhir_slicing.specs.Asks.{types, root_type, fixed, pattern, range, length_limit, too_few, too_many}
+use Rattle.fhir_slicing.specs.Asks.{types, root_type, fixed, pattern, range, length_limit, binding, too_few, too_many}
 use Rattle.fhir_slicing.specs.Conformance.{Interpretation, Around, meaning_at, inside, ask_holds, root_holds, conforms, kid_tests}
 use Rattle.fhir_validator.specs.Judging.{IsOrdered, ask_conforms}
 
@@ -43,7 +43,7 @@ module _ (P : Ask → Type 0) (of_own : (rule : Rattle.fhir_slicing.specs.Asks.R
   kids_are s x n = all_gathered P (slot_asks x n) (slot_are x n) (slots s n)
 
   facets_are : (n : NodeRef) → AllByRecursion P (facet_asks n)
-  facets_are n = (of_own fixed n, (of_own pattern n, (of_own range n, (of_own length_limit n, tt))))
+  facets_are n = (of_own fixed n, (of_own pattern n, (of_own range n, (of_own length_limit n, (of_own binding n, tt)))))
 
   root_are : (s : SchemaValue) (x : Item) (n : NodeRef) → AllByRecursion P (root_asks s x n)
   root_are s x n = (of_own root_type n, all_join P (facet_asks n) (kids_asks s x n) (facets_are n) (kids_are s x n))

@@ -1,10 +1,11 @@
 -- What an issue says, and when it is right: its rule fails at a pair of node and item that the resource meets, whatever unread
 -- rules mean. And when a site is: an unread rule that such a pair's node carries, of a rule that hangs on it.
-use Rattle.std.specs.Prelude.{◌≡◌, ℕ, List, true, false, Option, Some, IsTrue}
+use Rattle.std.specs.Prelude.{◌≡◌, ℕ, List, [], true, false, Option, Some, IsTrue}
 use Rattle.std.specs.Option.{option_map_or, option_and_then}
 use Rattle.std.specs.List.{Contains}
 use Rattle.fhir_json.specs.Tree.{Text, Tree}
 use Rattle.fhir_elements.specs.declared.max.Max.{Max}
+use Rattle.fhir_elements.specs.Element.{required_value_set}
 use Rattle.fhir_schema.specs.declared.node.NodeRef.{NodeRef}
 use Rattle.fhir_schema.specs.Schemas.{SchemaValue, element_at, root}
 use Rattle.fhir_schema.specs.Covers.{type_at}
@@ -17,7 +18,7 @@ use Rattle.fhir_slicing.specs.Asks.{RuleName, own, asks}
 use Rattle.fhir_slicing.specs.Conformance.{count_of, rule_holds}
 use Rattle.fhir_slicing.specs.Meeting.{Met, unread_at}
 use Rattle.fhir_validator.specs.declared.rule.Rule.{Rule}
-use Rattle.fhir_validator.specs.declared.rule.Rule.TheVariants.{RootType, Types as OfTypes, Fixed, Pattern, Range, Length, TooFew, TooMany}
+use Rattle.fhir_validator.specs.declared.rule.Rule.TheVariants.{RootType, Types as OfTypes, Fixed, Pattern, Range, Length, Binding, TooFew, TooMany}
 use Rattle.fhir_validator.specs.declared.issue.Finding.{Finding}
 use Rattle.fhir_validator.specs.declared.issue.Issue.{Issue}
 use Rattle.fhir_validator.specs.declared.issue.Issue.TheVariants.{Misfit, Broken}
@@ -29,6 +30,8 @@ pub data Said : Type 0 where
   -- the type that is asked for
   root_type : (type : List ℕ) → Said
   types fixed pattern range length_limit : Said
+  -- the value set that is asked for
+  binding : (canonical : List ℕ) → Said
   -- how many are asked for, and how many there are
   too_few : (min found : ℕ) → Said
   too_many : (max : Option Max) (found : ℕ) → Said
@@ -40,8 +43,13 @@ rule_said Fixed = fixed
 rule_said Pattern = pattern
 rule_said Range = range
 rule_said Length = length_limit
+rule_said (Binding canonical) = binding canonical.now
 rule_said (TooFew min found) = too_few min found
 rule_said (TooMany max found) = too_many max found
+
+-- the value set that a node asks for, or the empty text
+abbrev pub set_at : SchemaValue → NodeRef → Text
+set_at s n = option_map_or (λ canonical. canonical) (option_and_then required_value_set (element_at s n)) []
 
 -- what is to be said of a rule of a node, at an item
 abbrev pub says : SchemaValue → Item → RuleName → NodeRef → Said
@@ -51,6 +59,7 @@ says s x asked.fixed n = fixed
 says s x asked.pattern n = pattern
 says s x asked.range n = range
 says s x asked.length_limit n = length_limit
+says s x asked.binding n = binding (set_at s n)
 says s x (asked.too_few name) n = too_few (option_map_or least_of (element_at s n) 0) (count_of name x)
 says s x (asked.too_many name) n = too_many (option_and_then (λ e. e.max) (element_at s n)) (count_of name x)
 

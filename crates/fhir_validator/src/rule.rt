@@ -19,6 +19,8 @@ pub enum Rule<'s> {
     Range,
     /// The text has so many characters at most.
     Length,
+    /// The item's codes are in that value set.
+    Binding(&'s str),
     /// There are so many items of a name at least.
     TooFew {
         /// How many there must be.
@@ -55,6 +57,7 @@ impl fmt::Display for Rule<'_> {
             Rule::Pattern => f.write_str("pattern"),
             Rule::Range => f.write_str("range"),
             Rule::Length => f.write_str("length"),
+            Rule::Binding(canonical) => write!(f, "binding {canonical}"),
             Rule::TooFew { min, found } => write!(f, "min {min}, found {found}"),
             Rule::TooMany { max, found } => write_most(f, max, found),
         }

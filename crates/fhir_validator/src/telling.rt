@@ -6,7 +6,7 @@ ghost use Rattle.fhir_schema.specs.Schemas.{element_at};
 ghost use Rattle.fhir_facets.specs.Counts.{least_of};
 ghost use Rattle.fhir_slicing.specs.Views.{rule_name, IsIndexOf};
 ghost use Rattle.fhir_instance.specs.Items.{Item};
-ghost use Rattle.fhir_validator.specs.Issues.{rule_said, says};
+ghost use Rattle.fhir_validator.specs.Issues.{rule_said, says, set_at};
 ghost use Rattle.fhir_validator.specs.Layouts.{IsLayout, item_at};
 
 use crate::issue::{Finding, Site};
@@ -37,6 +37,16 @@ fn most_of(schema: &Schema, node: NodeRef) -> Option<Max>
     schema.element(node)?.max()
 }
 
+// The value set that a node asks for, or the empty text.
+fn set_of(schema: &Schema, node: NodeRef) -> &str
+    ensures { result.now ≡ set_at schema.now node }
+{
+    match schema.element(node) {
+        Some(element) => element.required_value_set().unwrap_or(""),
+        None => "",
+    }
+}
+
 // What is to be said of a rule of a node, at the item that has these children.
 fn said<'s>(schema: &'s Schema, children: &Children<'_>, rule: Asked<'s>, node: NodeRef) -> Rule<'s>
     ensures { (x : Item) → IsIndexOf x children.now
@@ -49,6 +59,7 @@ fn said<'s>(schema: &'s Schema, children: &Children<'_>, rule: Asked<'s>, node: 
         Asked::Pattern => Rule::Pattern,
         Asked::Range => Rule::Range,
         Asked::Length => Rule::Length,
+        Asked::Binding => Rule::Binding(set_of(schema, node)),
         Asked::TooFew(name) => Rule::TooFew {
             min: least_of(schema, node),
             found: children.places(name).len(),
