@@ -108,6 +108,7 @@ fn rule_code(rule: &Rule<'_>) -> &'static str {
     match rule {
         Rule::RootType(_) | Rule::Types | Rule::TooMany { .. } => "structure",
         Rule::Fixed | Rule::Pattern | Rule::Range | Rule::Length => "value",
+        Rule::Binding(_) => "code-invalid",
         Rule::TooFew { .. } => "required",
     }
 }
