@@ -18,7 +18,7 @@ use fhir_schema::Schema;
 /// Terminologies, required). A primitive's text is looked up as a code alone, a Coding by its system and code, and of a
 /// CodeableConcept one coding has to be in the set. Where the set can't be read, or the item is of another type, it is an
 /// unread rule.
-#[derive(Clone, Copy, Debug)]
+#[derive(Clone, Copy)]
 pub struct Binding<'s> {
     /// The canonical of its value set.
     pub canonical: &'s str,
