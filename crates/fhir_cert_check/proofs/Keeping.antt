@@ -1,6 +1,6 @@
 -- What the pairs of a right certificate say holds at each item.
 use Rattle.std.proofs.Common.{◌≡◌, ℕ, suc, ℤ, Bool, true, false, List, [], ◌∷◌, ◌++◌, map, Option, Some, None, refl, sym}
-use Rattle.std.proofs.Common.{subst, ◌∙◌, inl, inr, arith, ◌&&◌, IsTrue, not, nat_eq, length, cond}
+use Rattle.std.proofs.Common.{subst, ◌∙◌, inl, inr, arith, ◌&&◌, ◌||◌, IsTrue, not, nat_eq, length, cond}
 use Rattle.std.specs.Prelude.{if◌then◌else◌}
 use Rattle.std.specs.List.{list_all, list_any, AllByRecursion}
 use Rattle.std.specs.Option.{option_map_or}

@@ -1,5 +1,5 @@
--- A package of letters, whose sender is of a complex type and whose addressee is a reference; a profile on them; and letters, to see
--- which conform.
+-- A package of letters, whose sender is of a complex type, which refer to letters that they answer, and whose kinds and moods
+-- are codes; a profile on them; and letters, to see which conform.
 use Rattle.std.specs.Prelude.{[], ◌∷◌, codes}
 use Rattle.fhir_json.specs.Tree.{Text, Tree, string, array, object, Items, no_items, item, Members, no_members, member}
 use Rattle.fhir_package.specs.Definitions.{Definitions}
@@ -34,6 +34,13 @@ to_letters =
     (member (codes "targetProfile") (array (item (string (codes "urn:Letter")) (item (string (codes "urn:other")) no_items)))
     no_members))) no_items)) no_members
 
+-- a code that is bound, so strictly, to a value set that isn't there
+abbrev pub bound : Text → Members
+bound strength =
+    member (codes "binding") (object
+    (member (codes "strength") (string strength)
+    (member (codes "valueSet") (string (codes "urn:set")) no_members))) (of_type (codes "code"))
+
 abbrev pub snapshot_of_letters : Text → Members
 snapshot_of_letters titles = with_snapshot
     (item (element (codes "Letter") (codes "0") (codes "*") no_members)
@@ -41,7 +48,9 @@ snapshot_of_letters titles = with_snapshot
     (item (element (codes "Letter.sender.given") (codes "0") (codes "*") (of_type (codes "code")))
     (item (element (codes "Letter.sender.title") titles (codes "1") (of_type (codes "code")))
     (item (element (codes "Letter.answers") (codes "0") (codes "1") to_letters)
-    no_items)))))
+    (item (element (codes "Letter.kind") (codes "0") (codes "1") (bound (codes "required")))
+    (item (element (codes "Letter.mood") (codes "0") (codes "1") (bound (codes "preferred")))
+    no_items)))))))
 
 abbrev pub letter_type : Tree
 letter_type = definition (codes "resource") (codes "Letter") (snapshot_of_letters (codes "0"))
@@ -86,6 +95,10 @@ from sender = letter (member (codes "sender") (object sender) no_members)
 abbrev pub answering : Text → Tree
 answering reference =
     letter (member (codes "answers") (object (member (codes "reference") (string reference) no_members)) no_members)
+
+-- with a code in an element of that name
+abbrev pub coded : Text → Tree
+coded name = letter (member name (string (codes "c")) no_members)
 
 abbrev pub one_name : Items
 one_name = item (string (codes "a")) no_items

@@ -11,7 +11,7 @@ ghost use Rattle.fhir_slicing.specs.Asks.{root_asks};
 ghost use Rattle.fhir_slicing.specs.Conformance.{Interpretation, constant, Around, outermost, ask_holds, conforms, IsFairEverywhere, Conforms};
 ghost use Rattle.fhir_slicing.specs.Meeting.{Met, unread_at};
 ghost use Rattle.fhir_slicing.specs.Example.{schema, bare, noted, unknown};
-ghost use Rattle.fhir_slicing.specs.Letters.{letters, given, title, from, answering, one_name, three_names};
+ghost use Rattle.fhir_slicing.specs.Letters.{letters, given, title, from, answering, coded, one_name, three_names};
 
 use fhir_schema::roots_are_roots;
 
@@ -66,7 +66,9 @@ pub fn example()
 /// The definitions at work on letters, whose sender has one given name or two, and perhaps a title. The definition of letters
 /// says less of the names than that of their type, which is asked all the same: a sender with one name conforms (`own`), without
 /// one (`nameless`) and with three (`many`) not. A profile that asks for a title is asked of the sender itself (`titled`,
-/// `untitled`). A letter may answer a letter (`answer`), and what the rule of a profile that isn't there says (`other`).
+/// `untitled`). A letter may answer a letter (`answer`), and what the rule of a profile that isn't there says (`other`, `open`). Its
+/// kind is a code of a value set that isn't there, and so hangs on what that rule says (`kind`, `open_kind`); its mood is only
+/// preferred to be one, and any conforms (`mood`).
 pub fn letters_example()
     ensures own { (meaning : Interpretation) → Conforms letters meaning (codes "urn:Letter") (from (given one_name no_members)) }
     ensures nameless { (meaning : Interpretation) → ¬ Conforms letters meaning (codes "urn:Letter") (from title) }
@@ -76,4 +78,7 @@ pub fn letters_example()
     ensures answer { (meaning : Interpretation) → Conforms letters meaning (codes "urn:Letter") (answering (codes "Letter/1")) }
     ensures other { ¬ Conforms letters (constant false) (codes "urn:Letter") (answering (codes "Person/1")) }
     ensures open { Conforms letters (constant true) (codes "urn:Letter") (answering (codes "Person/1")) }
+    ensures kind { ¬ Conforms letters (constant false) (codes "urn:Letter") (coded (codes "kind")) }
+    ensures open_kind { Conforms letters (constant true) (codes "urn:Letter") (coded (codes "kind")) }
+    ensures mood { (meaning : Interpretation) → Conforms letters meaning (codes "urn:Letter") (coded (codes "mood")) }
 {}

@@ -7,7 +7,7 @@ use Rattle.fhir_schema.specs.Schemas.{root}
 use Rattle.fhir_instance.specs.Items.{Item, item, Kids, kid, no_kids}
 use Rattle.fhir_instance.specs.Typing.{resource}
 use Rattle.fhir_slicing.specs.Conformance.{Interpretation, constant, outermost, conforms, Conforms}
-use Rattle.fhir_slicing.specs.Letters.{letters, given, title, from, answering, one_name, three_names}
+use Rattle.fhir_slicing.specs.Letters.{letters, given, title, from, answering, coded, one_name, three_names}
 use Rattle.fhir_slicing.proofs.laws.letters_example.Goals as goal
 
 -- ---- the items
@@ -115,6 +115,34 @@ unfolding leaf answer reference_to letter_root
 returns-clause-open c = record {
   node = letter_root;
   itself = answer (codes "Person/1") (reference_to (codes "Person/1"));
+  usable = refl;
+  typed = refl;
+  holds = refl;
+}
+
+coded_letter : Text → Item
+coded_letter name = item (codes "Letter") (Some (coded name)) (kid name (leaf (codes "c")) no_kids)
+
+pub returns-clause-kind : goal.returns-clause-kind
+unfolding leaf coded_letter letter_root
+returns-clause-kind c =
+    refuted (constant false) (codes "urn:Letter") (coded (codes "kind")) (coded_letter (codes "kind")) letter_root refl refl refl
+
+pub returns-clause-open_kind : goal.returns-clause-open_kind
+unfolding leaf coded_letter letter_root
+returns-clause-open_kind c = record {
+  node = letter_root;
+  itself = coded_letter (codes "kind");
+  usable = refl;
+  typed = refl;
+  holds = refl;
+}
+
+pub returns-clause-mood : goal.returns-clause-mood
+unfolding leaf coded_letter letter_root
+returns-clause-mood c meaning = record {
+  node = letter_root;
+  itself = coded_letter (codes "mood");
   usable = refl;
   typed = refl;
   holds = refl;
