@@ -13,8 +13,10 @@ mod order;
 mod shared_concept;
 mod sources;
 mod value_sets;
+mod worked;
 
 pub use code_set::{CodeSet, subset};
 pub use concept_set::ConceptSet;
 pub use laws::{algebra, any_order, least_closed, resolved, subsets};
 pub use value_sets::{ValueSets, expand};
+pub use worked::examples;
