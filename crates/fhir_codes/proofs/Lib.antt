@@ -9,5 +9,7 @@ mod Settled
 mod Listed
 mod Alike
 mod Finding
+mod Letters
 mod Parts
 mod Taking
+mod Completes

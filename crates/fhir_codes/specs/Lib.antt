@@ -7,4 +7,5 @@ pub mod Placing
 pub mod Least
 pub mod Filled
 pub mod Listing
+pub mod Example
 pub mod Views

@@ -1,7 +1,7 @@
 -- Value sets by their places in a package, and what has been found at these so far (used by private contracts alone).
-use Rattle.std.specs.Prelude.{◌≡◌, ℕ, List, [], Option, Some, is_some, Bool}
+use Rattle.std.specs.Prelude.{◌≡◌, ℕ, List, [], Option, Some, is_some, Bool, false, ◌&&◌}
 use Rattle.std.specs.Option.{option_map, option_map_or, option_and_then}
-use Rattle.std.specs.List.{slice_get, position_from, list_all}
+use Rattle.std.specs.List.{slice_get, position_from, list_all, list_any}
 use Rattle.std.specs.Map.{keys_of}
 use Rattle.std.specs.Result.{result_ok}
 use Rattle.std.specs.Str.{bytes_eq}
@@ -12,7 +12,7 @@ use Rattle.fhir_package.specs.declared.kind.Kind.TheVariants.{ValueSet, CodeSyst
 use Rattle.fhir_package.specs.Definitions.{Definitions, at_url}
 use Rattle.fhir_package.specs.Canonical.{named_by}
 use Rattle.fhir_codes.specs.Concepts.{Concepts, of_system}
-use Rattle.fhir_codes.specs.CodeSystems.{codes_defined}
+use Rattle.fhir_codes.specs.CodeSystems.{is_complete, codes_defined}
 use Rattle.fhir_codes.specs.ValueSets.{sets_named, is_plain_include, expansion}
 
 -- ---- places
@@ -51,6 +51,16 @@ abbrev pub names_known : Definitions → Found → Tree → Bool
 names_known p sets t = list_all (is_known p sets) (sets_named t)
 
 -- ---- whole code systems
+
+abbrev pub complete_at : Definitions → Text → Bool
+complete_at p url = option_map_or is_complete (at_url CodeSystem url p) false
+
+-- of these urls the complete systems' have a place
+abbrev pub Completes : Definitions → Places → List Text → Type 0
+Completes p urls known = (url : Text) → is_some (place_of urls url) ≡ (list_any (bytes_eq url) known && complete_at p url)
+
+abbrev pub AreComplete : Definitions → Places → Type 0
+AreComplete p urls = (url : Text) → is_some (place_of urls url) ≡ complete_at p url
 
 -- all that the code system under a url defines
 abbrev pub whole_of : Definitions → Text → Concepts

@@ -12,7 +12,7 @@ ghost use Rattle.fhir_package.specs.Canonical.{has_version};
 ghost use Rattle.fhir_codes.specs.CodeSystems.{is_complete};
 ghost use Rattle.fhir_codes.specs.ValueSets.{listed, sets_named, lists_no_concept, is_listed_concept, has_right_fields, is_version_of, code_system, codes_taken, can_take, is_plain_include};
 
-use crate::code_systems::{concepts_listed, is_complete};
+use crate::code_systems::concepts_listed;
 use crate::concept_set::ConceptSet;
 use crate::sources::Sources;
 use fhir_json::{Json, NoMemory};
@@ -120,10 +120,7 @@ impl<'p, 'a> Sources<'p, 'a> {
     fn is_complete(&self, include: &Json<'_>, url: &str) -> bool
         ensures { result ≡ option_map_or is_complete (code_system self.now (tree_of include.now) url.now) false }
     {
-        match self.code_system(include, url) {
-            Some(system) => is_complete(system),
-            None => false,
-        }
+        self.code_system(include, url).is_some() && self.complete_at(url)
     }
 
     fn can_take(&self, include: &Json<'_>, url: &str) -> bool

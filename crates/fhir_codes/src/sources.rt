@@ -9,9 +9,9 @@ ghost use Rattle.fhir_names.specs.Places.{Finds};
 ghost use Rattle.fhir_package.specs.declared.kind.Kind.TheVariants.{CodeSystem};
 ghost use Rattle.fhir_package.specs.Definitions.{at_url};
 ghost use Rattle.fhir_codes.specs.Concepts.{Concepts};
-ghost use Rattle.fhir_codes.specs.Placing.{place_at, place_named, tree_at, whole_of, AreWhole};
+ghost use Rattle.fhir_codes.specs.Placing.{place_at, place_named, tree_at, complete_at, whole_of, Completes, AreComplete, AreWhole};
 
-use crate::code_systems::concepts_defined;
+use crate::code_systems::{concepts_defined, is_complete};
 use crate::concept_set::ConceptSet;
 use fhir_json::{Json, NoMemory};
 use fhir_names::{Canonical, Index};
@@ -19,11 +19,12 @@ use fhir_package::{Kind, Package};
 use std::alloc::Global;
 use std::marker::Model;
 
-/// A package, with the places of its value sets, and the code systems that have been taken whole.
+/// A package, with the places of its value sets, the code systems that are complete, and those that have been taken whole.
 #[derive(Drop)]
 pub(crate) struct Sources<'p, 'a> {
     from: &'p Package<'a>,
     value_sets: Index,
+    complete: Index,
     whole: Vec<ConceptSet>,
     systems: Index,
 }
@@ -40,11 +41,12 @@ impl<'p, 'a> Model for Sources<'p, 'a> {
 
     ghost use Rattle.std.specs.Map.{keys_of};
     ghost use Rattle.fhir_names.specs.Places.{Finds};
-    ghost use Rattle.fhir_codes.specs.Placing.{AreWhole};
+    ghost use Rattle.fhir_codes.specs.Placing.{AreWhole, AreComplete};
 
     ghost view = { λ s. s.from.now };
 
     ghost invariant = { λ s. Finds s.value_sets (keys_of s.from.now.value_sets)
+        × AreComplete s.from.now s.complete
         × AreWhole s.from.now s.systems s.whole.items };
 }
 
@@ -59,6 +61,43 @@ fn places_of(alloc: Global, from: &Package<'_>) -> Result<Index, NoMemory>
         places.add(alloc, url, place)?;
     }
     Ok(places)
+}
+
+fn complete_at(from: &Package<'_>, url: &str) -> bool
+    ensures { result ≡ complete_at from.now url.now }
+{
+    match from.at_url(Kind::CodeSystem, url) {
+        Some(system) => is_complete(system),
+        None => false,
+    }
+}
+
+fn put_complete(
+    alloc: Global,
+    from: &Package<'_>,
+    url: &str,
+    complete: &mut Index,
+) -> Result<(), NoMemory>
+    ensures { OnOk result ((urls : List Text) → Completes from.now complete.old urls
+        → Completes from.now complete.new (urls ++ url.now ∷ [])) }
+{
+    if complete_at(from, url) {
+        complete.put(alloc, url, 0)?;
+    }
+    Ok(())
+}
+
+fn complete_of(alloc: Global, from: &Package<'_>) -> Result<Index, NoMemory>
+    ensures { IfOk result (λ x. AreComplete from.now x) }
+{
+    let mut complete = Index::new(alloc);
+    for place in 0..from.len(Kind::CodeSystem) {
+        let Some((url, _tree)) = from.at(Kind::CodeSystem, place) else {
+            return Ok(complete);
+        };
+        put_complete(alloc, from, url, &mut complete)?;
+    }
+    Ok(complete)
 }
 
 fn whole_of(alloc: Global, from: &Package<'_>, url: &str) -> Result<ConceptSet, NoMemory>
@@ -76,9 +115,11 @@ impl<'p, 'a> Sources<'p, 'a> {
         ensures { Gives (λ s. s) result from.now }
     {
         let value_sets = places_of(alloc, from)?;
+        let complete = complete_of(alloc, from)?;
         Ok(Sources {
             from,
             value_sets,
+            complete,
             whole: Vec::new(alloc),
             systems: Index::new(alloc),
         })
@@ -98,6 +139,7 @@ impl<'p, 'a> Sources<'p, 'a> {
         let Sources {
             from: _,
             value_sets,
+            complete: _,
             whole: _,
             systems: _,
         } = self;
@@ -138,6 +180,13 @@ impl<'p, 'a> Sources<'p, 'a> {
             (Some(_tree), Ok(canonical)) => self.place_at(canonical.url()),
             _ => None,
         }
+    }
+
+    /// Whether the code system under a url is complete, and its concepts can be read. Each is read once.
+    pub(crate) fn complete_at(&self, url: &str) -> bool
+        ensures { result ≡ complete_at self.now url.now }
+    {
+        self.complete.get(url).is_some()
     }
 
     fn kept_whole(&self, url: &str) -> Option<&ConceptSet>

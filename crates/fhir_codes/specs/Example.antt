@@ -1,0 +1,78 @@
+-- A package with a code system and some value sets: what they have, and which can't be read.
+use Rattle.std.specs.Prelude.{List, [], ◌∷◌, codes}
+use Rattle.fhir_json.specs.Tree.{Text, Tree, string, array, object, Items, no_items, Members, no_members, member}
+use Rattle.fhir_json.specs.Tree.{item as one_more}
+use Rattle.fhir_package.specs.Definitions.{Definitions}
+use Rattle.fhir_codes.specs.Concepts.{Concepts, of_system}
+
+-- ---- the code system
+
+abbrev pub letters : Text
+letters = codes "urn:letters"
+
+abbrev pub coded : Text → Members → Tree
+coded code more = object (member (codes "code") (string code) more)
+
+-- a, with b nested in it, and c
+abbrev pub code_system : Tree
+code_system = object
+    (member (codes "content") (string (codes "complete"))
+    (member (codes "concept") (array
+    (one_more (coded (codes "a") (member (codes "concept") (array (one_more (coded (codes "b") no_members) no_items)) no_members))
+    (one_more (coded (codes "c") no_members) no_items)))
+    no_members))
+
+-- ---- value sets
+
+abbrev pub of_letters : Members → Tree
+of_letters more = object (member (codes "system") (string letters) more)
+
+-- all of the system
+abbrev pub all_letters : Tree
+all_letters = of_letters no_members
+
+abbrev pub these : Items → Members → Members
+these cs more = member (codes "concept") (array cs) more
+
+abbrev pub only_b : Tree
+only_b = of_letters (these (one_more (coded (codes "b") no_members) no_items) no_members)
+
+abbrev pub a_and_b : Items
+a_and_b = one_more (coded (codes "a") no_members) (one_more (coded (codes "b") no_members) no_items)
+
+abbrev pub a_b_and_d : Items
+a_b_and_d =
+    one_more (coded (codes "a") no_members) (one_more (coded (codes "b") no_members) (one_more (coded (codes "d") no_members) no_items))
+
+-- that is in the value set of that canonical too
+abbrev pub in_set : Text → Members
+in_set canonical = member (codes "valueSet") (array (one_more (string canonical) no_items)) no_members
+
+abbrev pub value_set : Tree → Items → Tree
+value_set included excluded = object
+    (member (codes "compose") (object
+    (member (codes "include") (array (one_more included no_items))
+    (member (codes "exclude") (array excluded) no_members)))
+    no_members)
+
+abbrev pub filtered : Tree
+filtered = of_letters (member (codes "filter") (array (one_more (object no_members) no_items)) no_members)
+
+abbrev pub example : Definitions
+example = record {
+  structure_definitions = [];
+  value_sets =
+      (codes "urn:all", value_set all_letters no_items)
+      ∷ (codes "urn:without", value_set all_letters (one_more only_b no_items))
+      ∷ (codes "urn:other", value_set (of_letters (these a_b_and_d no_members)) no_items)
+      ∷ (codes "urn:both", value_set (of_letters (these a_and_b (in_set (codes "urn:other")))) (one_more only_b no_items))
+      ∷ (codes "urn:filtered", value_set filtered no_items)
+      ∷ (codes "urn:itself", value_set (object (in_set (codes "urn:itself"))) no_items)
+      ∷ (codes "urn:missing", value_set (object (in_set (codes "urn:nothing"))) no_items)
+      ∷ [];
+  code_systems = (letters, code_system) ∷ [];
+}
+
+-- the set of these letters
+abbrev pub set_of : List Text → Concepts
+set_of cs = of_system letters cs
