@@ -161,11 +161,7 @@ fn binding_answers(schema: &Schema, own: &ElementDef, base: &ElementDef) -> bool
     }
 }
 
-fn element_failing<'s>(
-    schema: &Schema,
-    own: &ElementDef,
-    base: &ElementDef,
-) -> Option<Rule<'s>>
+fn element_failing<'s>(schema: &Schema, own: &ElementDef, base: &ElementDef) -> Option<Rule<'s>>
     ensures { option_map rule_name result ≡ first_of (element_rules schema.now own.now base.now) }
 {
     if !fixed_answers(own, base) {
@@ -217,12 +213,7 @@ fn has_root_pair(schema: &Schema, pairs: &PairSet, code: &str, base: NodeRef) ->
     }
 }
 
-fn entry_children_answer(
-    schema: &Schema,
-    pairs: &PairSet,
-    base: NodeRef,
-    entry: &TypeEntry,
-) -> bool
+fn entry_children_answer(schema: &Schema, pairs: &PairSet, base: NodeRef, entry: &TypeEntry) -> bool
     ensures { result ≡ entry_children_answer (has_in pairs.now) schema.now base entry.now }
 {
     !schema.is_resource(entry.code()) && has_root_pair(schema, pairs, entry.code(), base)

@@ -39,7 +39,9 @@ mod types;
 
 pub use form::{Content, Form, Property};
 pub use kinds::is_system;
-pub use laws::{concepts_of_package, covering_codes, least_closed, named_nodes, one_meaning, roots_are_roots};
+pub use laws::{
+    concepts_of_package, covering_codes, least_closed, named_nodes, one_meaning, roots_are_roots,
+};
 pub use node::NodeRef;
 pub use rooted::usable_roots;
 pub use schema::Schema;

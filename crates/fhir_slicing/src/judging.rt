@@ -17,7 +17,8 @@ use crate::ask::Rule;
 use crate::children::Children;
 use fhir_elements::{ElementDef, TypeEntry};
 use fhir_facets::{
-    Binding, Facet, Fixed, Holding, Length, Pattern, Range, Targets, Unread, View, are_enough, are_within,
+    Binding, Facet, Fixed, Holding, Length, Pattern, Range, Targets, Unread, View, are_enough,
+    are_within,
 };
 use fhir_instance::Typed;
 use fhir_schema::{NodeRef, Schema};
@@ -164,11 +165,7 @@ fn judge_length<'s>(schema: &'s Schema, item: &Typed<'_, '_>, node: NodeRef) -> 
     }
 }
 
-fn judge_set<'s>(
-    schema: &'s Schema,
-    item: &Typed<'_, '_>,
-    element: &'s ElementDef,
-) -> Holding<'s>
+fn judge_set<'s>(schema: &'s Schema, item: &Typed<'_, '_>, element: &'s ElementDef) -> Holding<'s>
     ensures exact { (b : Bool) → holding_under b result
         ≡ binding_at schema.now (λ unread. b) (item_of item.now) element.now }
     ensures carried { IsCarried (set_unread schema.now (item_of item.now) element.now) result }
