@@ -107,8 +107,9 @@ answer_to request (Err fault) file = stated (load_fault_reply (folder_of request
 
 -- ---- what status 0 promises
 
--- Of `certify`: the bytes spell a certificate, and each resource that conforms to its derived profile conforms to its base. Of
--- `validate`: the resource that the bytes are conforms to the profile, whatever unread rules mean.
+-- Of `certify`: the bytes spell a certificate, and each resource that conforms to its derived profile conforms to its base,
+-- whatever unread rules mean that is fair. Of `validate`: the resource that the bytes are conforms to the profile, whatever
+-- unread rules mean.
 abbrev pub Promised : RequestValue → SchemaValue → Text → Type 0
 Promised (certify folder file) s bytes = (w : Written) × Spells bytes w × Includes s w.derived w.base
 Promised (validate folder profile file) s bytes = AlwaysConforms s profile bytes
