@@ -262,7 +262,7 @@ module _ (s : SchemaValue) (narrow : AreNarrow s) (alone : CoversAlone s) (asks_
         children_step : (n k : NodeRef) → IsTrue (children_answer pairs s n k)
             → (IsTrue (type_children_answer pairs s n k) → IsTrue (list_all holds (kids_asks s x k)))
             → IsTrue (list_all holds (kids_asks s x n)) → IsTrue (list_all holds (kids_asks s x k))
-        children_step n k answers of_types each =
+        children_step n k answers from_types each =
             go (nat_eq (length (slots s k)) 0) refl answers
           where
             own : (a : Bool) → IsTrue (option_map_or (λ derived. has_kids_pair pairs derived k) (cond a None (Some n)) false)
@@ -277,7 +277,7 @@ module _ (s : SchemaValue) (narrow : AreNarrow s) (alone : CoversAlone s) (asks_
             go false is h =
                 elim (or_cases (own_children_answer pairs s n k) (type_children_answer pairs s n k) h) [
                   | inl by_own ↦ own (nat_eq (length (slots s n)) 0) by_own
-                  | inr by_types ↦ of_types by_types
+                  | inr by_types ↦ from_types by_types
                 ]
 
         -- the children of an item that conforms to the definition of its type
