@@ -1,6 +1,6 @@
 //! The concepts that code systems define (FHIR R4, CodeSystem).
 
-ghost use Rattle.std.specs.Prelude.{◌≡◌, [], ◌∷◌, ◌++◌, map, OnOk, false, is_some, codes};
+ghost use Rattle.std.specs.Prelude.{◌≡◌, [], ◌∷◌, ◌++◌, map, OnOk, IfSome, false, is_some, codes};
 ghost use Rattle.std.specs.Option.{option_map_or};
 ghost use Rattle.std.specs.Str.{bytes_eq};
 ghost use Rattle.std.specs.Rc.{rc_str_bytes};
@@ -202,31 +202,69 @@ pub(crate) fn concepts_defined(
     ConceptSet::of(out)
 }
 
+// The concept of a set, if one is at hand.
+fn kept_concept<'k>(
+    kept: Option<&'k ConceptSet>,
+    system: &str,
+    code: &str,
+) -> Option<&'k SharedConcept>
+    ensures { IfSome result (λ c. c.now ≡ concept system.now code.now) }
+{
+    match kept {
+        Some(kept) => kept.find(system, code),
+        None => None,
+    }
+}
+
+fn put_shared(
+    code: &str,
+    alloc: Global,
+    system: &RcStr,
+    kept: Option<&ConceptSet>,
+    out: &mut Vec<SharedConcept>,
+) -> Result<(), NoMemory>
+    ensures { OnOk result (out.new.items ≡ out.old.items ++ concept (rc_str_bytes system.now) code.now ∷ []) }
+{
+    match kept_concept(kept, system.as_str(), code) {
+        Some(concept) => put_kept(concept, out),
+        None => put_code(code, alloc, system, out),
+    }
+}
+
+fn put_kept(concept: &SharedConcept, out: &mut Vec<SharedConcept>) -> Result<(), NoMemory>
+    ensures { OnOk result (out.new.items ≡ out.old.items ++ concept.now ∷ []) }
+{
+    out.push(concept.share()?)?;
+    Ok(())
+}
+
 fn put_listed(
     concepts: &[Json<'_>],
     alloc: Global,
     system: &RcStr,
+    kept: Option<&ConceptSet>,
     out: &mut Vec<SharedConcept>,
 ) -> Result<(), NoMemory>
     ensures { OnOk result (out.new.items ≡ out.old.items
         ++ map (concept (rc_str_bytes system.now)) (map (text_at (codes "code")) (trees_of concepts.now))) }
 {
     for json in concepts {
-        put_code(json.text_at("code"), alloc, system, out)?;
+        put_shared(json.text_at("code"), alloc, system, kept, out)?;
     }
     Ok(())
 }
 
-/// The concepts that an include lists, in the system of that url.
+/// The concepts that an include lists, in the system of that url. Those that the kept set has share its texts.
 pub(crate) fn concepts_listed(
     alloc: Global,
     url: &str,
     concepts: &[Json<'_>],
+    kept: Option<&ConceptSet>,
 ) -> Result<ConceptSet, NoMemory>
     ensures { Gives (λ s. s) result (of_system url.now (map (text_at (codes "code")) (trees_of concepts.now))) }
 {
     let system = RcStr::from_str(alloc, url)?;
     let mut out = Vec::new(alloc);
-    put_listed(concepts, alloc, &system, &mut out)?;
+    put_listed(concepts, alloc, &system, kept, &mut out)?;
     ConceptSet::of(out)
 }

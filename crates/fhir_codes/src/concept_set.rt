@@ -1,7 +1,10 @@
 //! Sets of concepts.
 
-ghost use Rattle.std.specs.Prelude.{◌≡◌, IsTrue};
-ghost use Rattle.std.specs.List.{list_all};
+ghost use Rattle.std.specs.Prelude.{◌≡◌, IsTrue, IfSome, Some, is_some};
+ghost use Rattle.std.specs.List.Sorted.{IsSorted};
+ghost use Rattle.std.specs.Option.{option_copied};
+ghost use Rattle.std.specs.List.{list_all, list_any, slice_get};
+ghost use Rattle.std.specs.Ordering.{eq_by_cmp};
 ghost use Rattle.std.specs.FinSet as set;
 ghost use Rattle.fhir_json.specs.Memory.{Gives};
 ghost use Rattle.fhir_codes.specs.Concepts.{concept, concept_cmp, has_code};
@@ -40,6 +43,21 @@ fn all_in(concepts: &[SharedConcept], other: &ConceptSet) -> bool
     concepts.iter().all(|c| other.has(c))
 }
 
+// The place of the concept of a code in a system, by a binary search.
+fn search(concepts: &[SharedConcept], system: &str, code: &str) -> Option<usize>
+    requires { IsSorted concept_cmp concepts.now }
+    ensures has { is_some result ≡ list_any (eq_by_cmp concept_cmp (concept system.now code.now)) concepts.now }
+    ensures at { IfSome result (λ i. slice_get concepts.now i ≡ Some (concept system.now code.now)) }
+{
+    concepts.binary_search_by(|c| c.cmp_to(system, code)).ok()
+}
+
+fn at_place(concepts: &[SharedConcept], place: usize) -> Option<&SharedConcept>
+    ensures { option_copied result ≡ slice_get concepts.now place }
+{
+    concepts.get(place)
+}
+
 impl ConceptSet {
     /// The set of these concepts, in any order.
     pub(crate) fn of(mut concepts: Vec<SharedConcept>) -> Result<ConceptSet, NoMemory>
@@ -63,10 +81,18 @@ impl ConceptSet {
     pub fn contains(&self, system: &str, code: &str) -> bool
         ensures { result ≡ set.contains self.now (concept system.now code.now) }
     {
-        self.table
-            .as_slice()
-            .binary_search_by(|c| c.cmp_to(system, code))
-            .is_ok()
+        search(self.table.as_slice(), system, code).is_some()
+    }
+
+    /// The concept of a code in a system, if the set has it.
+    pub(crate) fn find(&self, system: &str, code: &str) -> Option<&SharedConcept>
+        ensures { IfSome result (λ c. c.now ≡ concept system.now code.now) }
+    {
+        let concepts = self.table.as_slice();
+        match search(concepts, system, code) {
+            Some(place) => at_place(concepts, place),
+            None => None,
+        }
     }
 
     /// Whether the set has a concept of that code in any system, by a binary search.

@@ -93,6 +93,7 @@ impl<'p, 'a> Sources<'p, 'a> {
         ensures done { IfOk result (λ v. AreDone self.old v.items) }
         ensures same { self.new ≡ self.old }
     {
+        self.keep_wholes(alloc)?;
         let mut sets = self.none_found(alloc)?;
         let order = order_of(alloc, self)?;
         self.fill_along(alloc, &order, &mut sets)?;

@@ -13,6 +13,7 @@ ghost use Rattle.fhir_codes.specs.CodeSystems.{is_complete};
 ghost use Rattle.fhir_codes.specs.ValueSets.{listed, sets_named, lists_no_concept, is_listed_concept, has_right_fields, is_version_of, code_system, codes_taken, can_take, is_plain_include};
 
 use crate::code_systems::concepts_listed;
+use crate::composing::{excludes, includes};
 use crate::concept_set::ConceptSet;
 use crate::sources::Sources;
 use fhir_json::{Json, NoMemory};
@@ -142,6 +143,44 @@ impl<'p, 'a> Sources<'p, 'a> {
         }
     }
 
+    // Keeps the code system that an include takes whole.
+    fn keep_taken(&mut self, alloc: Global, include: &Json<'_>) -> Result<(), NoMemory>
+        ensures { self.new ≡ self.old }
+    {
+        if !lists_no_concept(include) {
+            return Ok(());
+        }
+        match include.text_in("system") {
+            Some(url) if self.complete_at(url) => {
+                let _concepts = self.whole(alloc, url)?;
+                Ok(())
+            }
+            _ => Ok(()),
+        }
+    }
+
+    fn keep_all_taken(&mut self, alloc: Global, includes: &[Json<'_>]) -> Result<(), NoMemory>
+        ensures { self.new ≡ self.old }
+    {
+        for include in includes {
+            self.keep_taken(alloc, include)?;
+        }
+        Ok(())
+    }
+
+    /// Keeps all code systems that value sets take whole, so that those that list some of their concepts share their texts.
+    pub(crate) fn keep_wholes(&mut self, alloc: Global) -> Result<(), NoMemory>
+        ensures { self.new ≡ self.old }
+    {
+        for place in 0..self.len() {
+            if let Some(json) = self.tree(place) {
+                self.keep_all_taken(alloc, includes(json))?;
+                self.keep_all_taken(alloc, excludes(json))?;
+            }
+        }
+        Ok(())
+    }
+
     /// The concepts that an include takes of the system of that url: those that it lists, or all.
     pub(crate) fn taken(
         &mut self,
@@ -153,7 +192,7 @@ impl<'p, 'a> Sources<'p, 'a> {
         ensures same { self.new ≡ self.old }
     {
         if !lists_no_concept(include) {
-            return concepts_listed(alloc, url, listed(include));
+            return concepts_listed(alloc, url, listed(include), self.kept_whole(url));
         }
         match self.code_system(include, url) {
             Some(_system) => self.whole(alloc, url),

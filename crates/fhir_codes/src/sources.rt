@@ -189,7 +189,8 @@ impl<'p, 'a> Sources<'p, 'a> {
         self.complete.get(url).is_some()
     }
 
-    fn kept_whole(&self, url: &str) -> Option<&ConceptSet>
+    /// The same, if it has been worked out.
+    pub(crate) fn kept_whole(&self, url: &str) -> Option<&ConceptSet>
         ensures { IfSome result (λ s. s.now ≡ whole_of self.now url.now) }
     {
         match self.systems.get(url) {

@@ -1,16 +1,9 @@
-use Rattle.std.proofs.Common.{◌∙◌, sym, rules}
-use Rattle.std.proofs.lemmas.Fn.{always_returns_same}
-use Rattle.fhir_codes.specs.Concepts.{Concept, concept, concept_cmp}
-use Rattle.fhir_codes.proofs.Members.{concept_total, has-list}
-use Rattle.fhir_codes.proofs.Searching.{searched_by}
+use Rattle.std.proofs.Common.{◌∙◌, sym}
+use Rattle.fhir_codes.specs.Concepts.{concept}
+use Rattle.fhir_codes.proofs.Members.{has-list}
 use Rattle.fhir_codes.proofs.concept_set.ConceptSet.contains.Goals as goal
 
 pub returns : goal.returns
 returns c =
-    let facts = c.binary_search_by.ensures in
-    let x : Concept = concept c.args.system.now c.args.code.now in
-    let found = facts.position (λ y. concept_cmp y x) (always_returns_same _ _ _ (λ a r g called. search rules)) in
     rw (← c.self.view_is, ← c.as_slice.ensures.value)
-    (c.is_ok.ensures.value
-    ∙ searched_by concept_total c.as_slice.result.now x c.binary_search_by.result facts.bound found (rw c.as_slice.ensures.value c.self.invariant)
-    ∙ sym (has-list c.as_slice.result.now x))
+    (c.is_some.ensures ∙ c.search.ensures.has ∙ sym (has-list c.as_slice.result.now (concept c.args.system.now c.args.code.now)))
