@@ -1,6 +1,6 @@
 //! Facets at work.
 
-ghost use Rattle.std.specs.Prelude.{◌≡◌, ◌||◌, true, false, codes, pos};
+ghost use Rattle.std.specs.Prelude.{◌≡◌, ◌||◌, [], ◌∷◌, true, false, codes, pos};
 ghost use Rattle.std.specs.FinSet as set;
 ghost use Rattle.fhir_json.specs.Tree.{number, string, item, no_items};
 ghost use Rattle.fhir_codes.specs.Concepts.{Concepts, concept, has_code};
@@ -13,7 +13,8 @@ ghost use Rattle.fhir_facets.specs.Example.{plain, extended, valueless, decimal,
 /// What facets say of single values. A decimal is compared by value with the least (`least`, `equal`) and with the greatest
 /// (`most`, `more`); a moment by its fields in UTC (`earlier`, `later`); two dates of which one goes further have no order
 /// (`coarser`). A bound asks nothing of another kind of value (`other`) and of no value (`valueless`), and one of another type
-/// is an unread rule (`unread`). A length counts characters (`short`, `long`). A fixed value is equal (`fixed`, `wider`) and
+/// is an unread rule (`unread`). A length counts characters and not bytes, as of `äöü`
+/// (`short`, `long`). A fixed value is equal (`fixed`, `wider`) and
 /// stands alone (`extended`); a pattern may be fitted by more (`pattern`).
 pub fn examples()
     ensures least { (m : Meaning) → range_holds m (from (codes "minValueDecimal") (number (codes "0.5"))) (decimal (codes "0.49")) ≡ false }
@@ -28,7 +29,7 @@ pub fn examples()
     ensures other { (m : Meaning) → range_holds m (from (codes "minValueDate") (string (codes "2020"))) (decimal (codes "3")) ≡ true }
     ensures valueless { (m : Meaning) → range_holds m (from (codes "minValueDate") (string (codes "2020"))) (valueless (codes "date")) ≡ true }
     ensures unread { (m : Meaning) → range_holds m (to (codes "maxValueQuantity") one) (decimal (codes "3")) ≡ m (range (codes "maxValueQuantity") one) }
-    ensures short { length_holds (pos 3) (plain (codes "string") (string (codes "äöü"))) ≡ true }
+    ensures short { length_holds (pos 3) (plain (codes "string") (string (195 ∷ 164 ∷ 195 ∷ 182 ∷ 195 ∷ 188 ∷ []))) ≡ true }
     ensures long { length_holds (pos 3) (plain (codes "string") (string (codes "abcd"))) ≡ false }
     ensures fixed { fixed_holds one (plain (codes "Quantity") one) ≡ true }
     ensures wider { fixed_holds one (plain (codes "Quantity") one_metre) ≡ false }

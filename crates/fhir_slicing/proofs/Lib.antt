@@ -4,3 +4,4 @@ pub mod Asked
 pub mod Stepping
 pub mod Placing
 pub mod Judged
+mod Refuted

@@ -11,7 +11,7 @@ ghost use Rattle.fhir_slicing.specs.Asks.{root_asks};
 ghost use Rattle.fhir_slicing.specs.Conformance.{Interpretation, constant, Around, outermost, ask_holds, conforms, IsFairEverywhere, Conforms};
 ghost use Rattle.fhir_slicing.specs.Meeting.{Met, unread_at};
 ghost use Rattle.fhir_slicing.specs.Example.{schema, bare, noted, unknown};
-ghost use Rattle.fhir_slicing.specs.Letters.{letters, given, title, from, answering, coded, one_name, three_names};
+ghost use Rattle.fhir_slicing.specs.Letters.{letters, given, title, from, answering, coded, counted, memo, one_name, three_names};
 
 use fhir_schema::roots_are_roots;
 
@@ -78,7 +78,24 @@ pub fn letters_example()
     ensures answer { (meaning : Interpretation) → Conforms letters meaning (codes "urn:Letter") (answering (codes "Letter/1")) }
     ensures other { ¬ Conforms letters (constant false) (codes "urn:Letter") (answering (codes "Person/1")) }
     ensures open { Conforms letters (constant true) (codes "urn:Letter") (answering (codes "Person/1")) }
-    ensures kind { ¬ Conforms letters (constant false) (codes "urn:Letter") (coded (codes "kind")) }
-    ensures open_kind { Conforms letters (constant true) (codes "urn:Letter") (coded (codes "kind")) }
-    ensures mood { (meaning : Interpretation) → Conforms letters meaning (codes "urn:Letter") (coded (codes "mood")) }
+    ensures kind { ¬ Conforms letters (constant false) (codes "urn:Letter") (coded (codes "kind") (codes "c")) }
+    ensures open_kind { Conforms letters (constant true) (codes "urn:Letter") (coded (codes "kind") (codes "c")) }
+    ensures mood { (meaning : Interpretation) → Conforms letters meaning (codes "urn:Letter") (coded (codes "mood") (codes "c")) }
+{}
+
+/// The definitions at work on letters with one value. A greeting fits the pattern `dear` (`greeting`, `rude`), the language is the
+/// fixed `en` (`language`, `foreign`), a farewell has at most three characters (`farewell`, `wordy`), there is a page at least
+/// (`pages`, `empty`) and at most nine copies (`copies`, `crowd`). What isn't a letter doesn't conform to their definition (`memo`).
+pub fn values_example()
+    ensures greeting { (meaning : Interpretation) → Conforms letters meaning (codes "urn:Letter") (coded (codes "greeting") (codes "dear")) }
+    ensures rude { (meaning : Interpretation) → ¬ Conforms letters meaning (codes "urn:Letter") (coded (codes "greeting") (codes "you")) }
+    ensures language { (meaning : Interpretation) → Conforms letters meaning (codes "urn:Letter") (coded (codes "language") (codes "en")) }
+    ensures foreign { (meaning : Interpretation) → ¬ Conforms letters meaning (codes "urn:Letter") (coded (codes "language") (codes "fr")) }
+    ensures farewell { (meaning : Interpretation) → Conforms letters meaning (codes "urn:Letter") (coded (codes "farewell") (codes "bye")) }
+    ensures wordy { (meaning : Interpretation) → ¬ Conforms letters meaning (codes "urn:Letter") (coded (codes "farewell") (codes "adieu")) }
+    ensures pages { (meaning : Interpretation) → Conforms letters meaning (codes "urn:Letter") (counted (codes "pages") (codes "1")) }
+    ensures empty { (meaning : Interpretation) → ¬ Conforms letters meaning (codes "urn:Letter") (counted (codes "pages") (codes "0")) }
+    ensures copies { (meaning : Interpretation) → Conforms letters meaning (codes "urn:Letter") (counted (codes "copies") (codes "9")) }
+    ensures crowd { (meaning : Interpretation) → ¬ Conforms letters meaning (codes "urn:Letter") (counted (codes "copies") (codes "10")) }
+    ensures memo { (meaning : Interpretation) → ¬ Conforms letters meaning (codes "urn:Letter") memo }
 {}

@@ -35,4 +35,6 @@ pub use ask::{Ask, Rule};
 pub use asking::asks;
 pub use children::Children;
 pub use judging::judge;
-pub use laws::{decided, example, fair_meanings, letters_example, positive, roots_ask_no_root};
+pub use laws::{
+    decided, example, fair_meanings, letters_example, positive, roots_ask_no_root, values_example,
+};

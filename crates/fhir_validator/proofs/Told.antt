@@ -22,7 +22,7 @@ use Rattle.fhir_validator.specs.declared.issue.Finding.{Finding}
 use Rattle.fhir_validator.specs.declared.issue.Issue.{Issue}
 use Rattle.fhir_validator.specs.declared.issue.Site.{Site}
 use Rattle.fhir_validator.specs.Answers.{under}
-use Rattle.fhir_validator.specs.Issues.{IsBroken, IsOpenAt, rule_said, says}
+use Rattle.fhir_validator.specs.Issues.{IsNamed, IsBroken, IsOpenAt, rule_said, says}
 use Rattle.fhir_validator.specs.Listing.{same_answer, side, is_filled, IsAllowed}
 
 pub on_ok : {A E : Type 0} (P Q : Type 0) → (P → Q) → (r : Result A E) → OnOk r P → OnOk r Q
@@ -93,8 +93,8 @@ asked_at s x n xs i d e h =
 module _ (s : SchemaValue) (outermost : Item) (profile : NodeRef) (place : Place) (x : Item) (n node : NodeRef) (met : Met s outermost profile place x n)
     (rule : RuleName) (asked : Contains (asks s x n) (own rule node)) where
   pub broken_at : (finding : Finding) → finding.node ≡ node → rule_holds s (λ unread. true) x rule node ≡ false → rule_said finding.rule ≡ says s x rule node
-      → IsBroken s outermost profile finding
-  broken_at finding e fails said = record {
+      → IsNamed s node finding.url.now finding.id.now → IsBroken s outermost profile finding
+  broken_at finding e fails said named = record {
     place = place;
     itself = x;
     node = n;
@@ -103,11 +103,12 @@ module _ (s : SchemaValue) (outermost : Item) (profile : NodeRef) (place : Place
     asked = subst (λ m. Contains (asks s x n) (own rule m)) (sym e) asked;
     fails = subst (λ m. rule_holds s (λ unread. true) x rule m ≡ false) (sym e) fails;
     said = subst (λ m. rule_said finding.rule ≡ says s x rule m) (sym e) said;
+    named = subst (λ m. IsNamed s m finding.url.now finding.id.now) (sym e) named;
   }
 
   pub open_at : (site : Site) (unread : Unread) → site.node ≡ node → site.unread ≡ unread → Contains (unread_at s x node) (unread_seen unread)
-      → ((b : Bool) → rule_holds s (λ u. b) x rule node ≡ b) → IsOpenAt s outermost profile site
-  open_at site unread e f carried hangs = record {
+      → ((b : Bool) → rule_holds s (λ u. b) x rule node ≡ b) → IsNamed s node site.url.now site.id.now → IsOpenAt s outermost profile site
+  open_at site unread e f carried hangs named = record {
     place = place;
     itself = x;
     node = n;
@@ -117,4 +118,5 @@ module _ (s : SchemaValue) (outermost : Item) (profile : NodeRef) (place : Place
     carried = subst (λ m. Contains (unread_at s x m) (unread_seen site.unread)) (sym e) (subst (λ u. Contains (unread_at s x node) (unread_seen u)) (sym f) carried);
     full = subst (λ m. IsTrue (rule_holds s (λ u. true) x rule m)) (sym e) (hangs true);
     empty = subst (λ m. rule_holds s (λ u. false) x rule m ≡ false) (sym e) (hangs false);
+    named = subst (λ m. IsNamed s m site.url.now site.id.now) (sym e) named;
   }

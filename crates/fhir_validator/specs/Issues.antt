@@ -1,5 +1,6 @@
 -- What an issue says, and when it is right: its rule fails at a pair of node and item that the resource meets, whatever unread
--- rules mean. And when a site is: an unread rule that such a pair's node carries, of a rule that hangs on it.
+-- rules mean. And when a site is: an unread rule that such a pair's node carries, of a rule that hangs on it. Both name the
+-- node by the url of its definition and by its id.
 use Rattle.std.specs.Prelude.{◌≡◌, ℕ, List, [], true, false, Option, Some, IsTrue}
 use Rattle.std.specs.Option.{option_map_or, option_and_then}
 use Rattle.std.specs.List.{Contains}
@@ -7,7 +8,7 @@ use Rattle.fhir_json.specs.Tree.{Text, Tree}
 use Rattle.fhir_elements.specs.declared.max.Max.{Max}
 use Rattle.fhir_elements.specs.Element.{required_value_set}
 use Rattle.fhir_schema.specs.declared.node.NodeRef.{NodeRef}
-use Rattle.fhir_schema.specs.Schemas.{SchemaValue, element_at, root}
+use Rattle.fhir_schema.specs.Schemas.{SchemaValue, element_at, root, url_at, id_of_node}
 use Rattle.fhir_schema.specs.Covers.{type_at}
 use Rattle.fhir_instance.specs.Items.{Item, Place}
 use Rattle.fhir_instance.specs.Typing.{Types}
@@ -65,6 +66,10 @@ says s x (asked.too_many name) n = too_many (option_and_then (λ e. e.max) (elem
 
 -- ---- issues
 
+-- the url of a node's definition, and the node's id
+abbrev pub IsNamed : SchemaValue → NodeRef → Text → Text → Type 0
+IsNamed s n url id = (url ≡ url_at s n.definition) × (id ≡ id_of_node s n)
+
 -- The rule is one that the node of a pair asks, and it fails there whatever unread rules mean. `outermost` is the item of the
 -- resource, and `profile` the root that it was judged against.
 pub record IsBroken (s : SchemaValue) (outermost : Item) (profile : NodeRef) (finding : Finding) : Type 0 where
@@ -76,6 +81,7 @@ pub record IsBroken (s : SchemaValue) (outermost : Item) (profile : NodeRef) (fi
   pub asked : Contains (asks s itself node) (own rule finding.node)
   pub fails : rule_holds s (λ unread. true) itself rule finding.node ≡ false
   pub said : rule_said finding.rule ≡ says s itself rule finding.node
+  pub named : IsNamed s finding.node finding.url.now finding.id.now
 
 -- a misfit says that the tree has no item
 abbrev pub IsIssue : SchemaValue → Text → Tree → Issue → Type 0
@@ -96,6 +102,7 @@ pub record IsOpenAt (s : SchemaValue) (outermost : Item) (profile : NodeRef) (si
   pub carried : Contains (unread_at s itself site.node) (unread_seen site.unread)
   pub full : IsTrue (rule_holds s (λ unread. true) itself rule site.node)
   pub empty : rule_holds s (λ unread. false) itself rule site.node ≡ false
+  pub named : IsNamed s site.node site.url.now site.id.now
 
 abbrev pub IsSite : SchemaValue → Text → Tree → Site → Type 0
 IsSite s profile t site = (n : NodeRef) × (x : Item) × (root s profile ≡ Some n) × Types s t x × IsOpenAt s x n site

@@ -6,7 +6,7 @@ ghost use Rattle.fhir_schema.specs.Schemas.{element_at};
 ghost use Rattle.fhir_facets.specs.Counts.{least_of};
 ghost use Rattle.fhir_slicing.specs.Views.{rule_name, IsIndexOf};
 ghost use Rattle.fhir_instance.specs.Items.{Item};
-ghost use Rattle.fhir_validator.specs.Issues.{rule_said, says, set_at};
+ghost use Rattle.fhir_validator.specs.Issues.{rule_said, says, set_at, IsNamed};
 ghost use Rattle.fhir_validator.specs.Layouts.{IsLayout, item_at};
 
 use crate::issue::{Finding, Site};
@@ -101,6 +101,7 @@ pub(crate) fn finding_of<'s>(
     ensures node { IfOk result (λ finding. finding.node ≡ node) }
     ensures said { IfOk result (λ finding. rule_said finding.rule
         ≡ says schema.now (item_at layout.now number) (rule_name rule.entry) node) }
+    ensures named { IfOk result (λ finding. IsNamed schema.now node finding.url.now finding.id.now) }
 {
     let (url, id) = schema.name(node);
     Ok(Finding {
@@ -124,6 +125,7 @@ pub(crate) fn site_of<'s>(
     requires { number < length layout.now.stands.items }
     ensures node { IfOk result (λ site. site.node ≡ node) }
     ensures unread { IfOk result (λ site. site.unread ≡ unread.entry) }
+    ensures named { IfOk result (λ site. IsNamed schema.now node site.url.now site.id.now) }
 {
     let (url, id) = schema.name(node);
     Ok(Site {

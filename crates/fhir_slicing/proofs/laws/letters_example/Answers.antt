@@ -8,6 +8,7 @@ use Rattle.fhir_instance.specs.Items.{Item, item, Kids, kid, no_kids}
 use Rattle.fhir_instance.specs.Typing.{resource}
 use Rattle.fhir_slicing.specs.Conformance.{Interpretation, constant, outermost, conforms, Conforms}
 use Rattle.fhir_slicing.specs.Letters.{letters, given, title, from, answering, coded, one_name, three_names}
+use Rattle.fhir_slicing.proofs.Refuted.{letter_root, refuted}
 use Rattle.fhir_slicing.proofs.laws.letters_example.Goals as goal
 
 -- ---- the items
@@ -27,30 +28,13 @@ letter_from sender kids =
 
 -- ---- the roots
 
-letter_root : NodeRef
-letter_root = record { definition = 3; element = 0 }
-
 titled_root : NodeRef
 titled_root = record { definition = 4; element = 0 }
-
--- what holds of what is there holds of what that is
-at_some : {A : Type 0} (P : A → Type 0) (x y : A) → Some x ≡ Some y → P y → P x
-at_some {A} P x y e h =
-    let same : x ≡ y = cc in
-    subst P (sym same) h
-
-refuted : (meaning : Interpretation) (profile : Text) (t : Tree) (x : Item) (n : NodeRef) → root letters profile ≡ Some n → resource letters t ≡ Some x
-    → conforms letters meaning (outermost x) x n ≡ false → Conforms letters meaning profile t → ⊥
-refuted meaning profile t x n usable typed fails h =
-    false≢true
-    (sym fails
-    ∙ at_some (λ y. IsTrue (conforms letters meaning (outermost y) y n)) x h.itself (sym typed ∙ h.typed)
-    (at_some (λ m. IsTrue (conforms letters meaning (outermost h.itself) h.itself m)) n h.node (sym usable ∙ h.usable) h.holds))
 
 -- ---- the clauses
 
 pub returns-clause-own : goal.returns-clause-own
-unfolding leaf name letter_from letter_root
+unfolding leaf name letter_from
 returns-clause-own c meaning = record {
   node = letter_root;
   itself = letter_from (given one_name no_members) (name (codes "a") no_kids);
@@ -60,12 +44,12 @@ returns-clause-own c meaning = record {
 }
 
 pub returns-clause-nameless : goal.returns-clause-nameless
-unfolding leaf with_title letter_from letter_root
+unfolding leaf with_title letter_from
 returns-clause-nameless c meaning =
     refuted meaning (codes "urn:Letter") (from title) (letter_from title with_title) letter_root refl refl refl
 
 pub returns-clause-many : goal.returns-clause-many
-unfolding leaf name letter_from letter_root
+unfolding leaf name letter_from
 returns-clause-many c meaning =
     refuted meaning (codes "urn:Letter") (from (given three_names no_members))
     (letter_from (given three_names no_members) (name (codes "a") (name (codes "b") (name (codes "c") no_kids)))) letter_root refl refl refl
@@ -95,7 +79,7 @@ reference_to : Text → Members
 reference_to reference = member (codes "reference") (string reference) no_members
 
 pub returns-clause-answer : goal.returns-clause-answer
-unfolding leaf answer reference_to letter_root
+unfolding leaf answer reference_to
 returns-clause-answer c meaning = record {
   node = letter_root;
   itself = answer (codes "Letter/1") (reference_to (codes "Letter/1"));
@@ -105,13 +89,13 @@ returns-clause-answer c meaning = record {
 }
 
 pub returns-clause-other : goal.returns-clause-other
-unfolding leaf answer reference_to letter_root
+unfolding leaf answer reference_to
 returns-clause-other c =
     refuted (constant false) (codes "urn:Letter") (answering (codes "Person/1")) (answer (codes "Person/1") (reference_to (codes "Person/1")))
     letter_root refl refl refl
 
 pub returns-clause-open : goal.returns-clause-open
-unfolding leaf answer reference_to letter_root
+unfolding leaf answer reference_to
 returns-clause-open c = record {
   node = letter_root;
   itself = answer (codes "Person/1") (reference_to (codes "Person/1"));
@@ -121,15 +105,15 @@ returns-clause-open c = record {
 }
 
 coded_letter : Text → Item
-coded_letter name = item (codes "Letter") (Some (coded name)) (kid name (leaf (codes "c")) no_kids)
+coded_letter name = item (codes "Letter") (Some (coded name (codes "c"))) (kid name (leaf (codes "c")) no_kids)
 
 pub returns-clause-kind : goal.returns-clause-kind
-unfolding leaf coded_letter letter_root
+unfolding leaf coded_letter
 returns-clause-kind c =
-    refuted (constant false) (codes "urn:Letter") (coded (codes "kind")) (coded_letter (codes "kind")) letter_root refl refl refl
+    refuted (constant false) (codes "urn:Letter") (coded (codes "kind") (codes "c")) (coded_letter (codes "kind")) letter_root refl refl refl
 
 pub returns-clause-open_kind : goal.returns-clause-open_kind
-unfolding leaf coded_letter letter_root
+unfolding leaf coded_letter
 returns-clause-open_kind c = record {
   node = letter_root;
   itself = coded_letter (codes "kind");
@@ -139,7 +123,7 @@ returns-clause-open_kind c = record {
 }
 
 pub returns-clause-mood : goal.returns-clause-mood
-unfolding leaf coded_letter letter_root
+unfolding leaf coded_letter
 returns-clause-mood c meaning = record {
   node = letter_root;
   itself = coded_letter (codes "mood");

@@ -22,6 +22,7 @@ returns-clause-found c = λ outermost profile place met before.
       subst (AllByRecursion P) (sym c.in_ok-push.ensures.items)
           (all_pushed P c.args.listing.now.issues.items (Broken c.in_ok-finding.finding) before.0
           (broken_at c.args.schema.now outermost profile place x c.args.pair.node c.args.node met (rule_name c.args.rule) c.requires.asked
-          c.in_ok-finding.finding c.in_ok-finding.ensures.node (c.requires.fails true) c.in_ok-finding.ensures.said)),
+          c.in_ok-finding.finding c.in_ok-finding.ensures.node (c.requires.fails true) c.in_ok-finding.ensures.said
+          c.in_ok-finding.ensures.named)),
       before.1,
     )

@@ -16,7 +16,8 @@ returns-in_ok-push-clause-found c = λ outermost profile place met before.
       subst (AllByRecursion P) (sym c.in_ok-push.ensures.items)
           (all_pushed P c.args.listing.now.sites.items c.in_ok-site.site before.1
           (open_at c.args.schema.now outermost profile place x c.args.pair.node c.args.node met (rule_name c.args.rule) c.requires.asked
-          c.in_ok-site.site c.args.unread c.in_ok-site.ensures.node c.in_ok-site.ensures.unread c.requires.carried c.requires.open)),
+          c.in_ok-site.site c.args.unread c.in_ok-site.ensures.node c.in_ok-site.ensures.unread c.requires.carried c.requires.open
+          c.in_ok-site.ensures.named)),
     )
 
 pub returns-else-is-clause-told : goal.returns-else-is-clause-told
