@@ -3,6 +3,7 @@
 #![tactic(auto)]
 
 ghost use Rattle.std.specs.Prelude.{◌≡◌, ◌↔◌, ◌||◌, [], length, false, None, Ok, is_ok, Option, Result, if◌then◌else◌, IsTrue, IfOk, codes, string_bytes, option_map};
+ghost use Rattle.std.specs.FinSet as set;
 ghost use Rattle.std.specs.Option.{option_map_or};
 ghost use Rattle.fhir_json.specs.Tree.{Text, Tree};
 ghost use Rattle.fhir_json.specs.Views.{tree_of};
@@ -21,6 +22,8 @@ ghost use Rattle.fhir_package.specs.FilesView.{folder_files};
 ghost use Rattle.fhir_package.specs.Folder.{Files};
 ghost use Rattle.fhir_package.specs.declared.fault.LoadFault.{LoadFault};
 ghost use Rattle.fhir_package.specs.Packing.{pack};
+ghost use Rattle.fhir_codes.specs.Concepts.{concept};
+ghost use Rattle.fhir_codes.specs.ValueSets.{concepts_of};
 ghost use Rattle.fhir_elements.specs.Element.{Element, element_of};
 ghost use Rattle.fhir_definition.specs.Definition.{definition_of};
 ghost use Rattle.fhir_definition.specs.Snapshot.{root_place};
@@ -40,6 +43,7 @@ ghost use Rattle.fhir_registry.specs.Replying.{RequestValue, Promise};
 
 use fhir_cert_check::{Answer, check_bytes};
 use fhir_certificate::CertFault;
+use fhir_codes::expand;
 use fhir_decimal::Decimal;
 use fhir_definition::Definition;
 use fhir_elements::{ElementDef, ElementFault};
@@ -48,7 +52,7 @@ use fhir_instance::{Misfit, Typed, type_resource};
 use fhir_json::{Json, JsonFault, NoMemory};
 use fhir_matching::{json_eq, matches};
 use fhir_names::{ElementId, front_of};
-use fhir_package::{FolderFile, FolderFiles, Kind, LoadFault, pack};
+use fhir_package::{FolderFile, FolderFiles, Kind, LoadFault, Package, pack};
 use fhir_prims::{PrimType, lexical};
 use fhir_registry::{Status, bytes_at, files_at, refuse, request_of, respond};
 use fhir_schema::{NodeRef, Schema, Slot};
@@ -115,6 +119,20 @@ pub fn count_of(alloc: Global, files: Vec<FolderFile>) -> Result<usize, LoadFaul
     let files = FolderFiles::of(alloc, files)?;
     let package = pack(alloc, &files)?;
     Ok(package.len(Kind::StructureDefinition))
+}
+
+/// Whether a code of a system is in the value set that a canonical names. None is in one that can't be read.
+pub fn is_in(
+    alloc: Global,
+    from: &Package,
+    canonical: &str,
+    system: &str,
+    code: &str,
+) -> Result<bool, NoMemory>
+    ensures { Gives (λ b. b) result
+        (option_map_or (λ s. set.contains s (concept system.now code.now)) (concepts_of from.now canonical.now) false) }
+{
+    Ok(expand(alloc, from, canonical)?.contains(system, code))
 }
 
 /// How many items an element has at least, or why the tree is no element.
