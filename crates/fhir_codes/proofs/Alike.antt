@@ -1,5 +1,5 @@
 -- Packages that answer alike have the same value sets.
-use Rattle.std.proofs.Common.{◌≡◌, ℕ, zero, suc, List, [], ◌∷◌, ◌++◌, map, length, Bool, true, false, not, ◌&&◌, ◌||◌, if◌then◌else◌, Option, None, Some, is_some, codes, refl, sym, ◌∙◌, ap}
+use Rattle.std.proofs.Common.{◌≡◌, ℕ, zero, suc, [], ◌∷◌, ◌++◌, map, length, false, not, ◌&&◌, ◌||◌, if◌then◌else◌, None, Some, is_some, codes, refl, sym, ◌∙◌, ap}
 use Rattle.std.specs.Option.{option_map_or, option_and_then}
 use Rattle.std.specs.List.{list_all}
 use Rattle.std.specs.FinSet as set
@@ -9,7 +9,7 @@ use Rattle.fhir_json.specs.Fields.{field, text_in, text_at}
 use Rattle.fhir_package.specs.declared.kind.Kind.TheVariants.{ValueSet, CodeSystem}
 use Rattle.fhir_package.specs.Definitions.{Definitions, at_url}
 use Rattle.fhir_package.specs.Canonical.{named_by}
-use Rattle.fhir_codes.specs.Concepts.{Concepts, of_system, united, common}
+use Rattle.fhir_codes.specs.Concepts.{of_system, united, common}
 use Rattle.fhir_codes.specs.CodeSystems.{is_complete, codes_defined}
 use Rattle.fhir_codes.specs.ValueSets.{listed, sets_named, lists_no_concept, has_right_fields, includes, excludes, is_compose, named, is_version_of, code_system, codes_taken, can_take, is_plain_include, of_set, of_include, composed, is_read, expansion, expanded, concepts_of}
 use Rattle.fhir_codes.proofs.Rounds.{Known}

@@ -1,5 +1,5 @@
 -- One more value set found, and none left to find.
-use Rattle.std.proofs.Common.{◌≡◌, ℕ, zero, suc, ◌+◌, ◌<◌, ◌≤◌, List, [], ◌∷◌, length, set, Bool, true, false, ◌&&◌, if◌then◌else◌, Option, None, Some, is_some, is_none, IsTrue, refl, sym, ◌∙◌, ap, subst, inl, inr, arith}
+use Rattle.std.proofs.Common.{◌≡◌, ℕ, zero, suc, ◌<◌, ◌≤◌, [], ◌∷◌, length, set, true, false, Option, None, Some, is_none, refl, sym, ◌∙◌, ap, subst, inl, inr, arith}
 use mathlib.Core.Bool.{false≢true}
 use Rattle.std.specs.List.{slice_get}
 use Rattle.std.specs.Option.{option_map, option_map_or, option_and_then}
@@ -15,8 +15,8 @@ use Rattle.fhir_codes.specs.ValueSets.{composed, is_read, expansion, expanded, c
 use Rattle.fhir_codes.specs.Placing.{Found, found_at, known, place_named, tree_at}
 use Rattle.fhir_codes.specs.Filled.{concepts_at, is_ready, one_if_found, found_count, AreFilled, AreDone}
 use Rattle.fhir_codes.proofs.Places.{named_tree}
-use Rattle.fhir_codes.proofs.Rounds.{IsBelow, no_some, one_some, and_then_more, chosen, guarded, step, step_more, expansion_more}
-use Rattle.fhir_codes.proofs.Settled.{both_below, then_then, concepts_step, expanded_most}
+use Rattle.fhir_codes.proofs.Rounds.{IsBelow, no_some, and_then_more, chosen, guarded, step, step_more, expansion_more}
+use Rattle.fhir_codes.proofs.Settled.{both_below, then_then, concepts_step}
 
 -- ---- lists of what has been found
 

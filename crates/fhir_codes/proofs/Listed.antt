@@ -1,5 +1,5 @@
 -- In the list of all value sets a canonical finds what it names.
-use Rattle.std.proofs.Common.{◌≡◌, List, [], ◌∷◌, map, Bool, true, false, if◌then◌else◌, Option, None, Some, codes, refl, sym, ◌∙◌, ap}
+use Rattle.std.proofs.Common.{◌≡◌, Bool, true, false, if◌then◌else◌, Option, None, Some, refl, sym, ◌∙◌, ap}
 use Rattle.std.specs.Option.{option_map, option_map_or, option_and_then}
 use Rattle.std.specs.Map.{lookup}
 use Rattle.std.specs.Result.{result_ok}
@@ -10,9 +10,8 @@ use Rattle.fhir_names.specs.Canonicals.{CanonicalParts, read_canonical}
 use Rattle.fhir_package.specs.declared.kind.Kind.TheVariants.{ValueSet}
 use Rattle.fhir_package.specs.Definitions.{Definitions}
 use Rattle.fhir_package.specs.Canonical as canonicals
-use Rattle.fhir_codes.specs.Concepts.{Concepts}
 use Rattle.fhir_codes.specs.ValueSets.{expansion, concepts_of}
-use Rattle.fhir_codes.specs.Expanding.{Expansion, expansion_of, expansions_of, where_version, at_version, concepts_in}
+use Rattle.fhir_codes.specs.Expanding.{expansion_of, expansions_of, where_version, at_version, concepts_in}
 use Rattle.fhir_codes.proofs.Settled.{concepts_step}
 
 if_read : {A B : Type 0} (b : Bool) (t : A) (f : A → Option B) → (if b then f t else None) ≡ option_and_then f (if b then Some t else None)

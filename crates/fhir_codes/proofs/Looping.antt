@@ -1,5 +1,5 @@
 -- One more turn of a loop that builds a list, and answers at an equal value.
-use Rattle.std.proofs.Common.{◌≡◌, ℕ, ◌<◌, ◌+◌, List, [], ◌∷◌, ◌++◌, map, length, get_or, take, filter, Bool, true, false, cond, ◌||◌, Some, ◌≤◌, if◌then◌else◌, Result, Ok, Err, refl, sym, ◌∙◌, ap, subst, arith}
+use Rattle.std.proofs.Common.{◌≡◌, ℕ, ◌<◌, ◌+◌, List, [], ◌∷◌, ◌++◌, map, length, get_or, take, filter, Bool, true, false, cond, ◌||◌, Some, ◌≤◌, if◌then◌else◌, Result, sym, ◌∙◌, ap, subst}
 use Rattle.std.specs.List.{list_any, slice_get}
 use Rattle.std.specs.Map.{keys_of}
 use Rattle.std.proofs.lemmas.List.{take_more, append-nil, map-append, length-map, length-take-le}

@@ -1,5 +1,5 @@
 -- The place of the value set that a canonical names leads to it.
-use Rattle.std.proofs.Common.{◌≡◌, ℕ, zero, suc, ◌+◌, List, [], ◌∷◌, Bool, true, false, cond, if◌then◌else◌, Option, None, Some, refl, sym, ◌∙◌, ap, add-one}
+use Rattle.std.proofs.Common.{◌≡◌, ℕ, ◌+◌, List, [], ◌∷◌, Bool, true, false, cond, if◌then◌else◌, Option, None, Some, refl, sym, ◌∙◌, ap, add-one}
 use Rattle.std.specs.Option.{option_map, option_map_or, option_and_then}
 use Rattle.std.specs.List.{position_from, slice_get}
 use Rattle.std.specs.Map.{keys_of, lookup}
@@ -9,7 +9,7 @@ use Rattle.fhir_json.specs.Tree.{Text, Tree}
 use Rattle.fhir_names.specs.Canonicals.{CanonicalParts, read_canonical}
 use Rattle.fhir_package.specs.declared.kind.Kind.TheVariants.{ValueSet}
 use Rattle.fhir_package.specs.Definitions.{Definitions}
-use Rattle.fhir_package.specs.Canonical.{is_of_version, where_version, at_version, named_by}
+use Rattle.fhir_package.specs.Canonical.{is_of_version, at_version, named_by}
 use Rattle.fhir_codes.specs.Placing.{place_at, place_named, tree_at}
 
 -- ---- places in a list

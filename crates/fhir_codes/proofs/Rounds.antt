@@ -1,12 +1,12 @@
 -- Where more is known, what was read stays read, with the same concepts.
-use Rattle.std.proofs.Common.{◌≡◌, ℕ, zero, suc, List, [], ◌∷◌, ◌++◌, map, Bool, true, false, ◌&&◌, if◌then◌else◌, Option, None, Some, is_some, codes, refl, sym, ◌∙◌, ap}
+use Rattle.std.proofs.Common.{◌≡◌, ℕ, zero, suc, List, [], ◌∷◌, ◌++◌, map, Bool, true, false, if◌then◌else◌, Option, None, Some, is_some, codes, refl, sym, ◌∙◌, ap}
 use Rattle.std.specs.Option.{option_map_or, option_and_then}
 use Rattle.std.specs.List.{list_all, flat_map}
 use Rattle.std.specs.FinSet as set
 use Rattle.std.proofs.lemmas.Bool.{and_parts, and_from}
 use Rattle.std.proofs.lemmas.List.Folds.{list_all-append}
 use Rattle.fhir_json.specs.Tree.{Text, Tree}
-use Rattle.fhir_json.specs.Fields.{field, text_in}
+use Rattle.fhir_json.specs.Fields.{text_in}
 use Rattle.fhir_package.specs.declared.kind.Kind.TheVariants.{ValueSet}
 use Rattle.fhir_package.specs.Definitions.{Definitions}
 use Rattle.fhir_package.specs.Canonical.{named_by}

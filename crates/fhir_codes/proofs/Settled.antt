@@ -1,7 +1,7 @@
 -- As many steps as there are value sets are enough.
-use Rattle.std.proofs.Common.{◌≡◌, ◌⊎◌, ℕ, zero, suc, ◌+◌, ◌<◌, ◌≤◌, List, length, Bool, true, false, Option, Some, None, is_some, refl, sym, ◌∙◌, ap, subst, inl, inr, arith}
+use Rattle.std.proofs.Common.{◌≡◌, ◌⊎◌, ℕ, zero, suc, ◌+◌, ◌<◌, ◌≤◌, length, Bool, true, false, Option, Some, None, is_some, refl, sym, ◌∙◌, ap, inl, inr, arith}
 use mathlib.Core.Bool.{false≢true}
-use Rattle.std.specs.List.{list_all, slice_get}
+use Rattle.std.specs.List.{slice_get}
 use Rattle.std.specs.Option.{option_map, option_and_then}
 use Rattle.std.proofs.lemmas.Bool.{cases_lt}
 use Rattle.std.proofs.lemmas.Option.{slice_get_past}
@@ -14,7 +14,7 @@ use Rattle.fhir_codes.specs.ValueSets.{named, expansion, expanded, concepts_of}
 use Rattle.fhir_codes.specs.Least.{IsClosed}
 use Rattle.fhir_codes.specs.Placing.{place_named, tree_at}
 use Rattle.fhir_codes.proofs.Places.{named_tree}
-use Rattle.fhir_codes.proofs.Rounds.{Known, IsBelow, no_some, one_some, step, step_more, all_more, is_some_at, read_parts_of, expansion_more, expanded_more}
+use Rattle.fhir_codes.proofs.Rounds.{Known, IsBelow, no_some, step, step_more, all_more, is_some_at, read_parts_of, expansion_more, expanded_more}
 
 -- ---- how many of the first numbers pass a test
 

@@ -5,7 +5,7 @@ use Rattle.fhir_json.specs.Tree.{Text, Tree}
 use Rattle.fhir_json.specs.Fields.{text_at}
 use Rattle.fhir_package.specs.declared.kind.Kind.TheVariants.{CodeSystem}
 use Rattle.fhir_package.specs.Definitions.{Definitions, at_url}
-use Rattle.fhir_codes.specs.Concepts.{Concepts, of_system}
+use Rattle.fhir_codes.specs.Concepts.{of_system}
 use Rattle.fhir_codes.specs.CodeSystems.{codes_defined}
 use Rattle.fhir_codes.specs.ValueSets.{listed, lists_no_concept, is_version_of, code_system, codes_taken}
 use Rattle.fhir_codes.specs.Placing.{whole_of}

@@ -1,5 +1,5 @@
 -- All value sets of a package with their concepts, and what contracts see of code sets.
-use Rattle.std.specs.Prelude.{List, map, Bool, true, Option, None, Some, if◌then◌else◌, codes}
+use Rattle.std.specs.Prelude.{List, map, true, Option, None, if◌then◌else◌, codes}
 use Rattle.std.specs.Option.{option_map_or, option_and_then}
 use Rattle.std.specs.Map.{lookup}
 use Rattle.std.specs.Result.{result_ok}

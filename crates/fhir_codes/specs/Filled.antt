@@ -1,5 +1,5 @@
 -- The value sets that have been found so far are right (used by private contracts alone).
-use Rattle.std.specs.Prelude.{◌≡◌, ℕ, ◌+◌, List, [], ◌∷◌, length, Bool, false, ◌&&◌, Option, None, Some, is_none}
+use Rattle.std.specs.Prelude.{◌≡◌, ℕ, ◌+◌, [], ◌∷◌, length, Bool, false, ◌&&◌, Option, None, Some, is_none}
 use Rattle.std.specs.Option.{option_map_or, option_and_then}
 use Rattle.fhir_package.specs.Definitions.{Definitions}
 use Rattle.fhir_codes.specs.Concepts.{Concepts}

@@ -13,7 +13,7 @@ use Rattle.fhir_package.specs.Definitions.{Definitions, at_url}
 use Rattle.fhir_package.specs.Canonical.{named_by}
 use Rattle.fhir_codes.specs.Concepts.{Concepts, of_system}
 use Rattle.fhir_codes.specs.CodeSystems.{is_complete, codes_defined}
-use Rattle.fhir_codes.specs.ValueSets.{sets_named, is_plain_include, expansion}
+use Rattle.fhir_codes.specs.ValueSets.{sets_named}
 
 -- ---- places
 

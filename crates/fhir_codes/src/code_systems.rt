@@ -18,7 +18,7 @@ use std::rc::RcStr;
 
 // ---- whether concepts can be read
 
-fn has_code(json: &Json<'_>) -> bool
+fn is_coded(json: &Json<'_>) -> bool
     ensures { result ≡ is_some (text_in (codes "code") (tree_of json.now)) }
 {
     json.text_in("code").is_some()
@@ -29,7 +29,7 @@ fn is_concept(json: &Json<'_>) -> bool
     ensures { result ≡ is_concept (tree_of json.now) }
 {
     match json {
-        Json::Obj(members) => nested_are_concepts(members) & has_code(json),
+        Json::Obj(members) => nested_are_concepts(members) & is_coded(json),
         _ => false,
     }
 }

@@ -72,6 +72,7 @@ fn complete_at(from: &Package<'_>, url: &str) -> bool
     }
 }
 
+// Gives the url of a complete code system a place. Which one that is doesn't matter.
 fn put_complete(
     alloc: Global,
     from: &Package<'_>,

@@ -1,4 +1,4 @@
-use Rattle.std.proofs.Common.{◌≡◌, ◌∙◌, Option, Some, None, ap, sym, subst}
+use Rattle.std.proofs.Common.{◌≡◌, ◌∙◌, Option, Some, None, ap}
 use Rattle.fhir_json.specs.Tree.{Text}
 use Rattle.fhir_package.specs.Definitions.{Definitions}
 use Rattle.fhir_codes.specs.Concepts.{Concepts}

@@ -1,9 +1,9 @@
-use Rattle.std.proofs.Common.{◌≡◌, ◌<◌, ◌∙◌, length, true, Some, sym, ap, rules, arith}
+use Rattle.std.proofs.Common.{◌≡◌, ◌<◌, ◌∙◌, length, true, Some, sym, ap, arith}
 use mathlib.Core.Bool.{false≢true}
 use Rattle.fhir_json.specs.Views.{tree_of}
-use Rattle.fhir_codes.specs.ValueSets.{is_read, composed, expansion}
+use Rattle.fhir_codes.specs.ValueSets.{composed}
 use Rattle.fhir_codes.specs.Placing.{known, tree_at}
-use Rattle.fhir_codes.specs.Filled.{is_ready, found_count}
+use Rattle.fhir_codes.specs.Filled.{is_ready}
 use Rattle.fhir_codes.proofs.Finding.{filled_step, count_set, place_within, ready_parts, expansion_read}
 use Rattle.fhir_codes.proofs.sources.Sources.fill.Goals as goal
 

@@ -1,4 +1,4 @@
-use Rattle.std.proofs.Common.{◌≡◌, ◌∙◌, subst}
+use Rattle.std.proofs.Common.{◌∙◌, subst}
 use Rattle.fhir_package.specs.Definitions.{Definitions}
 use Rattle.fhir_codes.specs.Filled.{AreFilled}
 use Rattle.fhir_codes.proofs.sources.Sources.fill_along.Goals as goal

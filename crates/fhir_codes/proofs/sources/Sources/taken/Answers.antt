@@ -1,5 +1,4 @@
-use Rattle.std.proofs.Common.{◌≡◌, true, ◌∙◌, sym, Some, arith}
-use Rattle.std.proofs.lemmas.Grind.{common_steps}
+use Rattle.std.proofs.Common.{◌≡◌, true, ◌∙◌, sym, Some}
 use Rattle.fhir_json.specs.Views.{tree_of}
 use Rattle.fhir_codes.specs.Concepts.{of_system}
 use Rattle.fhir_codes.specs.ValueSets.{lists_no_concept, code_system, codes_taken}

@@ -1,11 +1,9 @@
-use Rattle.std.proofs.Common.{◌≡◌, ◌∙◌, ap, sym, subst}
+use Rattle.std.proofs.Common.{◌∙◌, ap, sym, subst}
 use Rattle.std.specs.Map.{keys_of}
 use Rattle.std.proofs.lemmas.Map.Made.{keys_of-map_values}
-use Rattle.fhir_json.specs.Tree.{Text}
 use Rattle.fhir_names.specs.Places.{Finds}
 use Rattle.fhir_package.specs.Definitions.{Definitions}
-use Rattle.fhir_codes.specs.Expanding.{expansion_of, expansions_of}
-use Rattle.fhir_codes.specs.Listing.{found_sets}
+use Rattle.fhir_codes.specs.Expanding.{expansion_of}
 use Rattle.fhir_codes.proofs.value_sets.ValueSets.of.Goals as goal
 
 pub invariant_of-result : goal.invariant_of-result
