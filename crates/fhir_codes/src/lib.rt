@@ -2,7 +2,13 @@
 //!
 //! ```
 //! /// Whether a code of a system is in the value set that a canonical names. None is in one that can't be read.
-//! pub fn is_in(alloc: Global, from: &Package, canonical: &str, system: &str, code: &str) -> Result<bool, NoMemory>
+//! pub fn is_in(
+//!     alloc: Global,
+//!     from: &Package,
+//!     canonical: &str,
+//!     system: &str,
+//!     code: &str,
+//! ) -> Result<bool, NoMemory>
 //!     ensures { Gives (λ b. b) result
 //!         (option_map_or (λ s. set.contains s (concept system.now code.now)) (concepts_of from.now canonical.now) false) }
 //! {
