@@ -39,6 +39,3 @@ pub use concept_set::ConceptSet;
 pub use laws::{algebra, any_order, codes_of_subset, least_closed, resolved, subsets};
 pub use value_sets::{ValueSets, expand};
 pub use worked::examples;
-
-#[cfg(test)]
-mod tests;
