@@ -1,0 +1,3 @@
+pub mod Expression
+pub mod Reading
+pub mod Views
