@@ -29,6 +29,14 @@ reaches_type ds from code =
 abbrev pub covers_in : List Definition → Text → Text → Bool
 covers_in ds code other = bytes_eq code other || (names_resource ds code && reaches_type ds other code)
 
+-- the code is that type's, or that of a type that derives from it by any number of bases (FHIR R4, StructureDefinition,
+-- baseDefinition)
+abbrev pub derives_in : List Definition → Text → Text → Bool
+derives_in ds code ancestor = bytes_eq code ancestor || reaches_type ds code ancestor
+
+abbrev pub derives : SchemaValue → Text → Text → Bool
+derives s code ancestor = derives_in s.definitions code ancestor
+
 -- the first code covers the other
 abbrev pub covers : SchemaValue → Text → Text → Bool
 covers s code other = covers_in s.definitions code other

@@ -3,7 +3,7 @@
 ghost use Rattle.std.specs.Prelude.{◌≡◌, ℕ};
 ghost use Rattle.std.specs.Option.{option_map_or};
 ghost use Rattle.fhir_schema.specs.Types.{type_place};
-ghost use Rattle.fhir_schema.specs.Covers.{reaches, reaches_type, covers_in};
+ghost use Rattle.fhir_schema.specs.Covers.{reaches, reaches_type, covers_in, derives_in};
 ghost use Rattle.fhir_schema.specs.Lineages.{IsLineage};
 
 use crate::kinds::names_resource;
@@ -29,6 +29,14 @@ fn reaches_type(table: &Table, lineage: &Lineage, from: &str, code: &str) -> boo
         (Some(start), Some(goal)) => reaches(table, lineage, start, goal),
         _ => false,
     }
+}
+
+/// Whether a type is the other, or derives from it.
+pub(crate) fn derives(table: &Table, lineage: &Lineage, code: &str, ancestor: &str) -> bool
+    requires { IsLineage table.now lineage.now }
+    ensures { result ≡ derives_in table.now code.now ancestor.now }
+{
+    code == ancestor || reaches_type(table, lineage, code, ancestor)
 }
 
 /// Whether the first code covers the other.

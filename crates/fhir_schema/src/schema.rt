@@ -6,9 +6,9 @@ ghost use Rattle.fhir_json.specs.Memory.{Gives};
 ghost use Rattle.fhir_schema.specs.Schemas.{schema_of, unusable, is_usable, elements_at, has, element_at, url_at, id_of_node, is_root_node, node_in, root_element, root, node_with, node, slots, slot_named, holder, types, forms, property, type_root, resource_root, is_concrete, is_loaded, loaded, concepts_at};
 ghost use Rattle.fhir_schema.specs.Types.{names_resource, type_of_code};
 ghost use Rattle.fhir_schema.specs.Forms.{are_apart};
-ghost use Rattle.fhir_schema.specs.Covers.{type_at, covers};
+ghost use Rattle.fhir_schema.specs.Covers.{type_at, covers, derives};
 
-use crate::covering::covers;
+use crate::covering::{covers, derives};
 use crate::form::{Form, Property};
 use crate::kinds::{is_resource, names_resource, type_of_code};
 use crate::lineage::Lineage;
@@ -348,5 +348,12 @@ impl Schema {
         ensures { result ≡ covers self.now code.now other.now }
     {
         covers(&self.table, &self.lineage, code, other)
+    }
+
+    /// Whether a type is another, or derives from it by its chain of bases (FHIR R4, StructureDefinition, baseDefinition).
+    pub fn derives(&self, code: &str, ancestor: &str) -> bool
+        ensures { result ≡ derives self.now code.now ancestor.now }
+    {
+        derives(&self.table, &self.lineage, code, ancestor)
     }
 }
