@@ -15,3 +15,5 @@ pub mod Meaning
 pub mod OneMeaning
 pub mod Users
 pub mod Spreading
+pub mod Right
+pub mod FoundThere

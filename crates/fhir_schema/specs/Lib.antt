@@ -10,3 +10,5 @@ pub mod Lineages
 pub mod Tables
 pub mod Covers
 pub mod Resting
+pub mod Expressions
+pub mod Readings

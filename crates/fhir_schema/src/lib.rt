@@ -18,6 +18,7 @@
 
 mod chains;
 mod covering;
+mod expressions;
 mod form;
 mod form_table;
 mod forms;
@@ -28,6 +29,7 @@ mod node;
 mod node_forms;
 mod nodes;
 mod property_name;
+mod readings;
 mod resting;
 mod rooted;
 mod schema;

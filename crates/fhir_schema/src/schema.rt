@@ -1,14 +1,17 @@
 //! The schema of a package.
 
 ghost use Rattle.std.specs.Prelude.{◌≡◌, false, IsTrue};
-ghost use Rattle.std.specs.Option.{option_copied, option_map_or};
+ghost use Rattle.std.specs.Option.{option_copied, option_map, option_map_or};
 ghost use Rattle.fhir_json.specs.Memory.{Gives};
 ghost use Rattle.fhir_schema.specs.Schemas.{schema_of, unusable, is_usable, elements_at, has, element_at, url_at, id_of_node, is_root_node, node_in, root_element, root, node_with, node, slots, slot_named, holder, types, forms, property, type_root, resource_root, is_concrete, is_loaded, loaded, concepts_at};
 ghost use Rattle.fhir_schema.specs.Types.{names_resource, type_of_code};
+ghost use Rattle.fhir_fp_syntax.specs.Expression.{expression_of as tree_of};
+ghost use Rattle.fhir_schema.specs.Expressions.{expression_at};
 ghost use Rattle.fhir_schema.specs.Forms.{are_apart};
 ghost use Rattle.fhir_schema.specs.Covers.{type_at, covers, derives};
 
 use crate::covering::{covers, derives};
+use crate::expressions::Expressions;
 use crate::form::{Form, Property};
 use crate::kinds::{is_resource, names_resource, type_of_code};
 use crate::lineage::Lineage;
@@ -21,6 +24,7 @@ use crate::table::Table;
 use crate::types::{canonical_place, reason_at};
 use fhir_codes::{ConceptSet, ValueSets};
 use fhir_elements::{ElementDef, Reason, TypeEntry};
+use fhir_fp_syntax::Expr;
 use fhir_json::NoMemory;
 use fhir_package::Package;
 use std::alloc::Global;
@@ -35,6 +39,7 @@ pub struct Schema {
     nodes: Nodes,
     forms: NodeForms,
     value_sets: ValueSets,
+    expressions: Expressions,
 }
 
 impl Model for Schema {
@@ -50,11 +55,13 @@ impl Model for Schema {
 
     ghost use Rattle.std.specs.Prelude.{◌≡◌};
     ghost use Rattle.fhir_schema.specs.Schemas.{all_slots, all_forms};
+    ghost use Rattle.fhir_schema.specs.Expressions.{all_expressions};
+    ghost use Rattle.fhir_schema.specs.Readings.{lists_seen};
     ghost use Rattle.fhir_schema.specs.Lineages.{IsLineage};
 
     ghost view = { λ s. record { definitions = s.table; reasons = s.reasons.items; value_sets = s.value_sets } };
 
-    ghost invariant = { λ s. (s.nodes ≡ all_slots s.table) × (s.forms.forms ≡ all_forms s.table) × IsLineage s.table s.lineage };
+    ghost invariant = { λ s. (s.nodes ≡ all_slots s.table) × (s.forms.forms ≡ all_forms s.table) × (lists_seen s.expressions.lists.items ≡ all_expressions s.table) × IsLineage s.table s.lineage };
 }
 
 impl Schema {
@@ -68,6 +75,7 @@ impl Schema {
         let forms = NodeForms::of(alloc, &table, &nodes)?;
         let reasons = all_reasons(alloc, &table, forms.are_apart())?;
         let value_sets = ValueSets::of(alloc, from)?;
+        let expressions = Expressions::of(alloc, &table)?;
         Ok(Schema {
             table,
             lineage,
@@ -75,6 +83,7 @@ impl Schema {
             nodes,
             forms,
             value_sets,
+            expressions,
         })
     }
 
@@ -270,6 +279,15 @@ impl Schema {
         ensures { option_copied result ≡ element_at self.now node }
     {
         self.elements_at(node.definition).get(node.element)
+    }
+
+    /// The expression of the constraint at a position among those of a node's element, if it has one that can be read
+    /// (FHIR R4, ElementDefinition, constraint.expression).
+    #[tactic(auto, using(crate::proofs::FoundThere::found_there))]
+    pub fn expression(&self, node: NodeRef, position: usize) -> Option<&Expr>
+        ensures { option_map (λ e. tree_of e.now) result ≡ expression_at self.now node position }
+    {
+        self.expressions.at(node, position)
     }
 
     /// The code of the type that a node's definition defines or constrains.
