@@ -1,42 +1,17 @@
 //! What is supported so far of a definition by itself.
 
 ghost use Rattle.std.specs.Prelude.{◌≡◌};
-ghost use Rattle.std.specs.List.{list_all, list_any};
-ghost use Rattle.fhir_definition.specs.Supported.{is_error, must_hold, has_plain_rules, is_bare, is_plain_child, is_plain_element};
+ghost use Rattle.std.specs.List.{list_all};
+ghost use Rattle.fhir_definition.specs.Supported.{has_plain_rules, is_bare, is_plain_child, is_plain_element};
 
 use crate::by_id::is_root;
-use fhir_elements::{ConstraintDef, ElementDef, Severity, TypeEntry};
+use fhir_elements::{ElementDef, TypeEntry};
 use fhir_names::slice_of;
-
-fn is_error(severity: Severity) -> bool
-    ensures { result ≡ is_error severity }
-{
-    match severity {
-        Severity::Error => true,
-        Severity::Warning => false,
-    }
-}
-
-fn must_hold(constraint: &ConstraintDef) -> bool
-    ensures { result ≡ must_hold constraint.now }
-{
-    constraint
-        .severity()
-        .is_some_and(|severity| is_error(severity))
-}
-
-fn has_judged(constraints: &[ConstraintDef]) -> bool
-    ensures { result ≡ list_any must_hold constraints.now }
-{
-    constraints.iter().any(|constraint| must_hold(constraint))
-}
 
 fn has_plain_rules(element: &ElementDef) -> bool
     ensures { result ≡ has_plain_rules element.now }
 {
-    !has_judged(element.constraints())
-        && element.slicing().is_none()
-        && element.content_reference().is_none()
+    element.slicing().is_none() && element.content_reference().is_none()
 }
 
 fn is_bare(entry: &TypeEntry) -> bool

@@ -1,5 +1,6 @@
 -- The constraints of an element (FHIR R4, ElementDefinition, constraint).
-use Rattle.std.specs.Prelude.{Bool, ◌&&◌, Option, is_some, codes, None, Some, if◌then◌else◌}
+use Rattle.std.specs.Prelude.{Bool, true, false, ◌&&◌, Option, is_some, codes, None, Some, if◌then◌else◌}
+use Rattle.std.specs.Option.{option_map_or}
 use Rattle.std.specs.Str.{bytes_eq}
 use Rattle.fhir_json.specs.Tree.{Text, Tree}
 use Rattle.fhir_json.specs.Fields.{is_object, text_in, text_at, allows_text}
@@ -16,6 +17,14 @@ pub record Constraint : Type 0 where
   pub key : Text
   pub severity : Option Severity
   pub expression : Option Text
+
+abbrev pub is_error : Severity → Bool
+is_error severities.Error = true
+is_error severities.Warning = false
+
+-- a resource for which it isn't true doesn't conform
+abbrev pub must_hold : Constraint → Bool
+must_hold c = option_map_or is_error c.severity false
 
 abbrev pub is_constraint : Tree → Bool
 is_constraint t =

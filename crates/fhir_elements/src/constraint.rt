@@ -2,7 +2,7 @@
 
 ghost use Rattle.std.specs.List.{list_all};
 ghost use Rattle.std.specs.Prelude.{◌≡◌, ◌<◌, Option, map, IfOk};
-ghost use Rattle.fhir_elements.specs.Constraint.{severity_of, is_constraint, constraint_of};
+ghost use Rattle.fhir_elements.specs.Constraint.{severity_of, is_error, must_hold, is_constraint, constraint_of};
 ghost use Rattle.fhir_json.specs.Views.{tree_of, trees_of, text_seen};
 
 use crate::codes::{Code, allows_code, code_in};
@@ -29,6 +29,15 @@ impl Code for Severity {
             "warning" => Some(Severity::Warning),
             _ => None,
         }
+    }
+}
+
+fn is_error(severity: Severity) -> bool
+    ensures { result ≡ is_error severity }
+{
+    match severity {
+        Severity::Error => true,
+        Severity::Warning => false,
     }
 }
 
@@ -67,6 +76,13 @@ impl ConstraintDef {
         ensures { result ≡ self.now.severity }
     {
         self.severity
+    }
+
+    /// Whether a resource for which the constraint isn't true doesn't conform.
+    pub fn must_hold(&self) -> bool
+        ensures { result ≡ must_hold self.now }
+    {
+        self.severity.is_some_and(|severity| is_error(severity))
     }
 
     /// Its FHIRPath expression.

@@ -1,0 +1,2 @@
+//! FHIRPath.
+#![tactic(auto)]
