@@ -3,3 +3,4 @@ pub mod Reading
 pub mod Value
 pub mod Views
 pub mod Rows
+pub mod Whole

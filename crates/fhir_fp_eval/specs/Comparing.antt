@@ -1,0 +1,87 @@
+-- The order of two values (FHIRPath N1, section 6.2).
+use Rattle.std.specs.Prelude.{Bool, true, false, ◌&&◌, Option, Some, None, Result, Ok, Err, if◌then◌else◌, codes}
+use Rattle.std.specs.Option.{option_map, option_and_then}
+use Rattle.std.specs.Str.{bytes_eq}
+use Rattle.std.specs.Ordering.{nat_cmp}
+use Rattle.std.specs.Cmp.Lexicographic.{slice_cmp}
+use Rattle.std.specs.declared.cmp.Ordering.{Ordering}
+use Rattle.fhir_json.specs.Tree.{Text}
+use Rattle.fhir_decimal.specs.Value.{Value, value_order}
+use Rattle.fhir_prims.specs.Order.{moment_order}
+use Rattle.fhir_schema.specs.Schemas.{SchemaValue}
+use Rattle.fhir_schema.specs.Covers.{derives}
+use Rattle.fhir_instance.specs.Items.{Item, Kids, no_kids, kid, type_of, kids_of}
+use Rattle.fhir_fp_eval.specs.declared.fault.EvalFault.{EvalFault}
+use Rattle.fhir_fp_eval.specs.declared.fault.EvalFault.TheVariants.{Kind}
+use Rattle.fhir_fp_eval.specs.Values.{Plain, node, Content, number_of, string_of, moment_of, time_of, item_content, content}
+use Rattle.fhir_fp_eval.specs.Equality.{equal, is_yes}
+
+-- an order, none where two values of one kind have none, or a fault
+abbrev pub Compared : Type 0
+Compared = Result (Option Ordering) EvalFault
+
+-- numbers by value, strings by their bytes, moments and times of day as far as they have an order
+abbrev pub content_order : Content → Content → Compared
+content_order (number_of a) (number_of b) = Ok (Some (value_order a b))
+content_order (string_of a) (string_of b) = Ok (Some (slice_cmp nat_cmp a b))
+content_order (moment_of a) (moment_of b) = Ok (moment_order a b)
+content_order (moment_of a) (time_of b) = Ok None
+content_order (time_of a) (moment_of b) = Ok None
+content_order (time_of a) (time_of b) = Ok (moment_order a b)
+content_order _ _ = Err Kind
+
+-- ---- quantities (FHIR R4, Data Types, Quantity; FHIRPath N1, section 6.2)
+
+abbrev pub first_named : Text → Kids → Option Item
+first_named name no_kids = None
+first_named name (kid n x ks) = if bytes_eq n name then Some x else first_named name ks
+
+abbrev pub child : Text → Item → Option Item
+child name x = first_named name (kids_of x)
+
+abbrev pub number_in : Content → Option Value
+number_in (number_of v) = Some v
+number_in _ = None
+
+-- the number of its child `value`
+abbrev pub amount : Item → Option Value
+amount x = option_and_then (λ y. option_and_then number_in (item_content y)) (child (codes "value") x)
+
+abbrev pub both_or_none : Option Item → Option Item → Bool
+both_or_none (Some x) (Some y) = is_yes (equal x y)
+both_or_none (Some x) None = false
+both_or_none None (Some y) = false
+both_or_none None None = true
+
+-- the children of a name are equal, or there is none in either
+abbrev pub same_child : Text → Item → Item → Bool
+same_child name x y = both_or_none (child name x) (child name y)
+
+abbrev pub same_unit : Item → Item → Bool
+same_unit x y =
+    same_child (codes "system") x y && (same_child (codes "code") x y && same_child (codes "unit") x y)
+
+abbrev pub amount_order : Item → Item → Option Ordering
+amount_order x y = option_and_then (λ a. option_map (value_order a) (amount y)) (amount x)
+
+abbrev pub quantity_order : Item → Item → Option Ordering
+quantity_order x y = if same_unit x y then amount_order x y else None
+
+abbrev pub is_quantity : SchemaValue → Item → Bool
+is_quantity s x = derives s (type_of x) (codes "Quantity")
+
+abbrev pub item_order : SchemaValue → Item → Item → Compared
+item_order s x y = if is_quantity s x && is_quantity s y then Ok (quantity_order x y) else Err Kind
+
+-- ---- two values
+
+-- where neither says anything, this other order
+abbrev pub order_said : Option Content → Option Content → Compared → Compared
+order_said (Some a) (Some b) otherwise = content_order a b
+order_said (Some a) None otherwise = Err Kind
+order_said None (Some b) otherwise = Err Kind
+order_said None None otherwise = otherwise
+
+unfoldable pub order_of : SchemaValue → Plain → Plain → Compared
+order_of s (node x) (node y) = order_said (item_content x) (item_content y) (item_order s x y)
+order_of s x y = order_said (content x) (content y) (Err Kind)

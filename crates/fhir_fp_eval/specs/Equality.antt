@@ -1,0 +1,104 @@
+-- When two values are equal: yes, no, or undecided (FHIRPath N1, section 6.1), and truths of three values (section 6.5).
+use Rattle.std.specs.Prelude.{Bool, true, false, not, List, [], ◌∷◌, Option, Some, None, if◌then◌else◌}
+use Rattle.std.specs.Option.{option_map}
+use Rattle.std.specs.List.{list_any}
+use Rattle.std.specs.Str.{bytes_eq}
+use Rattle.std.specs.Ordering.{is_eq}
+use Rattle.fhir_json.specs.Tree.{Text}
+use Rattle.fhir_decimal.specs.Value.{is_same_value}
+use Rattle.fhir_prims.specs.Order.{moment_order}
+use Rattle.fhir_instance.specs.Items.{Item, item, Kids, no_kids, kid}
+use Rattle.fhir_fp_eval.specs.Values.{Plain, node, Content, boolean_of, number_of, string_of, moment_of, time_of, item_content, content}
+
+-- a truth, or undecided
+abbrev pub Answer : Type 0
+Answer = Option Bool
+
+abbrev pub and3 : Answer → Answer → Answer
+and3 (Some false) q = Some false
+and3 (Some true) q = q
+and3 None (Some false) = Some false
+and3 None (Some true) = None
+and3 None None = None
+
+abbrev pub or3 : Answer → Answer → Answer
+or3 (Some true) q = Some true
+or3 (Some false) q = q
+or3 None (Some true) = Some true
+or3 None (Some false) = None
+or3 None None = None
+
+abbrev pub not3 : Answer → Answer
+not3 (Some b) = Some (not b)
+not3 None = None
+
+abbrev pub xor3 : Answer → Answer → Answer
+xor3 (Some a) (Some b) = Some (if a then not b else b)
+xor3 (Some a) None = None
+xor3 None q = None
+
+abbrev pub implies3 : Answer → Answer → Answer
+implies3 p q = or3 (not3 p) q
+
+abbrev pub is_yes : Answer → Bool
+is_yes (Some b) = b
+is_yes None = false
+
+-- ---- what values say
+
+abbrev pub same_truth : Bool → Bool → Bool
+same_truth true b = b
+same_truth false b = not b
+
+-- Numbers are equal by value, and moments as far as their order decides. What differs in kind is not equal.
+abbrev pub same_content : Content → Content → Answer
+same_content (boolean_of a) (boolean_of b) = Some (same_truth a b)
+same_content (number_of a) (number_of b) = Some (is_same_value a b)
+same_content (string_of a) (string_of b) = Some (bytes_eq a b)
+same_content (moment_of a) (moment_of b) = option_map is_eq (moment_order a b)
+same_content (time_of a) (time_of b) = option_map is_eq (moment_order a b)
+same_content _ _ = Some false
+
+-- where neither says anything, this other answer
+abbrev pub same_said : Option Content → Option Content → Answer → Answer
+same_said (Some a) (Some b) otherwise = same_content a b
+same_said (Some a) None otherwise = Some false
+same_said None (Some b) otherwise = Some false
+same_said None None otherwise = otherwise
+
+-- ---- items
+
+abbrev pub if_same : Text → Text → Answer → Answer
+if_same a b otherwise = if bytes_eq a b then otherwise else Some false
+
+-- Items are equal by what they say, and where they say nothing if they are of one type, with equal children, pair by pair.
+abbrev mutual
+  pub equal : Item → Item → Answer
+  equal (item a v ks) (item b w ls) =
+      same_said (item_content (item a v ks)) (item_content (item b w ls)) (if_same a b (equal_kids ks ls))
+
+  pub equal_kids : Kids → Kids → Answer
+  equal_kids no_kids no_kids = Some true
+  equal_kids no_kids (kid m y ls) = Some false
+  equal_kids (kid n x ks) no_kids = Some false
+  equal_kids (kid n x ks) (kid m y ls) = and3 (if_same n m (equal x y)) (equal_kids ks ls)
+
+-- ---- values and lists of them
+
+unfoldable pub alike : Plain → Plain → Answer
+alike (node x) (node y) = equal x y
+alike x y = same_said (content x) (content y) (Some false)
+
+unfoldable pub pairs : List Plain → List Plain → Answer
+pairs [] [] = Some true
+pairs [] (y ∷ ys) = Some false
+pairs (x ∷ xs) [] = Some false
+pairs (x ∷ xs) (y ∷ ys) = and3 (alike x y) (pairs xs ys)
+
+abbrev pub equality : List Plain → List Plain → Answer
+equality [] ws = None
+equality (v ∷ vs) [] = None
+equality (v ∷ vs) (w ∷ ws) = pairs (v ∷ vs) (w ∷ ws)
+
+abbrev pub has : List Plain → Plain → Bool
+has seen x = list_any (λ y. is_yes (alike y x)) seen

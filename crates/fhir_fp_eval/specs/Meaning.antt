@@ -1,0 +1,239 @@
+-- What an expression gives (FHIRPath N1).
+use Rattle.std.specs.Prelude.{ℕ, suc, Bool, true, false, not, List, [], ◌∷◌, ◌++◌, length, map, Option, Some, None, is_some, Result, Ok, Err, if◌then◌else◌, nat_eq, codes}
+use Rattle.std.specs.Option.{option_map}
+use Rattle.std.specs.Str.{bytes_eq}
+use Rattle.std.specs.Ordering.{is_lt, is_le, is_gt, is_ge}
+use Rattle.std.specs.declared.cmp.Ordering.{Ordering}
+use Rattle.fhir_json.specs.Tree.{Text}
+use Rattle.fhir_decimal.specs.Value.{Value, is_same_value}
+use Rattle.fhir_decimal.specs.Whole.{count, is_whole_value}
+use Rattle.fhir_schema.specs.Schemas.{SchemaValue}
+use Rattle.fhir_schema.specs.Covers.{derives}
+use Rattle.fhir_instance.specs.Items.{Item, item, Kids, no_kids, kid, type_of, kids_of}
+use Rattle.fhir_fp_syntax.specs.Expression.{Expression, nothing, boolean, this, resource, context, name, child, call, typed, filtered, binary}
+use Rattle.fhir_fp_syntax.specs.Expression as expressions
+use Rattle.fhir_fp_syntax.specs.declared.expr.Operator.{Operator}
+use Rattle.fhir_fp_syntax.specs.declared.expr.Operator.TheVariants as operators
+use Rattle.fhir_fp_syntax.specs.declared.expr.Function.{Function}
+use Rattle.fhir_fp_syntax.specs.declared.expr.Function.TheVariants as functions
+use Rattle.fhir_fp_syntax.specs.declared.expr.Filter.{Filter}
+use Rattle.fhir_fp_syntax.specs.declared.expr.Filter.TheVariants as filters
+use Rattle.fhir_fp_syntax.specs.declared.expr.TypeTest.{TypeTest}
+use Rattle.fhir_fp_syntax.specs.declared.expr.TypeTest.TheVariants as tests
+use Rattle.fhir_fp_eval.specs.declared.fault.EvalFault.{EvalFault}
+use Rattle.fhir_fp_eval.specs.declared.fault.EvalFault.TheVariants.{Several, Kind}
+use Rattle.fhir_fp_eval.specs.Values.{Plain, node, truth, number, text, World, Content, boolean_of, number_of, item_content, content}
+use Rattle.fhir_fp_eval.specs.Literals.{literal_value}
+use Rattle.fhir_fp_eval.specs.Equality.{Answer, and3, or3, not3, xor3, implies3, is_yes, has, equality}
+use Rattle.fhir_fp_eval.specs.Comparing.{order_of}
+
+abbrev pub Found : Type 0
+Found = Result (List Plain) EvalFault
+
+-- what is made of a result; a fault stays one
+infixl 10 ◌>>=◌
+abbrev pub ◌>>=◌ : {A B : Type 0} → Result A EvalFault → (A → Result B EvalFault) → Result B EvalFault
+(Ok x) >>= f = f x
+(Err e) >>= f = Err e
+
+-- ---- truth
+
+-- what is no boolean is true, where a boolean is wanted (FHIRPath N1, section 4.5)
+abbrev pub truth_in : Option Content → Bool
+truth_in (Some (boolean_of b)) = b
+truth_in _ = true
+
+abbrev pub truth_of : List Plain → Result Answer EvalFault
+truth_of [] = Ok None
+truth_of (x ∷ []) = Ok (Some (truth_in (content x)))
+truth_of (x ∷ y ∷ xs) = Err Several
+
+abbrev pub answer : Answer → List Plain
+answer None = []
+answer (Some b) = truth b ∷ []
+
+-- ---- children
+
+-- the name of a choice is written without `[x]` (FHIR R4, FHIRPath, polymorphism)
+abbrev pub spelled : Text → Text
+spelled [] = []
+spelled (b ∷ bs) = if bytes_eq (b ∷ bs) (codes "[x]") then [] else b ∷ spelled bs
+
+abbrev pub kids_named : Text → Kids → List Item
+kids_named n no_kids = []
+kids_named n (kid m x ks) = if bytes_eq (spelled m) n then x ∷ kids_named n ks else kids_named n ks
+
+abbrev pub all_kids : Kids → List Item
+all_kids no_kids = []
+all_kids (kid n x ks) = x ∷ all_kids ks
+
+-- each child, and then what is below it
+abbrev mutual
+  pub descendants : Item → List Item
+  descendants (item type json ks) = descendants_in ks
+
+  pub descendants_in : Kids → List Item
+  descendants_in no_kids = []
+  descendants_in (kid n x ks) = x ∷ (descendants x ++ descendants_in ks)
+
+-- what each item has, one behind the other; plain values have nothing
+abbrev pub below : (Item → List Item) → List Plain → List Plain
+below f [] = []
+below f (node x ∷ xs) = map node (f x) ++ below f xs
+below f (x ∷ xs) = below f xs
+
+-- a name behind a dot
+abbrev pub children_of : Text → List Plain → List Plain
+children_of n vs = below (λ x. kids_named n (kids_of x)) vs
+
+-- a name at the start of a path: the focus, where that is its type or a base of it (FHIRPath N1, section 3.1)
+abbrev pub starts : SchemaValue → Text → Plain → List Plain
+starts s n (node x) = if derives s (type_of x) n then node x ∷ [] else children_of n (node x ∷ [])
+starts s n x = []
+
+-- ---- lists of values
+
+abbrev pub is_empty : {A : Type 0} → List A → Bool
+is_empty [] = true
+is_empty (x ∷ xs) = false
+
+abbrev pub first_of : List Plain → List Plain
+first_of [] = []
+first_of (x ∷ xs) = x ∷ []
+
+-- one item that has the value of a primitive
+abbrev pub has_value : List Plain → Bool
+has_value (node x ∷ []) = is_some (item_content x)
+has_value vs = false
+
+-- what stands once
+abbrev pub add : List Plain → Plain → List Plain
+add seen x = if has seen x then seen else seen ++ x ∷ []
+
+unfoldable pub joined : List Plain → List Plain → List Plain
+joined seen [] = seen
+joined seen (x ∷ xs) = joined (add seen x) xs
+
+-- those of the list that are in ws, once
+unfoldable pub shared : List Plain → List Plain → List Plain → List Plain
+shared ws seen [] = seen
+shared ws seen (x ∷ xs) = shared ws (if has ws x then add seen x else seen) xs
+
+abbrev pub member_of : List Plain → List Plain → Found
+member_of [] ws = Ok []
+member_of (v ∷ []) ws = Ok (truth (has ws v) ∷ [])
+member_of (v ∷ w ∷ vs) ws = Err Several
+
+-- the value whose place is the number, of values whose places begin at n
+unfoldable pub at_from : ℕ → Value → List Plain → List Plain
+at_from n v [] = []
+at_from n v (x ∷ xs) = if is_same_value v (count n) then x ∷ [] else at_from (suc n) v xs
+
+abbrev pub at_content : Option Content → List Plain → Found
+at_content (Some (number_of v)) vs = if is_whole_value v then Ok (at_from 0 v vs) else Err Kind
+at_content _ vs = Err Kind
+
+abbrev pub indexed : List Plain → List Plain → Found
+indexed vs [] = Ok []
+indexed vs (x ∷ []) = at_content (content x) vs
+indexed vs (x ∷ y ∷ xs) = Err Several
+
+-- one value against one other, by their order
+abbrev pub compared : (Ordering → Bool) → SchemaValue → List Plain → List Plain → Found
+compared test s [] ws = Ok []
+compared test s (v ∷ vs) [] = Ok []
+compared test s (v ∷ []) (w ∷ []) = order_of s v w >>= λ o. Ok (answer (option_map test o))
+compared test s (v ∷ []) (w ∷ x ∷ ws) = Err Several
+compared test s (v ∷ x ∷ vs) (w ∷ ws) = Err Several
+
+-- ---- functions and operators
+
+abbrev pub applied : Function → List Plain → Found
+applied functions.Exists vs = Ok (truth (not (is_empty vs)) ∷ [])
+applied functions.Empty vs = Ok (truth (is_empty vs) ∷ [])
+applied functions.Count vs = Ok (number (count (length vs)) ∷ [])
+applied functions.First vs = Ok (first_of vs)
+applied functions.Children vs = Ok (below (λ x. all_kids (kids_of x)) vs)
+applied functions.Descendants vs = Ok (below descendants vs)
+applied functions.Not vs = truth_of vs >>= λ p. Ok (answer (not3 p))
+applied functions.HasValue vs = Ok (truth (has_value vs) ∷ [])
+
+-- the item's type is this one, or derives from it; a plain value is of no type
+abbrev pub of_type : SchemaValue → Text → Plain → Bool
+of_type s t (node x) = derives s (type_of x) t
+of_type s t x = false
+
+unfoldable pub of_types : SchemaValue → Text → List Plain → List Plain
+of_types s t [] = []
+of_types s t (x ∷ xs) = if of_type s t x then x ∷ of_types s t xs else of_types s t xs
+
+abbrev pub tested : SchemaValue → TypeTest → Text → List Plain → Found
+tested s tests.OfType t vs = Ok (of_types s t vs)
+tested s f t [] = Ok []
+tested s tests.Is t (x ∷ []) = Ok (truth (of_type s t x) ∷ [])
+tested s tests.As t (x ∷ []) = Ok (of_types s t (x ∷ []))
+tested s f t (x ∷ y ∷ xs) = Err Several
+
+abbrev pub of_truths : (Answer → Answer → Answer) → List Plain → List Plain → Found
+of_truths f vs ws = truth_of vs >>= λ p. (truth_of ws >>= λ q. Ok (answer (f p q)))
+
+abbrev pub combined : SchemaValue → Operator → List Plain → List Plain → Found
+combined s operators.Index vs ws = indexed vs ws
+combined s operators.Intersect vs ws = Ok (shared ws [] vs)
+combined s operators.Union vs ws = Ok (joined (joined [] vs) ws)
+combined s operators.Less vs ws = compared is_lt s vs ws
+combined s operators.LessOrEqual vs ws = compared is_le s vs ws
+combined s operators.Greater vs ws = compared is_gt s vs ws
+combined s operators.GreaterOrEqual vs ws = compared is_ge s vs ws
+combined s operators.Equal vs ws = Ok (answer (equality vs ws))
+combined s operators.NotEqual vs ws = Ok (answer (not3 (equality vs ws)))
+combined s operators.In vs ws = member_of vs ws
+combined s operators.Contains vs ws = member_of ws vs
+combined s operators.And vs ws = of_truths and3 vs ws
+combined s operators.Or vs ws = of_truths or3 vs ws
+combined s operators.Xor vs ws = of_truths xor3 vs ws
+combined s operators.Implies vs ws = of_truths implies3 vs ws
+
+-- ---- what is evaluated for each value
+
+-- whether c is true of the value
+abbrev pub asked : (Plain → Found) → Plain → Result Bool EvalFault
+asked c v = c v >>= λ r. (truth_of r >>= λ p. Ok (is_yes p))
+
+-- the values of which c is true
+unfoldable pub kept : (Plain → Found) → List Plain → Found
+kept c [] = Ok []
+kept c (v ∷ vs) = asked c v >>= λ b. (kept c vs >>= λ ws. Ok (if b then v ∷ ws else ws))
+
+-- what the function makes of all values and of those of which c is true
+abbrev pub filtered_by : Filter → List Plain → List Plain → List Plain
+filtered_by filters.Where vs ws = ws
+filtered_by filters.Exists vs ws = truth (not (is_empty ws)) ∷ []
+filtered_by filters.All vs ws = truth (nat_eq (length ws) (length vs)) ∷ []
+
+-- ---- expressions
+
+-- What the expression gives where `$this` is the value. A fault anywhere is one of the whole, and nothing is cut short.
+unfoldable pub den : World → Expression → Plain → Found
+den w nothing x = Ok []
+den w (boolean b) x = Ok (truth b ∷ [])
+den w (expressions.number s) x = Ok (number (literal_value s) ∷ [])
+den w (expressions.text s) x = Ok (text s ∷ [])
+den w this x = Ok (x ∷ [])
+den w resource x = Ok (node w.resource ∷ [])
+den w context x = Ok (node w.context ∷ [])
+den w (name n) x = Ok (starts w.schema n x)
+den w (child a n) x = den w a x >>= λ vs. Ok (children_of n vs)
+den w (call f a) x = den w a x >>= λ vs. applied f vs
+den w (typed f a t) x = den w a x >>= λ vs. tested w.schema f t vs
+den w (filtered f a c) x = den w a x >>= λ vs. (kept (den w c) vs >>= λ ws. Ok (filtered_by f vs ws))
+den w (binary op a b) x = den w a x >>= λ vs. (den w b x >>= λ ws. combined w.schema op vs ws)
+
+-- a fault isn't true
+abbrev pub verdict : Result Bool EvalFault → Bool
+verdict (Ok b) = b
+verdict (Err e) = false
+
+-- the truth of what the expression gives at the item is true
+unfoldable pub is_true : World → Expression → Item → Bool
+is_true w e x = verdict (asked (den w e) (node x))

@@ -1,0 +1,65 @@
+-- The values of a result: items, and the plain values of FHIRPath (N1, sections 2 and 3).
+use Rattle.std.specs.Prelude.{Bool, ◌||◌, Option, Some, None, if◌then◌else◌, codes}
+use Rattle.std.specs.Option.{option_map, option_and_then}
+use Rattle.std.specs.Str.{bytes_eq}
+use Rattle.fhir_json.specs.Tree.{Text, Tree}
+use Rattle.fhir_json.specs.Tree.{null, boolean, string, array, object}
+use Rattle.fhir_json.specs.Tree.{number as number_text}
+use Rattle.fhir_decimal.specs.Value.{Value, value_of}
+use Rattle.fhir_decimal.specs.Reading.{parts}
+use Rattle.fhir_prims.specs.Order.{Fields}
+use Rattle.fhir_prims.specs.Reading.{fields_of}
+use Rattle.fhir_schema.specs.Schemas.{SchemaValue}
+use Rattle.fhir_instance.specs.Items.{Item, item}
+
+-- one value of a result
+pub data Plain : Type 0 where
+  node : Item → Plain
+  truth : Bool → Plain
+  number : Value → Plain
+  text : Text → Plain
+
+-- where an expression is evaluated: the types, and what `%resource` and `%context` are
+pub record World : Type 0 where
+  pub schema : SchemaValue
+  pub resource : Item
+  pub context : Item
+
+-- ---- what a value says, apart from where it stands
+
+pub data Content : Type 0 where
+  boolean_of : Bool → Content
+  number_of : Value → Content
+  string_of : Text → Content
+  -- a date or a moment, and a time of day
+  moment_of : Fields → Content
+  time_of : Fields → Content
+
+-- the types whose items are moments (FHIR R4, Data Types, date, dateTime, instant)
+abbrev pub is_moment_type : Text → Bool
+is_moment_type type =
+    bytes_eq type (codes "date") || (bytes_eq type (codes "dateTime") || bytes_eq type (codes "instant"))
+
+-- what the text of a type says
+abbrev pub text_content : Text → Text → Option Content
+text_content type s =
+    if is_moment_type type then option_map moment_of (fields_of s)
+    else (if bytes_eq type (codes "time") then option_map time_of (fields_of s) else Some (string_of s))
+
+abbrev pub json_content : Text → Tree → Option Content
+json_content type null = None
+json_content type (boolean b) = Some (boolean_of b)
+json_content type (number_text s) = option_map (λ p. number_of (value_of p)) (parts s)
+json_content type (string s) = text_content type s
+json_content type (array ts) = None
+json_content type (object ms) = None
+
+-- what an item says: the value of a primitive. The others say nothing by themselves
+abbrev pub item_content : Item → Option Content
+item_content (item type json kids) = option_and_then (json_content type) json
+
+abbrev pub content : Plain → Option Content
+content (node x) = item_content x
+content (truth b) = Some (boolean_of b)
+content (number v) = Some (number_of v)
+content (text s) = Some (string_of s)
