@@ -10,12 +10,17 @@ pub data Unread : Type 0 where
   target : (canonical : List ℕ) → Unread
   -- a required binding to a value set that can't be read, or of an item that isn't looked up in one
   binding : (canonical : List ℕ) → Unread
+  -- a constraint whose expression can't be read, by its text; and one without an expression, by its key
+  expression : (text : List ℕ) → Unread
+  constraint : (key : List ℕ) → Unread
 
 -- as a message says it
 abbrev pub unread_text : Unread → Text
 unread_text (range property value) = codes "range " ++ property ++ codes " " ++ compact value
 unread_text (target canonical) = codes "target " ++ canonical
 unread_text (binding canonical) = codes "binding " ++ canonical
+unread_text (expression text) = codes "expression " ++ text
+unread_text (constraint key) = codes "constraint " ++ key
 
 -- What the unread rules mean of one item: whether each holds. Any test may be meant.
 abbrev pub Meaning : Type 0

@@ -5,7 +5,7 @@ use fhir_json::Member;
 use std::fmt;
 
 /// A rule that a definition has and that isn't judged here. `Display` prints what it says: `range`, its property and its
-/// compact value; or `target` or `binding` and its canonical.
+/// compact value; `target` or `binding` and its canonical; `expression` and its text; or `constraint` and its key.
 #[derive(Clone, Copy, Debug)]
 pub enum Unread<'a> {
     /// A bound of a type whose values aren't compared, as `minValueQuantity`.
@@ -14,6 +14,10 @@ pub enum Unread<'a> {
     Target(&'a str),
     /// A required binding to a value set that can't be read, or of an item that isn't looked up in one.
     Binding(&'a str),
+    /// A constraint whose expression can't be read, by its text.
+    Expression(&'a str),
+    /// A constraint without an expression, by its key.
+    Constraint(&'a str),
 }
 
 impl fmt::Display for Unread<'_> {
@@ -27,6 +31,8 @@ impl fmt::Display for Unread<'_> {
             }
             Unread::Target(canonical) => write!(f, "target {canonical}"),
             Unread::Binding(canonical) => write!(f, "binding {canonical}"),
+            Unread::Expression(text) => write!(f, "expression {text}"),
+            Unread::Constraint(key) => write!(f, "constraint {key}"),
         }
     }
 }

@@ -1,18 +1,22 @@
 -- What an element asks hangs on its unread rules alone, and where they mean more no less holds.
-use Rattle.std.proofs.Common.{Bool, true, false, List, [], ◌∷◌, Option, Some, None, is_some, is_none, inl, inr, ◌&&◌, ◌||◌, IsTrue, not}
+use Rattle.std.proofs.Common.{ℕ, zero, suc, refl, Bool, true, false, List, [], ◌∷◌, ◌++◌, Option, Some, None, is_some, is_none, inl, inr, ◌&&◌, ◌||◌, IsTrue, not}
 use Rattle.std.specs.Prelude.{if◌then◌else◌}
-use Rattle.std.specs.Option.{option_map, option_map_or}
-use Rattle.std.specs.List.{list_any, flat_map, AllByRecursion}
+use Rattle.std.specs.Option.{option_map, option_map_or, option_and_then}
+use Rattle.std.specs.List.{list_any, flat_map, slice_get, AllByRecursion}
 use Rattle.std.specs.Ordering.{is_le, is_ge}
 use Rattle.std.specs.declared.cmp.Ordering.{Ordering}
 use Rattle.std.proofs.lemmas.Bool.{and_parts, and_from, or_cases, or_left, or_right}
 use Rattle.fhir_json.specs.Tree.{Text, Property}
 use Rattle.fhir_elements.specs.TypeEntry.{TypeEntry}
+use Rattle.fhir_elements.specs.Constraint.{Constraint, must_hold}
 use Rattle.fhir_elements.specs.Element.{Element, required_value_set}
 use Rattle.fhir_schema.specs.declared.node.NodeRef.{NodeRef}
 use Rattle.fhir_schema.specs.Schemas.{SchemaValue, element_at, types, loaded}
 use Rattle.fhir_schema.specs.Covers.{covers, type_at}
+use Rattle.fhir_schema.specs.Expressions.{expression_of, constraint_at}
 use Rattle.fhir_instance.specs.Items.{Item, type_of}
+use Rattle.fhir_fp_syntax.specs.Expression.{Expression}
+use Rattle.fhir_fp_eval.specs.Meaning.{is_true}
 use Rattle.fhir_facets.specs.declared.kinds.Kind.{Kind}
 use Rattle.fhir_facets.specs.Unread.{Unread, Meaning, range, target, binding}
 use Rattle.fhir_facets.specs.Seen.{Seen}
@@ -20,8 +24,8 @@ use Rattle.fhir_facets.specs.Ranges.{kind_of_bound, kind_holds, bound_holds}
 use Rattle.fhir_facets.specs.Targets.{has_targets, referred_type, target_holds}
 use Rattle.fhir_facets.specs.Bindings.{binding_to, decided, binding_holds}
 use Rattle.fhir_facets.specs.Carried.{bound_unread, range_unread, target_unread, binding_unread}
-use Rattle.fhir_slicing.specs.Conformance.{seen, entry_holds, types_hold, is_untyped, range_at, binding_at, at_element}
-use Rattle.fhir_slicing.specs.Meeting.{entry_unread, set_unread, element_unread, unread_at}
+use Rattle.fhir_slicing.specs.Conformance.{seen, entry_holds, types_hold, is_untyped, range_at, binding_at, at_element, unread_constraint, constraint_passes}
+use Rattle.fhir_slicing.specs.Meeting.{entry_unread, set_unread, constraint_unread, element_unread, unread_at}
 use Rattle.fhir_slicing.proofs.Lists.{any_step, all_weaker, all_front, all_back, all_given}
 
 -- what one meaning says of these rules, the other does
@@ -92,7 +96,7 @@ module _ (s : SchemaValue) (m m' : Meaning) where
     where
       by_case : (o : Option Element) → AreCarried m m' (option_map_or (element_unread s x) o []) → IsTrue (option_map_or (range_at m x) o true) → IsTrue (option_map_or (range_at m' x) o true)
       by_case None each holds = holds
-      by_case (Some e) each holds = element_step x e (all_front (λ u. IsTrue (m u) → IsTrue (m' u)) (range_unread e) (set_unread s x e) each) holds
+      by_case (Some e) each holds = element_step x e (all_front (λ u. IsTrue (m u) → IsTrue (m' u)) (range_unread e) (set_unread s x e ++ flat_map constraint_unread e.constraints) each) holds
 
   decided_step : (x : Seen) (canonical : Text) (o : Option Bool) → AreCarried m m' (if is_some o then [] else binding canonical ∷ [])
       → IsTrue (option_map_or (λ holds. holds) o (m (binding canonical))) → IsTrue (option_map_or (λ holds. holds) o (m' (binding canonical)))
@@ -114,4 +118,42 @@ module _ (s : SchemaValue) (m m' : Meaning) where
           → IsTrue (option_map_or (binding_at s m x) o true) → IsTrue (option_map_or (binding_at s m' x) o true)
       by_case None each holds = holds
       by_case (Some e) each holds =
-          set_step x (required_value_set e) (all_back (λ u. IsTrue (m u) → IsTrue (m' u)) (range_unread e) (set_unread s x e) each) holds
+          set_step x (required_value_set e)
+          (all_front (λ u. IsTrue (m u) → IsTrue (m' u)) (set_unread s x e) (flat_map constraint_unread e.constraints)
+          (all_back (λ u. IsTrue (m u) → IsTrue (m' u)) (range_unread e) (set_unread s x e ++ flat_map constraint_unread e.constraints) each))
+          holds
+
+  constraint_given : (resource x : Item) (c : Constraint) (must : Bool) (e : Option Expression)
+      → AreCarried m m' (if must && is_none e then unread_constraint c ∷ [] else [])
+      → IsTrue (not must || option_map_or (λ e. is_true (record { schema = s; resource = resource; context = x }) e x) e (m (unread_constraint c)))
+      → IsTrue (not must || option_map_or (λ e. is_true (record { schema = s; resource = resource; context = x }) e x) e (m' (unread_constraint c)))
+  constraint_given resource x c false e each holds = holds
+  constraint_given resource x c true None each holds = each.0 holds
+  constraint_given resource x c true (Some e) each holds = holds
+
+  constraint_among : (resource x : Item) (cs : List Constraint) (position : ℕ) → AreCarried m m' (flat_map constraint_unread cs)
+      → IsTrue (option_map_or (constraint_passes s m resource x) (slice_get cs position) true)
+      → IsTrue (option_map_or (constraint_passes s m' resource x) (slice_get cs position) true)
+  constraint_among resource x [] position each holds = refl
+  constraint_among resource x (c ∷ cs) zero each holds =
+      constraint_given resource x c (must_hold c) (expression_of c)
+      (all_front (λ u. IsTrue (m u) → IsTrue (m' u)) (constraint_unread c) (flat_map constraint_unread cs) each) holds
+  constraint_among resource x (c ∷ cs) (suc position) each holds =
+      constraint_among resource x cs position
+      (all_back (λ u. IsTrue (m u) → IsTrue (m' u)) (constraint_unread c) (flat_map constraint_unread cs) each) holds
+
+  pub constraint_step : (resource x : Item) (n : NodeRef) (position : ℕ) → AreCarried m m' (unread_at s x n)
+      → IsTrue (option_map_or (constraint_passes s m resource x) (constraint_at s n position) true)
+      → IsTrue (option_map_or (constraint_passes s m' resource x) (constraint_at s n position) true)
+  constraint_step resource x n position each =
+      by_case (element_at s n) (all_back (λ u. IsTrue (m u) → IsTrue (m' u)) (flat_map (entry_unread s x) (types s n)) (option_map_or (element_unread s x) (element_at s n) []) each)
+    where
+      by_case : (o : Option Element) → AreCarried m m' (option_map_or (element_unread s x) o [])
+          → IsTrue (option_map_or (constraint_passes s m resource x) (option_and_then (λ e. slice_get e.constraints position) o) true)
+          → IsTrue (option_map_or (constraint_passes s m' resource x) (option_and_then (λ e. slice_get e.constraints position) o) true)
+      by_case None each holds = holds
+      by_case (Some e) each holds =
+          constraint_among resource x e.constraints position
+          (all_back (λ u. IsTrue (m u) → IsTrue (m' u)) (set_unread s x e) (flat_map constraint_unread e.constraints)
+          (all_back (λ u. IsTrue (m u) → IsTrue (m' u)) (range_unread e) (set_unread s x e ++ flat_map constraint_unread e.constraints) each))
+          holds

@@ -1,6 +1,6 @@
 -- Facts of each element of a list.
-use Rattle.std.proofs.Common.{◌≡◌, Bool, List, [], ◌∷◌, ◌++◌, map, refl, ap, ◌∙◌, inl, inr, ◌&&◌, IsTrue}
-use Rattle.std.specs.List.{list_all, list_any, flat_map, AllByRecursion}
+use Rattle.std.proofs.Common.{◌≡◌, ℕ, zero, suc, ◌+◌, add-zero, zero-add, add-one, arith, sym, Bool, List, [], ◌∷◌, ◌++◌, map, refl, ap, ◌∙◌, inl, inr, ◌&&◌, IsTrue}
+use Rattle.std.specs.List.{range_with_len, list_all, list_any, flat_map, AllByRecursion}
 use Rattle.std.proofs.lemmas.Bool.{and_parts, and_from, or_cases, or_left, or_right}
 
 pub all_step : {A : Type 0} (p q : A → Bool) (xs : List A) → AllByRecursion (λ x. IsTrue (p x) → IsTrue (q x)) xs → IsTrue (list_all p xs) → IsTrue (list_all q xs)
@@ -53,3 +53,19 @@ all_gathered P f (x ∷ xs) each = all_join P (f x) (flat_map f xs) each.0 (all_
 pub all_mapped : {A B : Type 0} (P : B → Type 0) (f : A → B) (xs : List A) → AllByRecursion (λ x. P (f x)) xs → AllByRecursion P (map f xs)
 all_mapped P f [] each = tt
 all_mapped P f (x ∷ xs) each = (each.0, all_mapped P f xs each.1)
+
+mapped_more : {A : Type 0} (f : ℕ → A) (start n : ℕ) → map f (range_with_len start (suc n)) ≡ map f (range_with_len start n) ++ f (start + n) ∷ []
+mapped_more {A} f start zero = ap (λ (m : ℕ). f m ∷ []) (sym (add-zero start))
+mapped_more {A} f start (suc n) =
+    ap (λ (xs : List A). f start ∷ xs) (mapped_more f (start + 1) n)
+    ∙ ap (λ (m : ℕ). f start ∷ (map f (range_with_len (start + 1) n) ++ f m ∷ [])) (moved start n)
+  where
+    moved : (start n : ℕ) → start + 1 + n ≡ start + suc n
+    moved start n = omega arith
+
+-- of the numbers from 0 on, one more
+pub counted_more : {A : Type 0} (f : ℕ → A) (n : ℕ) → map f (range_with_len 0 (n + 1)) ≡ map f (range_with_len 0 n) ++ f n ∷ []
+counted_more {A} f n =
+    ap (λ (m : ℕ). map f (range_with_len 0 m)) (add-one n)
+    ∙ mapped_more f 0 n
+    ∙ ap (λ (m : ℕ). map f (range_with_len 0 n) ++ f m ∷ []) (zero-add n)

@@ -8,12 +8,12 @@ use Rattle.fhir_schema.specs.declared.node.NodeRef.{NodeRef}
 use Rattle.fhir_schema.specs.Schemas.{SchemaValue, is_root_node, type_root}
 use Rattle.fhir_instance.specs.Items.{Item, item, Kids, no_kids, kid, kids_of, type_of}
 use Rattle.fhir_facets.specs.Unread.{Meaning}
-use Rattle.fhir_slicing.specs.Asks.{root_type, types, fixed, pattern, range, length_limit, binding, too_few, too_many}
+use Rattle.fhir_slicing.specs.Asks.{root_type, types, fixed, pattern, range, length_limit, binding, too_few, too_many, constraint}
 use Rattle.fhir_slicing.specs.Asks.{Ask, own, root, child, root_asks, inner_asks, asks}
-use Rattle.fhir_slicing.specs.Conformance.{Interpretation, Around, meaning_at, inside, below, ask_holds, root_holds, inner_holds, item_holds, conforms, kid_tests}
+use Rattle.fhir_slicing.specs.Conformance.{Interpretation, Around, meaning_at, resource_at, inside, below, ask_holds, root_holds, inner_holds, item_holds, conforms, kid_tests}
 use Rattle.fhir_slicing.specs.Meeting.{kid_at, unread_at}
 use Rattle.fhir_slicing.proofs.Lists.{all_step}
-use Rattle.fhir_slicing.proofs.Carrying.{AreCarried, types_step, range_step, binding_step}
+use Rattle.fhir_slicing.proofs.Carrying.{AreCarried, types_step, range_step, binding_step, constraint_step}
 use Rattle.fhir_slicing.proofs.Asked.{IsOf, root_asks_are_of, inner_asks_are_of}
 
 -- from a fact of each element to one of each by membership
@@ -24,9 +24,9 @@ each_contained P Q (x ∷ xs) f each = (
   each_contained P Q xs (λ y has. f y (Contains-append_right (x ∷ []) xs y has)) each.1,
 )
 
-module _ (s : SchemaValue) (m m' : Meaning) (x : Item) (kids kids' : List (NodeRef → Bool)) (roots roots' : NodeRef → Bool) where
+module _ (s : SchemaValue) (m m' : Meaning) (resource x : Item) (kids kids' : List (NodeRef → Bool)) (roots roots' : NodeRef → Bool) where
   abbrev IsStep : Ask → Type 0
-  IsStep ask = IsTrue (ask_holds s m x kids roots ask) → IsTrue (ask_holds s m' x kids' roots' ask)
+  IsStep ask = IsTrue (ask_holds s m resource x kids roots ask) → IsTrue (ask_holds s m' resource x kids' roots' ask)
 
   ask_step : (n : NodeRef) → AreCarried m m' (unread_at s x n) → (all : List Ask)
       → ((r : NodeRef) → Contains all (root r) → type_root s (type_of x) ≡ Some r → IsTrue (roots r) → IsTrue (roots' r))
@@ -44,15 +44,17 @@ module _ (s : SchemaValue) (m m' : Meaning) (x : Item) (kids kids' : List (NodeR
       subst (λ k. IsStep (own binding k)) (sym is) (binding_step s m m' x n carried)
   ask_step n carried all of_root of_child (own (too_few name) k) has is = λ h. h
   ask_step n carried all of_root of_child (own (too_many name) k) has is = λ h. h
+  ask_step n carried all of_root of_child (own (constraint position) k) has is =
+      subst (λ k. IsStep (own (constraint position) k)) (sym is) (constraint_step s m m' resource x n position carried)
   ask_step n carried all of_root of_child (root r) has is = of_root r has is
   ask_step n carried all of_root of_child (child i k) has is = of_child i k has
 
   pub asks_step : (n : NodeRef) → AreCarried m m' (unread_at s x n) → (all : List Ask) → AllByRecursion (IsOf s x n) all
       → ((r : NodeRef) → Contains all (root r) → type_root s (type_of x) ≡ Some r → IsTrue (roots r) → IsTrue (roots' r))
       → ((i : ℕ) (k : NodeRef) → Contains all (child i k) → IsTrue (get_or kids i (λ n. true) k) → IsTrue (get_or kids' i (λ n. true) k))
-      → IsTrue (list_all (ask_holds s m x kids roots) all) → IsTrue (list_all (ask_holds s m' x kids' roots') all)
+      → IsTrue (list_all (ask_holds s m resource x kids roots) all) → IsTrue (list_all (ask_holds s m' resource x kids' roots') all)
   asks_step n carried all are_of of_root of_child =
-      all_step (ask_holds s m x kids roots) (ask_holds s m' x kids' roots') all
+      all_step (ask_holds s m resource x kids roots) (ask_holds s m' resource x kids' roots') all
       (each_contained (IsOf s x n) IsStep all (ask_step n carried all of_root of_child) are_of)
 
 moved : (start i : ℕ) → start + suc i ≡ suc start + i
@@ -80,22 +82,23 @@ module _ (s : SchemaValue) (are_roots : RootsAreRoots s) (M M' : Interpretation)
 
   item_step : (a : Around) (x : Item) (kids kids' : List (NodeRef → Bool))
       → ((n : NodeRef) → Reach a x n → OfChildren kids kids' (asks s x n))
-      → (n : NodeRef) → Reach a x n → IsTrue (item_holds s (meaning_at M a) x kids n) → IsTrue (item_holds s (meaning_at M' a) x kids' n)
+      → (n : NodeRef) → Reach a x n → IsTrue (item_holds s (meaning_at M a) (resource_at s a x) x kids n)
+      → IsTrue (item_holds s (meaning_at M' a) (resource_at s a x) x kids' n)
   item_step a x kids kids' of_children n reach = by_case (is_root_node s n) refl
     where
-      root_step : (r : NodeRef) → Reach a x r → asks s x r ≡ root_asks s x r → IsTrue (root_holds s (meaning_at M a) x kids r) → IsTrue (root_holds s (meaning_at M' a) x kids' r)
+      root_step : (r : NodeRef) → Reach a x r → asks s x r ≡ root_asks s x r → IsTrue (root_holds s (meaning_at M a) (resource_at s a x) x kids r) → IsTrue (root_holds s (meaning_at M' a) (resource_at s a x) x kids' r)
       root_step r reach is =
-          asks_step s (meaning_at M a) (meaning_at M' a) x kids kids' (λ r. true) (λ r. true) r (carried a x r reach) (root_asks s x r) (root_asks_are_of s x r)
+          asks_step s (meaning_at M a) (meaning_at M' a) (resource_at s a x) x kids kids' (λ r. true) (λ r. true) r (carried a x r reach) (root_asks s x r) (root_asks_are_of s x r)
           (λ r has is h. h) (subst (OfChildren kids kids') is (of_children r reach))
 
-      inner_step : asks s x n ≡ inner_asks s x n → IsTrue (inner_holds s (meaning_at M a) x kids n) → IsTrue (inner_holds s (meaning_at M' a) x kids' n)
+      inner_step : asks s x n ≡ inner_asks s x n → IsTrue (inner_holds s (meaning_at M a) (resource_at s a x) x kids n) → IsTrue (inner_holds s (meaning_at M' a) (resource_at s a x) x kids' n)
       inner_step is =
-          asks_step s (meaning_at M a) (meaning_at M' a) x kids kids' (root_holds s (meaning_at M a) x kids) (root_holds s (meaning_at M' a) x kids') n (carried a x n reach) (inner_asks s x n) (inner_asks_are_of s x n)
+          asks_step s (meaning_at M a) (meaning_at M' a) (resource_at s a x) x kids kids' (root_holds s (meaning_at M a) (resource_at s a x) x kids) (root_holds s (meaning_at M' a) (resource_at s a x) x kids') n (carried a x n reach) (inner_asks s x n) (inner_asks_are_of s x n)
           (λ r has of. root_step r (at_root a x n r reach (subst (λ all. Contains all (root r)) (sym is) has)) (as_root s x r (are_roots (type_of x) r of)))
           (subst (OfChildren kids kids') is (of_children n reach))
 
       by_case : (b : Bool) → is_root_node s n ≡ b
-          → IsTrue (if b then root_holds s (meaning_at M a) x kids n else inner_holds s (meaning_at M a) x kids n) → IsTrue (if b then root_holds s (meaning_at M' a) x kids' n else inner_holds s (meaning_at M' a) x kids' n)
+          → IsTrue (if b then root_holds s (meaning_at M a) (resource_at s a x) x kids n else inner_holds s (meaning_at M a) (resource_at s a x) x kids n) → IsTrue (if b then root_holds s (meaning_at M' a) (resource_at s a x) x kids' n else inner_holds s (meaning_at M' a) (resource_at s a x) x kids' n)
       by_case true is = root_step n reach (as_root s x n is)
       by_case false is = inner_step (ap (λ b. if b then root_asks s x n else inner_asks s x n) is)
 

@@ -1,12 +1,13 @@
 -- What a node asks of an item (FHIR R4, ElementDefinition and StructureDefinition, snapshot), as a list of single asks. Which
 -- they are hangs on the item's type and on the names of its children alone, and on no meaning of unread rules.
-use Rattle.std.specs.Prelude.{ℕ, suc, List, [], ◌∷◌, ◌++◌, map, Option, None, Some, if◌then◌else◌}
-use Rattle.std.specs.List.{flat_map}
+use Rattle.std.specs.Prelude.{ℕ, suc, List, [], ◌∷◌, ◌++◌, map, length, Option, None, Some, if◌then◌else◌}
+use Rattle.std.specs.List.{flat_map, range_with_len}
+use Rattle.std.specs.Option.{option_map_or}
 use Rattle.std.specs.Str.{bytes_eq}
 use Rattle.fhir_json.specs.Tree.{Text}
 use Rattle.fhir_schema.specs.declared.node.NodeRef.{NodeRef}
 use Rattle.fhir_schema.specs.Slots.{Slot}
-use Rattle.fhir_schema.specs.Schemas.{SchemaValue, is_root_node, slots, entry_of, type_root}
+use Rattle.fhir_schema.specs.Schemas.{SchemaValue, is_root_node, element_at, slots, entry_of, type_root}
 use Rattle.fhir_instance.specs.Items.{Item, Kids, no_kids, kid, kids_of, type_of}
 
 -- a rule that is judged at an item by itself
@@ -16,6 +17,8 @@ pub data RuleName : Type 0 where
   fixed pattern range length_limit binding : RuleName
   -- the children of a name are enough, and not too many
   too_few too_many : (name : List ℕ) → RuleName
+  -- the constraint at that position among the element's
+  constraint : (position : ℕ) → RuleName
 
 pub data Ask : Type 0 where
   -- a rule of that node's element
@@ -41,6 +44,12 @@ places_of name x = places_from 0 name (kids_of x)
 abbrev pub facet_asks : NodeRef → List Ask
 facet_asks n = own fixed n ∷ own pattern n ∷ own range n ∷ own length_limit n ∷ own binding n ∷ []
 
+abbrev pub constraint_ask : NodeRef → ℕ → Ask
+constraint_ask n position = own (constraint position) n
+
+abbrev pub constraint_asks : SchemaValue → NodeRef → List Ask
+constraint_asks s n = map (constraint_ask n) (range_with_len 0 (option_map_or (λ e. length e.constraints) (element_at s n) 0))
+
 abbrev pub child_ask : NodeRef → ℕ → Ask
 child_ask n i = child i n
 
@@ -60,11 +69,11 @@ module _ (s : SchemaValue) (x : Item) where
   kids_asks n = flat_map (slot_asks x n) (slots s n)
 
   abbrev pub root_asks : NodeRef → List Ask
-  root_asks r = own root_type r ∷ facet_asks r ++ kids_asks r
+  root_asks r = own root_type r ∷ facet_asks r ++ (constraint_asks s r ++ kids_asks r)
 
   -- of a node that is no root: there the item also conforms to the definition of its own type, where that has a root
   abbrev pub inner_asks : NodeRef → List Ask
-  inner_asks n = own types n ∷ facet_asks n ++ own_root (type_root s (type_of x)) ++ kids_asks n
+  inner_asks n = own types n ∷ facet_asks n ++ (constraint_asks s n ++ (own_root (type_root s (type_of x)) ++ kids_asks n))
 
   abbrev pub asks : NodeRef → List Ask
   asks n = if is_root_node s n then root_asks n else inner_asks n

@@ -1,25 +1,29 @@
 -- When an item conforms to a node, and a resource to a profile (FHIR R4, Profiling and ElementDefinition): where all holds
 -- that the node asks of it. An item is folded into its test of nodes: what is asked of a child is asked of the child's test.
-use Rattle.std.specs.Prelude.{◌≡◌, ℕ, suc, List, [], ◌∷◌, ◌++◌, length, get_or, Bool, true, ◌&&◌, ◌||◌, nat_eq, Some, IsTrue, if◌then◌else◌}
+use Rattle.std.specs.Prelude.{◌≡◌, ℕ, suc, List, [], ◌∷◌, ◌++◌, length, get_or, Bool, true, not, ◌&&◌, ◌||◌, nat_eq, Some, IsTrue, if◌then◌else◌}
 use Rattle.std.specs.Option.{option_map_or}
 use Rattle.std.specs.List.{list_all, list_any}
 use Rattle.fhir_json.specs.Tree.{Text, Tree}
 use Rattle.fhir_elements.specs.TypeEntry.{TypeEntry}
+use Rattle.fhir_elements.specs.Constraint.{Constraint, must_hold}
 use Rattle.fhir_elements.specs.Element.{Element, required_value_set}
 use Rattle.fhir_schema.specs.declared.node.NodeRef.{NodeRef}
 use Rattle.fhir_schema.specs.Types.{names_resource}
 use Rattle.fhir_schema.specs.Schemas.{SchemaValue, element_at, is_root_node, root, types}
 use Rattle.fhir_schema.specs.Covers.{covers, type_at}
+use Rattle.fhir_schema.specs.Expressions.{expression_of, constraint_at}
 use Rattle.fhir_instance.specs.Items.{Item, item, Kids, no_kids, kid, Place, type_of, json_of, has_kids}
 use Rattle.fhir_instance.specs.Typing.{Types}
+use Rattle.fhir_fp_eval.specs.Meaning.{is_true}
 use Rattle.fhir_facets.specs.Unread.{Unread, Meaning}
+use Rattle.fhir_facets.specs.Unread.{expression as unread_expression, constraint as unread_key}
 use Rattle.fhir_facets.specs.Seen.{Seen}
 use Rattle.fhir_facets.specs.Values.{fixed_holds, pattern_holds, length_holds}
 use Rattle.fhir_facets.specs.Ranges.{Range, range_holds}
 use Rattle.fhir_facets.specs.Targets.{targets_hold}
 use Rattle.fhir_facets.specs.Bindings.{binding_to, binding_holds, IsFair}
 use Rattle.fhir_facets.specs.Counts.{are_enough, are_within}
-use Rattle.fhir_slicing.specs.Asks.{RuleName, root_type, types as of_types, fixed, pattern, range, length_limit, binding, too_few, too_many}
+use Rattle.fhir_slicing.specs.Asks.{RuleName, root_type, types as of_types, fixed, pattern, range, length_limit, binding, too_few, too_many, constraint}
 use Rattle.fhir_slicing.specs.Asks.{Ask, own, root as as_root, child, places_of, root_asks, inner_asks}
 
 abbrev pub seen : Item → Seen
@@ -48,6 +52,19 @@ length_at x e = option_map_or (λ most. length_holds most (seen x)) e.max_length
 abbrev pub binding_at : SchemaValue → Meaning → Item → Element → Bool
 binding_at s m x e = option_map_or (λ canonical. binding_holds m (binding_to s canonical) (seen x)) (required_value_set e) true
 
+-- the unread rule that a constraint is, where its expression can't be read
+abbrev pub unread_constraint : Constraint → Unread
+unread_constraint c = option_map_or unread_expression c.expression (unread_key c.key)
+
+-- its expression is true of the item, where that is the nearest resource at or around it (FHIR R4, FHIRPath, variables)
+abbrev pub constraint_holds : SchemaValue → Meaning → Item → Item → Constraint → Bool
+constraint_holds s m resource x c =
+    option_map_or (λ e. is_true (record { schema = s; resource = resource; context = x }) e x) (expression_of c) (m (unread_constraint c))
+
+-- a constraint that needn't hold is passed over
+abbrev pub constraint_passes : SchemaValue → Meaning → Item → Item → Constraint → Bool
+constraint_passes s m resource x c = not (must_hold c) || constraint_holds s m resource x c
+
 -- the element of a node passes a test; what is no node asks for nothing
 abbrev pub at_element : SchemaValue → (Element → Bool) → NodeRef → Bool
 at_element s test n = option_map_or test (element_at s n) true
@@ -65,9 +82,11 @@ module _ (s : SchemaValue) (m : Meaning) (x : Item) where
   abbrev pub types_hold : NodeRef → Bool
   types_hold n = is_untyped s n || list_any entry_holds (types s n)
 
+-- the rules of a node, where that is the nearest resource at or around the item
+module _ (s : SchemaValue) (m : Meaning) (resource x : Item) where
   abbrev pub rule_holds : RuleName → NodeRef → Bool
   rule_holds root_type n = covers s (type_at s n) (type_of x)
-  rule_holds of_types n = types_hold n
+  rule_holds of_types n = types_hold s m x n
   rule_holds fixed n = at_element s (fixed_at x) n
   rule_holds pattern n = at_element s (pattern_at x) n
   rule_holds range n = at_element s (range_at m x) n
@@ -75,6 +94,7 @@ module _ (s : SchemaValue) (m : Meaning) (x : Item) where
   rule_holds binding n = at_element s (binding_at s m x) n
   rule_holds (too_few name) n = at_element s (λ e. are_enough e (count_of name x)) n
   rule_holds (too_many name) n = at_element s (λ e. are_within e (count_of name x)) n
+  rule_holds (constraint position) n = option_map_or (constraint_passes s m resource x) (constraint_at s n position) true
 
   -- ---- all that a node asks, where these are the roots that the item conforms to, and these the tests of its children
 
@@ -112,13 +132,13 @@ meaning_at meaning around rule = meaning rule around.outermost around.place
 abbrev pub is_resource_item : SchemaValue → Item → Bool
 is_resource_item s x = names_resource s.definitions (type_of x)
 
+-- the nearest resource at or around an item
+abbrev pub resource_at : SchemaValue → Around → Item → Item
+resource_at s around x = if is_resource_item s x then x else around.nearest
+
 -- where the children of an item stand, but for their positions
 abbrev pub inside : SchemaValue → Around → Item → Around
-inside s around x = record {
-  outermost = around.outermost;
-  place = around.place;
-  nearest = if is_resource_item s x then x else around.nearest;
-}
+inside s around x = record { outermost = around.outermost; place = around.place; nearest = resource_at s around x }
 
 -- where the child at a position among all children stands
 abbrev pub below : Around → ℕ → Around
@@ -132,7 +152,7 @@ abbrev mutual
   -- the item, which stands there, conforms to the node
   pub conforms : SchemaValue → Interpretation → Around → Item → NodeRef → Bool
   conforms s meaning around (item type json kids) =
-      item_holds s (meaning_at meaning around) (item type json kids)
+      item_holds s (meaning_at meaning around) (resource_at s around (item type json kids)) (item type json kids)
       (kid_tests s meaning (inside s around (item type json kids)) 0 kids)
 
   -- the tests of the children, whose positions begin at a number

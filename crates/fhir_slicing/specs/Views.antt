@@ -10,7 +10,7 @@ use Rattle.std.specs.Ordering.{nat_cmp}
 use Rattle.std.specs.Str.{bytes_eq}
 use Rattle.fhir_json.specs.Tree.{Text}
 use Rattle.fhir_instance.specs.Items.{Item}
-use Rattle.fhir_slicing.specs.Asks.{RuleName, root_type, types, fixed, pattern, range, length_limit, binding, too_few, too_many}
+use Rattle.fhir_slicing.specs.Asks.{RuleName, root_type, types, fixed, pattern, range, length_limit, binding, too_few, too_many, constraint}
 use Rattle.fhir_slicing.specs.Asks.{own, root, child, places_of}
 use Rattle.fhir_slicing.specs.Asks.{Ask as Asked}
 use Rattle.fhir_slicing.specs.declared.ask.Ask.{Ask}
@@ -28,6 +28,7 @@ rule_name rules.Length = length_limit
 rule_name rules.Binding = binding
 rule_name (rules.TooFew name) = too_few name.now
 rule_name (rules.TooMany name) = too_many name.now
+rule_name (rules.Constraint position) = constraint position
 
 abbrev pub ask_seen : Ask → Asked
 ask_seen (Own rule n) = own (rule_name rule) n

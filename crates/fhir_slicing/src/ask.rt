@@ -23,6 +23,8 @@ pub enum Rule<'s> {
     TooFew(&'s str),
     /// The children of that name aren't too many.
     TooMany(&'s str),
+    /// The constraint at that position among the element's is true.
+    Constraint(usize),
 }
 
 /// One thing that a node asks of an item.

@@ -1,12 +1,13 @@
 //! What a node asks of an item.
 
-ghost use Rattle.std.specs.Prelude.{◌≡◌, ◌++◌, List, ℕ, map, OnOk};
+ghost use Rattle.std.specs.Prelude.{◌≡◌, ◌++◌, ◌∷◌, [], List, ℕ, map, length, OnOk};
 ghost use Rattle.std.specs.List.{flat_map};
+ghost use Rattle.std.specs.Option.{option_map_or};
 ghost use Rattle.fhir_json.specs.Memory.{Gives};
-ghost use Rattle.fhir_schema.specs.Schemas.{entry_of, type_root};
+ghost use Rattle.fhir_schema.specs.Schemas.{element_at, entry_of, type_root};
 ghost use Rattle.fhir_instance.specs.Items.{type_of};
 ghost use Rattle.fhir_instance.specs.View.{item_of};
-ghost use Rattle.fhir_slicing.specs.Asks.{child_ask, facet_asks, slot_asks, own_root, kids_asks, root_asks, inner_asks, asks};
+ghost use Rattle.fhir_slicing.specs.Asks.{child_ask, facet_asks, constraint_ask, constraint_asks, slot_asks, own_root, kids_asks, root_asks, inner_asks, asks};
 ghost use Rattle.fhir_slicing.specs.Views.{asks_seen, IsIndexOf};
 
 use crate::ask::{Ask, Rule};
@@ -16,6 +17,16 @@ use fhir_json::NoMemory;
 use fhir_schema::{NodeRef, Schema, Slot};
 use std::alloc::Global;
 
+// How many constraints a node's element has.
+fn constraints_of(schema: &Schema, node: NodeRef) -> usize
+    ensures { result ≡ option_map_or (λ e. length e.constraints) (element_at schema.now node) 0 }
+{
+    match schema.element(node) {
+        Some(element) => element.constraints().len(),
+        None => 0,
+    }
+}
+
 fn put_facets(asked: &mut Vec<Ask<'_>>, node: NodeRef) -> Result<(), NoMemory>
     ensures { OnOk result (asks_seen asked.new.items ≡ asks_seen asked.old.items ++ facet_asks node) }
 {
@@ -24,6 +35,22 @@ fn put_facets(asked: &mut Vec<Ask<'_>>, node: NodeRef) -> Result<(), NoMemory>
     asked.push(Ask::Own(Rule::Range, node))?;
     asked.push(Ask::Own(Rule::Length, node))?;
     asked.push(Ask::Own(Rule::Binding, node))?;
+    Ok(())
+}
+
+fn put_constraint(asked: &mut Vec<Ask<'_>>, node: NodeRef, position: usize) -> Result<(), NoMemory>
+    ensures { OnOk result (asks_seen asked.new.items ≡ asks_seen asked.old.items ++ constraint_ask node position ∷ []) }
+{
+    asked.push(Ask::Own(Rule::Constraint(position), node))?;
+    Ok(())
+}
+
+fn put_constraints(asked: &mut Vec<Ask<'_>>, schema: &Schema, node: NodeRef) -> Result<(), NoMemory>
+    ensures { OnOk result (asks_seen asked.new.items ≡ asks_seen asked.old.items ++ constraint_asks schema.now node) }
+{
+    for position in 0..constraints_of(schema, node) {
+        put_constraint(asked, node, position)?;
+    }
     Ok(())
 }
 
@@ -100,6 +127,7 @@ fn put_root_asks<'s>(
 {
     asked.push(Ask::Own(Rule::RootType, root))?;
     put_facets(asked, root)?;
+    put_constraints(asked, schema, root)?;
     put_slots(asked, item, children, root, schema.slots(root))
 }
 
@@ -116,6 +144,7 @@ fn put_inner_asks<'s>(
 {
     asked.push(Ask::Own(Rule::Types, node))?;
     put_facets(asked, node)?;
+    put_constraints(asked, schema, node)?;
     put_own_root(asked, schema, item)?;
     put_slots(asked, item, children, node, schema.slots(node))
 }

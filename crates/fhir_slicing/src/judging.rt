@@ -1,27 +1,35 @@
 //! Whether a rule holds of an item.
 
-ghost use Rattle.std.specs.Prelude.{◌≡◌, ◌++◌, ◌||◌, Bool, List, []};
+ghost use Rattle.std.specs.Prelude.{◌≡◌, ◌++◌, ◌||◌, Bool, List, [], IfOk, IsTrue};
 ghost use Rattle.std.specs.List.{Contains, list_any, flat_map};
-ghost use Rattle.std.specs.Option.{option_map_or};
+ghost use Rattle.std.specs.Option.{option_copied, option_map, option_map_or};
+ghost use Rattle.fhir_elements.specs.Constraint.{must_hold};
+ghost use Rattle.fhir_fp_syntax.specs.Expression.{expression_of as tree_of};
+ghost use Rattle.fhir_schema.specs.Expressions.{expression_of, constraint_at};
 ghost use Rattle.fhir_schema.specs.Schemas.{types, element_at};
 ghost use Rattle.fhir_instance.specs.View.{item_of};
 ghost use Rattle.fhir_facets.specs.Unread.{Unread as UnreadRule};
 ghost use Rattle.fhir_facets.specs.Carried.{range_unread};
 ghost use Rattle.fhir_facets.specs.Counts.{are_enough, are_within};
 ghost use Rattle.fhir_facets.specs.Views.{unread_seen, view_seen, holding_under, IsCarried};
-ghost use Rattle.fhir_slicing.specs.Conformance.{seen, count_of, fixed_at, pattern_at, range_at, length_at, binding_at, at_element, entry_holds, types_hold, rule_holds};
-ghost use Rattle.fhir_slicing.specs.Meeting.{entry_unread, set_unread, unread_at};
+ghost use Rattle.fhir_slicing.specs.Conformance.{seen, unread_constraint, constraint_passes, constraint_holds, count_of, fixed_at, pattern_at, range_at, length_at, binding_at, at_element, entry_holds, types_hold, rule_holds};
+ghost use Rattle.fhir_slicing.specs.Asks.{constraint as constraint_rule};
+ghost use Rattle.fhir_slicing.specs.Meeting.{entry_unread, set_unread, constraint_unread, unread_at};
 ghost use Rattle.fhir_slicing.specs.Views.{rule_name, IsIndexOf};
 
 use crate::ask::Rule;
 use crate::children::Children;
-use fhir_elements::{ElementDef, TypeEntry};
+use fhir_elements::{ConstraintDef, ElementDef, TypeEntry};
 use fhir_facets::{
     Binding, Facet, Fixed, Holding, Length, Pattern, Range, Targets, Unread, View, are_enough,
     are_within,
 };
+use fhir_fp_eval::{Env, holds};
+use fhir_fp_syntax::Expr;
 use fhir_instance::Typed;
+use fhir_json::NoMemory;
 use fhir_schema::{NodeRef, Schema};
+use std::alloc::Global;
 
 fn view_of<'t, 'j>(item: &'t Typed<'_, 'j>) -> View<'t, 'j>
     ensures { view_seen result ≡ seen (item_of item.now) }
@@ -187,6 +195,69 @@ fn judge_binding<'s>(schema: &'s Schema, item: &Typed<'_, '_>, node: NodeRef) ->
     }
 }
 
+// The rule that a constraint is, where its expression can't be read.
+fn unread_of(constraint: &ConstraintDef) -> Unread<'_>
+    ensures { unread_seen result ≡ unread_constraint constraint.now }
+{
+    match constraint.expression() {
+        Some(text) => Unread::Expression(text),
+        None => Unread::Constraint(constraint.key()),
+    }
+}
+
+fn constraint_of(schema: &Schema, node: NodeRef, position: usize) -> Option<&ConstraintDef>
+    ensures { option_copied result ≡ constraint_at schema.now node position }
+{
+    schema.element(node)?.constraints().get(position)
+}
+
+// Whether a constraint that must hold does, by its expression, if that can be read.
+fn judge_expression<'s, 't, 'a, 'j>(
+    alloc: Global,
+    schema: &'t Schema,
+    resource: &'t Typed<'a, 'j>,
+    item: &'t Typed<'a, 'j>,
+    constraint: &'s ConstraintDef,
+    expression: Option<&'t Expr>,
+) -> Result<Holding<'s>, NoMemory>
+    requires { option_map (λ e. tree_of e.now) expression ≡ expression_of constraint.now }
+    ensures exact { IfOk result (λ h. (b : Bool) → holding_under b h
+        ≡ constraint_holds schema.now (λ unread. b) (item_of resource.now) (item_of item.now) constraint.now) }
+    ensures carried { IfOk result (λ h. IsTrue (must_hold constraint.now) → IsCarried (constraint_unread constraint.now) h) }
+{
+    let Some(expression) = expression else {
+        return Ok(Holding::Unread(unread_of(constraint)));
+    };
+    let env = Env {
+        schema,
+        resource,
+        context: item,
+    };
+    Ok(judged(holds(alloc, expression, &env, item)?))
+}
+
+fn judge_constraint<'s, 't, 'a, 'j>(
+    alloc: Global,
+    schema: &'s Schema,
+    resource: &'t Typed<'a, 'j>,
+    item: &'t Typed<'a, 'j>,
+    node: NodeRef,
+    position: usize,
+) -> Result<Holding<'s>, NoMemory>
+    ensures exact { IfOk result (λ h. (b : Bool) → holding_under b h
+        ≡ rule_holds schema.now (λ unread. b) (item_of resource.now) (item_of item.now) (constraint_rule position) node) }
+    ensures carried { IfOk result (λ h. IsCarried (option_map_or constraint_unread (constraint_at schema.now node position) []) h) }
+{
+    let Some(constraint) = constraint_of(schema, node, position) else {
+        return Ok(Holding::Holds);
+    };
+    if !constraint.must_hold() {
+        return Ok(Holding::Holds);
+    }
+    let expression = schema.expression(node, position);
+    judge_expression(alloc, schema, resource, item, constraint, expression)
+}
+
 fn has_enough(schema: &Schema, node: NodeRef, count: usize) -> bool
     ensures { result ≡ at_element schema.now (λ e. are_enough e count) node }
 {
@@ -205,29 +276,35 @@ fn has_no_more(schema: &Schema, node: NodeRef, count: usize) -> bool
     }
 }
 
-/// Whether a rule of a node's element holds of an item, of which these are the children (FHIR R4, ElementDefinition).
-/// Where unread rules decide it, it answers one of the node's. It takes no memory.
-pub fn judge<'s>(
+/// Whether a rule of a node's element holds of an item, of which these are the children, and that the nearest resource at
+/// or around it (FHIR R4, ElementDefinition). Where unread rules decide it, it answers one of the node's. The one refusal is
+/// want of memory.
+pub fn judge<'s, 't, 'a, 'j>(
+    alloc: Global,
     schema: &'s Schema,
-    item: &Typed<'_, '_>,
+    resource: &'t Typed<'a, 'j>,
+    item: &'t Typed<'a, 'j>,
     children: &Children<'_>,
     rule: Rule<'s>,
     node: NodeRef,
-) -> Holding<'s>
+) -> Result<Holding<'s>, NoMemory>
     requires { IsIndexOf (item_of item.now) children.now }
-    ensures exact { (b : Bool) → holding_under b result
-        ≡ rule_holds schema.now (λ unread. b) (item_of item.now) (rule_name rule.entry) node }
-    ensures carried { IsCarried (unread_at schema.now (item_of item.now) node) result }
+    ensures exact { IfOk result (λ h. (b : Bool) → holding_under b h
+        ≡ rule_holds schema.now (λ unread. b) (item_of resource.now) (item_of item.now) (rule_name rule.entry) node) }
+    ensures carried { IfOk result (λ h. IsCarried (unread_at schema.now (item_of item.now) node) h) }
 {
     match rule {
-        Rule::RootType => judged(schema.covers(schema.type_code(node), item.code())),
-        Rule::Types => judge_types(schema, item, node),
-        Rule::Fixed => judge_fixed(schema, item, node),
-        Rule::Pattern => judge_pattern(schema, item, node),
-        Rule::Range => judge_range(schema, item, node),
-        Rule::Length => judge_length(schema, item, node),
-        Rule::Binding => judge_binding(schema, item, node),
-        Rule::TooFew(name) => judged(has_enough(schema, node, children.places(name).len())),
-        Rule::TooMany(name) => judged(has_no_more(schema, node, children.places(name).len())),
+        Rule::RootType => Ok(judged(schema.covers(schema.type_code(node), item.code()))),
+        Rule::Types => Ok(judge_types(schema, item, node)),
+        Rule::Fixed => Ok(judge_fixed(schema, item, node)),
+        Rule::Pattern => Ok(judge_pattern(schema, item, node)),
+        Rule::Range => Ok(judge_range(schema, item, node)),
+        Rule::Length => Ok(judge_length(schema, item, node)),
+        Rule::Binding => Ok(judge_binding(schema, item, node)),
+        Rule::TooFew(name) => Ok(judged(has_enough(schema, node, children.places(name).len()))),
+        Rule::TooMany(name) => Ok(judged(has_no_more(schema, node, children.places(name).len()))),
+        Rule::Constraint(position) => {
+            judge_constraint(alloc, schema, resource, item, node, position)
+        }
     }
 }

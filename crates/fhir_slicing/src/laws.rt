@@ -36,7 +36,7 @@ pub fn fair_meanings()
 /// Where no pair of node and item that is met carries an unread rule, all meanings agree.
 pub fn decided()
     ensures { (s : SchemaValue) (x : Item) (n : NodeRef)
-        → ((place : Place) (y : Item) (m : NodeRef) → Met s x n place y m → unread_at s y m ≡ [])
+        → ((place : Place) (r y : Item) (m : NodeRef) → Met s x n place r y m → unread_at s y m ≡ [])
         → (one other : Interpretation)
         → conforms s one (outermost x) x n ≡ conforms s other (outermost x) x n }
 {
@@ -45,10 +45,10 @@ pub fn decided()
 
 /// A root asks for no root: whether all that it asks holds doesn't hang on which roots the item conforms to.
 pub fn roots_ask_no_root()
-    ensures { (s : SchemaValue) (meaning : Meaning) (x : Item) (kids : List (NodeRef → Bool))
+    ensures { (s : SchemaValue) (meaning : Meaning) (resource x : Item) (kids : List (NodeRef → Bool))
         → (some others : NodeRef → Bool) (r : NodeRef)
-        → list_all (ask_holds s meaning x kids some) (root_asks s x r)
-        ≡ list_all (ask_holds s meaning x kids others) (root_asks s x r) }
+        → list_all (ask_holds s meaning resource x kids some) (root_asks s x r)
+        ≡ list_all (ask_holds s meaning resource x kids others) (root_asks s x r) }
 {}
 
 /// The definitions at work, on a resource that may have a note, and profiles of it. One with a note conforms to a profile

@@ -4,7 +4,7 @@ use Rattle.std.specs.Option.{option_map_or}
 use Rattle.fhir_schema.specs.Schemas.{types, element_at}
 use Rattle.fhir_instance.specs.View.{item_of}
 use Rattle.fhir_slicing.specs.Meeting.{entry_unread, element_unread}
-use Rattle.fhir_slicing.proofs.Judged.{carried_behind, of_range, of_set}
+use Rattle.fhir_slicing.proofs.Judged.{carried_behind, of_range, of_set, of_constraint_at}
 use Rattle.fhir_slicing.proofs.judging.judge.Goals as goal
 
 pub returns-in-Range-clause-carried : goal.returns-in-Range-clause-carried
@@ -20,3 +20,7 @@ returns-in-Binding-clause-carried c =
     let x = item_of c.args.item.now in
     carried_behind (flat_map (entry_unread s x) (types s c.args.node)) (option_map_or (element_unread s x) (element_at s c.args.node) [])
     c.judge_binding.result (of_set s x (element_at s c.args.node) c.judge_binding.result c.judge_binding.ensures.carried)
+
+pub returns-in-Constraint-clause-carried : goal.returns-in-Constraint-clause-carried
+returns-in-Constraint-clause-carried c =
+    of_constraint_at c.args.schema.now (item_of c.args.item.now) c.args.node c.in-Constraint.position c.judge_constraint.result c.judge_constraint.ensures.carried

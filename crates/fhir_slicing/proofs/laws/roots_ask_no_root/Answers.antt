@@ -9,13 +9,13 @@ use Rattle.fhir_slicing.proofs.Lists.{all_same, all_weaker}
 use Rattle.fhir_slicing.proofs.Asked.{IsNoRoot, root_asks_no_root}
 use Rattle.fhir_slicing.proofs.laws.roots_ask_no_root.Goals as goal
 
-same : (s : SchemaValue) (m : Meaning) (x : Item) (kids : List (NodeRef → Bool)) (some others : NodeRef → Bool) (ask : Ask)
-    → IsNoRoot ask → ask_holds s m x kids some ask ≡ ask_holds s m x kids others ask
-same s m x kids some others (own rule n) is = refl
-same s m x kids some others (root r) is = absurd is
-same s m x kids some others (child i n) is = refl
+same : (s : SchemaValue) (m : Meaning) (resource x : Item) (kids : List (NodeRef → Bool)) (some others : NodeRef → Bool) (ask : Ask)
+    → IsNoRoot ask → ask_holds s m resource x kids some ask ≡ ask_holds s m resource x kids others ask
+same s m resource x kids some others (own rule n) is = refl
+same s m resource x kids some others (root r) is = absurd is
+same s m resource x kids some others (child i n) is = refl
 
 pub returns : goal.returns
-returns c s m x kids some others r =
-    all_same (ask_holds s m x kids some) (ask_holds s m x kids others) (root_asks s x r)
-    (all_weaker IsNoRoot (λ ask. ask_holds s m x kids some ask ≡ ask_holds s m x kids others ask) (same s m x kids some others) (root_asks s x r) (root_asks_no_root s x r))
+returns c s m resource x kids some others r =
+    all_same (ask_holds s m resource x kids some) (ask_holds s m resource x kids others) (root_asks s x r)
+    (all_weaker IsNoRoot (λ ask. ask_holds s m resource x kids some ask ≡ ask_holds s m resource x kids others ask) (same s m resource x kids some others) (root_asks s x r) (root_asks_no_root s x r))
