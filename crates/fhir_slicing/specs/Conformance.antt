@@ -132,9 +132,12 @@ meaning_at meaning around rule = meaning rule around.outermost around.place
 abbrev pub is_resource_item : SchemaValue → Item → Bool
 is_resource_item s x = names_resource s.definitions (type_of x)
 
--- the nearest resource at or around an item
+-- the nearest resource at or around an item, where that is the nearest around it
+abbrev pub nearest_to : SchemaValue → Item → Item → Item
+nearest_to s around x = if is_resource_item s x then x else around
+
 abbrev pub resource_at : SchemaValue → Around → Item → Item
-resource_at s around x = if is_resource_item s x then x else around.nearest
+resource_at s around x = nearest_to s around.nearest x
 
 -- where the children of an item stand, but for their positions
 abbrev pub inside : SchemaValue → Around → Item → Around

@@ -15,7 +15,7 @@ use Rattle.fhir_facets.specs.Targets.{has_targets}
 use Rattle.fhir_facets.specs.Bindings.{binding_to}
 use Rattle.fhir_facets.specs.Carried.{range_unread, target_unread, binding_unread}
 use Rattle.fhir_slicing.specs.Asks.{root, child, asks}
-use Rattle.fhir_slicing.specs.Conformance.{seen, is_resource_item, unread_constraint}
+use Rattle.fhir_slicing.specs.Conformance.{seen, nearest_to, unread_constraint}
 
 -- the item at a position among these
 abbrev pub kid_at : Kids → ℕ → Option Item
@@ -32,7 +32,7 @@ pub data Met (s : SchemaValue) (outermost : Item) (profile : NodeRef) : Place �
       → Met s outermost profile place resource x n → Contains (asks s x n) (root m) → Met s outermost profile place resource x m
   at_child : {place within : Place} {resource nearer x y : Item} {n m : NodeRef} (i : ℕ)
       → Met s outermost profile place resource x n → Contains (asks s x n) (child i m) → kid_at (kids_of x) i ≡ Some y
-      → within ≡ place ++ i ∷ [] → nearer ≡ (if is_resource_item s y then y else resource) → Met s outermost profile within nearer y m
+      → within ≡ place ++ i ∷ [] → nearer ≡ nearest_to s resource y → Met s outermost profile within nearer y m
 
 -- ---- the unread rules that a node carries to an item
 

@@ -1,13 +1,14 @@
 -- What a node asks: a root is asked for by no root, and an item conforms where it conforms to all that is asked.
-use Rattle.std.proofs.Common.{◌≡◌, ℕ, Bool, true, false, List, [], ◌∷◌, ◌++◌, map, refl, sym, ap, ◌∙◌, ◌&&◌, IsTrue, Option, Some, None, cond}
-use Rattle.std.specs.List.{flat_map, list_all, AllByRecursion}
+use Rattle.std.proofs.Common.{◌≡◌, ℕ, Bool, true, false, List, [], ◌∷◌, ◌++◌, map, length, refl, sym, ap, ◌∙◌, ◌&&◌, IsTrue, Option, Some, None, cond}
+use Rattle.std.specs.List.{flat_map, list_all, range_with_len, AllByRecursion}
+use Rattle.std.specs.Option.{option_map_or}
 use Rattle.fhir_schema.specs.declared.node.NodeRef.{NodeRef}
 use Rattle.fhir_schema.specs.Slots.{Slot}
-use Rattle.fhir_schema.specs.Schemas.{SchemaValue, is_root_node, slots, entry_of, type_root}
+use Rattle.fhir_schema.specs.Schemas.{SchemaValue, element_at, is_root_node, slots, entry_of, type_root}
 use Rattle.fhir_instance.specs.Items.{Item, item, type_of}
-use Rattle.fhir_slicing.specs.Asks.{Ask, own, root, child, child_ask, facet_asks, slot_asks, own_root, kids_asks, root_asks, inner_asks, asks, places_of}
-use Rattle.fhir_slicing.specs.Asks.{types, root_type, fixed, pattern, range, length_limit, binding, too_few, too_many}
-use Rattle.fhir_slicing.specs.Conformance.{Interpretation, Around, meaning_at, inside, ask_holds, root_holds, conforms, kid_tests}
+use Rattle.fhir_slicing.specs.Asks.{Ask, own, root, child, child_ask, facet_asks, constraint_ask, constraint_asks, slot_asks, own_root, kids_asks, root_asks, inner_asks, asks, places_of}
+use Rattle.fhir_slicing.specs.Asks.{types, root_type, fixed, pattern, range, length_limit, binding, too_few, too_many, constraint}
+use Rattle.fhir_slicing.specs.Conformance.{Interpretation, Around, meaning_at, resource_at, inside, ask_holds, root_holds, conforms, kid_tests}
 use Rattle.fhir_validator.specs.Judging.{IsOrdered, ask_conforms}
 
 -- ---- lists
@@ -45,14 +46,22 @@ module _ (P : Ask → Type 0) (of_own : (rule : Rattle.fhir_slicing.specs.Asks.R
   facets_are : (n : NodeRef) → AllByRecursion P (facet_asks n)
   facets_are n = (of_own fixed n, (of_own pattern n, (of_own range n, (of_own length_limit n, (of_own binding n, tt)))))
 
+  constraints_are : (s : SchemaValue) (n : NodeRef) → AllByRecursion P (constraint_asks s n)
+  constraints_are s n = each (range_with_len 0 (option_map_or (λ e. length e.constraints) (element_at s n) 0))
+    where
+      each : (positions : List ℕ) → AllByRecursion P (map (constraint_ask n) positions)
+      each [] = tt
+      each (position ∷ positions) = (of_own (constraint position) n, each positions)
+
   root_are : (s : SchemaValue) (x : Item) (n : NodeRef) → AllByRecursion P (root_asks s x n)
-  root_are s x n = (of_own root_type n, all_join P (facet_asks n) (kids_asks s x n) (facets_are n) (kids_are s x n))
+  root_are s x n = (of_own root_type n, all_join P (facet_asks n) (constraint_asks s n ++ kids_asks s x n) (facets_are n) (all_join P (constraint_asks s n) (kids_asks s x n) (constraints_are s n) (kids_are s x n)))
 
   inner_are : (s : SchemaValue) (x : Item) (n : NodeRef) → AllByRecursion P (own_root (type_root s (type_of x))) → AllByRecursion P (inner_asks s x n)
   inner_are s x n of_root = (
     of_own types n,
-    all_join P (facet_asks n) (own_root (type_root s (type_of x)) ++ kids_asks s x n) (facets_are n)
-        (all_join P (own_root (type_root s (type_of x))) (kids_asks s x n) of_root (kids_are s x n)),
+    all_join P (facet_asks n) (constraint_asks s n ++ (own_root (type_root s (type_of x)) ++ kids_asks s x n)) (facets_are n)
+        (all_join P (constraint_asks s n) (own_root (type_root s (type_of x)) ++ kids_asks s x n) (constraints_are s n)
+        (all_join P (own_root (type_root s (type_of x))) (kids_asks s x n) of_root (kids_are s x n))),
   )
 
 own_root_are : (P : Ask → Type 0) (o : Option NodeRef) → ((r : NodeRef) → o ≡ Some r → P (root r)) → AllByRecursion P (own_root o)
@@ -77,14 +86,15 @@ module _ (s : SchemaValue) (roots : IsOfType s) (meaning : Interpretation) (arou
   -- an item conforms to a root where all holds that the root asks, whatever roots are taken to
   of_root : (type : List ℕ) (json : _) (kids : _) (r : NodeRef) → IsTrue (is_root_node s r) → (others : NodeRef → Bool)
       → conforms s meaning around (item type json kids) r
-      ≡ list_all (ask_holds s (meaning_at meaning around) (item type json kids) (kid_tests s meaning (inside s around (item type json kids)) 0 kids) others) (root_asks s (item type json kids) r)
+      ≡ list_all (ask_holds s (meaning_at meaning around) (resource_at s around (item type json kids)) (item type json kids) (kid_tests s meaning (inside s around (item type json kids)) 0 kids) others) (root_asks s (item type json kids) r)
   of_root type json kids r is others =
       let x = item type json kids in
       let tests = kid_tests s meaning (inside s around x) 0 kids in
       let m = meaning_at meaning around in
-      ap (λ b. cond b (root_holds s m x tests r) (list_all (ask_holds s m x tests (root_holds s m x tests)) (inner_asks s x r))) is
-      ∙ list_all_alike (ask_holds s m x tests (λ r. true)) (ask_holds s m x tests others) (root_asks s x r)
-      (root_are (λ ask. ask_holds s m x tests (λ r. true) ask ≡ ask_holds s m x tests others ask) (λ rule n. refl) (λ i n. refl) s x r)
+      let resource = resource_at s around x in
+      ap (λ b. cond b (root_holds s m resource x tests r) (list_all (ask_holds s m resource x tests (root_holds s m resource x tests)) (inner_asks s x r))) is
+      ∙ list_all_alike (ask_holds s m resource x tests (λ r. true)) (ask_holds s m resource x tests others) (root_asks s x r)
+      (root_are (λ ask. ask_holds s m resource x tests (λ r. true) ask ≡ ask_holds s m resource x tests others ask) (λ rule n. refl) (λ i n. refl) s x r)
 
   pub conforms_to : (x : Item) (n : NodeRef) → conforms s meaning around x n ≡ list_all (ask_conforms s meaning around x) (asks s x n)
   conforms_to (item type json kids) n = by_case (is_root_node s n) refl
@@ -96,8 +106,9 @@ module _ (s : SchemaValue) (roots : IsOfType s) (meaning : Interpretation) (arou
           let x = item type json kids in
           let tests = kid_tests s meaning (inside s around x) 0 kids in
           let m = meaning_at meaning around in
-          ap (λ b. cond b (root_holds s m x tests n) (list_all (ask_holds s m x tests (root_holds s m x tests)) (inner_asks s x n))) is
-          ∙ list_all_alike (ask_holds s m x tests (root_holds s m x tests)) (ask_conforms s meaning around x) (inner_asks s x n)
-          (inner_are (λ ask. ask_holds s m x tests (root_holds s m x tests) ask ≡ ask_conforms s meaning around x ask) (λ rule n. refl) (λ i n. refl) s x n
-          (own_root_are (λ ask. ask_holds s m x tests (root_holds s m x tests) ask ≡ ask_conforms s meaning around x ask) (type_root s (type_of x))
+          let resource = resource_at s around x in
+          ap (λ b. cond b (root_holds s m resource x tests n) (list_all (ask_holds s m resource x tests (root_holds s m resource x tests)) (inner_asks s x n))) is
+          ∙ list_all_alike (ask_holds s m resource x tests (root_holds s m resource x tests)) (ask_conforms s meaning around x) (inner_asks s x n)
+          (inner_are (λ ask. ask_holds s m resource x tests (root_holds s m resource x tests) ask ≡ ask_conforms s meaning around x ask) (λ rule n. refl) (λ i n. refl) s x n
+          (own_root_are (λ ask. ask_holds s m resource x tests (root_holds s m resource x tests) ask ≡ ask_conforms s meaning around x ask) (type_root s (type_of x))
           (λ r e. sym (of_root type json kids r (roots (type_of x) r e) (λ r. true)))))

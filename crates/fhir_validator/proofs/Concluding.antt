@@ -53,16 +53,16 @@ module _ (s : SchemaValue) (profile : Text) (t : Tree) (n : NodeRef) (usable : r
         × (IsTrue (is_violating v) → (M : Interpretation) → ¬ Conforms s M profile t)
     at_item x typed Conforming h =
         let all : (M : Interpretation) → Conforms s M profile t =
-        λ M. of_item x typed M (positive (constant false) M (λ u o p e. absurd (false≢true e)) (outermost x) x n (sym (h.right false (outermost x)))) in
+        λ M. of_item x typed M (positive (constant false) M (λ u o p e. absurd (false≢true e)) (outermost x) x n (sym (h.right false))) in
         ((λ e. all (constant false), λ c. refl), λ e. all, (λ e. absurd (false≢true e), λ never. absurd (never (all (constant true)))), λ e. absurd (false≢true e))
     at_item x typed (Violates issues) h =
         let none : (M : Interpretation) → ¬ Conforms s M profile t =
-        λ M c. false≢true (h.right true (outermost x) ∙ positive M (constant true) (λ u o p e. refl) (outermost x) x n (to_item x typed M c)) in
+        λ M c. false≢true (h.right true ∙ positive M (constant true) (λ u o p e. refl) (outermost x) x n (to_item x typed M c)) in
         ((λ e. absurd (false≢true e), λ c. absurd (none (constant false) c)), λ e. absurd (false≢true e), (λ e. none (constant true), λ never. refl), λ e. none)
     at_item x typed (Undecided sites) h = (
-      (λ e. absurd (false≢true e), λ c. absurd (false≢true (h.right false (outermost x) ∙ to_item x typed (constant false) c))),
+      (λ e. absurd (false≢true e), λ c. absurd (false≢true (h.right false ∙ to_item x typed (constant false) c))),
       λ e. absurd (false≢true e),
-      (λ e. absurd (false≢true e), λ never. absurd (never (of_item x typed (constant true) (sym (h.right true (outermost x)))))),
+      (λ e. absurd (false≢true e), λ never. absurd (never (of_item x typed (constant true) (sym (h.right true))))),
       λ e. absurd (false≢true e),
     )
 

@@ -9,15 +9,16 @@ use Rattle.fhir_schema.specs.declared.node.NodeRef.{NodeRef}
 use Rattle.fhir_schema.specs.Schemas.{SchemaValue}
 use Rattle.fhir_instance.specs.Items.{Item, kids_of}
 use Rattle.fhir_slicing.specs.Asks.{asks, child}
-use Rattle.fhir_slicing.specs.Conformance.{Interpretation, Around, constant, inside, below, conforms, kid_tests}
+use Rattle.fhir_slicing.specs.Conformance.{Interpretation, Around, nearest_to, constant, inside, below, conforms, kid_tests}
 use Rattle.fhir_slicing.specs.Meeting.{kid_at}
 use Rattle.fhir_slicing.specs.Views.{ask_seen, asks_seen}
 use Rattle.fhir_slicing.specs.declared.ask.Ask.{Ask}
 use Rattle.fhir_validator.specs.declared.answer.Answer.{Answer}
 use Rattle.fhir_validator.specs.declared.layout.Layout.{Layout}
+use Rattle.fhir_validator.specs.declared.layout.Stand.{Stand}
 use Rattle.fhir_validator.specs.declared.pair.Pair.{Pair}
-use Rattle.fhir_validator.specs.Layouts.{item_at}
-use Rattle.fhir_validator.specs.Judging.{IsRight, IsRightOf, IsOrdered, ask_conforms}
+use Rattle.fhir_validator.specs.Layouts.{spot_in, numbered, item_at, resource_of, AreStands, IsLayout}
+use Rattle.fhir_validator.specs.Judging.{IsThere, IsRight, IsRightOf, IsOrdered, ask_conforms}
 use Rattle.fhir_validator.proofs.Asking.{IsOfType, are_ordered, conforms_to}
 use Rattle.fhir_validator.proofs.Rows.{test_at}
 
@@ -51,9 +52,17 @@ all_answered s roots meaning around x n xs i b e h is =
     ∙ sym (conforms_to s roots meaning around x n)
 
 -- the answer of a child is the answer to what is asked of it
-module _ (s : SchemaValue) (layout : Layout) (p : Pair) (position : ℕ) (n : NodeRef) where
+module _ (layout : Layout) (p : Pair) (position : ℕ) (n : NodeRef) where
+  abbrev s : SchemaValue
+  s = layout.schema.now
+
   abbrev x : Item
   x = item_at layout p.item
+
+  -- a child stands there where its parent does
+  pub kid_there : (q : ℕ) → resource_of layout q ≡ nearest_to s (resource_of layout p.item) (item_at layout q) → (around : Around)
+      → IsThere layout p.item around → IsThere layout q (below (inside s around x) (0 + position))
+  kid_there q near around there = ap (λ r. nearest_to s r (item_at layout q)) there ∙ sym near
 
   pub asked_of : (b : Bool) (around : Around) (o : Option Item) → o ≡ kid_at (kids_of x) position
       → get_or (kid_tests s (constant b) (inside s around x) 0 (kids_of x)) position (λ n. true) n
@@ -62,12 +71,28 @@ module _ (s : SchemaValue) (layout : Layout) (p : Pair) (position : ℕ) (n : No
       test_at s (constant b) (inside s around x) 0 (kids_of x) position n
       ∙ ap (λ o. option_map_or (λ y. conforms s (constant b) (below (inside s around x) (0 + position)) y n) o true) (sym e)
 
-  pub of_kid : (q : Pair) → q.node ≡ n → Some (item_at layout q.item) ≡ kid_at (kids_of x) position → (a : Answer) → IsRight s layout q a → IsRightOf s layout p (child position n) a
-  of_kid q same e a right b around =
-      right b (below (inside s around x) (0 + position))
+  pub of_kid : (q : Pair) → q.node ≡ n → Some (item_at layout q.item) ≡ kid_at (kids_of x) position
+      → resource_of layout q.item ≡ nearest_to s (resource_of layout p.item) (item_at layout q.item)
+      → (a : Answer) → IsRight layout q a → IsRightOf layout p (child position n) a
+  of_kid q same e near a right b around there =
+      right b (below (inside s around x) (0 + position)) (kid_there q.item near around there)
       ∙ ap (conforms s (constant b) (below (inside s around x) (0 + position)) (item_at layout q.item)) same
       ∙ sym (asked_of b around (Some (item_at layout q.item)) e)
 
   pub of_none : None ≡ kid_at (kids_of x) position → (b : Bool) (around : Around)
       → true ≡ get_or (kid_tests s (constant b) (inside s around x) 0 (kids_of x)) position (λ n. true) n
   of_none e b around = sym (asked_of b around None e)
+
+-- where the item of a number stands, as far as the nearest resource tells
+pub standing : Layout → ℕ → Around
+standing layout number = record { outermost = item_at layout number; place = []; nearest = resource_of layout number }
+
+pub stands_there : (layout : Layout) → IsLayout layout → (number : ℕ) → number < length layout.stands.items → IsThere layout number (standing layout number)
+unfolding standing
+stands_there layout laid number within = each_nearest layout.schema.now layout.stands.items number within laid.stands
+  where
+    each_nearest : (s : SchemaValue) (stands : List Stand) (i : ℕ) → i < length stands → AreStands s stands
+        → nearest_to s (numbered (map spot_in stands) i).resource (numbered (map spot_in stands) i).itself ≡ (numbered (map spot_in stands) i).resource
+    each_nearest s [] i h each = absurd (omega arith)
+    each_nearest s (stand ∷ stands) zero h each = each.0.nearest
+    each_nearest s (stand ∷ stands) (suc i) h each = each_nearest s stands i (omega arith) each.1

@@ -1,7 +1,8 @@
 -- The items of a resource in a row.
-use Rattle.std.proofs.Common.{◌≡◌, ◌<◌, ◌≤◌, ◌+◌, ℕ, zero, suc, true, List, [], ◌∷◌, ◌++◌, map, length, take, get_or, refl, sym, ap, ◌∙◌, subst, arith, Some, None, ◌⊎◌, inl, inr}
+use Rattle.std.proofs.Common.{◌≡◌, ◌<◌, ◌≤◌, ◌+◌, ℕ, zero, suc, Bool, true, false, Option, List, [], ◌∷◌, ◌++◌, map, length, take, get_or, refl, sym, ap, ◌∙◌, subst, arith, Some, None, ◌⊎◌, inl, inr}
 use Rattle.std.specs.List.{slice_get, AllByRecursion}
-use Rattle.std.specs.Option.{option_map_or}
+use Rattle.std.specs.Prelude.{if◌then◌else◌}
+use Rattle.std.specs.Option.{option_map, option_map_or}
 use Rattle.std.proofs.lemmas.List.{get_or_append_left, get_or-append-add, length-append}
 use Rattle.std.proofs.lemmas.Option.{slice_get_past, slice_get-get_or}
 use Rattle.std.proofs.lemmas.List.{length-map, map-append, append_assoc, take_more, take_all}
@@ -11,8 +12,8 @@ use Rattle.fhir_instance.specs.Items.{Item, Kids, no_kids, kid, kids_of, kids_in
 use Rattle.fhir_instance.specs.View.{named_of, named_in}
 use Rattle.fhir_instance.specs.declared.typed.Kid.{Kid as Child}
 use Rattle.fhir_slicing.specs.Meeting.{kid_at}
-use Rattle.fhir_slicing.specs.Conformance.{Interpretation, Around, below, conforms, kid_tests}
-use Rattle.fhir_validator.specs.Layouts.{items_in, nothing, numbered, kids_at, AreFrom, AreLaid}
+use Rattle.fhir_slicing.specs.Conformance.{Interpretation, Around, nearest_to, is_resource_item, below, conforms, kid_tests}
+use Rattle.fhir_validator.specs.Layouts.{Spot, spot_of, spots_in, nowhere, numbered, kids_at, AreFrom, AreLaid}
 
 slice_get_left : {A : Type 0} (xs ys : List A) (i : ℕ) → i < length xs → slice_get (xs ++ ys) i ≡ slice_get xs i
 slice_get_left [] ys i h = absurd (omega arith)
@@ -25,64 +26,90 @@ slice_get_right (x ∷ xs) ys i =
     let e : suc (length xs) + i ≡ suc (length xs + i) = omega arith in
     ap (slice_get (x ∷ (xs ++ ys))) e ∙ slice_get_right xs ys i
 
-pub numbered_left : (xs ys : List Item) (i : ℕ) → i < length xs → numbered (xs ++ ys) i ≡ numbered xs i
-numbered_left xs ys i h = get_or_append_left xs ys nothing i h
+pub numbered_left : (xs ys : List Spot) (i : ℕ) → i < length xs → numbered (xs ++ ys) i ≡ numbered xs i
+numbered_left xs ys i h = get_or_append_left xs ys nowhere i h
 
 -- ---- one item's children more
 
-kept : (xs ys : List Item) (i first : ℕ) → i < length xs → AreFrom xs i first → AreFrom (xs ++ ys) i first
-kept xs ys i first h from =
-    let e : kids_at (xs ++ ys) i ≡ kids_at xs i = ap (λ x. items_in (kids_of x)) (numbered_left xs ys i h) in
-    record {
-      behind = from.behind;
-      within = subst (λ ks. first + length ks ≤ length (xs ++ ys)) (sym e) (omega (arith, length-append xs ys, from.within));
-      each = λ j below.
-          let inside : j < length (kids_at xs i) = subst (λ ks. j < length ks) e below in
-          slice_get_left xs ys (first + j) (omega (arith, from.within, inside)) ∙ from.each j inside ∙ ap (λ ks. slice_get ks j) (sym e);
-    }
+module _ (s : SchemaValue) where
+  -- the children of an item among more
+  same_kids : (xs ys : List Spot) (i : ℕ) → i < length xs → kids_at s (xs ++ ys) i ≡ kids_at s xs i
+  same_kids xs ys i h = ap (λ x. spots_in s x.resource (kids_of x.itself)) (numbered_left xs ys i h)
 
-put : (xs : List Item) (i : ℕ) → i < length xs → AreFrom (xs ++ kids_at xs i) i (length xs)
-put xs i h =
-    let e : kids_at (xs ++ kids_at xs i) i ≡ kids_at xs i = ap (λ x. items_in (kids_of x)) (numbered_left xs (kids_at xs i) i h) in
-    record {
-      behind = h;
-      within = subst (λ ks. length xs + length ks ≤ length (xs ++ kids_at xs i)) (sym e) (omega (arith, length-append xs (kids_at xs i)));
-      each = λ j below. slice_get_right xs (kids_at xs i) j ∙ ap (λ ks. slice_get ks j) (sym e);
-    }
+  kept : (xs ys : List Spot) (i first : ℕ) → i < length xs → AreFrom s xs i first → AreFrom s (xs ++ ys) i first
+  kept xs ys i first h from =
+      let e : kids_at s (xs ++ ys) i ≡ kids_at s xs i = same_kids xs ys i h in
+      record {
+        behind = from.behind;
+        within = subst (λ ks. first + length ks ≤ length (xs ++ ys)) (sym e) (omega (arith, length-append xs ys, from.within));
+        each = λ j below.
+            let inside : j < length (kids_at s xs i) = subst (λ ks. j < length ks) e below in
+            slice_get_left xs ys (first + j) (omega (arith, from.within, inside)) ∙ from.each j inside ∙ ap (λ ks. slice_get ks j) (sym e);
+      }
 
-pub one_more : (xs : List Item) (firsts : List ℕ) → length firsts < length xs → AreLaid xs firsts
-    → AreLaid (xs ++ kids_at xs (length firsts)) (firsts ++ length xs ∷ [])
-one_more xs firsts h laid i within =
-    elim (nearer i (length firsts) (omega (arith, within, length-append firsts (length xs ∷ [])))) [
-      | inl before ↦
-          subst (AreFrom (xs ++ kids_at xs (length firsts)) i) (sym (get_or_append_left firsts (length xs ∷ []) 0 i before))
-          (kept xs (kids_at xs (length firsts)) i (get_or firsts i 0) (omega arith) (laid i before))
-      | inr here ↦
-          let e : get_or (firsts ++ length xs ∷ []) i 0 ≡ length xs = ap (λ j. get_or (firsts ++ length xs ∷ []) j 0) (here ∙ sym_add (length firsts)) ∙ get_or-append-add firsts (length xs ∷ []) 0 0 in
-          subst (AreFrom (xs ++ kids_at xs (length firsts)) i) (sym e)
-          (subst (λ j. AreFrom (xs ++ kids_at xs (length firsts)) j (length xs)) (sym here) (put xs (length firsts) h))
-    ]
-  where
-    nearer : (i n : ℕ) → i < n + 1 → (i < n) ⊎ (i ≡ n)
-    nearer i n h = grind arith
+  put : (xs : List Spot) (i : ℕ) → i < length xs → AreFrom s (xs ++ kids_at s xs i) i (length xs)
+  put xs i h =
+      let e : kids_at s (xs ++ kids_at s xs i) i ≡ kids_at s xs i = same_kids xs (kids_at s xs i) i h in
+      record {
+        behind = h;
+        within = subst (λ ks. length xs + length ks ≤ length (xs ++ kids_at s xs i)) (sym e) (omega (arith, length-append xs (kids_at s xs i)));
+        each = λ j below. slice_get_right xs (kids_at s xs i) j ∙ ap (λ ks. slice_get ks j) (sym e);
+      }
 
-    sym_add : (n : ℕ) → n ≡ n + 0
-    sym_add n = omega arith
+  pub one_more : (xs : List Spot) (firsts : List ℕ) → length firsts < length xs → AreLaid s xs firsts
+      → AreLaid s (xs ++ kids_at s xs (length firsts)) (firsts ++ length xs ∷ [])
+  one_more xs firsts h laid i within =
+      elim (nearer i (length firsts) (omega (arith, within, length-append firsts (length xs ∷ [])))) [
+        | inl before ↦
+            subst (AreFrom s (xs ++ kids_at s xs (length firsts)) i) (sym (get_or_append_left firsts (length xs ∷ []) 0 i before))
+            (kept xs (kids_at s xs (length firsts)) i (get_or firsts i 0) (omega arith) (laid i before))
+        | inr here ↦
+            let e : get_or (firsts ++ length xs ∷ []) i 0 ≡ length xs = ap (λ j. get_or (firsts ++ length xs ∷ []) j 0) (here ∙ sym_add (length firsts)) ∙ get_or-append-add firsts (length xs ∷ []) 0 0 in
+            subst (AreFrom s (xs ++ kids_at s xs (length firsts)) i) (sym e)
+            (subst (λ j. AreFrom s (xs ++ kids_at s xs (length firsts)) j (length xs)) (sym here) (put xs (length firsts) h))
+      ]
+    where
+      nearer : (i n : ℕ) → i < n + 1 → (i < n) ⊎ (i ≡ n)
+      nearer i n h = grind arith
 
--- ---- finding a child
+      sym_add : (n : ℕ) → n ≡ n + 0
+      sym_add n = omega arith
 
-kid_at-in : (ks : Kids) (i : ℕ) → kid_at ks i ≡ slice_get (items_in ks) i
-kid_at-in no_kids i = refl
-kid_at-in (kid name x ks) zero = refl
-kid_at-in (kid name x ks) (suc i) = kid_at-in ks i
+  -- ---- finding a child
 
-pub found : (xs : List Item) (i first j : ℕ) → AreFrom xs i first → j < length (kids_at xs i)
-    → Some (numbered xs (first + j)) ≡ kid_at (kids_of (numbered xs i)) j
-found xs i first j from h =
-    sym (slice_get-get_or xs (first + j) nothing (omega (arith, from.within, h))) ∙ from.each j h ∙ sym (kid_at-in (kids_of (numbered xs i)) j)
+  kid_at-in : (around : Item) (ks : Kids) (i : ℕ) → slice_get (spots_in s around ks) i ≡ option_map (spot_of s around) (kid_at ks i)
+  kid_at-in around no_kids i = refl
+  kid_at-in around (kid name x ks) zero = refl
+  kid_at-in around (kid name x ks) (suc i) = kid_at-in around ks i
 
-pub missed : (xs : List Item) (i j : ℕ) → length (kids_at xs i) ≤ j → None ≡ kid_at (kids_of (numbered xs i)) j
-missed xs i j h = sym (kid_at-in (kids_of (numbered xs i)) j ∙ slice_get_past (kids_at xs i) j h)
+  -- what stands where a child does
+  parts : (around : Item) (o : Option Item) (spot : Spot) → Some spot ≡ option_map (spot_of s around) o
+      → (Some spot.itself ≡ o) × (spot.resource ≡ nearest_to s around spot.itself)
+  parts around None spot e = absurd (Some≢None spot e)
+    where
+      Some≢None : (spot : Spot) → Some spot ≡ None → ⊥
+      Some≢None spot e = cc
+  parts around (Some x) spot e =
+      let is : spot ≡ spot_of s around x = cc in
+      (ap (λ z. Some z.itself) is, subst (λ z. z.resource ≡ nearest_to s around z.itself) (sym is) refl)
+
+  pub found : (xs : List Spot) (i first j : ℕ) → AreFrom s xs i first → j < length (kids_at s xs i)
+      → (Some (numbered xs (first + j)).itself ≡ kid_at (kids_of (numbered xs i).itself) j)
+      × ((numbered xs (first + j)).resource ≡ nearest_to s (numbered xs i).resource (numbered xs (first + j)).itself)
+  found xs i first j from h =
+      parts (numbered xs i).resource (kid_at (kids_of (numbered xs i).itself) j) (numbered xs (first + j))
+      (sym (slice_get-get_or xs (first + j) nowhere (omega (arith, from.within, h)))
+      ∙ from.each j h
+      ∙ kid_at-in (numbered xs i).resource (kids_of (numbered xs i).itself) j)
+
+  pub missed : (xs : List Spot) (i j : ℕ) → length (kids_at s xs i) ≤ j → None ≡ kid_at (kids_of (numbered xs i).itself) j
+  missed xs i j h =
+      none_of (kid_at (kids_of (numbered xs i).itself) j)
+      (sym (kid_at-in (numbered xs i).resource (kids_of (numbered xs i).itself) j) ∙ slice_get_past (kids_at s xs i) j h)
+    where
+      none_of : (o : Option Item) → option_map (spot_of s (numbered xs i).resource) o ≡ None → None ≡ o
+      none_of None e = refl
+      none_of (Some x) e = cc
 
 -- ---- the test of a child
 
@@ -96,18 +123,20 @@ test_at s meaning around p (kid name x ks) (suc i) n =
 
 -- ---- the children of a `Typed`
 
-abbrev pub item_of_kid : Child → Item
-item_of_kid k = (named_of k).1
+abbrev pub spot_of_kid : SchemaValue → Item → Child → Spot
+spot_of_kid s around k = spot_of s around (named_of k).1
 
-pub items_of : (ks : List Child) (x : Item) → kids_in (named_in ks) ≡ kids_of x → items_in (kids_of x) ≡ map item_of_kid ks
-items_of ks x e = ap items_in (sym e) ∙ unnamed ks
+pub spots_of : (s : SchemaValue) (around : Item) (ks : List Child) (x : Item) → kids_in (named_in ks) ≡ kids_of x
+    → spots_in s around (kids_of x) ≡ map (spot_of_kid s around) ks
+spots_of s around ks x e = ap (spots_in s around) (sym e) ∙ unnamed ks
   where
-    unnamed : (ks : List Child) → items_in (kids_in (named_in ks)) ≡ map item_of_kid ks
+    unnamed : (ks : List Child) → spots_in s around (kids_in (named_in ks)) ≡ map (spot_of_kid s around) ks
     unnamed [] = refl
-    unnamed (k ∷ ks) = ap (λ xs. item_of_kid k ∷ xs) (unnamed ks)
+    unnamed (k ∷ ks) = ap (λ xs. spot_of_kid s around k ∷ xs) (unnamed ks)
 
-pub count_of : (ks : List Child) (x : Item) → kids_in (named_in ks) ≡ kids_of x → length (items_in (kids_of x)) ≡ length ks
-count_of ks x e = ap length (items_of ks x e) ∙ length-map ks item_of_kid
+pub count_of : (s : SchemaValue) (around : Item) (ks : List Child) (x : Item) → kids_in (named_in ks) ≡ kids_of x
+    → length (spots_in s around (kids_of x)) ≡ length ks
+count_of s around ks x e = ap length (spots_of s around ks x e) ∙ length-map ks (spot_of_kid s around)
 
 pub all_pushed : {A : Type 0} (P : A → Type 0) (xs : List A) (x : A) → AllByRecursion P xs → P x → AllByRecursion P (xs ++ x ∷ [])
 all_pushed P [] x each h = (h, tt)
@@ -122,35 +151,52 @@ any_default (x ∷ xs) (suc i) d e h = any_default xs i d e (omega arith)
 pub first_read : (firsts : List ℕ) (i first : ℕ) → i < length firsts → first ≡ get_or firsts i first → first ≡ get_or firsts i 0
 first_read firsts i first h e = e ∙ any_default firsts i first 0 h
 
-pub item_read : {A : Type 0} (f : A → Item) (xs : List A) (i : ℕ) (x : A) → i < length xs → x ≡ get_or xs i x → numbered (map f xs) i ≡ f x
+pub item_read : {A : Type 0} (f : A → Spot) (xs : List A) (i : ℕ) (x : A) → i < length xs → x ≡ get_or xs i x → numbered (map f xs) i ≡ f x
 item_read f [] i x h e = absurd (omega arith)
 item_read f (y ∷ ys) zero x h e = ap f (sym e)
 item_read f (y ∷ ys) (suc i) x h e = item_read f ys i x (omega arith) e
 
 -- a child more behind the items, and all of them
-pub put_next : {A : Type 0} (f : A → Item) (xs : List A) (x : A) (before : List Item) (ks : List Child) (i : ℕ) (k : Child)
-    → i < length ks → k ≡ get_or ks i k → map f xs ≡ before ++ take i (map item_of_kid ks) → f x ≡ item_of_kid k
-    → map f (xs ++ x ∷ []) ≡ before ++ take (i + 1) (map item_of_kid ks)
-put_next f xs x before ks i k h is e same =
-    let n : i < length (map item_of_kid ks) = subst (λ n. i < n) (sym (length-map ks item_of_kid)) h in
-    let r : get_or (map item_of_kid ks) i nothing ≡ item_of_kid k = item_read item_of_kid ks i k h is in
-    map-append f xs (x ∷ []) ∙ ap (λ ys. ys ++ f x ∷ []) e ∙ append_assoc before (take i (map item_of_kid ks)) (f x ∷ [])
-    ∙ ap (λ y. before ++ (take i (map item_of_kid ks) ++ y ∷ [])) (same ∙ sym r)
-    ∙ ap (λ ys. before ++ ys) (sym (take_more (map item_of_kid ks) i nothing n))
+pub put_next : {A : Type 0} (f : A → Spot) (g : Child → Spot) (xs : List A) (x : A) (before : List Spot) (ks : List Child) (i : ℕ) (k : Child)
+    → i < length ks → k ≡ get_or ks i k → map f xs ≡ before ++ take i (map g ks) → f x ≡ g k
+    → map f (xs ++ x ∷ []) ≡ before ++ take (i + 1) (map g ks)
+put_next f g xs x before ks i k h is e same =
+    let n : i < length (map g ks) = subst (λ n. i < n) (sym (length-map ks g)) h in
+    let r : get_or (map g ks) i nowhere ≡ g k = item_read g ks i k h is in
+    map-append f xs (x ∷ []) ∙ ap (λ ys. ys ++ f x ∷ []) e ∙ append_assoc before (take i (map g ks)) (f x ∷ [])
+    ∙ ap (λ y. before ++ (take i (map g ks) ++ y ∷ [])) (same ∙ sym r)
+    ∙ ap (λ ys. before ++ ys) (sym (take_more (map g ks) i nowhere n))
 
-pub put_all : {A : Type 0} (f : A → Item) (xs : List A) (ks : List Child) (x : Item) (i : ℕ) (before : List Item) → kids_in (named_in ks) ≡ kids_of x
-    → length ks ≤ i → map f xs ≡ before ++ take i (map item_of_kid ks) → map f xs ≡ before ++ items_in (kids_of x)
-put_all f xs ks x i before same h e =
-    let n : length (map item_of_kid ks) ≤ i = subst (λ n. n ≤ i) (sym (length-map ks item_of_kid)) h in
-    e ∙ ap (λ ys. before ++ ys) (take_all i (map item_of_kid ks) n ∙ sym (items_of ks x same))
+pub put_all : {A : Type 0} (s : SchemaValue) (around : Item) (f : A → Spot) (xs : List A) (ks : List Child) (x : Item) (i : ℕ) (before : List Spot)
+    → kids_in (named_in ks) ≡ kids_of x → length ks ≤ i → map f xs ≡ before ++ take i (map (spot_of_kid s around) ks)
+    → map f xs ≡ before ++ spots_in s around (kids_of x)
+put_all s around f xs ks x i before same h e =
+    let n : length (map (spot_of_kid s around) ks) ≤ i = subst (λ n. n ≤ i) (sym (length-map ks (spot_of_kid s around))) h in
+    e ∙ ap (λ ys. before ++ ys) (take_all i (map (spot_of_kid s around) ks) n ∙ sym (spots_of s around ks x same))
 
-pub laid_more : (xs ys : List Item) (firsts more : List ℕ) (i n : ℕ) (x : Item) → length firsts ≡ i → i < length xs → n ≡ length xs → numbered xs i ≡ x
-    → ys ≡ xs ++ items_in (kids_of x) → more ≡ firsts ++ n ∷ [] → AreLaid xs firsts → AreLaid ys more
-laid_more xs ys firsts more i n x at h count same e f laid =
-    let k : kids_at xs (length firsts) ≡ items_in (kids_of x) = ap (λ y. items_in (kids_of y)) (ap (numbered xs) at ∙ same) in
-    subst (λ zs. AreLaid zs more) (ap (λ zs. xs ++ zs) k ∙ sym e)
-    (subst (λ ms. AreLaid (xs ++ kids_at xs (length firsts)) ms) (ap (λ m. firsts ++ m ∷ []) (sym count) ∙ sym f)
-    (one_more xs firsts (omega (arith, at, h)) laid))
+pub laid_more : (s : SchemaValue) (xs ys : List Spot) (firsts more : List ℕ) (i n : ℕ) (x : Spot) → length firsts ≡ i → i < length xs → n ≡ length xs
+    → numbered xs i ≡ x → ys ≡ xs ++ spots_in s x.resource (kids_of x.itself) → more ≡ firsts ++ n ∷ [] → AreLaid s xs firsts → AreLaid s ys more
+laid_more s xs ys firsts more i n x at h count same e f laid =
+    let k : kids_at s xs (length firsts) ≡ spots_in s x.resource (kids_of x.itself) =
+    ap (λ y. spots_in s y.resource (kids_of y.itself)) (ap (numbered xs) at ∙ same) in
+    subst (λ zs. AreLaid s zs more) (ap (λ zs. xs ++ zs) k ∙ sym e)
+    (subst (λ ms. AreLaid s (xs ++ kids_at s xs (length firsts)) ms) (ap (λ m. firsts ++ m ∷ []) (sym count) ∙ sym f)
+    (one_more s xs firsts (omega (arith, at, h)) laid))
 
-pub longer : (xs ys zs : List Item) → ys ≡ xs ++ zs → length xs ≤ length ys
+pub longer : {A : Type 0} (xs ys zs : List A) → ys ≡ xs ++ zs → length xs ≤ length ys
 longer xs ys zs e = omega (arith, ap length e, length-append xs zs)
+
+-- an item is its own nearest resource where it is one
+pub own_nearest : (s : SchemaValue) (around x : Item) → nearest_to s (nearest_to s around x) x ≡ nearest_to s around x
+own_nearest s around x = by_case (is_resource_item s x)
+  where
+    by_case : (b : Bool) → (if b then x else (if b then x else around)) ≡ (if b then x else around)
+    by_case true = refl
+    by_case false = refl
+
+pub own_outermost : (s : SchemaValue) (x : Item) → nearest_to s x x ≡ x
+own_outermost s x = by_case (is_resource_item s x)
+  where
+    by_case : (b : Bool) → (if b then x else x) ≡ x
+    by_case true = refl
+    by_case false = refl

@@ -12,7 +12,7 @@ use Rattle.fhir_instance.specs.Items.{Item, Place}
 use Rattle.fhir_facets.specs.Views.{unread_seen}
 use Rattle.fhir_facets.specs.declared.unread.Unread.{Unread}
 use Rattle.fhir_slicing.specs.Asks.{RuleName, own, asks}
-use Rattle.fhir_slicing.specs.Conformance.{rule_holds}
+use Rattle.fhir_slicing.specs.Conformance.{Around, constant, rule_holds}
 use Rattle.fhir_slicing.specs.Meeting.{Met, unread_at}
 use Rattle.fhir_slicing.specs.Views.{ask_seen, asks_seen}
 use Rattle.fhir_slicing.specs.declared.ask.Ask.{Ask}
@@ -21,7 +21,11 @@ use Rattle.fhir_validator.specs.declared.answer.Answer.TheVariants.{Holds, Open,
 use Rattle.fhir_validator.specs.declared.issue.Finding.{Finding}
 use Rattle.fhir_validator.specs.declared.issue.Issue.{Issue}
 use Rattle.fhir_validator.specs.declared.issue.Site.{Site}
+use Rattle.fhir_validator.specs.declared.layout.Layout.{Layout}
+use Rattle.fhir_validator.specs.declared.pair.Pair.{Pair}
 use Rattle.fhir_validator.specs.Answers.{under}
+use Rattle.fhir_validator.specs.Judging.{IsThere, ask_conforms}
+use Rattle.fhir_validator.specs.Layouts.{item_at, resource_of}
 use Rattle.fhir_validator.specs.Issues.{IsNamed, IsBroken, IsOpenAt, rule_said, says}
 use Rattle.fhir_validator.specs.Listing.{same_answer, side, is_filled, IsAllowed}
 
@@ -90,33 +94,48 @@ asked_at s x n xs i d e h =
     long [] = refl
     long (x ∷ xs) = ap suc (long xs)
 
-module _ (s : SchemaValue) (outermost : Item) (profile : NodeRef) (place : Place) (x : Item) (n node : NodeRef) (met : Met s outermost profile place x n)
+module _ (s : SchemaValue) (outermost : Item) (profile : NodeRef) (place : Place) (resource x : Item) (n node : NodeRef) (met : Met s outermost profile place resource x n)
     (rule : RuleName) (asked : Contains (asks s x n) (own rule node)) where
-  pub broken_at : (finding : Finding) → finding.node ≡ node → rule_holds s (λ unread. true) x rule node ≡ false → rule_said finding.rule ≡ says s x rule node
+  pub broken_at : (finding : Finding) → finding.node ≡ node → rule_holds s (λ unread. true) resource x rule node ≡ false → rule_said finding.rule ≡ says s x rule node
       → IsNamed s node finding.url.now finding.id.now → IsBroken s outermost profile finding
   broken_at finding e fails said named = record {
     place = place;
+    resource = resource;
     itself = x;
     node = n;
     rule = rule;
     met = met;
     asked = subst (λ m. Contains (asks s x n) (own rule m)) (sym e) asked;
-    fails = subst (λ m. rule_holds s (λ unread. true) x rule m ≡ false) (sym e) fails;
+    fails = subst (λ m. rule_holds s (λ unread. true) resource x rule m ≡ false) (sym e) fails;
     said = subst (λ m. rule_said finding.rule ≡ says s x rule m) (sym e) said;
     named = subst (λ m. IsNamed s m finding.url.now finding.id.now) (sym e) named;
   }
 
   pub open_at : (site : Site) (unread : Unread) → site.node ≡ node → site.unread ≡ unread → Contains (unread_at s x node) (unread_seen unread)
-      → ((b : Bool) → rule_holds s (λ u. b) x rule node ≡ b) → IsNamed s node site.url.now site.id.now → IsOpenAt s outermost profile site
+      → ((b : Bool) → rule_holds s (λ u. b) resource x rule node ≡ b) → IsNamed s node site.url.now site.id.now → IsOpenAt s outermost profile site
   open_at site unread e f carried hangs named = record {
     place = place;
+    resource = resource;
     itself = x;
     node = n;
     rule = rule;
     met = met;
     asked = subst (λ m. Contains (asks s x n) (own rule m)) (sym e) asked;
     carried = subst (λ m. Contains (unread_at s x m) (unread_seen site.unread)) (sym e) (subst (λ u. Contains (unread_at s x node) (unread_seen u)) (sym f) carried);
-    full = subst (λ m. IsTrue (rule_holds s (λ u. true) x rule m)) (sym e) (hangs true);
-    empty = subst (λ m. rule_holds s (λ u. false) x rule m ≡ false) (sym e) (hangs false);
+    full = subst (λ m. IsTrue (rule_holds s (λ u. true) resource x rule m)) (sym e) (hangs true);
+    empty = subst (λ m. rule_holds s (λ u. false) resource x rule m ≡ false) (sym e) (hangs false);
     named = subst (λ m. IsNamed s m site.url.now site.id.now) (sym e) named;
   }
+
+-- a rule at the item of a number, by its own nearest resource, and where it stands
+module _ (layout : Layout) (p : Pair) (rule : RuleName) (node : NodeRef) where
+  abbrev pub holds_there : Bool → Bool
+  holds_there b = rule_holds layout.schema.now (λ u. b) (resource_of layout p.item) (item_at layout p.item) rule node
+
+  pub there_of : (P : Bool → Type 0) (b : Bool) (around : Around) → IsThere layout p.item around → P (holds_there b)
+      → P (ask_conforms layout.schema.now (constant b) around (item_at layout p.item) (own rule node))
+  there_of P b around there = subst (λ (r : Item). P (rule_holds layout.schema.now (λ u. b) r (item_at layout p.item) rule node)) (sym there)
+
+  pub of_there : (P : Bool → Type 0) (b : Bool) (around : Around) → IsThere layout p.item around
+      → P (ask_conforms layout.schema.now (constant b) around (item_at layout p.item) (own rule node)) → P (holds_there b)
+  of_there P b around there = subst (λ (r : Item). P (rule_holds layout.schema.now (λ u. b) r (item_at layout p.item) rule node)) there

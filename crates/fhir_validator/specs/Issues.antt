@@ -10,6 +10,7 @@ use Rattle.fhir_elements.specs.Element.{required_value_set}
 use Rattle.fhir_schema.specs.declared.node.NodeRef.{NodeRef}
 use Rattle.fhir_schema.specs.Schemas.{SchemaValue, element_at, root, url_at, id_of_node}
 use Rattle.fhir_schema.specs.Covers.{type_at}
+use Rattle.fhir_schema.specs.Expressions.{constraint_at}
 use Rattle.fhir_instance.specs.Items.{Item, Place}
 use Rattle.fhir_instance.specs.Typing.{Types}
 use Rattle.fhir_facets.specs.Counts.{least_of}
@@ -19,7 +20,7 @@ use Rattle.fhir_slicing.specs.Asks.{RuleName, own, asks}
 use Rattle.fhir_slicing.specs.Conformance.{count_of, rule_holds}
 use Rattle.fhir_slicing.specs.Meeting.{Met, unread_at}
 use Rattle.fhir_validator.specs.declared.rule.Rule.{Rule}
-use Rattle.fhir_validator.specs.declared.rule.Rule.TheVariants.{RootType, Types as OfTypes, Fixed, Pattern, Range, Length, Binding, TooFew, TooMany}
+use Rattle.fhir_validator.specs.declared.rule.Rule.TheVariants.{RootType, Types as OfTypes, Fixed, Pattern, Range, Length, Binding, TooFew, TooMany, Constraint}
 use Rattle.fhir_validator.specs.declared.issue.Finding.{Finding}
 use Rattle.fhir_validator.specs.declared.issue.Issue.{Issue}
 use Rattle.fhir_validator.specs.declared.issue.Issue.TheVariants.{Misfit, Broken}
@@ -36,6 +37,8 @@ pub data Said : Type 0 where
   -- how many are asked for, and how many there are
   too_few : (min found : ℕ) → Said
   too_many : (max : Option Max) (found : ℕ) → Said
+  -- the constraint's key
+  constraint : (key : List ℕ) → Said
 
 abbrev pub rule_said : Rule → Said
 rule_said (RootType code) = root_type code.now
@@ -47,10 +50,15 @@ rule_said Length = length_limit
 rule_said (Binding canonical) = binding canonical.now
 rule_said (TooFew min found) = too_few min found
 rule_said (TooMany max found) = too_many max found
+rule_said (Constraint key) = constraint key.now
 
 -- the value set that a node asks for, or the empty text
 abbrev pub set_at : SchemaValue → NodeRef → Text
 set_at s n = option_map_or (λ canonical. canonical) (option_and_then required_value_set (element_at s n)) []
+
+-- the key of a constraint of a node, or the empty text
+abbrev pub key_at : SchemaValue → NodeRef → ℕ → Text
+key_at s n position = option_map_or (λ c. c.key) (constraint_at s n position) []
 
 -- what is to be said of a rule of a node, at an item
 abbrev pub says : SchemaValue → Item → RuleName → NodeRef → Said
@@ -63,6 +71,7 @@ says s x asked.length_limit n = length_limit
 says s x asked.binding n = binding (set_at s n)
 says s x (asked.too_few name) n = too_few (option_map_or least_of (element_at s n) 0) (count_of name x)
 says s x (asked.too_many name) n = too_many (option_and_then (λ e. e.max) (element_at s n)) (count_of name x)
+says s x (asked.constraint position) n = constraint (key_at s n position)
 
 -- ---- issues
 
@@ -74,12 +83,13 @@ IsNamed s n url id = (url ≡ url_at s n.definition) × (id ≡ id_of_node s n)
 -- resource, and `profile` the root that it was judged against.
 pub record IsBroken (s : SchemaValue) (outermost : Item) (profile : NodeRef) (finding : Finding) : Type 0 where
   pub place : Place
+  pub resource : Item
   pub itself : Item
   pub node : NodeRef
   pub rule : RuleName
-  pub met : Met s outermost profile place itself node
+  pub met : Met s outermost profile place resource itself node
   pub asked : Contains (asks s itself node) (own rule finding.node)
-  pub fails : rule_holds s (λ unread. true) itself rule finding.node ≡ false
+  pub fails : rule_holds s (λ unread. true) resource itself rule finding.node ≡ false
   pub said : rule_said finding.rule ≡ says s itself rule finding.node
   pub named : IsNamed s finding.node finding.url.now finding.id.now
 
@@ -94,14 +104,15 @@ IsIssue s profile t (Broken finding) =
 -- A node of a pair carries the unread rule, and a rule that the node asks there hangs on what unread rules mean.
 pub record IsOpenAt (s : SchemaValue) (outermost : Item) (profile : NodeRef) (site : Site) : Type 0 where
   pub place : Place
+  pub resource : Item
   pub itself : Item
   pub node : NodeRef
   pub rule : RuleName
-  pub met : Met s outermost profile place itself node
+  pub met : Met s outermost profile place resource itself node
   pub asked : Contains (asks s itself node) (own rule site.node)
   pub carried : Contains (unread_at s itself site.node) (unread_seen site.unread)
-  pub full : IsTrue (rule_holds s (λ unread. true) itself rule site.node)
-  pub empty : rule_holds s (λ unread. false) itself rule site.node ≡ false
+  pub full : IsTrue (rule_holds s (λ unread. true) resource itself rule site.node)
+  pub empty : rule_holds s (λ unread. false) resource itself rule site.node ≡ false
   pub named : IsNamed s site.node site.url.now site.id.now
 
 abbrev pub IsSite : SchemaValue → Text → Tree → Site → Type 0

@@ -1,40 +1,46 @@
 -- Pairs of a node and an item, and what is right of their answers (used by private contracts alone).
-use Rattle.std.specs.Prelude.{◌≡◌, Bool, false, Some, Option, IsTrue}
+use Rattle.std.specs.Prelude.{◌≡◌, ℕ, Bool, false, Some, Option, IsTrue}
 use Rattle.std.specs.BTreeMap.{get}
 use Rattle.fhir_schema.specs.declared.node.NodeRef.{NodeRef}
 use Rattle.fhir_schema.specs.Schemas.{SchemaValue, is_root_node}
 use Rattle.fhir_instance.specs.Items.{Item, kids_of}
 use Rattle.fhir_slicing.specs.Asks.{Ask, own, root, child}
-use Rattle.fhir_slicing.specs.Conformance.{Interpretation, Around, meaning_at, inside, constant, ask_holds, conforms, kid_tests}
+use Rattle.fhir_slicing.specs.Conformance.{Interpretation, Around, meaning_at, resource_at, inside, constant, ask_holds, conforms, kid_tests}
 use Rattle.fhir_validator.specs.declared.answer.Answer.{Answer}
 use Rattle.fhir_validator.specs.declared.known.Known.{Known}
 use Rattle.fhir_validator.specs.declared.layout.Layout.{Layout}
 use Rattle.fhir_validator.specs.declared.pair.Pair.{Pair}
 use Rattle.fhir_validator.specs.contracts.pair.PairOrd.TheImpl.{cmp-value}
 use Rattle.fhir_validator.specs.Answers.{under}
-use Rattle.fhir_validator.specs.Layouts.{item_at}
+use Rattle.fhir_validator.specs.Layouts.{item_at, resource_of}
 
 -- what is asked holds of an item there
 abbrev pub ask_conforms : SchemaValue → Interpretation → Around → Item → Ask → Bool
 ask_conforms s meaning around x ask =
-    ask_holds s (meaning_at meaning around) x (kid_tests s meaning (inside s around x) 0 (kids_of x)) (conforms s meaning around x) ask
+    ask_holds s (meaning_at meaning around) (resource_at s around x) x (kid_tests s meaning (inside s around x) 0 (kids_of x)) (conforms s meaning around x) ask
+
+-- the item of a number stands there, as far as the nearest resource tells
+abbrev pub IsThere : Layout → ℕ → Around → Type 0
+IsThere layout number around = resource_at layout.schema.now around (item_at layout number) ≡ resource_of layout number
 
 -- an answer to what a pair asks
-abbrev pub IsRightOf : SchemaValue → Layout → Pair → Ask → Answer → Type 0
-IsRightOf s layout p ask a =
-    (b : Bool) (around : Around) → under b a ≡ ask_conforms s (constant b) around (item_at layout p.item) ask
+abbrev pub IsRightOf : Layout → Pair → Ask → Answer → Type 0
+IsRightOf layout p ask a =
+    (b : Bool) (around : Around) → IsThere layout p.item around
+    → under b a ≡ ask_conforms layout.schema.now (constant b) around (item_at layout p.item) ask
 
 -- an answer to a pair
-abbrev pub IsRight : SchemaValue → Layout → Pair → Answer → Type 0
-IsRight s layout p a =
-    (b : Bool) (around : Around) → under b a ≡ conforms s (constant b) around (item_at layout p.item) p.node
+abbrev pub IsRight : Layout → Pair → Answer → Type 0
+IsRight layout p a =
+    (b : Bool) (around : Around) → IsThere layout p.item around
+    → under b a ≡ conforms layout.schema.now (constant b) around (item_at layout p.item) p.node
 
 abbrev pub known_in : Known → Pair → Option Answer
 known_in known p = get cmp-value.it known.answers p
 
 -- each answer that is known is right
-abbrev pub AreRight : SchemaValue → Layout → Known → Type 0
-AreRight s layout known = (p : Pair) (a : Answer) → known_in known p ≡ Some a → IsRight s layout p a
+abbrev pub AreRight : Layout → Known → Type 0
+AreRight layout known = (p : Pair) (a : Answer) → known_in known p ≡ Some a → IsRight layout p a
 
 -- where a node asks for a root, that is one, and the node is none
 abbrev pub IsOrdered : SchemaValue → NodeRef → Ask → Type 0

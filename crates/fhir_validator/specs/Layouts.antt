@@ -1,54 +1,74 @@
--- The items of a resource in a row (used by private contracts alone).
+-- The items of a resource in a row, each with the nearest resource at or around it (used by private contracts alone).
 use Rattle.std.specs.Prelude.{◌≡◌, ◌<◌, ◌≤◌, ◌+◌, ℕ, List, [], ◌∷◌, length, map, get_or, Option, None}
 use Rattle.std.specs.Option.{option_map}
 use Rattle.std.specs.List.{slice_get, AllByRecursion}
+use Rattle.fhir_schema.specs.Schemas.{SchemaValue}
 use Rattle.fhir_instance.specs.Items.{Item, item, Kids, no_kids, kid, kids_of}
 use Rattle.fhir_instance.specs.View.{item_of}
+use Rattle.fhir_slicing.specs.Conformance.{nearest_to}
 use Rattle.fhir_slicing.specs.Views.{IsIndexOf}
 use Rattle.fhir_validator.specs.declared.layout.Layout.{Layout}
 use Rattle.fhir_validator.specs.declared.layout.Stand.{Stand}
 
-abbrev pub item_in : Stand → Item
-item_in stand = item_of stand.item.now
+-- an item, and the nearest resource at or around it
+pub record Spot : Type 0 where
+  pub itself : Item
+  pub resource : Item
 
--- the items without their names
-abbrev pub items_in : Kids → List Item
-items_in no_kids = []
-items_in (kid name x kids) = x ∷ items_in kids
+abbrev pub spot_in : Stand → Spot
+spot_in stand = record { itself = item_of stand.item.now; resource = item_of stand.resource.now }
+
+-- an item around which that is the nearest resource, and those of children
+abbrev pub spot_of : SchemaValue → Item → Item → Spot
+spot_of s around x = record { itself = x; resource = nearest_to s around x }
+
+abbrev pub spots_in : SchemaValue → Item → Kids → List Spot
+spots_in s around no_kids = []
+spots_in s around (kid name x kids) = spot_of s around x ∷ spots_in s around kids
 
 abbrev pub nothing : Item
 nothing = item [] None no_kids
 
-abbrev pub numbered : List Item → ℕ → Item
-numbered xs i = get_or xs i nothing
+abbrev pub nowhere : Spot
+nowhere = record { itself = nothing; resource = nothing }
 
--- the item of a number
+abbrev pub numbered : List Spot → ℕ → Spot
+numbered xs i = get_or xs i nowhere
+
+-- the item of a number, and the nearest resource at or around it
+abbrev pub spot_at : Layout → ℕ → Spot
+spot_at layout number = numbered (map spot_in layout.stands.items) number
+
 abbrev pub item_at : Layout → ℕ → Item
-item_at layout number = numbered (map item_in layout.stands.items) number
+item_at layout number = (spot_at layout number).itself
+
+abbrev pub resource_of : Layout → ℕ → Item
+resource_of layout number = (spot_at layout number).resource
 
 abbrev pub number_of : Layout → Option ℕ → Option Item
 number_of layout number = option_map (item_at layout) number
 
--- its index has the item's children
-abbrev pub IsStand : Stand → Type 0
-IsStand stand = IsIndexOf (item_in stand) stand.children
+-- its index has the item's children, and an item that is a resource is its own nearest
+pub record IsStand (s : SchemaValue) (stand : Stand) : Type 0 where
+  pub indexed : IsIndexOf (spot_in stand).itself stand.children
+  pub nearest : nearest_to s (spot_in stand).resource (spot_in stand).itself ≡ (spot_in stand).resource
 
-abbrev pub AreStands : List Stand → Type 0
-AreStands stands = AllByRecursion IsStand stands
+abbrev pub AreStands : SchemaValue → List Stand → Type 0
+AreStands s stands = AllByRecursion (IsStand s) stands
 
-abbrev pub kids_at : List Item → ℕ → List Item
-kids_at xs i = items_in (kids_of (numbered xs i))
+abbrev pub kids_at : SchemaValue → List Spot → ℕ → List Spot
+kids_at s xs i = spots_in s (numbered xs i).resource (kids_of (numbered xs i).itself)
 
 -- the children of the item at a place stand side by side from that number on
-pub record AreFrom (xs : List Item) (i first : ℕ) : Type 0 where
+pub record AreFrom (s : SchemaValue) (xs : List Spot) (i first : ℕ) : Type 0 where
   pub behind : i < first
-  pub within : first + length (kids_at xs i) ≤ length xs
-  pub each : (j : ℕ) → j < length (kids_at xs i) → slice_get xs (first + j) ≡ slice_get (kids_at xs i) j
+  pub within : first + length (kids_at s xs i) ≤ length xs
+  pub each : (j : ℕ) → j < length (kids_at s xs i) → slice_get xs (first + j) ≡ slice_get (kids_at s xs i) j
 
-abbrev pub AreLaid : List Item → List ℕ → Type 0
-AreLaid xs firsts = (i : ℕ) → i < length firsts → AreFrom xs i (get_or firsts i 0)
+abbrev pub AreLaid : SchemaValue → List Spot → List ℕ → Type 0
+AreLaid s xs firsts = (i : ℕ) → i < length firsts → AreFrom s xs i (get_or firsts i 0)
 
 pub record IsLayout (layout : Layout) : Type 0 where
-  pub stands : AreStands layout.stands.items
+  pub stands : AreStands layout.schema.now layout.stands.items
   pub each : length layout.firsts.items ≡ length layout.stands.items
-  pub laid : AreLaid (map item_in layout.stands.items) layout.firsts.items
+  pub laid : AreLaid layout.schema.now (map spot_in layout.stands.items) layout.firsts.items

@@ -8,7 +8,7 @@ use Rattle.fhir_schema.specs.Schemas.{SchemaValue}
 use Rattle.fhir_instance.specs.Items.{Item, Place}
 use Rattle.fhir_instance.specs.Typing.{Types}
 use Rattle.fhir_slicing.specs.Asks.{Ask, asks}
-use Rattle.fhir_slicing.specs.Conformance.{Around, constant, conforms}
+use Rattle.fhir_slicing.specs.Conformance.{Around, outermost, constant, conforms}
 use Rattle.fhir_slicing.specs.Meeting.{Met}
 use Rattle.fhir_validator.specs.declared.answer.Answer.{Answer}
 use Rattle.fhir_validator.specs.declared.answer.Answer.TheVariants as answers
@@ -24,8 +24,8 @@ use Rattle.fhir_validator.specs.declared.fault.Fault.{Fault}
 use Rattle.fhir_validator.specs.declared.fault.Fault.TheVariants.{Missing, Unusable, NotJson, NoMemory}
 use Rattle.fhir_validator.specs.Answers.{under}
 use Rattle.fhir_validator.specs.Verdicts.{AreSome}
-use Rattle.fhir_validator.specs.Layouts.{item_at}
-use Rattle.fhir_validator.specs.Judging.{ask_conforms}
+use Rattle.fhir_validator.specs.Layouts.{item_at, resource_of}
+use Rattle.fhir_validator.specs.Judging.{IsThere, ask_conforms}
 use Rattle.fhir_validator.specs.Issues.{IsBroken, IsOpenAt}
 
 abbrev pub same_answer : Answer → Answer → Bool
@@ -64,22 +64,26 @@ IsAllowed answers.Holds holds = Unit {0}
 IsAllowed answers.Open holds = IsTrue holds
 IsAllowed answers.Fails holds = Unit {0}
 
-abbrev pub AskIsAllowed : SchemaValue → Layout → Answer → Pair → Ask → Type 0
-AskIsAllowed s layout wanted p ask =
-    (around : Around) × IsAllowed wanted (ask_conforms s (constant true) around (item_at layout p.item) ask)
+abbrev pub AskIsAllowed : Layout → Answer → Pair → Ask → Type 0
+AskIsAllowed layout wanted p ask =
+    (around : Around) × IsThere layout p.item around
+    × IsAllowed wanted (ask_conforms layout.schema.now (constant true) around (item_at layout p.item) ask)
 
-abbrev pub PairIsAllowed : SchemaValue → Layout → Answer → Pair → Type 0
-PairIsAllowed s layout wanted p =
-    (around : Around) × IsAllowed wanted (conforms s (constant true) around (item_at layout p.item) p.node)
+abbrev pub PairIsAllowed : Layout → Answer → Pair → Type 0
+PairIsAllowed layout wanted p =
+    (around : Around) × IsThere layout p.item around
+    × IsAllowed wanted (conforms layout.schema.now (constant true) around (item_at layout p.item) p.node)
 
 -- it holds, or something is listed
-abbrev pub AskIsTold : SchemaValue → Layout → Answer → Pair → Ask → Listing → Type 0
-AskIsTold s layout wanted p ask listing =
-    (around : Around) → IsTrue (ask_conforms s (constant (side wanted)) around (item_at layout p.item) ask) ⊎ IsFilled wanted listing
+abbrev pub AskIsTold : Layout → Answer → Pair → Ask → Listing → Type 0
+AskIsTold layout wanted p ask listing =
+    (around : Around) → IsThere layout p.item around
+    → IsTrue (ask_conforms layout.schema.now (constant (side wanted)) around (item_at layout p.item) ask) ⊎ IsFilled wanted listing
 
-abbrev pub PairIsTold : SchemaValue → Layout → Answer → Pair → Listing → Type 0
-PairIsTold s layout wanted p listing =
-    (around : Around) → IsTrue (conforms s (constant (side wanted)) around (item_at layout p.item) p.node) ⊎ IsFilled wanted listing
+abbrev pub PairIsTold : Layout → Answer → Pair → Listing → Type 0
+PairIsTold layout wanted p listing =
+    (around : Around) → IsThere layout p.item around
+    → IsTrue (conforms layout.schema.now (constant (side wanted)) around (item_at layout p.item) p.node) ⊎ IsFilled wanted listing
 
 -- what is listed is right
 abbrev pub IsFound : SchemaValue → Item → NodeRef → Issue → Type 0
@@ -91,14 +95,15 @@ AreFound s outermost profile listing =
     AllByRecursion (IsFound s outermost profile) listing.issues.items × AllByRecursion (IsOpenAt s outermost profile) listing.sites.items
 
 -- the pair asks for that
-abbrev pub IsAskedBy : SchemaValue → Layout → Pair → Ask → Type 0
-IsAskedBy s layout p ask = Contains (asks s (item_at layout p.item) p.node) ask
+abbrev pub IsAskedBy : Layout → Pair → Ask → Type 0
+IsAskedBy layout p ask = Contains (asks layout.schema.now (item_at layout p.item) p.node) ask
 
 -- what is right of the old listing is right of the new, if the pair is met
-abbrev pub KeepsFound : SchemaValue → Layout → Pair → Listing → Listing → Type 0
-KeepsFound s layout p old new =
-    (outermost : Item) (profile : NodeRef) (place : Place) → Met s outermost profile place (item_at layout p.item) p.node
-    → AreFound s outermost profile old → AreFound s outermost profile new
+abbrev pub KeepsFound : Layout → Pair → Listing → Listing → Type 0
+KeepsFound layout p old new =
+    (outermost : Item) (profile : NodeRef) (place : Place)
+    → Met layout.schema.now outermost profile place (resource_of layout p.item) (item_at layout p.item) p.node
+    → AreFound layout.schema.now outermost profile old → AreFound layout.schema.now outermost profile new
 
 -- ---- what a verdict lists
 
@@ -114,7 +119,7 @@ answer_in (Undecided sites) = answers.Open
 
 -- the verdict on an item at a root
 pub record IsVerdictAt (s : SchemaValue) (x : Item) (n : NodeRef) (v : Verdict) : Type 0 where
-  pub right : (b : Bool) (around : Around) → under b (answer_in v) ≡ conforms s (constant b) around x n
+  pub right : (b : Bool) → under b (answer_in v) ≡ conforms s (constant b) (outermost x) x n
   pub listed : IsListed s x n v
 
 abbrev pub IsOfMisfit : Issue → Type 0

@@ -7,7 +7,7 @@ ghost use Rattle.fhir_slicing.specs.Asks.{own, child};
 ghost use Rattle.fhir_slicing.specs.Conformance.{rule_holds};
 ghost use Rattle.fhir_slicing.specs.Meeting.{unread_at};
 ghost use Rattle.fhir_slicing.specs.Views.{ask_seen, rule_name};
-ghost use Rattle.fhir_validator.specs.Layouts.{IsLayout, item_at};
+ghost use Rattle.fhir_validator.specs.Layouts.{IsLayout, item_at, resource_of};
 ghost use Rattle.fhir_validator.specs.Judging.{IsRight, AreRight, IsOrdered};
 ghost use Rattle.fhir_validator.specs.Listing.{IsFilled, IsMarked, AskIsAllowed, PairIsAllowed, AskIsTold, PairIsTold, IsAskedBy, KeepsFound};
 
@@ -21,15 +21,14 @@ use crate::pair::Pair;
 use crate::telling::{finding_of, site_of};
 use fhir_facets::{Holding, Unread};
 use fhir_json::NoMemory;
-use fhir_schema::{NodeRef, Schema, roots_are_roots};
+use fhir_schema::{NodeRef, roots_are_roots};
 use fhir_slicing::{Ask, Rule, asks, judge};
 use std::alloc::Global;
 
 // Lists a rule that the pair asks for and that fails.
 fn list_broken<'s>(
     alloc: Global,
-    schema: &'s Schema,
-    layout: &Layout<'_, '_, '_>,
+    layout: &Layout<'s, '_, '_, '_>,
     wanted: Answer,
     listing: &mut Listing<'s>,
     pair: Pair,
@@ -39,15 +38,15 @@ fn list_broken<'s>(
     requires laid { IsLayout layout.now }
     requires within { pair.item < length layout.now.stands.items }
     requires marked { IsMarked wanted listing.old }
-    requires asked { IsAskedBy schema.now layout.now pair (own (rule_name rule) node) }
-    requires allowed { AskIsAllowed schema.now layout.now wanted pair (own (rule_name rule) node) }
-    requires fails { (b : Bool) → rule_holds schema.now (λ unread. b) (item_at layout.now pair.item) (rule_name rule) node ≡ false }
+    requires asked { IsAskedBy layout.now pair (own (rule_name rule) node) }
+    requires allowed { AskIsAllowed layout.now wanted pair (own (rule_name rule) node) }
+    requires fails { (b : Bool) → rule_holds layout.now.schema.now (λ unread. b) (resource_of layout.now pair.item) (item_at layout.now pair.item) (rule_name rule) node ≡ false }
     ensures marked { OnOk result (IsMarked wanted listing.new) }
     ensures kept { IsFilled wanted listing.old → OnOk result (IsFilled wanted listing.new) }
-    ensures told { OnOk result (AskIsTold schema.now layout.now wanted pair (own (rule_name rule.entry) node) listing.new) }
-    ensures found { OnOk result (KeepsFound schema.now layout.now pair listing.old listing.new) }
+    ensures told { OnOk result (AskIsTold layout.now wanted pair (own (rule_name rule.entry) node) listing.new) }
+    ensures found { OnOk result (KeepsFound layout.now pair listing.old listing.new) }
 {
-    let finding = finding_of(alloc, schema, layout, pair.item, rule, node)?;
+    let finding = finding_of(alloc, layout, pair.item, rule, node)?;
     listing.issues.push(Issue::Broken(finding))?;
     Ok(())
 }
@@ -55,8 +54,7 @@ fn list_broken<'s>(
 // Lists an unread rule that a rule of the pair hangs on, where sites are wanted.
 fn list_open<'s>(
     alloc: Global,
-    schema: &'s Schema,
-    layout: &Layout<'_, '_, '_>,
+    layout: &Layout<'s, '_, '_, '_>,
     wanted: Answer,
     listing: &mut Listing<'s>,
     pair: Pair,
@@ -67,17 +65,17 @@ fn list_open<'s>(
     requires laid { IsLayout layout.now }
     requires within { pair.item < length layout.now.stands.items }
     requires marked { IsMarked wanted listing.old }
-    requires asked { IsAskedBy schema.now layout.now pair (own (rule_name rule) node) }
-    requires allowed { AskIsAllowed schema.now layout.now wanted pair (own (rule_name rule) node) }
-    requires open { (b : Bool) → rule_holds schema.now (λ unread. b) (item_at layout.now pair.item) (rule_name rule) node ≡ b }
-    requires carried { Contains (unread_at schema.now (item_at layout.now pair.item) node) (unread_seen unread) }
+    requires asked { IsAskedBy layout.now pair (own (rule_name rule) node) }
+    requires allowed { AskIsAllowed layout.now wanted pair (own (rule_name rule) node) }
+    requires open { (b : Bool) → rule_holds layout.now.schema.now (λ unread. b) (resource_of layout.now pair.item) (item_at layout.now pair.item) (rule_name rule) node ≡ b }
+    requires carried { Contains (unread_at layout.now.schema.now (item_at layout.now pair.item) node) (unread_seen unread) }
     ensures marked { OnOk result (IsMarked wanted listing.new) }
     ensures kept { IsFilled wanted listing.old → OnOk result (IsFilled wanted listing.new) }
-    ensures told { OnOk result (AskIsTold schema.now layout.now wanted pair (own (rule_name rule.entry) node) listing.new) }
-    ensures found { OnOk result (KeepsFound schema.now layout.now pair listing.old listing.new) }
+    ensures told { OnOk result (AskIsTold layout.now wanted pair (own (rule_name rule.entry) node) listing.new) }
+    ensures found { OnOk result (KeepsFound layout.now pair listing.old listing.new) }
 {
     if wanted.is(Answer::Open) {
-        let site = site_of(alloc, schema, layout, pair.item, unread, node)?;
+        let site = site_of(alloc, layout, pair.item, unread, node)?;
         listing.sites.push(site)?;
     }
     Ok(())
@@ -85,8 +83,7 @@ fn list_open<'s>(
 
 fn list_rule<'s>(
     alloc: Global,
-    schema: &'s Schema,
-    layout: &Layout<'_, '_, '_>,
+    layout: &Layout<'s, '_, '_, '_>,
     wanted: Answer,
     listing: &mut Listing<'s>,
     pair: Pair,
@@ -96,21 +93,27 @@ fn list_rule<'s>(
     requires laid { IsLayout layout.now }
     requires within { pair.item < length layout.now.stands.items }
     requires marked { IsMarked wanted listing.old }
-    requires asked { IsAskedBy schema.now layout.now pair (own (rule_name rule) node) }
-    requires allowed { AskIsAllowed schema.now layout.now wanted pair (own (rule_name rule) node) }
+    requires asked { IsAskedBy layout.now pair (own (rule_name rule) node) }
+    requires allowed { AskIsAllowed layout.now wanted pair (own (rule_name rule) node) }
     ensures marked { OnOk result (IsMarked wanted listing.new) }
     ensures kept { IsFilled wanted listing.old → OnOk result (IsFilled wanted listing.new) }
-    ensures told { OnOk result (AskIsTold schema.now layout.now wanted pair (own (rule_name rule.entry) node) listing.new) }
-    ensures found { OnOk result (KeepsFound schema.now layout.now pair listing.old listing.new) }
+    ensures told { OnOk result (AskIsTold layout.now wanted pair (own (rule_name rule.entry) node) listing.new) }
+    ensures found { OnOk result (KeepsFound layout.now pair listing.old listing.new) }
 {
-    let item = layout.item(pair.item);
-    match judge(schema, item, layout.children(pair.item), rule, node) {
+    let holding = judge(
+        alloc,
+        layout.schema,
+        layout.resource(pair.item),
+        layout.item(pair.item),
+        layout.children(pair.item),
+        rule,
+        node,
+    )?;
+    match holding {
         Holding::Holds => Ok(()),
-        Holding::Fails => list_broken(alloc, schema, layout, wanted, listing, pair, rule, node),
+        Holding::Fails => list_broken(alloc, layout, wanted, listing, pair, rule, node),
         Holding::Unread(unread) => {
-            list_open(
-                alloc, schema, layout, wanted, listing, pair, rule, node, unread,
-            )
+            list_open(alloc, layout, wanted, listing, pair, rule, node, unread)
         }
     }
 }
@@ -120,8 +123,7 @@ fn list_rule<'s>(
 #[cycle(explaining)]
 pub(crate) fn list_pair<'s>(
     alloc: Global,
-    schema: &'s Schema,
-    layout: &Layout<'_, '_, '_>,
+    layout: &Layout<'s, '_, '_, '_>,
     known: &mut Known,
     wanted: Answer,
     listing: &mut Listing<'s>,
@@ -129,18 +131,18 @@ pub(crate) fn list_pair<'s>(
 ) -> Result<(), NoMemory>
     requires laid { IsLayout layout.now }
     requires within { pair.item < length layout.now.stands.items }
-    requires right { AreRight schema.now layout.now known.old }
+    requires right { AreRight layout.now known.old }
     requires marked { IsMarked wanted listing.old }
-    requires wanted { IsRight schema.now layout.now pair wanted }
-    ensures right { OnOk result (AreRight schema.now layout.now known.new) }
+    requires wanted { IsRight layout.now pair wanted }
+    ensures right { OnOk result (AreRight layout.now known.new) }
     ensures marked { OnOk result (IsMarked wanted listing.new) }
     ensures filled { OnOk result (IsFilled wanted listing.new) }
-    ensures found { OnOk result (KeepsFound schema.now layout.now pair listing.old listing.new) }
+    ensures found { OnOk result (KeepsFound layout.now pair listing.old listing.new) }
 {
     if listing.marks.contains(&pair) {
         return Ok(());
     }
-    list_asks(alloc, schema, layout, known, wanted, listing, pair)?;
+    list_asks(alloc, layout, known, wanted, listing, pair)?;
     listing.marks.insert(pair)?;
     Ok(())
 }
@@ -148,8 +150,7 @@ pub(crate) fn list_pair<'s>(
 #[cycle(explaining)]
 fn list_asks<'s>(
     alloc: Global,
-    schema: &'s Schema,
-    layout: &Layout<'_, '_, '_>,
+    layout: &Layout<'s, '_, '_, '_>,
     known: &mut Known,
     wanted: Answer,
     listing: &mut Listing<'s>,
@@ -157,19 +158,25 @@ fn list_asks<'s>(
 ) -> Result<(), NoMemory>
     requires laid { IsLayout layout.now }
     requires within { pair.item < length layout.now.stands.items }
-    requires right { AreRight schema.now layout.now known.old }
+    requires right { AreRight layout.now known.old }
     requires marked { IsMarked wanted listing.old }
-    requires wanted { IsRight schema.now layout.now pair wanted }
-    ensures right { OnOk result (AreRight schema.now layout.now known.new) }
+    requires wanted { IsRight layout.now pair wanted }
+    ensures right { OnOk result (AreRight layout.now known.new) }
     ensures marked { OnOk result (IsMarked wanted listing.new) }
     ensures filled { OnOk result (IsFilled wanted listing.new) }
-    ensures found { OnOk result (KeepsFound schema.now layout.now pair listing.old listing.new) }
+    ensures found { OnOk result (KeepsFound layout.now pair listing.old listing.new) }
 {
     roots_are_roots();
     let item = layout.item(pair.item);
-    let asked = asks(alloc, schema, item, layout.children(pair.item), pair.node)?;
+    let asked = asks(
+        alloc,
+        layout.schema,
+        item,
+        layout.children(pair.item),
+        pair.node,
+    )?;
     for ask in &asked {
-        list_ask(alloc, schema, layout, known, wanted, listing, pair, *ask)?;
+        list_ask(alloc, layout, known, wanted, listing, pair, *ask)?;
     }
     Ok(())
 }
@@ -177,8 +184,7 @@ fn list_asks<'s>(
 #[cycle(explaining)]
 fn list_ask<'s>(
     alloc: Global,
-    schema: &'s Schema,
-    layout: &Layout<'_, '_, '_>,
+    layout: &Layout<'s, '_, '_, '_>,
     known: &mut Known,
     wanted: Answer,
     listing: &mut Listing<'s>,
@@ -187,37 +193,25 @@ fn list_ask<'s>(
 ) -> Result<(), NoMemory>
     requires laid { IsLayout layout.now }
     requires within { pair.item < length layout.now.stands.items }
-    requires right { AreRight schema.now layout.now known.old }
+    requires right { AreRight layout.now known.old }
     requires marked { IsMarked wanted listing.old }
-    requires asked { IsAskedBy schema.now layout.now pair (ask_seen ask) }
-    requires allowed { AskIsAllowed schema.now layout.now wanted pair (ask_seen ask) }
-    requires ordered { IsOrdered schema.now pair.node (ask_seen ask) }
-    ensures right { OnOk result (AreRight schema.now layout.now known.new) }
+    requires asked { IsAskedBy layout.now pair (ask_seen ask) }
+    requires allowed { AskIsAllowed layout.now wanted pair (ask_seen ask) }
+    requires ordered { IsOrdered layout.now.schema.now pair.node (ask_seen ask) }
+    ensures right { OnOk result (AreRight layout.now known.new) }
     ensures marked { OnOk result (IsMarked wanted listing.new) }
     ensures kept { IsFilled wanted listing.old → OnOk result (IsFilled wanted listing.new) }
-    ensures told { OnOk result (AskIsTold schema.now layout.now wanted pair (ask_seen ask.entry) listing.new) }
-    ensures found { OnOk result (KeepsFound schema.now layout.now pair listing.old listing.new) }
+    ensures told { OnOk result (AskIsTold layout.now wanted pair (ask_seen ask.entry) listing.new) }
+    ensures found { OnOk result (KeepsFound layout.now pair listing.old listing.new) }
 {
     match ask {
-        Ask::Own(rule, node) => {
-            list_rule(alloc, schema, layout, wanted, listing, pair, rule, node)
-        }
+        Ask::Own(rule, node) => { list_rule(alloc, layout, wanted, listing, pair, rule, node) }
         Ask::Root(node) => {
             let item = pair.item;
-            list_same(
-                alloc,
-                schema,
-                layout,
-                known,
-                wanted,
-                listing,
-                Pair { item, node },
-            )
+            list_same(alloc, layout, known, wanted, listing, Pair { item, node })
         }
         Ask::Child(position, node) => {
-            list_kid(
-                alloc, schema, layout, known, wanted, listing, pair, position, node,
-            )
+            list_kid(alloc, layout, known, wanted, listing, pair, position, node)
         }
     }
 }
@@ -225,8 +219,7 @@ fn list_ask<'s>(
 #[cycle(explaining)]
 fn list_kid<'s>(
     alloc: Global,
-    schema: &'s Schema,
-    layout: &Layout<'_, '_, '_>,
+    layout: &Layout<'s, '_, '_, '_>,
     known: &mut Known,
     wanted: Answer,
     listing: &mut Listing<'s>,
@@ -236,26 +229,18 @@ fn list_kid<'s>(
 ) -> Result<(), NoMemory>
     requires laid { IsLayout layout.now }
     requires within { pair.item < length layout.now.stands.items }
-    requires right { AreRight schema.now layout.now known.old }
+    requires right { AreRight layout.now known.old }
     requires marked { IsMarked wanted listing.old }
-    requires asked { IsAskedBy schema.now layout.now pair (child position node) }
-    requires allowed { AskIsAllowed schema.now layout.now wanted pair (child position node) }
-    ensures right { OnOk result (AreRight schema.now layout.now known.new) }
+    requires asked { IsAskedBy layout.now pair (child position node) }
+    requires allowed { AskIsAllowed layout.now wanted pair (child position node) }
+    ensures right { OnOk result (AreRight layout.now known.new) }
     ensures marked { OnOk result (IsMarked wanted listing.new) }
     ensures kept { IsFilled wanted listing.old → OnOk result (IsFilled wanted listing.new) }
-    ensures told { OnOk result (AskIsTold schema.now layout.now wanted pair (child position node) listing.new) }
-    ensures found { OnOk result (KeepsFound schema.now layout.now pair listing.old listing.new) }
+    ensures told { OnOk result (AskIsTold layout.now wanted pair (child position node) listing.new) }
+    ensures found { OnOk result (KeepsFound layout.now pair listing.old listing.new) }
 {
     match layout.kid(pair.item, position) {
-        Some(item) => list_same(
-            alloc,
-            schema,
-            layout,
-            known,
-            wanted,
-            listing,
-            Pair { item, node },
-        ),
+        Some(item) => list_same(alloc, layout, known, wanted, listing, Pair { item, node }),
         None => Ok(()),
     }
 }
@@ -264,8 +249,7 @@ fn list_kid<'s>(
 #[cycle(explaining)]
 fn list_same<'s>(
     alloc: Global,
-    schema: &'s Schema,
-    layout: &Layout<'_, '_, '_>,
+    layout: &Layout<'s, '_, '_, '_>,
     known: &mut Known,
     wanted: Answer,
     listing: &mut Listing<'s>,
@@ -273,18 +257,18 @@ fn list_same<'s>(
 ) -> Result<(), NoMemory>
     requires laid { IsLayout layout.now }
     requires within { pair.item < length layout.now.stands.items }
-    requires right { AreRight schema.now layout.now known.old }
+    requires right { AreRight layout.now known.old }
     requires marked { IsMarked wanted listing.old }
-    requires allowed { PairIsAllowed schema.now layout.now wanted pair }
-    ensures right { OnOk result (AreRight schema.now layout.now known.new) }
+    requires allowed { PairIsAllowed layout.now wanted pair }
+    ensures right { OnOk result (AreRight layout.now known.new) }
     ensures marked { OnOk result (IsMarked wanted listing.new) }
     ensures kept { IsFilled wanted listing.old → OnOk result (IsFilled wanted listing.new) }
-    ensures told { OnOk result (PairIsTold schema.now layout.now wanted pair listing.new) }
-    ensures found { OnOk result (KeepsFound schema.now layout.now pair listing.old listing.new) }
+    ensures told { OnOk result (PairIsTold layout.now wanted pair listing.new) }
+    ensures found { OnOk result (KeepsFound layout.now pair listing.old listing.new) }
 {
-    let answer = answer_of(alloc, schema, layout, known, pair)?;
+    let answer = answer_of(alloc, layout, known, pair)?;
     if answer.is(wanted) {
-        list_pair(alloc, schema, layout, known, wanted, listing, pair)
+        list_pair(alloc, layout, known, wanted, listing, pair)
     } else {
         Ok(())
     }

@@ -11,24 +11,32 @@ use crate::known::Known;
 use crate::layout::Layout;
 use crate::pair::Pair;
 use fhir_json::NoMemory;
-use fhir_schema::{NodeRef, Schema, roots_are_roots};
+use fhir_schema::{NodeRef, roots_are_roots};
 use fhir_slicing::{Ask, Rule, asks, judge};
 use std::alloc::Global;
 
 // The answer to a rule that a pair asks for.
 fn rule_answer(
-    schema: &Schema,
-    layout: &Layout<'_, '_, '_>,
+    alloc: Global,
+    layout: &Layout<'_, '_, '_, '_>,
     pair: Pair,
     rule: Rule<'_>,
     node: NodeRef,
-) -> Answer
+) -> Result<Answer, NoMemory>
     requires laid { IsLayout layout.now }
     requires within { pair.item < length layout.now.stands.items }
-    ensures { IsRightOf schema.now layout.now pair (own (rule_name rule.entry) node) result }
+    ensures { IfOk result (IsRightOf layout.now pair (own (rule_name rule.entry) node)) }
 {
-    let item = layout.item(pair.item);
-    Answer::of(judge(schema, item, layout.children(pair.item), rule, node))
+    let holding = judge(
+        alloc,
+        layout.schema,
+        layout.resource(pair.item),
+        layout.item(pair.item),
+        layout.children(pair.item),
+        rule,
+        node,
+    )?;
+    Ok(Answer::of(holding))
 }
 
 /// The answer to a pair. What it asks for is judged first, and each pair once, so that the time is near linear in what the
@@ -36,21 +44,20 @@ fn rule_answer(
 #[cycle(judging)]
 pub(crate) fn answer_of(
     alloc: Global,
-    schema: &Schema,
-    layout: &Layout<'_, '_, '_>,
+    layout: &Layout<'_, '_, '_, '_>,
     known: &mut Known,
     pair: Pair,
 ) -> Result<Answer, NoMemory>
     requires laid { IsLayout layout.now }
     requires within { pair.item < length layout.now.stands.items }
-    requires right { AreRight schema.now layout.now known.old }
-    ensures exact { IfOk result (IsRight schema.now layout.now pair) }
-    ensures right { OnOk result (AreRight schema.now layout.now known.new) }
+    requires right { AreRight layout.now known.old }
+    ensures exact { IfOk result (IsRight layout.now pair) }
+    ensures right { OnOk result (AreRight layout.now known.new) }
 {
     if let Some(answer) = known.get(pair) {
         return Ok(answer);
     }
-    let answer = judged(alloc, schema, layout, known, pair)?;
+    let answer = judged(alloc, layout, known, pair)?;
     known.put(pair, answer)?;
     Ok(answer)
 }
@@ -58,23 +65,28 @@ pub(crate) fn answer_of(
 #[cycle(judging)]
 fn judged(
     alloc: Global,
-    schema: &Schema,
-    layout: &Layout<'_, '_, '_>,
+    layout: &Layout<'_, '_, '_, '_>,
     known: &mut Known,
     pair: Pair,
 ) -> Result<Answer, NoMemory>
     requires laid { IsLayout layout.now }
     requires within { pair.item < length layout.now.stands.items }
-    requires right { AreRight schema.now layout.now known.old }
-    ensures exact { IfOk result (IsRight schema.now layout.now pair) }
-    ensures right { OnOk result (AreRight schema.now layout.now known.new) }
+    requires right { AreRight layout.now known.old }
+    ensures exact { IfOk result (IsRight layout.now pair) }
+    ensures right { OnOk result (AreRight layout.now known.new) }
 {
     roots_are_roots();
     let item = layout.item(pair.item);
-    let asked = asks(alloc, schema, item, layout.children(pair.item), pair.node)?;
+    let asked = asks(
+        alloc,
+        layout.schema,
+        item,
+        layout.children(pair.item),
+        pair.node,
+    )?;
     let mut answer = Answer::Holds;
     for ask in &asked {
-        answer = answer.and(ask_answer(alloc, schema, layout, known, pair, *ask)?);
+        answer = answer.and(ask_answer(alloc, layout, known, pair, *ask)?);
     }
     Ok(answer)
 }
@@ -83,36 +95,32 @@ fn judged(
 #[cycle(judging)]
 fn ask_answer(
     alloc: Global,
-    schema: &Schema,
-    layout: &Layout<'_, '_, '_>,
+    layout: &Layout<'_, '_, '_, '_>,
     known: &mut Known,
     pair: Pair,
     ask: Ask<'_>,
 ) -> Result<Answer, NoMemory>
     requires laid { IsLayout layout.now }
     requires within { pair.item < length layout.now.stands.items }
-    requires right { AreRight schema.now layout.now known.old }
-    requires ordered { IsOrdered schema.now pair.node (ask_seen ask) }
-    ensures exact { IfOk result (IsRightOf schema.now layout.now pair (ask_seen ask.entry)) }
-    ensures right { OnOk result (AreRight schema.now layout.now known.new) }
+    requires right { AreRight layout.now known.old }
+    requires ordered { IsOrdered layout.now.schema.now pair.node (ask_seen ask) }
+    ensures exact { IfOk result (IsRightOf layout.now pair (ask_seen ask.entry)) }
+    ensures right { OnOk result (AreRight layout.now known.new) }
 {
     match ask {
-        Ask::Own(rule, node) => Ok(rule_answer(schema, layout, pair, rule, node)),
+        Ask::Own(rule, node) => rule_answer(alloc, layout, pair, rule, node),
         Ask::Root(node) => {
             let item = pair.item;
-            answer_of(alloc, schema, layout, known, Pair { item, node })
+            answer_of(alloc, layout, known, Pair { item, node })
         }
-        Ask::Child(position, node) => {
-            kid_answer(alloc, schema, layout, known, pair, position, node)
-        }
+        Ask::Child(position, node) => { kid_answer(alloc, layout, known, pair, position, node) }
     }
 }
 
 #[cycle(judging)]
 fn kid_answer(
     alloc: Global,
-    schema: &Schema,
-    layout: &Layout<'_, '_, '_>,
+    layout: &Layout<'_, '_, '_, '_>,
     known: &mut Known,
     pair: Pair,
     position: usize,
@@ -120,12 +128,12 @@ fn kid_answer(
 ) -> Result<Answer, NoMemory>
     requires laid { IsLayout layout.now }
     requires within { pair.item < length layout.now.stands.items }
-    requires right { AreRight schema.now layout.now known.old }
-    ensures exact { IfOk result (IsRightOf schema.now layout.now pair (child position node)) }
-    ensures right { OnOk result (AreRight schema.now layout.now known.new) }
+    requires right { AreRight layout.now known.old }
+    ensures exact { IfOk result (IsRightOf layout.now pair (child position node)) }
+    ensures right { OnOk result (AreRight layout.now known.new) }
 {
     match layout.kid(pair.item, position) {
-        Some(item) => answer_of(alloc, schema, layout, known, Pair { item, node }),
+        Some(item) => answer_of(alloc, layout, known, Pair { item, node }),
         None => Ok(Answer::Holds),
     }
 }

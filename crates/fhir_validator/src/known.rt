@@ -1,7 +1,6 @@
 //! Answers that are known.
 
 ghost use Rattle.std.specs.Prelude.{◌≡◌, IfSome, OnOk};
-ghost use Rattle.fhir_schema.specs.Schemas.{SchemaValue};
 ghost use Rattle.fhir_validator.specs.declared.layout.Layout.{Layout};
 ghost use Rattle.fhir_validator.specs.Judging.{IsRight, AreRight};
 
@@ -19,7 +18,7 @@ pub(crate) struct Known {
 impl Known {
     /// None.
     pub(crate) fn new(alloc: Global) -> Known
-        ensures { (s : SchemaValue) (layout : Layout) → AreRight s layout result }
+        ensures { (layout : Layout) → AreRight layout result }
     {
         Known {
             answers: BTreeMap::new(alloc),
@@ -28,16 +27,16 @@ impl Known {
 
     /// The answer to a pair, if it is known.
     pub(crate) fn get(&self, pair: Pair) -> Option<Answer>
-        ensures { (s : SchemaValue) (layout : Layout) → AreRight s layout self.now
-            → IfSome result (IsRight s layout pair) }
+        ensures { (layout : Layout) → AreRight layout self.now
+            → IfSome result (IsRight layout pair) }
     {
         self.answers.get(&pair).copied()
     }
 
     /// Keeps the answer to a pair.
     pub(crate) fn put(&mut self, pair: Pair, answer: Answer) -> Result<(), AllocError>
-        ensures { OnOk result ((s : SchemaValue) (layout : Layout) → IsRight s layout pair answer
-            → AreRight s layout self.old → AreRight s layout self.new) }
+        ensures { OnOk result ((layout : Layout) → IsRight layout pair answer
+            → AreRight layout self.old → AreRight layout self.new) }
     {
         self.answers.insert(pair, answer)?;
         Ok(())

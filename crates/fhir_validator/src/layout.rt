@@ -5,12 +5,14 @@ ghost use Rattle.std.specs.Option.{option_and_then};
 ghost use Rattle.std.specs.List.{slice_get};
 ghost use Rattle.fhir_instance.specs.View.{item_of};
 ghost use Rattle.fhir_instance.specs.Items.{kids_of};
+ghost use Rattle.fhir_slicing.specs.Conformance.{nearest_to};
 ghost use Rattle.fhir_slicing.specs.Meeting.{kid_at};
 ghost use Rattle.fhir_slicing.specs.Views.{IsIndexOf};
-ghost use Rattle.fhir_validator.specs.Layouts.{item_in, items_in, item_at, kids_at, numbered, number_of, IsStand, AreStands, IsLayout};
+ghost use Rattle.fhir_validator.specs.Layouts.{spot_in, spot_of, spots_in, spot_at, item_at, resource_of, number_of, IsStand, AreStands, IsLayout};
 
 use fhir_instance::Typed;
 use fhir_json::NoMemory;
+use fhir_schema::Schema;
 use fhir_slicing::Children;
 use std::alloc::Global;
 
@@ -18,32 +20,54 @@ use std::alloc::Global;
 #[derive(Drop)]
 struct Stand<'t, 'a, 'j> {
     item: &'t Typed<'a, 'j>,
+    // the nearest resource at or around it
+    resource: &'t Typed<'a, 'j>,
     children: Children<'t>,
     // the number of its parent, which is its own at the outermost, and its position among all of that one's children
     parent: usize,
     position: usize,
 }
 
-/// The items of a resource in a row: the outermost first, and the children of each side by side behind it.
+/// The items of a resource in a row: the outermost first, and the children of each side by side behind it. It keeps the
+/// schema by which they were typed.
 #[derive(Drop)]
-pub(crate) struct Layout<'t, 'a, 'j> {
+pub(crate) struct Layout<'s, 't, 'a, 'j> {
+    pub(crate) schema: &'s Schema,
     stands: Vec<Stand<'t, 'a, 'j>>,
     // the number of each item's first child, or where that would stand
     firsts: Vec<usize>,
 }
 
+// The nearest resource at or around an item, where that is the nearest around it.
+fn nearest_to<'t, 'a, 'j>(
+    schema: &Schema,
+    around: &'t Typed<'a, 'j>,
+    item: &'t Typed<'a, 'j>,
+) -> &'t Typed<'a, 'j>
+    ensures { item_of result.now ≡ nearest_to schema.now (item_of around.now) (item_of item.now) }
+{
+    if schema.is_resource(item.code()) {
+        item
+    } else {
+        around
+    }
+}
+
 fn stand_of<'t, 'a, 'j>(
     alloc: Global,
+    schema: &Schema,
+    around: &'t Typed<'a, 'j>,
     item: &'t Typed<'a, 'j>,
     parent: usize,
     position: usize,
 ) -> Result<Stand<'t, 'a, 'j>, NoMemory>
-    ensures item { IfOk result (λ stand. item_in stand ≡ item_of item.now) }
-    ensures indexed { IfOk result IsStand }
+    ensures item { IfOk result (λ stand. spot_in stand ≡ spot_of schema.now (item_of around.now) (item_of item.now)) }
+    ensures stand { IfOk result (IsStand schema.now) }
 {
     let children = Children::of(alloc, item)?;
     Ok(Stand {
         item,
+        resource: nearest_to(schema, around, item),
         children,
         parent,
         position,
@@ -53,43 +77,67 @@ fn stand_of<'t, 'a, 'j>(
 // Puts the children of an item, of that number, behind the others.
 fn put_kids<'t, 'a, 'j>(
     alloc: Global,
+    schema: &Schema,
     stands: &mut Vec<Stand<'t, 'a, 'j>>,
+    around: &'t Typed<'a, 'j>,
     item: &'t Typed<'a, 'j>,
     number: usize,
 ) -> Result<(), NoMemory>
-    ensures items { OnOk result (map item_in stands.new.items ≡ map item_in stands.old.items
-        ++ items_in (kids_of (item_of item.now))) }
-    ensures indexed { AreStands stands.old.items → OnOk result (AreStands stands.new.items) }
+    ensures items { OnOk result (map spot_in stands.new.items ≡ map spot_in stands.old.items
+        ++ spots_in schema.now (item_of around.now) (kids_of (item_of item.now))) }
+    ensures stands { AreStands schema.now stands.old.items → OnOk result (AreStands schema.now stands.new.items) }
 {
     let kids = item.kids();
     for position in 0..kids.len() {
-        let stand = stand_of(alloc, kids[position].item(), number, position)?;
+        let stand = stand_of(
+            alloc,
+            schema,
+            around,
+            kids[position].item(),
+            number,
+            position,
+        )?;
         stands.push(stand)?;
     }
     Ok(())
 }
 
-impl<'t, 'a, 'j> Layout<'t, 'a, 'j> {
+impl<'s, 't, 'a, 'j> Layout<'s, 't, 'a, 'j> {
     /// The items of a resource, in time near linear in their number. The one refusal is want of memory.
     pub(crate) fn of(
         alloc: Global,
+        schema: &'s Schema,
         outermost: &'t Typed<'a, 'j>,
-    ) -> Result<Layout<'t, 'a, 'j>, NoMemory>
+    ) -> Result<Layout<'s, 't, 'a, 'j>, NoMemory>
+        ensures schema { IfOk result (λ layout. layout.schema.now ≡ schema.now) }
         ensures laid { IfOk result IsLayout }
-        ensures first { IfOk result (λ layout. item_at layout 0 ≡ item_of outermost.now) }
+        ensures first { IfOk result (λ layout. spot_at layout 0 ≡ record { itself = item_of outermost.now; resource = item_of outermost.now }) }
         ensures some { IfOk result (λ layout. 0 < length layout.stands.items) }
     {
         let mut stands = Vec::new(alloc);
         let mut firsts: Vec<usize> = Vec::new(alloc);
-        stands.push(stand_of(alloc, outermost, 0, 0)?)?;
+        stands.push(stand_of(alloc, schema, outermost, outermost, 0, 0)?)?;
         let mut at = 0;
         while at < stands.len() {
             firsts.push(stands.len())?;
-            let item = stands[at].item;
-            put_kids(alloc, &mut stands, item, at)?;
+            let stand = &stands[at];
+            let (item, resource) = (stand.item, stand.resource);
+            put_kids(alloc, schema, &mut stands, resource, item, at)?;
             at += 1;
         }
-        Ok(Layout { stands, firsts })
+        Ok(Layout {
+            schema,
+            stands,
+            firsts,
+        })
+    }
+
+    /// The nearest resource at or around the item of a number.
+    pub(crate) fn resource(&self, number: usize) -> &'t Typed<'a, 'j>
+        requires { number < length self.now.stands.items }
+        ensures { item_of result.now ≡ resource_of self.now number }
+    {
+        self.stands[number].resource
     }
 
     /// The item of a number.
@@ -113,6 +161,8 @@ impl<'t, 'a, 'j> Layout<'t, 'a, 'j> {
         requires laid { IsLayout self.now }
         requires within { number < length self.now.stands.items }
         ensures kid { number_of self.now result ≡ kid_at (kids_of (item_at self.now number)) position }
+        ensures near { IfSome result (λ kid. resource_of self.now kid
+            ≡ nearest_to self.now.schema.now (resource_of self.now number) (item_at self.now kid)) }
         ensures behind { IfSome result (λ kid. number < kid) }
         ensures within { IfSome result (λ kid. kid < length self.now.stands.items) }
     {

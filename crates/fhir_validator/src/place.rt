@@ -33,7 +33,7 @@ fn put_name(text: &mut String, name: &str) -> Result<(), AllocError> {
 }
 
 // How many of the children in front of a position have its name.
-fn index_of(layout: &Layout<'_, '_, '_>, parent: usize, position: usize, name: &str) -> usize
+fn index_of(layout: &Layout<'_, '_, '_, '_>, parent: usize, position: usize, name: &str) -> usize
     requires { parent < length layout.now.stands.items }
 {
     let places = layout.children(parent).places(name);
@@ -42,7 +42,7 @@ fn index_of(layout: &Layout<'_, '_, '_>, parent: usize, position: usize, name: &
 
 fn put_step(
     text: &mut String,
-    layout: &Layout<'_, '_, '_>,
+    layout: &Layout<'_, '_, '_, '_>,
     parent: usize,
     position: usize,
 ) -> Result<(), AllocError>
@@ -61,7 +61,7 @@ fn put_step(
 
 fn put_place(
     text: &mut String,
-    layout: &Layout<'_, '_, '_>,
+    layout: &Layout<'_, '_, '_, '_>,
     number: usize,
 ) -> Result<(), AllocError>
     requires { number < length layout.now.stands.items }
@@ -77,7 +77,7 @@ impl Place {
     /// The place of the item of a number.
     pub(crate) fn of(
         alloc: Global,
-        layout: &Layout<'_, '_, '_>,
+        layout: &Layout<'_, '_, '_, '_>,
         number: usize,
     ) -> Result<Place, NoMemory>
         requires { number < length layout.now.stands.items }
@@ -90,7 +90,7 @@ impl Place {
     /// The place where its children of a name would stand.
     pub(crate) fn below(
         alloc: Global,
-        layout: &Layout<'_, '_, '_>,
+        layout: &Layout<'_, '_, '_, '_>,
         number: usize,
         name: &str,
     ) -> Result<Place, NoMemory>

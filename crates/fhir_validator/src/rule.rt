@@ -35,6 +35,8 @@ pub enum Rule<'s> {
         /// How many there are.
         found: usize,
     },
+    /// The expression of the constraint with that key is true.
+    Constraint(&'s str),
 }
 
 fn write_most<W: fmt::Write>(
@@ -60,6 +62,7 @@ impl fmt::Display for Rule<'_> {
             Rule::Binding(canonical) => write!(f, "binding {canonical}"),
             Rule::TooFew { min, found } => write!(f, "min {min}, found {found}"),
             Rule::TooMany { max, found } => write_most(f, max, found),
+            Rule::Constraint(key) => write!(f, "invariant {key}"),
         }
     }
 }

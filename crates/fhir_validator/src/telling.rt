@@ -6,7 +6,7 @@ ghost use Rattle.fhir_schema.specs.Schemas.{element_at};
 ghost use Rattle.fhir_facets.specs.Counts.{least_of};
 ghost use Rattle.fhir_slicing.specs.Views.{rule_name, IsIndexOf};
 ghost use Rattle.fhir_instance.specs.Items.{Item};
-ghost use Rattle.fhir_validator.specs.Issues.{rule_said, says, set_at, IsNamed};
+ghost use Rattle.fhir_validator.specs.Issues.{rule_said, says, set_at, key_at, IsNamed};
 ghost use Rattle.fhir_validator.specs.Layouts.{IsLayout, item_at};
 
 use crate::issue::{Finding, Site};
@@ -47,6 +47,19 @@ fn set_of(schema: &Schema, node: NodeRef) -> &str
     }
 }
 
+// The key of a constraint of a node, or the empty text.
+fn key_of(schema: &Schema, node: NodeRef, position: usize) -> &str
+    ensures { result.now ≡ key_at schema.now node position }
+{
+    match schema.element(node) {
+        Some(element) => match element.constraints().get(position) {
+            Some(constraint) => constraint.key(),
+            None => "",
+        },
+        None => "",
+    }
+}
+
 // What is to be said of a rule of a node, at the item that has these children.
 fn said<'s>(schema: &'s Schema, children: &Children<'_>, rule: Asked<'s>, node: NodeRef) -> Rule<'s>
     ensures { (x : Item) → IsIndexOf x children.now
@@ -68,13 +81,14 @@ fn said<'s>(schema: &'s Schema, children: &Children<'_>, rule: Asked<'s>, node: 
             max: most_of(schema, node),
             found: children.places(name).len(),
         },
+        Asked::Constraint(position) => Rule::Constraint(key_of(schema, node, position)),
     }
 }
 
 // Where a rule is broken at an item.
 fn place_of(
     alloc: Global,
-    layout: &Layout<'_, '_, '_>,
+    layout: &Layout<'_, '_, '_, '_>,
     number: usize,
     rule: Asked<'_>,
 ) -> Result<Place, NoMemory>
@@ -90,8 +104,7 @@ fn place_of(
 /// The finding of a rule of a node that the item of a number breaks.
 pub(crate) fn finding_of<'s>(
     alloc: Global,
-    schema: &'s Schema,
-    layout: &Layout<'_, '_, '_>,
+    layout: &Layout<'s, '_, '_, '_>,
     number: usize,
     rule: Asked<'s>,
     node: NodeRef,
@@ -100,12 +113,12 @@ pub(crate) fn finding_of<'s>(
     requires within { number < length layout.now.stands.items }
     ensures node { IfOk result (λ finding. finding.node ≡ node) }
     ensures said { IfOk result (λ finding. rule_said finding.rule
-        ≡ says schema.now (item_at layout.now number) (rule_name rule.entry) node) }
-    ensures named { IfOk result (λ finding. IsNamed schema.now node finding.url.now finding.id.now) }
+        ≡ says layout.now.schema.now (item_at layout.now number) (rule_name rule.entry) node) }
+    ensures named { IfOk result (λ finding. IsNamed layout.now.schema.now node finding.url.now finding.id.now) }
 {
-    let (url, id) = schema.name(node);
+    let (url, id) = layout.schema.name(node);
     Ok(Finding {
-        rule: said(schema, layout.children(number), rule, node),
+        rule: said(layout.schema, layout.children(number), rule, node),
         node,
         url,
         id,
@@ -116,8 +129,7 @@ pub(crate) fn finding_of<'s>(
 /// The site of an unread rule that a node carries to the item of a number.
 pub(crate) fn site_of<'s>(
     alloc: Global,
-    schema: &'s Schema,
-    layout: &Layout<'_, '_, '_>,
+    layout: &Layout<'s, '_, '_, '_>,
     number: usize,
     unread: Unread<'s>,
     node: NodeRef,
@@ -125,9 +137,9 @@ pub(crate) fn site_of<'s>(
     requires { number < length layout.now.stands.items }
     ensures node { IfOk result (λ site. site.node ≡ node) }
     ensures unread { IfOk result (λ site. site.unread ≡ unread.entry) }
-    ensures named { IfOk result (λ site. IsNamed schema.now node site.url.now site.id.now) }
+    ensures named { IfOk result (λ site. IsNamed layout.now.schema.now node site.url.now site.id.now) }
 {
-    let (url, id) = schema.name(node);
+    let (url, id) = layout.schema.name(node);
     Ok(Site {
         unread,
         node,

@@ -9,7 +9,7 @@ ghost use Rattle.fhir_schema.specs.Schemas.{root};
 ghost use Rattle.fhir_instance.specs.View.{item_of, is_no_memory};
 ghost use Rattle.fhir_slicing.specs.Conformance.{Interpretation, Conforms, constant};
 ghost use Rattle.fhir_validator.specs.Verdicts.{is_conforming, is_violating, IsExplained, Means};
-ghost use Rattle.fhir_validator.specs.Layouts.{IsLayout, item_at};
+ghost use Rattle.fhir_validator.specs.Layouts.{IsLayout, item_at, resource_of};
 ghost use Rattle.fhir_validator.specs.Judging.{IsRight, AreRight};
 ghost use Rattle.fhir_validator.specs.Listing.{IsFilled, AreFound, IsVerdictAt, IsMisfitVerdict, IsVerdictOn, IsOfBytes};
 
@@ -32,21 +32,21 @@ use std::alloc::Global;
 // What a pair of the outermost item rests on, which has that answer.
 fn listing_of<'s>(
     alloc: Global,
-    schema: &'s Schema,
-    layout: &Layout<'_, '_, '_>,
+    layout: &Layout<'s, '_, '_, '_>,
     known: &mut Known,
     wanted: Answer,
     pair: Pair,
 ) -> Result<Listing<'s>, NoMemory>
     requires laid { IsLayout layout.now }
     requires within { pair.item < length layout.now.stands.items }
-    requires right { AreRight schema.now layout.now known.old }
-    requires wanted { IsRight schema.now layout.now pair wanted }
+    requires right { AreRight layout.now known.old }
+    requires whole { resource_of layout.now pair.item ≡ item_at layout.now pair.item }
+    requires wanted { IsRight layout.now pair wanted }
     ensures filled { IfOk result (IsFilled wanted) }
-    ensures found { IfOk result (AreFound schema.now (item_at layout.now pair.item) pair.node) }
+    ensures found { IfOk result (AreFound layout.now.schema.now (item_at layout.now pair.item) pair.node) }
 {
     let mut listing: Listing<'s> = Listing::new(alloc);
-    list_pair(alloc, schema, layout, known, wanted, &mut listing, pair)?;
+    list_pair(alloc, layout, known, wanted, &mut listing, pair)?;
     Ok(listing)
 }
 
@@ -81,17 +81,17 @@ fn verdict_at<'s>(
 ) -> Result<Verdict<'s>, NoMemory>
     ensures { IfOk result (IsVerdictAt schema.now (item_of item.now) node) }
 {
-    let layout = Layout::of(alloc, item)?;
+    let layout = Layout::of(alloc, schema, item)?;
     let mut known = Known::new(alloc);
     let pair = Pair { item: 0, node };
-    match answer_of(alloc, schema, &layout, &mut known, pair)? {
+    match answer_of(alloc, &layout, &mut known, pair)? {
         Answer::Holds => Ok(Verdict::Conforms),
         Answer::Open => {
-            let listing = listing_of(alloc, schema, &layout, &mut known, Answer::Open, pair)?;
+            let listing = listing_of(alloc, &layout, &mut known, Answer::Open, pair)?;
             Ok(Verdict::Open(sites_in(listing)))
         }
         Answer::Fails => {
-            let listing = listing_of(alloc, schema, &layout, &mut known, Answer::Fails, pair)?;
+            let listing = listing_of(alloc, &layout, &mut known, Answer::Fails, pair)?;
             Ok(Verdict::Violates(issues_in(listing)))
         }
     }

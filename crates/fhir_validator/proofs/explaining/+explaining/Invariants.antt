@@ -3,32 +3,32 @@ use Rattle.std.specs.List.{list_all}
 use Rattle.fhir_slicing.specs.Views.{ask_seen}
 use Rattle.fhir_slicing.specs.Conformance.{Around, constant}
 use Rattle.fhir_validator.specs.Layouts.{item_at}
-use Rattle.fhir_validator.specs.Judging.{AreRight, ask_conforms}
+use Rattle.fhir_validator.specs.Judging.{IsThere, AreRight, ask_conforms}
 use Rattle.fhir_validator.specs.Listing.{side, IsFilled, IsMarked, KeepsFound}
 use Rattle.fhir_validator.proofs.Measures.{weight}
 use Rattle.fhir_validator.proofs.explaining.+explaining.Given as goal
 
 abbrev pub decreases-list_same : goal.decreases-list_same
-decreases-list_same l = 5 * weight l.schema.now l.layout.now l.pair + 4
+decreases-list_same l = 5 * weight l.layout.now.schema.now l.layout.now l.pair + 4
 
 abbrev pub decreases-list_pair : goal.decreases-list_pair
-decreases-list_pair l = 5 * weight l.schema.now l.layout.now l.pair + 3
+decreases-list_pair l = 5 * weight l.layout.now.schema.now l.layout.now l.pair + 3
 
 abbrev pub decreases-list_asks : goal.decreases-list_asks
-decreases-list_asks l = 5 * weight l.schema.now l.layout.now l.pair + 2
+decreases-list_asks l = 5 * weight l.layout.now.schema.now l.layout.now l.pair + 2
 
 abbrev pub decreases-list_ask : goal.decreases-list_ask
-decreases-list_ask l = 5 * weight l.schema.now l.layout.now l.pair + 1
+decreases-list_ask l = 5 * weight l.layout.now.schema.now l.layout.now l.pair + 1
 
 abbrev pub decreases-list_kid : goal.decreases-list_kid
-decreases-list_kid l = 5 * weight l.schema.now l.layout.now l.pair
+decreases-list_kid l = 5 * weight l.layout.now.schema.now l.layout.now l.pair
 
 abbrev pub invariant-list_asks-loop-ask : goal.invariant-list_asks-loop-ask
 invariant-list_asks-loop-ask l = record {
-  right : AreRight l.schema l.layout l.known;
+  right : AreRight l.layout l.known;
   marked : IsMarked l.wanted l.listing;
-  told : (around : Around)
-      → IsTrue (list_all (λ ask. ask_conforms l.schema (constant (side l.wanted)) around (item_at l.layout l.pair.item) (ask_seen ask)) (take l.ask-index l.ask-items))
+  told : (around : Around) → IsThere l.layout l.pair.item around
+      → IsTrue (list_all (λ ask. ask_conforms l.layout.schema.now (constant (side l.wanted)) around (item_at l.layout l.pair.item) (ask_seen ask)) (take l.ask-index l.ask-items))
       ⊎ IsFilled l.wanted l.listing;
-  found : KeepsFound l.schema l.layout l.pair l.fn.listing l.listing;
+  found : KeepsFound l.layout l.pair l.fn.listing l.listing;
 }
