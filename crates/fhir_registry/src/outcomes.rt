@@ -110,6 +110,7 @@ fn rule_code(rule: &Rule<'_>) -> &'static str {
         Rule::Fixed | Rule::Pattern | Rule::Range | Rule::Length => "value",
         Rule::Binding(_) => "code-invalid",
         Rule::TooFew { .. } => "required",
+        Rule::Constraint(_) => "invariant",
     }
 }
 
