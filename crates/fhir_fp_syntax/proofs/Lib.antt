@@ -1,0 +1,5 @@
+pub mod Options
+pub mod Texts
+pub mod Stands
+pub mod Steps
+pub mod Again

@@ -2,7 +2,11 @@
 #![tactic(auto)]
 
 mod expr;
+mod literal;
 mod parsing;
+mod reader;
+mod token;
+mod words;
 
 pub use expr::{Expr, Filter, Function, Operator, TypeTest};
 pub use parsing::{Parsed, parse};
