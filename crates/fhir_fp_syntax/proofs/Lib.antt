@@ -1,5 +1,9 @@
 pub mod Options
 pub mod Texts
+pub mod Pieces
+pub mod Runs
+pub mod Marks
+pub mod Spelled
 pub mod Stands
 pub mod Steps
 pub mod Again

@@ -4,6 +4,8 @@ pub mod Expression
 pub mod Strings
 pub mod Words
 pub mod Grammar
+pub mod Tokens
+pub mod Lexing
 pub mod Parsing
 pub mod Reading
 pub mod Views

@@ -2,6 +2,7 @@
 #![tactic(auto)]
 
 mod expr;
+mod lexer;
 mod literal;
 mod parsing;
 mod reader;

@@ -5,6 +5,8 @@ ghost use Rattle.fhir_fp_syntax.specs.Reading.{expression_in};
 ghost use Rattle.fhir_fp_syntax.specs.Views.{parsed_seen};
 
 use crate::expr::Expr;
+use crate::reader::read;
+use crate::token::Stop;
 use fhir_json::NoMemory;
 use std::alloc::Global;
 
@@ -21,5 +23,9 @@ pub enum Parsed {
 pub fn parse(alloc: Global, text: &str) -> Result<Parsed, NoMemory>
     ensures exact { Gives parsed_seen result (expression_in text.now) }
 {
-    Err(NoMemory)
+    match read(alloc, text) {
+        Ok(e) => Ok(Parsed::Read(e)),
+        Err(Stop::Unread) => Ok(Parsed::Unread),
+        Err(Stop::NoMemory) => Err(NoMemory),
+    }
 }

@@ -6,10 +6,12 @@ ghost use Rattle.fhir_fp_syntax.specs.Answers.{Gives};
 ghost use Rattle.fhir_fp_syntax.specs.Views.{word_of, words_of};
 ghost use Rattle.fhir_fp_syntax.specs.Expression.{expression_of};
 ghost use Rattle.fhir_fp_syntax.specs.Words.{name_of, next_of, is_open, is_close, is_close_bracket, is_dot, term_of, term_of_mark, with_argument};
+ghost use Rattle.fhir_fp_syntax.specs.Reading.{expression_in};
 ghost use Rattle.fhir_fp_syntax.specs.Parsing.{behind, argument_at, type_argument_at, calls_at, is_deep, primary_at, member_at, tested_at, tail_at, inner_at, at_level, called_at, expression_at, type_at, qualified_at, type_named};
 
 use crate::expr::{Expr, Filter, Operator, TypeTest};
 use crate::token::{Given, Mark, Next, Stop, Token};
+use crate::lexer::tokens_in;
 use crate::literal::text_in;
 use crate::words::{
     function_of, given_of, is_close, is_close_bracket, is_dot, is_open, is_system_type, looseness,
@@ -412,7 +414,7 @@ fn level_of<'t, 'a>(
 
 // The expression that the tokens are.
 #[tactic(auto, unfolding(crate::specs::Parsing::expression_at))]
-pub(crate) fn expression_of(alloc: Global, tokens: &[Token<'_>]) -> Result<Expr, Stop>
+fn expression_of(alloc: Global, tokens: &[Token<'_>]) -> Result<Expr, Stop>
     ensures { Gives expression_of result (expression_at (words_of tokens.now)) }
 {
     let (e, rest) = level_of(alloc, MAX_NESTING, LOOSEST, tokens)?;
@@ -421,4 +423,13 @@ pub(crate) fn expression_of(alloc: Global, tokens: &[Token<'_>]) -> Result<Expr,
     } else {
         Err(Stop::Unread)
     }
+}
+
+/// The expression that a text is.
+#[tactic(auto, unfolding(crate::specs::Reading::expression_in))]
+pub(crate) fn read(alloc: Global, text: &str) -> Result<Expr, Stop>
+    ensures { Gives expression_of result (expression_in text.now) }
+{
+    let tokens = tokens_in(alloc, text)?;
+    expression_of(alloc, &tokens)
 }
