@@ -4,6 +4,7 @@ pub mod Pieces
 pub mod Runs
 pub mod Marks
 pub mod Spelled
+pub mod Lexed
 pub mod Stands
 pub mod Steps
 pub mod Again
