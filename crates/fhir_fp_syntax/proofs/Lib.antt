@@ -1,5 +1,6 @@
 pub mod Options
 pub mod Texts
+pub mod Escapes
 pub mod Pieces
 pub mod Runs
 pub mod Marks
@@ -8,3 +9,4 @@ pub mod Lexed
 pub mod Stands
 pub mod Steps
 pub mod Again
+pub mod Written

@@ -2,6 +2,7 @@
 #![tactic(auto)]
 
 mod expr;
+mod laws;
 mod lexer;
 mod literal;
 mod parsing;
@@ -10,4 +11,5 @@ mod token;
 mod words;
 
 pub use expr::{Expr, Filter, Function, Operator, TypeTest};
+pub use laws::{grammar, one_reading, one_spelling, strings};
 pub use parsing::{Parsed, parse};
