@@ -105,6 +105,14 @@ fn name_len(text: &[u8]) -> usize
     i
 }
 
+/// Whether a name may stand without backquotes: it is written as one, and is no word of the language.
+pub(crate) fn is_identifier(name: &str) -> bool {
+    let [first, others @ ..] = name.as_bytes() else {
+        return false;
+    };
+    is_name_start(*first) && name_len(others) == others.len() && mark_named(name).is_none()
+}
+
 // The first byte with the characters of a name behind it, and the rest.
 fn front_of(text: &str) -> (&str, &str)
     requires { (0 < length text.now) × (get_or text.now 0 0 < 128) }

@@ -1,6 +1,7 @@
 //! Expressions of FHIRPath N1, as far as they are read here.
 #![tactic(auto)]
 
+mod display;
 mod expr;
 mod laws;
 mod lexer;

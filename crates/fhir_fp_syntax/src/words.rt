@@ -1,6 +1,6 @@
 //! What each token is.
 
-ghost use Rattle.std.specs.Prelude.{◌≡◌};
+ghost use Rattle.std.specs.Prelude.{◌≡◌, ◌<◌, ◌≤◌};
 ghost use Rattle.std.specs.Option.{option_map};
 ghost use Rattle.fhir_fp_syntax.specs.Views.{word_of};
 ghost use Rattle.fhir_fp_syntax.specs.Words.{next_of, next_of_mark, looseness, looseness_of_operator, name_of, is_open, is_close, is_close_bracket, is_dot, is_system_type, function_of, given_of};
@@ -43,8 +43,9 @@ pub(crate) fn next_of(token: &Token) -> Next
     }
 }
 
-fn looseness_of_operator(operator: Operator) -> usize
-    ensures { result ≡ looseness_of_operator operator }
+pub(crate) fn looseness_of_operator(operator: Operator) -> usize
+    ensures value { result ≡ looseness_of_operator operator }
+    ensures bounds { (0 < result) × (result ≤ 9) }
 {
     match operator {
         Operator::Index | Operator::Intersect => 1,
