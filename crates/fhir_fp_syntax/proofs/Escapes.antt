@@ -1,14 +1,12 @@
 -- The text of a string, in words of the grammar.
-use Rattle.std.proofs.Common.{◌≡◌, ℕ, zero, suc, ◌<◌, ◌≤◌, Bool, true, false, not, cond, eqb, ◌&&◌, List, [], ◌∷◌, ◌++◌, length, Option, Some, None, refl, sym, ap, ap₂, subst, ◌∙◌, append_assoc, arith, inl, inr}
+use Rattle.std.proofs.Common.{◌≡◌, ℕ, zero, suc, ◌<◌, true, false, eqb, ◌&&◌, List, [], ◌∷◌, ◌++◌, length, Option, Some, None, refl, sym, ap, ap₂, subst, ◌∙◌, arith, inl, inr}
 use Rattle.std.specs.Prelude.{encode_utf8}
 use Rattle.std.proofs.lemmas.Bool.{and_parts, eqb-true, ne_eqb, not-true, not_from_false}
 use Rattle.std.proofs.lemmas.List.{length-append}
 use Rattle.fhir_json.specs.Strings.{code_unit, is_high, is_low, code_point_of}
 use Rattle.fhir_json.specs.Reading.{with_rest, unit_at}
-use Rattle.fhir_fp_syntax.specs.Answers.{◌>>=◌}
-use Rattle.fhir_fp_syntax.specs.Strings.{is_plain, short_escape, IsEscape, short, unit, pair, IsText, done, plain, escape, low_half, low_at, unicode_at, escape_at, text_at, text_in}
+use Rattle.fhir_fp_syntax.specs.Strings.{short_escape, IsEscape, short, unit, pair, IsText, done, plain, escape, low_half, low_at, unicode_at, escape_at, text_at, text_in}
 use Rattle.fhir_fp_syntax.proofs.Options.{bind_some, chosen, some_is, no_some, guard_some}
-use Rattle.fhir_fp_syntax.proofs.Texts.{text_plain}
 
 followed_is : {A : Type 0} (o : Option A) (bs : List ℕ) (x : A) (rest : List ℕ) → with_rest o bs ≡ Some (x, rest) → (o ≡ Some x) × (bs ≡ rest)
 followed_is (Some y) bs x rest e = let p = some_is (y, bs) (x, rest) e in (ap (λ q. Some q.0) p, ap (λ q. q.1) p)

@@ -1,18 +1,17 @@
 -- What is spelled is read by the lexer.
-use Rattle.std.proofs.Common.{◌≡◌, ℕ, zero, suc, ◌+◌, ◌<◌, ◌≤◌, Bool, true, false, not, cond, eqb, ltb, ◌&&◌, ◌||◌, List, [], ◌∷◌, ◌++◌, length, take, drop, get_or, Option, Some, None, refl, sym, ap, ap₂, subst, ◌∙◌}
-use Rattle.std.proofs.Common.{append_assoc, arith, inl, inr}
+use Rattle.std.proofs.Common.{◌≡◌, ℕ, zero, suc, ◌+◌, ◌<◌, ◌≤◌, Bool, true, false, not, eqb, ltb, ◌&&◌, ◌||◌, List, [], ◌∷◌, ◌++◌, length, take, drop, Option, Some, None, refl, sym, ap, ap₂, subst, ◌∙◌}
+use Rattle.std.proofs.Common.{append_assoc, arith}
 use Rattle.std.specs.List.{prefix_len, list_all}
-use Rattle.std.specs.Prelude.{option_map, codes}
+use Rattle.std.specs.Prelude.{codes}
 use Rattle.std.specs.Char.{is_ascii_digit}
-use Rattle.std.proofs.lemmas.Bool.{cases_Bool, and_parts, not-true, ne_eqb, eqb-true, lt-ltb, or_from, or_parts, true≢false}
+use Rattle.std.proofs.lemmas.Bool.{and_parts, not-true, ne_eqb, lt-ltb, or_from, or_parts, true≢false}
 use Rattle.std.proofs.lemmas.List.{take_at, drop_at, length-append, append-nil}
 use Rattle.fhir_json.specs.Bytes.{is_blank}
 use Rattle.fhir_fp_syntax.specs.declared.token.Mark.{Mark}
 use Rattle.fhir_fp_syntax.specs.declared.token.Mark.TheVariants as marks
-use Rattle.fhir_fp_syntax.specs.Answers.{◌>>=◌}
 use Rattle.fhir_fp_syntax.specs.Characters.{is_name_start, is_name_character, begins}
 use Rattle.fhir_fp_syntax.specs.Words.{Word, named, quoted, counted, marked}
-use Rattle.fhir_fp_syntax.specs.Tokens.{spelling, goes_on, AllAre, is_no_backquote, is_in_line, is_slash, is_literal, begins_fraction, AreDigits, IsLiteral, empty, plain, escaped}
+use Rattle.fhir_fp_syntax.specs.Tokens.{spelling, goes_on, AllAre, is_no_backquote, is_in_line, is_slash, begins_fraction, AreDigits, IsLiteral, empty, plain, escaped}
 use Rattle.fhir_fp_syntax.specs.Tokens.{IsToken, mark, identifier, delimited, string, whole, decimal, IsComment, closed, inside, IsSpelled, ended, blank, line, comment, token}
 use Rattle.fhir_fp_syntax.specs.Lexing.{mark_named, word_or_name, front_len, name_at, special_at, fraction_len, number_len, number_at, delimited_at, literal_len, string_at, sign_at}
 use Rattle.fhir_fp_syntax.specs.Lexing.{token_at, behind_line, behind_asterisk, behind_comment, piece_at, words_of_piece, words_at, words_in}
@@ -79,6 +78,7 @@ stops marks.Equal (b ∷ rest) is h = absurd cc
 stops marks.NotEqual (b ∷ rest) is h = absurd cc
 stops marks.Braces (b ∷ rest) is h = absurd cc
 stops m (b ∷ rest) is h = h
+
 mark_token : (m : Mark) (rest : List ℕ) → begins (goes_on m) rest ≡ false → TokenAgain (marked m) (spelling m) rest
 unfolding token_at sign_at
 mark_token marks.And rest stop = (97, codes "nd", refl, refl, word_token marks.And 97 (codes "nd") rest refl refl (mark_again marks.And refl) (stops marks.And rest refl stop))
@@ -218,7 +218,7 @@ token_again {t} {v} {rest} (whole digits stop none) =
 token_again {t} {v} {rest} (decimal a b first second is stop) =
     number_token v rest (subst (λ (w : List ℕ). AreDigits (take 1 w)) (sym is) (one_digit a (46 ∷ b) first))
     (ap (λ (w : List ℕ). number_len (w ++ rest)) is ∙ ap number_len (append_assoc a (46 ∷ b) rest) ∙ decimal_len a b rest first second stop
-        ∙ sym (ap length is ∙ length-append a (46 ∷ b)))
+    ∙ sym (ap length is ∙ length-append a (46 ∷ b)))
 
 -- ---- comments
 

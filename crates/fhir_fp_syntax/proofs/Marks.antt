@@ -1,18 +1,15 @@
 -- Signs, and words that are no names.
-use Rattle.std.proofs.Common.{◌≡◌, ℕ, zero, suc, ◌+◌, ◌<◌, ◌≤◌, Bool, true, false, cond, eqb, not, List, [], ◌∷◌, ◌++◌, length, take, drop, Option, Some, None, refl, sym, ap, ap₂, subst, ◌∙◌, arith, inl, inr}
-use Rattle.std.specs.Prelude.{bytes_eq, codes}
+use Rattle.std.proofs.Common.{◌≡◌, ℕ, Bool, true, false, cond, eqb, List, [], ◌∷◌, ◌++◌, Option, Some, None, refl, sym, ap, ap₂, subst, ◌∙◌, inl, inr}
+use Rattle.std.specs.Prelude.{bytes_eq}
 use Rattle.std.specs.List.{list_all}
-use Rattle.std.proofs.lemmas.Bool.{cases_Bool, and_parts, eqb-true, eq-eqb, or_left, true≢false}
-use Rattle.std.proofs.lemmas.List.{take_at, drop_at}
+use Rattle.std.proofs.lemmas.Bool.{cases_Bool, and_parts, eqb-true, true≢false}
 use Rattle.fhir_fp_syntax.specs.declared.token.Mark.{Mark}
 use Rattle.fhir_fp_syntax.specs.declared.token.Mark.TheVariants as marks
-use Rattle.fhir_fp_syntax.specs.Answers.{◌>>=◌}
 use Rattle.fhir_fp_syntax.specs.Characters.{is_name_start, is_name_character, begins}
-use Rattle.fhir_fp_syntax.specs.Words.{Word, named, marked}
-use Rattle.fhir_fp_syntax.specs.Tokens.{spelling, goes_on, AllAre}
-use Rattle.fhir_fp_syntax.specs.Lexing.{mark_among, word_marks, mark_named, word_named, single_sign, double_sign, double_or_single, sign_at, token_at, name_at, special_at}
+use Rattle.fhir_fp_syntax.specs.Words.{Word, marked}
+use Rattle.fhir_fp_syntax.specs.Tokens.{spelling, goes_on}
+use Rattle.fhir_fp_syntax.specs.Lexing.{mark_among, word_marks, mark_named, single_sign, double_sign, double_or_single, sign_at}
 use Rattle.fhir_fp_syntax.proofs.Options.{bind_some, chosen, some_is, no_some, bytes_same}
-use Rattle.fhir_fp_syntax.proofs.Runs.{run_again, all_from}
 
 -- ---- words
 
@@ -130,39 +127,39 @@ single_stands b m h =
     elim (chosen (eqb b 40) _ _ _ h) [
       | inl is0 ↦ sign b 40 marks.Open m (eqb-true b 40 is0.0) refl refl (some_is marks.Open m is0.1)
       | inr no0 ↦
-        elim (chosen (eqb b 41) _ _ _ no0.1) [
-          | inl is1 ↦ sign b 41 marks.Close m (eqb-true b 41 is1.0) refl refl (some_is marks.Close m is1.1)
-          | inr no1 ↦
-            elim (chosen (eqb b 91) _ _ _ no1.1) [
-              | inl is2 ↦ sign b 91 marks.OpenBracket m (eqb-true b 91 is2.0) refl refl (some_is marks.OpenBracket m is2.1)
-              | inr no2 ↦
-                elim (chosen (eqb b 93) _ _ _ no2.1) [
-                  | inl is3 ↦ sign b 93 marks.CloseBracket m (eqb-true b 93 is3.0) refl refl (some_is marks.CloseBracket m is3.1)
-                  | inr no3 ↦
-                    elim (chosen (eqb b 46) _ _ _ no3.1) [
-                      | inl is4 ↦ sign b 46 marks.Dot m (eqb-true b 46 is4.0) refl refl (some_is marks.Dot m is4.1)
-                      | inr no4 ↦
-                        elim (chosen (eqb b 124) _ _ _ no4.1) [
-                          | inl is5 ↦ sign b 124 marks.Bar m (eqb-true b 124 is5.0) refl refl (some_is marks.Bar m is5.1)
-                          | inr no5 ↦
-                            elim (chosen (eqb b 60) _ _ _ no5.1) [
-                              | inl is6 ↦ sign b 60 marks.Less m (eqb-true b 60 is6.0) refl refl (some_is marks.Less m is6.1)
-                              | inr no6 ↦
-                                elim (chosen (eqb b 62) _ _ _ no6.1) [
-                                  | inl is7 ↦ sign b 62 marks.Greater m (eqb-true b 62 is7.0) refl refl (some_is marks.Greater m is7.1)
-                                  | inr no7 ↦
-                                    elim (chosen (eqb b 61) _ _ _ no7.1) [
-                                      | inl is8 ↦ sign b 61 marks.Equal m (eqb-true b 61 is8.0) refl refl (some_is marks.Equal m is8.1)
-                                      | inr no8 ↦
-                                        absurd (no_some m no8.1)
-                                    ]
-                                ]
+          elim (chosen (eqb b 41) _ _ _ no0.1) [
+            | inl is1 ↦ sign b 41 marks.Close m (eqb-true b 41 is1.0) refl refl (some_is marks.Close m is1.1)
+            | inr no1 ↦
+                elim (chosen (eqb b 91) _ _ _ no1.1) [
+                  | inl is2 ↦ sign b 91 marks.OpenBracket m (eqb-true b 91 is2.0) refl refl (some_is marks.OpenBracket m is2.1)
+                  | inr no2 ↦
+                      elim (chosen (eqb b 93) _ _ _ no2.1) [
+                        | inl is3 ↦ sign b 93 marks.CloseBracket m (eqb-true b 93 is3.0) refl refl (some_is marks.CloseBracket m is3.1)
+                        | inr no3 ↦
+                            elim (chosen (eqb b 46) _ _ _ no3.1) [
+                              | inl is4 ↦ sign b 46 marks.Dot m (eqb-true b 46 is4.0) refl refl (some_is marks.Dot m is4.1)
+                              | inr no4 ↦
+                                  elim (chosen (eqb b 124) _ _ _ no4.1) [
+                                    | inl is5 ↦ sign b 124 marks.Bar m (eqb-true b 124 is5.0) refl refl (some_is marks.Bar m is5.1)
+                                    | inr no5 ↦
+                                        elim (chosen (eqb b 60) _ _ _ no5.1) [
+                                          | inl is6 ↦ sign b 60 marks.Less m (eqb-true b 60 is6.0) refl refl (some_is marks.Less m is6.1)
+                                          | inr no6 ↦
+                                              elim (chosen (eqb b 62) _ _ _ no6.1) [
+                                                | inl is7 ↦ sign b 62 marks.Greater m (eqb-true b 62 is7.0) refl refl (some_is marks.Greater m is7.1)
+                                                | inr no7 ↦
+                                                    elim (chosen (eqb b 61) _ _ _ no7.1) [
+                                                      | inl is8 ↦ sign b 61 marks.Equal m (eqb-true b 61 is8.0) refl refl (some_is marks.Equal m is8.1)
+                                                      | inr no8 ↦
+                                                          absurd (no_some m no8.1)
+                                                    ]
+                                              ]
+                                        ]
+                                  ]
                             ]
-                        ]
-                    ]
+                      ]
                 ]
-            ]
-        ]
+          ]
     ]
 
 double : (a b c d : ℕ) (n m : Mark) → a ≡ c → cond (eqb b d) (Some n) None ≡ Some m → spelling n ≡ c ∷ d ∷ [] → (spelling m ≡ a ∷ b ∷ []) × (n ≡ m)
@@ -183,19 +180,19 @@ double_stands a b m h =
     elim (chosen (eqb a 60) _ _ _ h) [
       | inl is0 ↦ let k = double a b 60 61 marks.LessOrEqual m (eqb-true a 60 is0.0) is0.1 refl in (k.0, subst (λ (n : Mark). (rest : List ℕ) → begins (goes_on n) rest ≡ false) k.1 (λ rest. ends marks.LessOrEqual rest (λ c. refl)))
       | inr no0 ↦
-        elim (chosen (eqb a 62) _ _ _ no0.1) [
-          | inl is1 ↦ let k = double a b 62 61 marks.GreaterOrEqual m (eqb-true a 62 is1.0) is1.1 refl in (k.0, subst (λ (n : Mark). (rest : List ℕ) → begins (goes_on n) rest ≡ false) k.1 (λ rest. ends marks.GreaterOrEqual rest (λ c. refl)))
-          | inr no1 ↦
-            elim (chosen (eqb a 33) _ _ _ no1.1) [
-              | inl is2 ↦ let k = double a b 33 61 marks.NotEqual m (eqb-true a 33 is2.0) is2.1 refl in (k.0, subst (λ (n : Mark). (rest : List ℕ) → begins (goes_on n) rest ≡ false) k.1 (λ rest. ends marks.NotEqual rest (λ c. refl)))
-              | inr no2 ↦
-                elim (chosen (eqb a 123) _ _ _ no2.1) [
-                  | inl is3 ↦ let k = double a b 123 125 marks.Braces m (eqb-true a 123 is3.0) is3.1 refl in (k.0, subst (λ (n : Mark). (rest : List ℕ) → begins (goes_on n) rest ≡ false) k.1 (λ rest. ends marks.Braces rest (λ c. refl)))
-                  | inr no3 ↦
-                    absurd (no_some m no3.1)
+          elim (chosen (eqb a 62) _ _ _ no0.1) [
+            | inl is1 ↦ let k = double a b 62 61 marks.GreaterOrEqual m (eqb-true a 62 is1.0) is1.1 refl in (k.0, subst (λ (n : Mark). (rest : List ℕ) → begins (goes_on n) rest ≡ false) k.1 (λ rest. ends marks.GreaterOrEqual rest (λ c. refl)))
+            | inr no1 ↦
+                elim (chosen (eqb a 33) _ _ _ no1.1) [
+                  | inl is2 ↦ let k = double a b 33 61 marks.NotEqual m (eqb-true a 33 is2.0) is2.1 refl in (k.0, subst (λ (n : Mark). (rest : List ℕ) → begins (goes_on n) rest ≡ false) k.1 (λ rest. ends marks.NotEqual rest (λ c. refl)))
+                  | inr no2 ↦
+                      elim (chosen (eqb a 123) _ _ _ no2.1) [
+                        | inl is3 ↦ let k = double a b 123 125 marks.Braces m (eqb-true a 123 is3.0) is3.1 refl in (k.0, subst (λ (n : Mark). (rest : List ℕ) → begins (goes_on n) rest ≡ false) k.1 (λ rest. ends marks.Braces rest (λ c. refl)))
+                        | inr no3 ↦
+                            absurd (no_some m no3.1)
+                      ]
                 ]
-            ]
-        ]
+          ]
     ]
 
 -- a sign that might go on ends where it doesn't

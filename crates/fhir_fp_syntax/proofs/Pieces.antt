@@ -1,5 +1,5 @@
 -- Words, one piece at a time.
-use Rattle.std.proofs.Common.{◌≡◌, ℕ, zero, suc, ◌+◌, ◌<◌, ◌≤◌, Bool, true, false, eqb, ltb, List, [], ◌∷◌, ◌++◌, length, drop, Option, Some, None, refl, sym, ap, subst, ◌∙◌, arith, inl, inr}
+use Rattle.std.proofs.Common.{◌≡◌, ℕ, zero, suc, ◌<◌, ◌≤◌, false, eqb, ltb, List, [], ◌∷◌, ◌++◌, length, Option, Some, None, refl, sym, ap, subst, ◌∙◌, arith, inl, inr}
 use Rattle.std.proofs.lemmas.Bool.{ltb-true, ltb-false, lt-ltb, le-ltb, and_right}
 use Rattle.std.proofs.lemmas.List.{length-append, append-nil}
 use Rattle.fhir_fp_syntax.specs.declared.token.Stop.{Stop}
@@ -7,7 +7,7 @@ use Rattle.fhir_fp_syntax.specs.declared.token.Stop.TheVariants as stops
 use Rattle.fhir_fp_syntax.specs.Answers.{◌>>=◌, Fails}
 use Rattle.fhir_fp_syntax.specs.Words.{Word}
 use Rattle.fhir_fp_syntax.specs.Grammar.{max_words}
-use Rattle.fhir_fp_syntax.specs.Lexing.{literal_len, behind_asterisk, piece_at, words_of_piece, words_at, words_in, unless_many, with_piece}
+use Rattle.fhir_fp_syntax.specs.Lexing.{behind_asterisk, piece_at, words_of_piece, words_at, words_in, unless_many, with_piece}
 use Rattle.fhir_fp_syntax.proofs.Options.{behind_front, front_nil, front_bind, some_is, no_some, chosen}
 
 -- one byte closes no comment

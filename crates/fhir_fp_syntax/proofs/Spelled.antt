@@ -1,24 +1,23 @@
 -- What the lexer reads is spelled so.
-use Rattle.std.proofs.Common.{◌≡◌, ℕ, zero, suc, ◌+◌, ◌<◌, ◌≤◌, Bool, true, false, not, cond, eqb, ltb, ◌&&◌, ◌||◌, List, [], ◌∷◌, ◌++◌, length, take, drop, get_or, Option, Some, None, refl, sym, ap, ap₂, subst, ◌∙◌}
+use Rattle.std.proofs.Common.{◌≡◌, ℕ, zero, suc, ◌+◌, ◌<◌, ◌≤◌, Bool, true, false, not, eqb, ltb, ◌&&◌, ◌||◌, List, [], ◌∷◌, ◌++◌, length, take, drop, get_or, Option, Some, None, refl, sym, ap, ap₂, subst, ◌∙◌}
 use Rattle.std.proofs.Common.{append_assoc, arith, inl, inr}
 use Rattle.std.specs.List.{prefix_len}
-use Rattle.std.specs.Prelude.{option_map, codes}
+use Rattle.std.specs.Prelude.{option_map}
 use Rattle.std.specs.Char.{is_ascii_digit}
-use Rattle.std.proofs.lemmas.Bool.{cases_Bool, and_parts, and_cases, not-true, not-false, not_from_false, eqb-true, ltb-true, or_left, and_from}
-use Rattle.std.proofs.lemmas.List.{take-append-drop, length-append, length-take, append-nil, drop-drop}
+use Rattle.std.proofs.lemmas.Bool.{cases_Bool, and_parts, not-false, eqb-true, ltb-true, or_left}
+use Rattle.std.proofs.lemmas.List.{take-append-drop, length-take, drop-drop}
 use Rattle.std.proofs.lemmas.List.Sums.{prefix_len-le-length}
 use Rattle.std.proofs.Math.Seq.{drop-cons, take-add}
 use Rattle.std.proofs.Math.Numerals.{one-add}
 use Rattle.fhir_json.specs.Bytes.{is_blank}
 use Rattle.fhir_fp_syntax.specs.declared.token.Mark.{Mark}
-use Rattle.fhir_fp_syntax.specs.Answers.{◌>>=◌}
 use Rattle.fhir_fp_syntax.specs.Characters.{is_name_start, is_name_character, begins}
 use Rattle.fhir_fp_syntax.specs.Words.{Word, named, quoted, counted, marked}
-use Rattle.fhir_fp_syntax.specs.Tokens.{spelling, goes_on, AllAre, is_no_backquote, is_in_line, is_slash, is_literal, begins_fraction, AreDigits, IsLiteral, empty, plain, escaped}
+use Rattle.fhir_fp_syntax.specs.Tokens.{spelling, AllAre, is_no_backquote, is_in_line, is_slash, begins_fraction, IsLiteral, empty, plain, escaped}
 use Rattle.fhir_fp_syntax.specs.Tokens.{IsToken, mark, identifier, delimited, string, whole, decimal, IsComment, closed, inside, IsSpelled, ended, blank, line, comment, token}
-use Rattle.fhir_fp_syntax.specs.Lexing.{mark_named, word_or_name, front_len, name_at, special_at, fraction_len, number_len, number_at, delimited_at, literal_len, string_at, sign_at}
+use Rattle.fhir_fp_syntax.specs.Lexing.{mark_named, word_or_name, front_len, name_at, special_at, fraction_len, number_at, delimited_at, literal_len, string_at, sign_at}
 use Rattle.fhir_fp_syntax.specs.Lexing.{token_at, behind_line, behind_asterisk, behind_comment, piece_at, words_of_piece, words_at, words_in}
-use Rattle.fhir_fp_syntax.proofs.Options.{bind_some, chosen, guard_some, some_is, no_some}
+use Rattle.fhir_fp_syntax.proofs.Options.{bind_some, chosen, some_is, no_some}
 use Rattle.fhir_fp_syntax.proofs.Runs.{run_all, run_stops}
 use Rattle.fhir_fp_syntax.proofs.Marks.{mark_stands, word_goes_on, name_stands, sign_stands}
 
@@ -164,14 +163,14 @@ literal_stands false (b ∷ s) n h =
       | inr isnt ↦
           let k = suc_some _ n isnt.1 in
           subst (λ (i : ℕ). LiteralStands false (b ∷ s) i) k.2 (
-            elim (cases_Bool (eqb b 92)) [
-              | inl slash ↦
-                  let later = literal_stands true s k.0 (ap (λ (e : Bool). literal_len e s) (sym slash) ∙ k.1) in
-                  (later.0 b (eqb-true b 92 slash), ap (λ (w : List ℕ). b ∷ w) later.1)
-              | inr other ↦
-                  let later = literal_stands false s k.0 (ap (λ (e : Bool). literal_len e s) (sym other) ∙ k.1) in
-                  (plain (is_plain_from (eqb b 39) (eqb b 92) isnt.0 other) later.0, ap (λ (w : List ℕ). b ∷ w) later.1)
-            ])
+          elim (cases_Bool (eqb b 92)) [
+            | inl slash ↦
+                let later = literal_stands true s k.0 (ap (λ (e : Bool). literal_len e s) (sym slash) ∙ k.1) in
+                (later.0 b (eqb-true b 92 slash), ap (λ (w : List ℕ). b ∷ w) later.1)
+            | inr other ↦
+                let later = literal_stands false s k.0 (ap (λ (e : Bool). literal_len e s) (sym other) ∙ k.1) in
+                (plain (is_plain_from (eqb b 39) (eqb b 92) isnt.0 other) later.0, ap (λ (w : List ℕ). b ∷ w) later.1)
+          ])
     ]
 
 string_stands : (s : List ℕ) (x : Word × List ℕ) → string_at s ≡ Some x → TokenStands (39 ∷ s) x
@@ -198,22 +197,22 @@ token_stands (b ∷ s) x h =
     elim (chosen (is_name_start b) _ _ _ h) [
       | inl is ↦ moved (b ∷ s) (name_at (b ∷ s)) x (some_is (name_at (b ∷ s)) x is.1) (name_stands_at b s is.0)
       | inr no0 ↦
-        elim (chosen (eqb b 36 || eqb b 37) _ _ _ no0.1) [
-          | inl is ↦ special_stands b s x is.1
-          | inr no1 ↦
-            elim (chosen (is_ascii_digit b) _ _ _ no1.1) [
-              | inl is ↦ moved (b ∷ s) (number_at (b ∷ s)) x (some_is (number_at (b ∷ s)) x is.1) (number_stands b s is.0)
-              | inr no2 ↦
-                elim (chosen (eqb b 96) _ _ _ no2.1) [
-                  | inl is ↦ subst (λ (c : ℕ). TokenStands (c ∷ s) x) (sym (eqb-true b 96 is.0)) (delimited_stands s x is.1)
-                  | inr no3 ↦
-                    elim (chosen (eqb b 39) _ _ _ no3.1) [
-                      | inl is ↦ subst (λ (c : ℕ). TokenStands (c ∷ s) x) (sym (eqb-true b 39 is.0)) (string_stands s x is.1)
-                      | inr no4 ↦ sign_token (b ∷ s) x no4.1
-                    ]
+          elim (chosen (eqb b 36 || eqb b 37) _ _ _ no0.1) [
+            | inl is ↦ special_stands b s x is.1
+            | inr no1 ↦
+                elim (chosen (is_ascii_digit b) _ _ _ no1.1) [
+                  | inl is ↦ moved (b ∷ s) (number_at (b ∷ s)) x (some_is (number_at (b ∷ s)) x is.1) (number_stands b s is.0)
+                  | inr no2 ↦
+                      elim (chosen (eqb b 96) _ _ _ no2.1) [
+                        | inl is ↦ subst (λ (c : ℕ). TokenStands (c ∷ s) x) (sym (eqb-true b 96 is.0)) (delimited_stands s x is.1)
+                        | inr no3 ↦
+                            elim (chosen (eqb b 39) _ _ _ no3.1) [
+                              | inl is ↦ subst (λ (c : ℕ). TokenStands (c ∷ s) x) (sym (eqb-true b 39 is.0)) (string_stands s x is.1)
+                              | inr no4 ↦ sign_token (b ∷ s) x no4.1
+                            ]
+                      ]
                 ]
-            ]
-        ]
+          ]
     ]
 
 -- ---- comments
@@ -253,7 +252,7 @@ behind_stands (b ∷ s) rest h ts spelled =
           let n = prefix_len is_in_line s in
           let same = some_is (behind_line s) rest is.1 in
           line (take n s) rest (run_all is_in_line s) (ap (begins is_in_line) (sym same) ∙ run_stops is_in_line s)
-              (ap₂ (λ (c : ℕ) (w : List ℕ). 47 ∷ c ∷ w) (eqb-true b 47 is.0) (sym (take-append-drop n s) ∙ ap (λ (w : List ℕ). take n s ++ w) same)) spelled
+          (ap₂ (λ (c : ℕ) (w : List ℕ). 47 ∷ c ∷ w) (eqb-true b 47 is.0) (sym (take-append-drop n s) ∙ ap (λ (w : List ℕ). take n s ++ w) same)) spelled
       | inr isnt ↦
           elim (chosen (eqb b 42) _ _ _ isnt.1) [
             | inl is ↦
@@ -277,7 +276,7 @@ piece_stands (b ∷ s) x h =
             | inl is ↦
                 let k = bind_some (behind_comment s) _ x is.1 in
                 piece_moved (b ∷ s) (None, k.0) x (some_is (None, k.0) x k.2)
-                    (λ ts spelled. subst (λ (c : ℕ). IsSpelled ts (c ∷ s)) (sym (eqb-true b 47 is.0)) (behind_stands s k.0 k.1 ts spelled))
+                (λ ts spelled. subst (λ (c : ℕ). IsSpelled ts (c ∷ s)) (sym (eqb-true b 47 is.0)) (behind_stands s k.0 k.1 ts spelled))
             | inr other ↦
                 let k = bind_some (token_at (b ∷ s)) _ x other.1 in
                 let t = token_stands (b ∷ s) k.0 k.1 in

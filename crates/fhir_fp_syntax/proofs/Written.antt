@@ -1,8 +1,7 @@
 -- Reading a text, in words of the grammar.
-use Rattle.std.proofs.Common.{◌≡◌, ◌≤◌, ltb, List, [], ◌∷◌, length, ℕ, Option, Some, refl, sym, ap, subst, ◌∙◌, inl, inr}
+use Rattle.std.proofs.Common.{◌≡◌, ◌≤◌, ltb, List, [], ◌∷◌, length, Some, refl, sym, ap, subst, ◌∙◌, inl, inr}
 use Rattle.std.proofs.lemmas.Bool.{ltb-false, le-ltb}
 use Rattle.fhir_json.specs.Tree.{Text}
-use Rattle.fhir_fp_syntax.specs.Answers.{◌>>=◌}
 use Rattle.fhir_fp_syntax.specs.Expression.{Expression}
 use Rattle.fhir_fp_syntax.specs.Words.{Word}
 use Rattle.fhir_fp_syntax.specs.Grammar.{Is, max_words, max_nesting}

@@ -1,5 +1,5 @@
 -- Characters of FHIRPath (N1, Grammar), by their bytes.
-use Rattle.std.specs.Prelude.{ℕ, Bool, false, ◌||◌, ◌==◌, List, [], ◌∷◌}
+use Rattle.std.specs.Prelude.{ℕ, Bool, false, ◌||◌, ◌==◌, [], ◌∷◌}
 use Rattle.std.specs.Char.{is_ascii_digit, is_ascii_alphabetic}
 use Rattle.fhir_json.specs.Bytes.{carriage_return, line_feed}
 use Rattle.fhir_json.specs.Tree.{Text}

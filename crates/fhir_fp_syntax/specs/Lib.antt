@@ -9,3 +9,4 @@ pub mod Lexing
 pub mod Parsing
 pub mod Reading
 pub mod Views
+pub mod Examples

@@ -1,5 +1,5 @@
 -- A string (FHIRPath N1, Grammar): what stands between its quotes, and the text that it stands for.
-use Rattle.std.specs.Prelude.{◌≡◌, ℕ, zero, suc, List, [], ◌∷◌, ◌++◌, length, Bool, true, false, not, ◌&&◌, ◌||◌, ◌==◌, if◌then◌else◌, Option, Some}
+use Rattle.std.specs.Prelude.{◌≡◌, ℕ, zero, suc, [], ◌∷◌, ◌++◌, length, Bool, true, false, not, ◌&&◌, ◌||◌, ◌==◌, if◌then◌else◌, Option, Some}
 use Rattle.std.specs.Prelude.{None, encode_utf8}
 use Rattle.fhir_json.specs.Bytes.{backslash, carriage_return, form_feed, letter_f, letter_n, letter_r, letter_t, letter_u, line_feed, quote, slash, tab}
 use Rattle.fhir_json.specs.Strings.{code_unit, is_high, is_low, code_point_of}

@@ -8,6 +8,7 @@ use std::fmt::Write;
 
 // How loosely a path binds, and `implies`, the loosest operator.
 const PATH: usize = 1;
+
 const LOOSEST: usize = 9;
 
 /// Prints a text that is written for the expression, with the parentheses that it needs and no others. A name that contains a

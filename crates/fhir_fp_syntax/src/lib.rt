@@ -10,7 +10,9 @@ mod parsing;
 mod reader;
 mod token;
 mod words;
+mod worked;
 
 pub use expr::{Expr, Filter, Function, Operator, TypeTest};
 pub use laws::{grammar, one_reading, one_spelling, strings};
 pub use parsing::{Parsed, parse};
+pub use worked::examples;

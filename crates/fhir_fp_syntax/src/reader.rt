@@ -10,9 +10,9 @@ ghost use Rattle.fhir_fp_syntax.specs.Reading.{expression_in};
 ghost use Rattle.fhir_fp_syntax.specs.Parsing.{behind, argument_at, type_argument_at, calls_at, is_deep, primary_at, member_at, tested_at, tail_at, inner_at, at_level, called_at, expression_at, type_at, qualified_at, type_named};
 
 use crate::expr::{Expr, Filter, Operator, TypeTest};
-use crate::token::{Given, Mark, Next, Stop, Token};
 use crate::lexer::tokens_in;
 use crate::literal::text_in;
+use crate::token::{Given, Mark, Next, Stop, Token};
 use crate::words::{
     function_of, given_of, is_close, is_close_bracket, is_dot, is_open, is_system_type, looseness,
     name_of, next_of,

@@ -1,4 +1,4 @@
-use Rattle.std.proofs.Common.{◌≡◌, ◌≤◌, length, drop, ◌∙◌, arith}
+use Rattle.std.proofs.Common.{◌≤◌, length, drop, ◌∙◌, arith}
 use Rattle.std.proofs.lemmas.List.{length-drop}
 use Rattle.fhir_fp_syntax.proofs.Pieces.{no_comment}
 use Rattle.fhir_fp_syntax.proofs.lexer.comment_len.Goals as goal

@@ -1,10 +1,7 @@
-use Rattle.std.proofs.Common.{◌∷◌, ◌≡◌, ◌<◌, ◌≤◌, ℕ, suc, length, ◌++◌, List, [], sym, ap, subst, ◌∙◌, arith, rules, Some, Option}
-use Rattle.std.specs.Prelude.{option_map}
+use Rattle.std.proofs.Common.{◌≡◌, ◌<◌, suc, length, [], ap, arith, rules}
 use Rattle.std.proofs.lemmas.Result.{err_from_is_err_and}
-use Rattle.fhir_fp_syntax.specs.Views.{word_of, words_of}
-use Rattle.fhir_fp_syntax.specs.Lexing.{piece_at, words_at, words_in, with_piece}
+use Rattle.fhir_fp_syntax.specs.Views.{words_of}
 use Rattle.fhir_fp_syntax.proofs.Pieces.{pieces_begin, pieces_end, piece_fails, add_fails, piece_added}
-use Rattle.fhir_fp_syntax.proofs.Options.{behind_front}
 use Rattle.fhir_fp_syntax.proofs.lexer.tokens_in.Goals as goal
 
 pub pieces-init : goal.pieces-init

@@ -1,5 +1,4 @@
-use Rattle.std.proofs.Common.{◌∷◌, ◌≡◌, ◌<◌, ◌≤◌, ℕ, length, take, drop, get_or, string_bytes, encode_utf8, ◌++◌, List, sym, ap, ◌∙◌, arith, rules, Some, Option}
-use Rattle.std.proofs.lemmas.List.{length-drop}
+use Rattle.std.proofs.Common.{◌≡◌, ◌<◌, ℕ, length, take, drop, string_bytes, encode_utf8, ◌++◌, List, sym, ap, ◌∙◌, arith, rules, Some, Option}
 use Rattle.std.proofs.lemmas.Result.{err_from_is_err_and}
 use Rattle.std.specs.List.{prefix_len}
 use Rattle.fhir_fp_syntax.specs.Answers.{◌>>=◌}
