@@ -1,5 +1,6 @@
 -- From words to an expression, read from left to right. Each function gives a value and the words that follow it.
 use Rattle.std.specs.Prelude.{ℕ, zero, suc, List, [], ◌∷◌, length, Bool, true, false, ◌==◌, if◌then◌else◌, Option, Some, None, bytes_eq, codes}
+use Rattle.fhir_json.specs.Tree.{Text}
 use Rattle.fhir_fp_syntax.specs.Answers.{◌>>=◌}
 use Rattle.fhir_fp_syntax.specs.declared.expr.Operator.TheVariants.{Index}
 use Rattle.fhir_fp_syntax.specs.declared.expr.TypeTest.{TypeTest}
@@ -27,22 +28,22 @@ abbrev pub before : (Word → Bool) → Expression → Parse
 before is e ts = behind is ts >>= λ us. Some (e, us)
 
 abbrev pub Calls : Type 0
-Calls = Expression → List ℕ → Parse
+Calls = Expression → Text → Parse
 
 abbrev pub no_calls : Calls
 no_calls a w ts = None
 
 -- the name behind `FHIR` and its dot
-abbrev pub qualified_at : List Word → Option (List ℕ × List Word)
+abbrev pub qualified_at : List Word → Option (Text × List Word)
 qualified_at [] = None
 qualified_at (t ∷ ts) = name_of t >>= λ w. Some (w, ts)
 
 -- the type whose first word is the name w, behind which ts stand; us, if there's a dot
-abbrev pub type_named : List ℕ → List Word → Option (List Word) → Option (List ℕ × List Word)
+abbrev pub type_named : Text → List Word → Option (List Word) → Option (Text × List Word)
 type_named w ts (Some us) = if bytes_eq w (codes "FHIR") then qualified_at us else None
 type_named w ts None = if is_system_type w then None else Some (w, ts)
 
-unfoldable pub type_at : List Word → Option (List ℕ × List Word)
+unfoldable pub type_at : List Word → Option (Text × List Word)
 type_at [] = None
 type_at (t ∷ ts) = name_of t >>= λ w. type_named w ts (behind is_dot ts)
 

@@ -1,5 +1,5 @@
--- Tokens without where they lie in memory, and what each of them is.
-use Rattle.std.specs.Prelude.{ℕ, List, Bool, true, false, Option, Some, None, if◌then◌else◌, codes, bytes_eq, ◌||◌}
+-- The words of an expression, and what each of them is (FHIRPath N1, Grammar).
+use Rattle.std.specs.Prelude.{ℕ, Bool, true, false, Option, Some, None, if◌then◌else◌, codes, bytes_eq, ◌||◌}
 use Rattle.fhir_fp_syntax.specs.declared.expr.Operator.{Operator}
 use Rattle.fhir_fp_syntax.specs.declared.expr.Operator.TheVariants.{Index, Intersect, Union, Less, LessOrEqual, Greater, GreaterOrEqual, Equal, NotEqual, In, Contains, And, Or, Xor, Implies}
 use Rattle.fhir_fp_syntax.specs.declared.expr.Function.{Function}
@@ -13,18 +13,18 @@ use Rattle.fhir_fp_syntax.specs.declared.token.Given.TheVariants as givens
 use Rattle.fhir_fp_syntax.specs.declared.token.Next.{Next}
 use Rattle.fhir_fp_syntax.specs.declared.token.Next.TheVariants as nexts
 use Rattle.fhir_fp_syntax.specs.Expression.{Expression, nothing, boolean, number, text, this, resource, context, name, filtered, binary}
+use Rattle.fhir_json.specs.Tree.{Text}
 use Rattle.fhir_fp_syntax.specs.Answers.{◌>>=◌}
 use Rattle.fhir_fp_syntax.specs.Strings.{text_in}
 
+-- a token: a name, what stands between the quotes of a string, a number, or a sign or word that is none of these
 pub data Word : Type 0 where
-  named : List ℕ → Word
-  -- what stands between the quotes of a string
-  quoted : List ℕ → Word
-  -- a number
-  counted : List ℕ → Word
+  named : Text → Word
+  quoted : Text → Word
+  counted : Text → Word
   marked : Mark → Word
 
--- what the token does behind an expression
+-- what the word does behind an expression
 abbrev pub next_of_mark : Mark → Next
 next_of_mark marks.Open = nexts.Call
 next_of_mark marks.Dot = nexts.Dot
@@ -52,7 +52,7 @@ next_of (named w) = nexts.Nothing
 next_of (quoted w) = nexts.Nothing
 next_of (counted w) = nexts.Nothing
 
--- how loosely an operator binds
+-- How loosely an operator binds (FHIRPath N1, Operator Precedence). An index and `intersect` bind as a path does.
 abbrev pub looseness_of_operator : Operator → ℕ
 looseness_of_operator Index = 1
 looseness_of_operator Intersect = 1
@@ -70,7 +70,11 @@ looseness_of_operator Or = 8
 looseness_of_operator Xor = 8
 looseness_of_operator Implies = 9
 
--- and the others; what can't follow an expression binds looser than all
+-- how loosely `implies` binds, the loosest
+abbrev pub loosest : ℕ
+loosest = 9
+
+-- How loosely what follows an expression binds to it; what can't follow one binds looser than all.
 abbrev pub looseness : Next → ℕ
 looseness nexts.Call = 0
 looseness nexts.Dot = 1
@@ -79,7 +83,8 @@ looseness (nexts.Typed f) = 2
 looseness (nexts.Binary op) = looseness_of_operator op
 looseness nexts.Nothing = 10
 
-abbrev pub name_of : Word → Option (List ℕ)
+-- The name that a word is. `as`, `contains`, `in` and `is` may stand where a name must (FHIRPath N1, Grammar: identifier).
+abbrev pub name_of : Word → Option Text
 name_of (named w) = Some w
 name_of (quoted w) = None
 name_of (counted w) = None
@@ -89,7 +94,7 @@ name_of (marked marks.In) = Some (codes "in")
 name_of (marked marks.Is) = Some (codes "is")
 name_of (marked m) = None
 
--- a token that is an expression
+-- a word that is an expression by itself
 abbrev pub term_of_mark : Mark → Option Expression
 term_of_mark marks.Braces = Some nothing
 term_of_mark marks.True = Some (boolean true)
@@ -125,14 +130,14 @@ abbrev pub is_dot : Word → Bool
 is_dot (marked marks.Dot) = true
 is_dot t = false
 
--- a type of the System namespace (FHIRPath N1, Models), which is no type here unless `FHIR.` stands before it
-unfoldable pub is_system_type : List ℕ → Bool
+-- a type of FHIRPath's own, which is no type here unless `FHIR.` stands before it
+unfoldable pub is_system_type : Text → Bool
 is_system_type w =
     bytes_eq w (codes "String") || bytes_eq w (codes "Boolean") || bytes_eq w (codes "Integer") || bytes_eq w (codes "Decimal") || bytes_eq w (codes "Date")
     || bytes_eq w (codes "DateTime") || bytes_eq w (codes "Time")
 
 -- a function without an argument, by its name
-unfoldable pub function_of : List ℕ → Option Function
+unfoldable pub function_of : Text → Option Function
 function_of w =
     if bytes_eq w (codes "exists") then Some functions.Exists
     else (if bytes_eq w (codes "empty") then Some functions.Empty
@@ -144,7 +149,7 @@ function_of w =
     else (if bytes_eq w (codes "hasValue") then Some functions.HasValue else None)))))))
 
 -- a function with one
-unfoldable pub given_of : List ℕ → Option Given
+unfoldable pub given_of : Text → Option Given
 given_of w =
     if bytes_eq w (codes "where") then Some givens.Where
     else (if bytes_eq w (codes "exists") then Some givens.Exists
