@@ -1,0 +1,12 @@
+pub mod Options
+pub mod Texts
+pub mod Escapes
+pub mod Pieces
+pub mod Runs
+pub mod Marks
+pub mod Spelled
+pub mod Lexed
+pub mod Stands
+pub mod Steps
+pub mod Again
+pub mod Written

@@ -1,3 +1,12 @@
+pub mod Answers
+pub mod Characters
 pub mod Expression
+pub mod Strings
+pub mod Words
+pub mod Grammar
+pub mod Tokens
+pub mod Lexing
+pub mod Parsing
 pub mod Reading
 pub mod Views
+pub mod Examples
