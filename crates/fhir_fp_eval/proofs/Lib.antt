@@ -1,0 +1,5 @@
+pub mod Heights
+pub mod Kept
+pub mod Pairing
+pub mod At
+pub mod Parts
