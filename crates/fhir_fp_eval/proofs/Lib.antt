@@ -3,3 +3,4 @@ pub mod Kept
 pub mod Pairing
 pub mod At
 pub mod Parts
+pub mod Faulty
