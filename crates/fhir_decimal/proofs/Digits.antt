@@ -36,7 +36,7 @@ prefix_split d m (suc n) =
     ap (prefix d) e ∙ ap (λ (z : ℕ). 10 * z + d (m + n)) (prefix_split d m n) ∙ shifted (prefix d m) (10 ^ n) later (d (m + n))
     ∙ ap (λ (w : ℕ). prefix d m * w + (10 * later + d (m + n))) (sym (pow-succ' 10 n))
 
-prefix_number : (ds : List ℕ) → prefix (digit_in ds) (length ds) ≡ number_of ds
+pub prefix_number : (ds : List ℕ) → prefix (digit_in ds) (length ds) ≡ number_of ds
 prefix_number [] = refl
 prefix_number (x ∷ ds) =
     let n = length ds in
@@ -73,7 +73,7 @@ row_number ds start behind n e =
     in
     ap (prefix d) e ∙ prefix_split d start m ∙ ap₂ (λ (a b : ℕ). a * 10 ^ m + b) front digits ∙ omega arith
 
-digit_small : (b : ℕ) → digit_value b ≤ 9
+pub digit_small : (b : ℕ) → digit_value b ≤ 9
 digit_small b = grind arith
 
 pub number_below : (ds : List ℕ) → number_of ds < 10 ^ length ds

@@ -3,3 +3,5 @@ pub mod Texts
 pub mod Digits
 pub mod Order
 pub mod Same
+pub mod Counting
+pub mod Whole

@@ -4,3 +4,4 @@ pub mod Value
 pub mod Views
 pub mod Rows
 pub mod Whole
+pub mod Numbers

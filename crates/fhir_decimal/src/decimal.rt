@@ -5,10 +5,11 @@ ghost use Rattle.fhir_decimal.specs.Text.{Parts, IsDecimal, unsigned_parts};
 ghost use Rattle.fhir_decimal.specs.Reading.{parts};
 ghost use Rattle.fhir_decimal.specs.Value.{number_of, value_of, value_order, is_same_value};
 ghost use Rattle.fhir_decimal.specs.Rows.{number_in};
+ghost use Rattle.fhir_decimal.specs.Whole.{is_whole_value};
 ghost use Rattle.fhir_decimal.specs.Views.{parts_seen};
 
 use crate::reading::{cut_digits, cut_exponent, cut_fraction, cut_minus, is_whole};
-use crate::rows::{FAR, Row, rows_apart};
+use crate::rows::{FAR, Row, rows_apart, zeros_behind};
 use std::cmp::Ordering;
 
 /// A decimal (FHIR R4, Data Types, decimal), as the parts of its text, which it borrows.
@@ -120,5 +121,15 @@ impl<'a> Decimal<'a> {
             (value_of (parts_seen other.now)) }
     {
         self.cmp(other).is_eq()
+    }
+
+    /// Whether the value is whole, as that of `2.0` and `1.5e1` is, in time linear in the text whatever the exponent.
+    pub fn is_whole(&self) -> bool
+        ensures { result ≡ is_whole_value (value_of (parts_seen self.now)) }
+    {
+        // Zeros at the end of the mantissa stand behind the point, or the exponent moves the point behind the others.
+        let zeros = zeros_behind(self.whole, self.fraction);
+        let raised = rows_apart(&self.exponent_row(), &Row::zero()) + zeros as u128;
+        zeros == self.places() || FAR + self.fraction.len() as u128 <= raised
     }
 }

@@ -17,10 +17,13 @@
 //! text; and then that of `Decimal::of`, which gives a text its parts by the grammar.
 #![tactic(auto)]
 
+mod counts;
 mod decimal;
 mod laws;
+mod number;
 mod reading;
 mod rows;
 
 pub use decimal::Decimal;
 pub use laws::{equality_of_values, grammar, order_of_values, texts_of_one_value};
+pub use number::Number;

@@ -1,7 +1,7 @@
 //! Whole numbers as rows of digits, and how far one is above another.
 
-ghost use Rattle.std.specs.Prelude.{◌≡◌, ◌+◌, ◌-◌, ◌*◌, ◌≤◌, ◌<◌, ◌^◌, ◌++◌, length, if◌then◌else◌};
-ghost use Rattle.fhir_decimal.specs.Value.{digit_value};
+ghost use Rattle.std.specs.Prelude.{◌≡◌, ◌⊎◌, ℕ, ◌+◌, ◌-◌, ◌*◌, ◌≤◌, ◌<◌, ◌^◌, ◌%◌, ◌++◌, length, false, if◌then◌else◌};
+ghost use Rattle.fhir_decimal.specs.Value.{digit_value, number_of};
 ghost use Rattle.fhir_decimal.specs.Rows.{digits_in, number_in, places_in, digit_in, digit_from, apart, next_apart, signed_apart};
 
 /// More than the lengths of any two texts together. A difference of two numbers is of use only as far as this.
@@ -14,6 +14,20 @@ pub(crate) struct Row<'a> {
     pub(crate) front: &'a [u8],
     pub(crate) back: &'a [u8],
     pub(crate) zeros: u64,
+}
+
+impl Row<'_> {
+    pub(crate) fn zero() -> Row<'static>
+        ensures sign { result.negative ≡ false }
+        ensures number { number_in result ≡ 0 }
+    {
+        Row {
+            negative: false,
+            front: Default::default(),
+            back: Default::default(),
+            zeros: 0,
+        }
+    }
 }
 
 fn digit_value(byte: u8) -> u8
@@ -99,4 +113,19 @@ pub(crate) fn rows_apart(left: &Row<'_>, right: &Row<'_>) -> u128
         apart = next_apart(apart, raise + lower);
     }
     apart
+}
+
+/// How many zeros stand at the end of the digits.
+pub(crate) fn zeros_behind(front: &[u8], back: &[u8]) -> u64
+    ensures within { result ≤ length (front.now ++ back.now) }
+    ensures number { (m : ℕ) × (number_of (front.now ++ back.now) ≡ m * 10 ^ result)
+        × (((0 < m % 10) × (result < length (front.now ++ back.now)))
+        ⊎ ((m ≡ 0) × (result ≡ length (front.now ++ back.now)))) }
+{
+    let places = front.len() as u64 + back.len() as u64;
+    let mut zeros = 0;
+    while zeros < places && digit_in(front, back, (places - 1 - zeros) as u128) == 0 {
+        zeros += 1;
+    }
+    zeros
 }

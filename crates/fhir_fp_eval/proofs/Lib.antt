@@ -1,0 +1,6 @@
+pub mod Heights
+pub mod Kept
+pub mod Pairing
+pub mod At
+pub mod Parts
+pub mod Faulty

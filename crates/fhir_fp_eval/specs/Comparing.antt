@@ -82,6 +82,10 @@ order_said (Some a) None otherwise = Err Kind
 order_said None (Some b) otherwise = Err Kind
 order_said None None otherwise = otherwise
 
+abbrev pub node_order : SchemaValue → Plain → Plain → Compared
+node_order s (node x) (node y) = item_order s x y
+node_order s _ _ = Err Kind
+
+-- values have an order by what they say, and quantities by their parts
 unfoldable pub order_of : SchemaValue → Plain → Plain → Compared
-order_of s (node x) (node y) = order_said (item_content x) (item_content y) (item_order s x y)
-order_of s x y = order_said (content x) (content y) (Err Kind)
+order_of s x y = order_said (content x) (content y) (node_order s x y)

@@ -85,9 +85,13 @@ abbrev mutual
 
 -- ---- values and lists of them
 
+abbrev pub same_node : Plain → Plain → Answer
+same_node (node x) (node y) = equal x y
+same_node _ _ = Some false
+
+-- values are equal by what they say, and items that say nothing by their parts
 unfoldable pub alike : Plain → Plain → Answer
-alike (node x) (node y) = equal x y
-alike x y = same_said (content x) (content y) (Some false)
+alike x y = same_said (content x) (content y) (same_node x y)
 
 unfoldable pub pairs : List Plain → List Plain → Answer
 pairs [] [] = Some true

@@ -5,3 +5,4 @@ pub mod Literals
 pub mod Equality
 pub mod Comparing
 pub mod Meaning
+pub mod Example

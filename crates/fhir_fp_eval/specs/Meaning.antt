@@ -1,5 +1,5 @@
 -- What an expression gives (FHIRPath N1).
-use Rattle.std.specs.Prelude.{ℕ, suc, Bool, true, false, not, List, [], ◌∷◌, ◌++◌, length, map, Option, Some, None, is_some, Result, Ok, Err, if◌then◌else◌, nat_eq, codes}
+use Rattle.std.specs.Prelude.{ℕ, suc, Bool, true, false, not, List, [], ◌∷◌, ◌++◌, ◌-◌, length, take, map, Option, Some, None, is_some, Result, Ok, Err, if◌then◌else◌, nat_eq}
 use Rattle.std.specs.Option.{option_map}
 use Rattle.std.specs.Str.{bytes_eq}
 use Rattle.std.specs.Ordering.{is_lt, is_le, is_gt, is_ge}
@@ -8,6 +8,7 @@ use Rattle.fhir_json.specs.Tree.{Text}
 use Rattle.fhir_decimal.specs.Value.{Value, is_same_value}
 use Rattle.fhir_decimal.specs.Whole.{count, is_whole_value}
 use Rattle.fhir_schema.specs.Schemas.{SchemaValue}
+use Rattle.fhir_schema.specs.Forms.{is_choice}
 use Rattle.fhir_schema.specs.Covers.{derives}
 use Rattle.fhir_instance.specs.Items.{Item, item, Kids, no_kids, kid, type_of, kids_of}
 use Rattle.fhir_fp_syntax.specs.Expression.{Expression, nothing, boolean, this, resource, context, name, child, call, typed, filtered, binary}
@@ -25,7 +26,7 @@ use Rattle.fhir_fp_eval.specs.declared.fault.EvalFault.TheVariants.{Several, Kin
 use Rattle.fhir_fp_eval.specs.Values.{Plain, node, truth, number, text, World, Content, boolean_of, number_of, item_content, content}
 use Rattle.fhir_fp_eval.specs.Literals.{literal_value}
 use Rattle.fhir_fp_eval.specs.Equality.{Answer, and3, or3, not3, xor3, implies3, is_yes, has, equality}
-use Rattle.fhir_fp_eval.specs.Comparing.{order_of}
+use Rattle.fhir_fp_eval.specs.Comparing.{Compared, order_of}
 
 abbrev pub Found : Type 0
 Found = Result (List Plain) EvalFault
@@ -56,8 +57,7 @@ answer (Some b) = truth b ∷ []
 
 -- the name of a choice is written without `[x]` (FHIR R4, FHIRPath, polymorphism)
 abbrev pub spelled : Text → Text
-spelled [] = []
-spelled (b ∷ bs) = if bytes_eq (b ∷ bs) (codes "[x]") then [] else b ∷ spelled bs
+spelled element = if is_choice element then take (length element - 3) element else element
 
 abbrev pub kids_named : Text → Kids → List Item
 kids_named n no_kids = []
@@ -138,13 +138,17 @@ indexed vs [] = Ok []
 indexed vs (x ∷ []) = at_content (content x) vs
 indexed vs (x ∷ y ∷ xs) = Err Several
 
--- one value against one other, by their order
-abbrev pub compared : (Ordering → Bool) → SchemaValue → List Plain → List Plain → Found
-compared test s [] ws = Ok []
-compared test s (v ∷ vs) [] = Ok []
-compared test s (v ∷ []) (w ∷ []) = order_of s v w >>= λ o. Ok (answer (option_map test o))
-compared test s (v ∷ []) (w ∷ x ∷ ws) = Err Several
-compared test s (v ∷ x ∷ vs) (w ∷ ws) = Err Several
+-- one value against one other
+abbrev pub compared : SchemaValue → List Plain → List Plain → Compared
+compared s [] ws = Ok None
+compared s (v ∷ vs) [] = Ok None
+compared s (v ∷ []) (w ∷ []) = order_of s v w
+compared s (v ∷ []) (w ∷ x ∷ ws) = Err Several
+compared s (v ∷ x ∷ vs) (w ∷ ws) = Err Several
+
+-- whether the order passes the test
+abbrev pub in_order : (Ordering → Bool) → Compared → Found
+in_order test r = r >>= λ o. Ok (answer (option_map test o))
 
 -- ---- functions and operators
 
@@ -181,10 +185,10 @@ abbrev pub combined : SchemaValue → Operator → List Plain → List Plain →
 combined s operators.Index vs ws = indexed vs ws
 combined s operators.Intersect vs ws = Ok (shared ws [] vs)
 combined s operators.Union vs ws = Ok (joined (joined [] vs) ws)
-combined s operators.Less vs ws = compared is_lt s vs ws
-combined s operators.LessOrEqual vs ws = compared is_le s vs ws
-combined s operators.Greater vs ws = compared is_gt s vs ws
-combined s operators.GreaterOrEqual vs ws = compared is_ge s vs ws
+combined s operators.Less vs ws = in_order is_lt (compared s vs ws)
+combined s operators.LessOrEqual vs ws = in_order is_le (compared s vs ws)
+combined s operators.Greater vs ws = in_order is_gt (compared s vs ws)
+combined s operators.GreaterOrEqual vs ws = in_order is_ge (compared s vs ws)
 combined s operators.Equal vs ws = Ok (answer (equality vs ws))
 combined s operators.NotEqual vs ws = Ok (answer (not3 (equality vs ws)))
 combined s operators.In vs ws = member_of vs ws
@@ -204,6 +208,11 @@ asked c v = c v >>= λ r. (truth_of r >>= λ p. Ok (is_yes p))
 unfoldable pub kept : (Plain → Found) → List Plain → Found
 kept c [] = Ok []
 kept c (v ∷ vs) = asked c v >>= λ b. (kept c vs >>= λ ws. Ok (if b then v ∷ ws else ws))
+
+-- one value more, if the criteria are true of it
+abbrev pub with_next : Bool → List Plain → Plain → List Plain
+with_next true us v = us ++ v ∷ []
+with_next false us v = us
 
 -- what the function makes of all values and of those of which c is true
 abbrev pub filtered_by : Filter → List Plain → List Plain → List Plain

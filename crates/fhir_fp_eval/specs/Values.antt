@@ -10,7 +10,7 @@ use Rattle.fhir_decimal.specs.Reading.{parts}
 use Rattle.fhir_prims.specs.Order.{Fields}
 use Rattle.fhir_prims.specs.Reading.{fields_of}
 use Rattle.fhir_schema.specs.Schemas.{SchemaValue}
-use Rattle.fhir_instance.specs.Items.{Item, item}
+use Rattle.fhir_instance.specs.Items.{Item, type_of, json_of}
 
 -- one value of a result
 pub data Plain : Type 0 where
@@ -56,7 +56,7 @@ json_content type (object ms) = None
 
 -- what an item says: the value of a primitive. The others say nothing by themselves
 abbrev pub item_content : Item → Option Content
-item_content (item type json kids) = option_and_then (json_content type) json
+item_content x = option_and_then (json_content (type_of x)) (json_of x)
 
 abbrev pub content : Plain → Option Content
 content (node x) = item_content x

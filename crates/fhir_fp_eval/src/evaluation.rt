@@ -1,21 +1,146 @@
 //! What an expression gives.
 
+ghost use Rattle.std.specs.Prelude.{◌≡◌, OnOk, Ok};
 ghost use Rattle.fhir_json.specs.Memory.{Gives, GivesOr};
 ghost use Rattle.fhir_fp_syntax.specs.Expression.{expression_of};
 ghost use Rattle.fhir_instance.specs.View.{item_of};
-ghost use Rattle.fhir_fp_eval.specs.Values.{node};
+ghost use Rattle.fhir_fp_eval.specs.Values.{node, number};
+ghost use Rattle.fhir_fp_eval.specs.Literals.{literal_value};
 ghost use Rattle.fhir_fp_eval.specs.Faults.{is_no_memory};
-ghost use Rattle.fhir_fp_eval.specs.Views.{plains_of, world_of};
-ghost use Rattle.fhir_fp_eval.specs.Meaning.{den, is_true};
+ghost use Rattle.fhir_fp_eval.specs.Views.{plain_of, plains_of, world_of};
+ghost use Rattle.fhir_fp_eval.specs.Meaning.{asked, with_next, kept, filtered_by, den, verdict, is_true};
 
 use crate::fault::EvalFault;
+use crate::lists::{children_of, is_empty, single};
+use crate::literals::literal;
+use crate::operators::combined;
+use crate::truths::{is_yes, truth_of};
 use crate::value::{Env, Value};
-use fhir_fp_syntax::Expr;
+use crate::words::{applied, starts, tested};
+use fhir_decimal::Number;
+use fhir_fp_syntax::{Expr, Filter};
 use fhir_instance::Typed;
 use fhir_json::NoMemory;
-use std::alloc::Global;
+use std::alloc::{AllocError, Global};
 
-/// What an expression gives at an item.
+fn filtered_by<'e, 'a, 'j>(
+    alloc: Global,
+    filter: Filter,
+    values: &[Value<'e, 'a, 'j>],
+    kept: Vec<Value<'e, 'a, 'j>>,
+) -> Result<Vec<Value<'e, 'a, 'j>>, EvalFault>
+    ensures { GivesOr is_no_memory (λ v. plains_of v.items) result
+        (Ok (filtered_by filter (plains_of values.now) (plains_of kept.entry.items))) }
+{
+    match filter {
+        Filter::Where => Ok(kept),
+        Filter::Exists => single(alloc, Value::Truth(!is_empty(&kept))),
+        Filter::All => single(alloc, Value::Truth(kept.len() == values.len())),
+    }
+}
+
+fn number_of<'e, 'a, 'j>(text: &'e str) -> Value<'e, 'a, 'j>
+    ensures { plain_of result ≡ number (literal_value text.now) }
+{
+    Value::Number(Number::Written(literal(text)))
+}
+
+fn keep_if<'e, 'a, 'j>(
+    found: &mut Vec<Value<'e, 'a, 'j>>,
+    holds: bool,
+    value: Value<'e, 'a, 'j>,
+) -> Result<(), AllocError>
+    ensures { OnOk result (plains_of found.new.items
+        ≡ with_next holds (plains_of found.old.items) (plain_of value.entry)) }
+{
+    if holds {
+        found.push(value)?;
+    }
+    Ok(())
+}
+
+// Whether the criteria are true of the value.
+#[cycle(evaluate)]
+fn asked<'e, 'a, 'j>(
+    alloc: Global,
+    env: &Env<'e, 'a, 'j>,
+    criteria: &'e Expr,
+    this: Value<'e, 'a, 'j>,
+) -> Result<bool, EvalFault>
+    ensures { GivesOr is_no_memory (λ b. b) result
+        (asked (den (world_of env.now) (expression_of criteria.now)) (plain_of this.entry)) }
+{
+    let values = evaluate(alloc, env, criteria, this)?;
+    Ok(is_yes(truth_of(&values)?))
+}
+
+// The values of which the criteria are true. All are looked at.
+#[cycle(evaluate)]
+fn kept<'e, 'a, 'j>(
+    alloc: Global,
+    env: &Env<'e, 'a, 'j>,
+    criteria: &'e Expr,
+    values: &[Value<'e, 'a, 'j>],
+) -> Result<Vec<Value<'e, 'a, 'j>>, EvalFault>
+    ensures { GivesOr is_no_memory (λ v. plains_of v.items) result
+        (kept (den (world_of env.now) (expression_of criteria.now)) (plains_of values.now)) }
+{
+    let mut found = Vec::new(alloc);
+    for value in values {
+        let holds = asked(alloc, env, criteria, *value)?;
+        keep_if(&mut found, holds, *value)?;
+    }
+    Ok(found)
+}
+
+// What the expression gives where `$this` is the value.
+#[cycle(evaluate)]
+#[tactic(auto, unfolding(crate::specs::Meaning::den))]
+fn evaluate<'e, 'a, 'j>(
+    alloc: Global,
+    env: &Env<'e, 'a, 'j>,
+    expr: &'e Expr,
+    this: Value<'e, 'a, 'j>,
+) -> Result<Vec<Value<'e, 'a, 'j>>, EvalFault>
+    ensures { GivesOr is_no_memory (λ v. plains_of v.items) result
+        (den (world_of env.now) (expression_of expr.now) (plain_of this.entry)) }
+{
+    match expr {
+        Expr::Empty => Ok(Vec::new(alloc)),
+        Expr::Boolean(flag) => single(alloc, Value::Truth(*flag)),
+        Expr::Number(text) => single(alloc, number_of(text.as_str())),
+        Expr::Text(text) => single(alloc, Value::Text(text.as_str())),
+        Expr::This => single(alloc, this),
+        Expr::Resource => single(alloc, Value::Node(env.resource)),
+        Expr::Context => single(alloc, Value::Node(env.context)),
+        Expr::Name(name) => starts(alloc, env.schema, name.as_str(), this),
+        Expr::Child(base, name) => {
+            let values = evaluate(alloc, env, base, this)?;
+            children_of(alloc, name.as_str(), &values)
+        }
+        Expr::Call(function, base) => {
+            let values = evaluate(alloc, env, base, this)?;
+            applied(alloc, *function, &values)
+        }
+        Expr::Typed(test, base, name) => {
+            let values = evaluate(alloc, env, base, this)?;
+            tested(alloc, env.schema, *test, name.as_str(), &values)
+        }
+        Expr::Filtered(filter, base, criteria) => {
+            let values = evaluate(alloc, env, base, this)?;
+            let found = kept(alloc, env, criteria, &values)?;
+            filtered_by(alloc, *filter, &values, found)
+        }
+        Expr::Binary(operator, left, right) => {
+            let values = evaluate(alloc, env, left, this)?;
+            let others = evaluate(alloc, env, right, this)?;
+            combined(alloc, env.schema, *operator, &values, &others)
+        }
+    }
+}
+
+/// What an expression gives at an item. It takes time near linear in what its parts give; `|` and `intersect` compare each
+/// value of the one side with each of the other. The refusals are those of the meaning, and want of memory.
 pub fn eval<'e, 'a, 'j>(
     alloc: Global,
     expr: &'e Expr,
@@ -25,18 +150,26 @@ pub fn eval<'e, 'a, 'j>(
     ensures exact { GivesOr is_no_memory (λ v. plains_of v.items) result
         (den (world_of env.now) (expression_of expr.now) (node (item_of item.now))) }
 {
-    Err(EvalFault::NoMemory)
+    evaluate(alloc, env, expr, Value::Node(item))
 }
 
 /// Whether an expression is true of an item: the truth of what it gives there. A fault isn't true, and an empty result
 /// isn't. The one refusal is want of memory.
-pub fn holds(
+#[tactic(auto, unfolding(crate::specs::Meaning::is_true))]
+pub fn holds<'e, 'a, 'j>(
     alloc: Global,
-    expr: &Expr,
-    env: &Env<'_, '_, '_>,
-    item: &Typed<'_, '_>,
+    expr: &'e Expr,
+    env: &Env<'e, 'a, 'j>,
+    item: &'e Typed<'a, 'j>,
 ) -> Result<bool, NoMemory>
     ensures exact { Gives (λ b. b) result (is_true (world_of env.now) (expression_of expr.now) (item_of item.now)) }
 {
-    Err(NoMemory)
+    match asked(alloc, env, expr, Value::Node(item)) {
+        Ok(holds) => Ok(holds),
+        Err(fault) => match fault {
+            EvalFault::Several => Ok(false),
+            EvalFault::Kind => Ok(false),
+            EvalFault::NoMemory => Err(NoMemory),
+        },
+    }
 }

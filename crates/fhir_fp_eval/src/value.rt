@@ -1,6 +1,6 @@
 //! The values of a result, and where an expression is evaluated.
 
-use fhir_decimal::Decimal;
+use fhir_decimal::Number;
 use fhir_instance::Typed;
 use fhir_schema::Schema;
 
@@ -11,10 +11,8 @@ pub enum Value<'e, 'a, 'j> {
     Node(&'e Typed<'a, 'j>),
     /// A boolean.
     Truth(bool),
-    /// A number of the expression, or of an item.
-    Number(Decimal<'e>),
-    /// How many values a list has: a number too.
-    Count(usize),
+    /// A number, as the expression writes it, or a count.
+    Number(Number<'e>),
     /// A string.
     Text(&'e str),
 }

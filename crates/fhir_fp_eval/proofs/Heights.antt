@@ -1,0 +1,40 @@
+-- How high an item is, and what its words are by its parts.
+use Rattle.std.proofs.Common.{◌≡◌, ℕ, suc, ◌+◌, ◌<◌, ◌≤◌, zero, List, [], ◌∷◌, length, get_or, refl, sym, ap, ◌∙◌, arith}
+use Rattle.fhir_instance.specs.Items.{Item, item, Kids, no_kids, kid, type_of, kids_of, kids_in}
+use Rattle.fhir_instance.specs.declared.typed.Kid.{Kid}
+use Rattle.fhir_instance.specs.View.{named_of, named_in}
+use Rattle.fhir_fp_eval.specs.Values.{item_content}
+use Rattle.fhir_fp_eval.specs.Equality.{same_said, if_same, equal, equal_kids}
+use Rattle.fhir_fp_eval.specs.Meaning.{descendants, descendants_in}
+
+abbrev mutual
+  pub height : Item → ℕ
+  height (item type json ks) = suc (heights ks)
+
+  pub heights : Kids → ℕ
+  heights no_kids = 0
+  heights (kid n x ks) = height x + heights ks
+
+pub height_out : (x : Item) → height x ≡ suc (heights (kids_of x))
+height_out (item type json ks) = refl
+
+pub descendants_out : (x : Item) → descendants x ≡ descendants_in (kids_of x)
+descendants_out (item type json ks) = refl
+
+pub equal_out : (x y : Item)
+    → equal x y ≡ same_said (item_content x) (item_content y) (if_same (type_of x) (type_of y) (equal_kids (kids_of x) (kids_of y)))
+equal_out (item a v ks) (item b w ls) = refl
+
+-- a child isn't higher than all children together
+pub kid_below : (ks : List Kid) (i : ℕ) (k : Kid) → i < length ks → k ≡ get_or ks i k → height (named_of k).1 ≤ heights (kids_in (named_in ks))
+kid_below [] i k h is = absurd (omega arith)
+kid_below (x ∷ xs) zero k h is = rw is (omega arith)
+kid_below (x ∷ xs) (suc i) k h is = let p = kid_below xs i k (omega arith) is in omega arith
+
+pub higher : (x : Item) (ks : List Kid) (i : ℕ) (k : Kid) (y : Item) → kids_in (named_in ks) ≡ kids_of x → i < length ks → k ≡ get_or ks i k → y ≡ (named_of k).1
+    → height y < height x
+higher x ks i k y all h is this =
+    let p = kid_below ks i k h is in
+    let e : height x ≡ suc (heights (kids_in (named_in ks))) = height_out x ∙ ap (λ (js : Kids). suc (heights js)) (sym all) in
+    let f : height y ≡ height (named_of k).1 = ap height this in
+    omega arith

@@ -1,0 +1,182 @@
+//! The order of two values (FHIRPath N1, section 6.2).
+
+ghost use Rattle.std.specs.Prelude.{◌≡◌, option_map, option_and_then, Ok};
+ghost use Rattle.fhir_json.specs.Memory.{GivesOr};
+ghost use Rattle.fhir_decimal.specs.Numbers.{number_seen};
+ghost use Rattle.fhir_instance.specs.Items.{kids_in};
+ghost use Rattle.fhir_instance.specs.View.{item_of, named_in};
+ghost use Rattle.fhir_fp_eval.specs.Faults.{is_no_memory};
+ghost use Rattle.fhir_fp_eval.specs.Views.{plain_of, plains_of, content_seen};
+ghost use Rattle.fhir_fp_eval.specs.Comparing.{content_order, first_named, child, number_in, amount, both_or_none, same_child, same_unit, amount_order, quantity_order, is_quantity, item_order, node_order, order_of};
+ghost use Rattle.fhir_fp_eval.specs.Meaning.{compared};
+
+use crate::content::{Content, content_of, item_content};
+use crate::equality::equal;
+use crate::fault::EvalFault;
+use crate::truths::is_yes;
+use crate::value::Value;
+use fhir_decimal::Number;
+use fhir_instance::{Kid, Typed};
+use fhir_prims::cmp_moment;
+use fhir_schema::Schema;
+use std::cmp::Ordering;
+
+fn content_order(left: Content<'_>, right: Content<'_>) -> Result<Option<Ordering>, EvalFault>
+    ensures { GivesOr is_no_memory (λ o. o) result (content_order (content_seen left.entry) (content_seen right.entry)) }
+{
+    match (left, right) {
+        (Content::Number(left), Content::Number(right)) => Ok(Some(left.cmp(&right))),
+        (Content::Text(left), Content::Text(right)) => Ok(Some(left.cmp(right))),
+        (Content::Moment(left), Content::Moment(right)) => Ok(cmp_moment(&left, &right)),
+        (Content::Moment(_), Content::Time(_)) => Ok(None),
+        (Content::Time(_), Content::Moment(_)) => Ok(None),
+        (Content::Time(left), Content::Time(right)) => Ok(cmp_moment(&left, &right)),
+        _ => Err(EvalFault::Kind),
+    }
+}
+
+fn first_named<'e, 'a, 'j>(kids: &'e [Kid<'a, 'j>], name: &str) -> Option<&'e Typed<'a, 'j>>
+    ensures { option_map (λ x. item_of x.now) result ≡ first_named name.now (kids_in (named_in kids.now)) }
+{
+    for kid in kids {
+        if kid.name() == name {
+            return Some(kid.item());
+        }
+    }
+    None
+}
+
+fn child<'e, 'a, 'j>(item: &'e Typed<'a, 'j>, name: &str) -> Option<&'e Typed<'a, 'j>>
+    ensures { option_map (λ x. item_of x.now) result ≡ child name.now (item_of item.now) }
+{
+    first_named(item.kids(), name)
+}
+
+fn number_in<'e>(said: Option<Content<'e>>) -> Option<Number<'e>>
+    ensures { option_map number_seen result ≡ option_and_then number_in (option_map content_seen said.entry) }
+{
+    match said {
+        Some(Content::Number(number)) => Some(number),
+        _ => None,
+    }
+}
+
+fn amount<'e>(item: &'e Typed<'_, '_>) -> Option<Number<'e>>
+    ensures { option_map number_seen result ≡ amount (item_of item.now) }
+{
+    match child(item, "value") {
+        Some(value) => number_in(item_content(value)),
+        None => None,
+    }
+}
+
+fn both_or_none(left: Option<&Typed<'_, '_>>, right: Option<&Typed<'_, '_>>) -> bool
+    ensures { result ≡ both_or_none (option_map (λ x. item_of x.now) left.entry)
+        (option_map (λ x. item_of x.now) right.entry) }
+{
+    match (left, right) {
+        (Some(left), Some(right)) => is_yes(equal(left, right)),
+        (Some(_), None) => false,
+        (None, Some(_)) => false,
+        (None, None) => true,
+    }
+}
+
+fn same_child(left: &Typed<'_, '_>, right: &Typed<'_, '_>, name: &str) -> bool
+    ensures { result ≡ same_child name.now (item_of left.now) (item_of right.now) }
+{
+    both_or_none(child(left, name), child(right, name))
+}
+
+fn same_unit(left: &Typed<'_, '_>, right: &Typed<'_, '_>) -> bool
+    ensures { result ≡ same_unit (item_of left.now) (item_of right.now) }
+{
+    same_child(left, right, "system")
+        && (same_child(left, right, "code") && same_child(left, right, "unit"))
+}
+
+fn amount_order(left: &Typed<'_, '_>, right: &Typed<'_, '_>) -> Option<Ordering>
+    ensures { result ≡ amount_order (item_of left.now) (item_of right.now) }
+{
+    match (amount(left), amount(right)) {
+        (Some(left), Some(right)) => Some(left.cmp(&right)),
+        (Some(_), None) => None,
+        (None, Some(_)) => None,
+        (None, None) => None,
+    }
+}
+
+fn quantity_order(left: &Typed<'_, '_>, right: &Typed<'_, '_>) -> Option<Ordering>
+    ensures { result ≡ quantity_order (item_of left.now) (item_of right.now) }
+{
+    if same_unit(left, right) {
+        amount_order(left, right)
+    } else {
+        None
+    }
+}
+
+fn is_quantity(schema: &Schema, item: &Typed<'_, '_>) -> bool
+    ensures { result ≡ is_quantity schema.now (item_of item.now) }
+{
+    schema.derives(item.code(), "Quantity")
+}
+
+fn item_order(
+    schema: &Schema,
+    left: &Typed<'_, '_>,
+    right: &Typed<'_, '_>,
+) -> Result<Option<Ordering>, EvalFault>
+    ensures { GivesOr is_no_memory (λ o. o) result (item_order schema.now (item_of left.now) (item_of right.now)) }
+{
+    if is_quantity(schema, left) & is_quantity(schema, right) {
+        Ok(quantity_order(left, right))
+    } else {
+        Err(EvalFault::Kind)
+    }
+}
+
+fn node_order(
+    schema: &Schema,
+    left: Value<'_, '_, '_>,
+    right: Value<'_, '_, '_>,
+) -> Result<Option<Ordering>, EvalFault>
+    ensures { GivesOr is_no_memory (λ o. o) result (node_order schema.now (plain_of left.entry) (plain_of right.entry)) }
+{
+    match (left, right) {
+        (Value::Node(item), Value::Node(other)) => item_order(schema, item, other),
+        _ => Err(EvalFault::Kind),
+    }
+}
+
+#[tactic(auto, unfolding(crate::specs::Comparing::order_of))]
+fn order_of(
+    schema: &Schema,
+    left: Value<'_, '_, '_>,
+    right: Value<'_, '_, '_>,
+) -> Result<Option<Ordering>, EvalFault>
+    ensures { GivesOr is_no_memory (λ o. o) result (order_of schema.now (plain_of left.entry) (plain_of right.entry)) }
+{
+    match (content_of(left), content_of(right)) {
+        (Some(said), Some(other)) => content_order(said, other),
+        (Some(_), None) => Err(EvalFault::Kind),
+        (None, Some(_)) => Err(EvalFault::Kind),
+        (None, None) => node_order(schema, left, right),
+    }
+}
+
+/// The order of the one value of the left and that of the right; none where a side is empty.
+pub(crate) fn compared(
+    schema: &Schema,
+    left: &[Value<'_, '_, '_>],
+    right: &[Value<'_, '_, '_>],
+) -> Result<Option<Ordering>, EvalFault>
+    ensures { GivesOr is_no_memory (λ o. o) result (compared schema.now (plains_of left.now) (plains_of right.now)) }
+{
+    match (left, right) {
+        ([], _) => Ok(None),
+        (_, []) => Ok(None),
+        ([left], [right]) => order_of(schema, *left, *right),
+        _ => Err(EvalFault::Several),
+    }
+}

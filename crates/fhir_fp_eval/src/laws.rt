@@ -1,0 +1,57 @@
+//! Laws: what the definitions say.
+
+ghost use Rattle.std.specs.Prelude.{◌≡◌, [], ◌∷◌, ◌&&◌, true, false, Result, Ok, Err, List, codes, IsTrue, IsErr};
+ghost use Rattle.std.specs.List.{Contains};
+ghost use Rattle.fhir_json.specs.Tree.{Text};
+ghost use Rattle.fhir_schema.specs.Covers.{derives};
+ghost use Rattle.fhir_instance.specs.Items.{Item, type_of};
+ghost use Rattle.fhir_fp_syntax.specs.Expression.{Expression, nothing, boolean, name, call, filtered, binary};
+ghost use Rattle.fhir_fp_syntax.specs.declared.expr.Operator.{Operator};
+ghost use Rattle.fhir_fp_syntax.specs.declared.expr.Operator.TheVariants.{And, Or, Xor, Implies};
+ghost use Rattle.fhir_fp_syntax.specs.declared.expr.Function.TheVariants.{Not};
+ghost use Rattle.fhir_fp_syntax.specs.declared.expr.Filter.{Filter};
+ghost use Rattle.fhir_fp_eval.specs.declared.fault.EvalFault.{EvalFault};
+ghost use Rattle.fhir_fp_eval.specs.Values.{Plain, node, World};
+ghost use Rattle.fhir_fp_eval.specs.Meaning.{den, asked, is_true};
+ghost use Rattle.fhir_fp_eval.specs.Example.{is, none, table, truths, given_by};
+
+/// The truth tables of `and`, `or`, `xor` and `implies`, whose rows and columns are `true`, `false` and `{}`, and `not()`
+/// of these (FHIRPath N1, sections 6.5 and 6.3).
+pub fn truth_tables()
+    ensures and { table And ≡ (is true ∷ is false ∷ none ∷ []) ∷ (is false ∷ is false ∷ is false ∷ [])
+        ∷ (none ∷ is false ∷ none ∷ []) ∷ [] }
+    ensures or { table Or ≡ (is true ∷ is true ∷ is true ∷ []) ∷ (is true ∷ is false ∷ none ∷ [])
+        ∷ (is true ∷ none ∷ none ∷ []) ∷ [] }
+    ensures xor { table Xor ≡ (is false ∷ is true ∷ none ∷ []) ∷ (is true ∷ is false ∷ none ∷ [])
+        ∷ (none ∷ none ∷ none ∷ []) ∷ [] }
+    ensures implies { table Implies ≡ (is true ∷ is false ∷ none ∷ []) ∷ (is true ∷ is true ∷ is true ∷ [])
+        ∷ (is true ∷ none ∷ none ∷ []) ∷ [] }
+    ensures not_true { given_by (call Not (boolean true)) ≡ is false }
+    ensures not_false { given_by (call Not (boolean false)) ≡ is true }
+    ensures not_nothing { given_by (call Not nothing) ≡ none }
+{}
+
+/// A fault anywhere is one of the whole: of an operator in either operand, whatever the other is, and of a function in what
+/// it asks of any value. So nothing is cut short.
+pub fn faults_pass()
+    ensures left { (w : World) (op : Operator) (a b : Expression) (x : Plain) (e : EvalFault)
+        → den w a x ≡ Err e → den w (binary op a b) x ≡ Err e }
+    ensures right { (w : World) (op : Operator) (a b : Expression) (x : Plain) (vs : List Plain) (e : EvalFault)
+        → den w a x ≡ Ok vs → den w b x ≡ Err e → den w (binary op a b) x ≡ Err e }
+    ensures asked { (w : World) (f : Filter) (a c : Expression) (x : Plain) (vs : List Plain) (v : Plain) (e : EvalFault)
+        → den w a x ≡ Ok vs → Contains vs v → asked (den w c) v ≡ Err e → IsErr (den w (filtered f a c) x) }
+{}
+
+/// `a and b` is true where both are, and an expression that gives nothing, or has a fault, is not true.
+pub fn true_expressions()
+    ensures both { (w : World) (a b : Expression) (x : Item)
+        → is_true w (binary And a b) x ≡ (is_true w a x && is_true w b x) }
+    ensures nothing { (w : World) (a : Expression) (x : Item) → den w a (node x) ≡ Ok [] → is_true w a x ≡ false }
+    ensures fault { (w : World) (a : Expression) (x : Item) (e : EvalFault) → den w a (node x) ≡ Err e → is_true w a x ≡ false }
+{}
+
+/// A path may begin with the type of its focus, or a base of that (FHIRPath N1, section 3.1).
+pub fn paths_by_type()
+    ensures { (w : World) (type : Text) (x : Item) → IsTrue (derives w.schema (type_of x) type)
+        → den w (name type) (node x) ≡ Ok (node x ∷ []) }
+{}

@@ -1,0 +1,102 @@
+//! Truths of three values, and the truth of a result (FHIRPath N1, sections 4.5 and 6.5).
+
+ghost use Rattle.std.specs.Prelude.{◌≡◌, option_map};
+ghost use Rattle.fhir_json.specs.Memory.{GivesOr};
+ghost use Rattle.fhir_fp_eval.specs.Equality.{and3, or3, not3, xor3, implies3, is_yes, same_truth};
+ghost use Rattle.fhir_fp_eval.specs.Faults.{is_no_memory};
+ghost use Rattle.fhir_fp_eval.specs.Meaning.{truth_in, truth_of};
+ghost use Rattle.fhir_fp_eval.specs.Views.{plains_of, content_seen};
+
+use crate::content::{Content, content_of};
+use crate::fault::EvalFault;
+use crate::value::Value;
+
+pub(crate) fn and3(left: Option<bool>, right: Option<bool>) -> Option<bool>
+    ensures { result ≡ and3 left right }
+{
+    match left {
+        Some(false) => Some(false),
+        Some(true) => right,
+        None => match right {
+            Some(false) => Some(false),
+            Some(true) => None,
+            None => None,
+        },
+    }
+}
+
+pub(crate) fn or3(left: Option<bool>, right: Option<bool>) -> Option<bool>
+    ensures { result ≡ or3 left right }
+{
+    match left {
+        Some(true) => Some(true),
+        Some(false) => right,
+        None => match right {
+            Some(true) => Some(true),
+            Some(false) => None,
+            None => None,
+        },
+    }
+}
+
+pub(crate) fn not3(truth: Option<bool>) -> Option<bool>
+    ensures { result ≡ not3 truth }
+{
+    match truth {
+        Some(flag) => Some(!flag),
+        None => None,
+    }
+}
+
+pub(crate) fn xor3(left: Option<bool>, right: Option<bool>) -> Option<bool>
+    ensures { result ≡ xor3 left right }
+{
+    match left {
+        Some(left) => match right {
+            Some(right) => Some(if left { !right } else { right }),
+            None => None,
+        },
+        None => None,
+    }
+}
+
+pub(crate) fn implies3(left: Option<bool>, right: Option<bool>) -> Option<bool>
+    ensures { result ≡ implies3 left right }
+{
+    or3(not3(left), right)
+}
+
+pub(crate) fn is_yes(truth: Option<bool>) -> bool
+    ensures { result ≡ is_yes truth }
+{
+    match truth {
+        Some(flag) => flag,
+        None => false,
+    }
+}
+
+pub(crate) fn same_truth(left: bool, right: bool) -> bool
+    ensures { result ≡ same_truth left right }
+{
+    if left { right } else { !right }
+}
+
+fn truth_in(said: Option<Content<'_>>) -> bool
+    ensures { result ≡ truth_in (option_map content_seen said.entry) }
+{
+    match said {
+        Some(Content::Boolean(flag)) => flag,
+        _ => true,
+    }
+}
+
+/// The truth of a result where a boolean is wanted.
+pub(crate) fn truth_of(values: &[Value<'_, '_, '_>]) -> Result<Option<bool>, EvalFault>
+    ensures { GivesOr is_no_memory (λ p. p) result (truth_of (plains_of values.now)) }
+{
+    match values {
+        [] => Ok(None),
+        [value] => Ok(Some(truth_in(content_of(*value)))),
+        _ => Err(EvalFault::Several),
+    }
+}

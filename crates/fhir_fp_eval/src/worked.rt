@@ -1,0 +1,77 @@
+//! The definitions at work.
+
+ghost use Rattle.std.specs.Prelude.{◌≡◌, [], ◌∷◌, true, false, Ok, Err, codes};
+ghost use Rattle.fhir_json.specs.Tree.{string};
+ghost use Rattle.fhir_json.specs.Tree.{boolean as flag};
+ghost use Rattle.fhir_instance.specs.Items.{kid, no_kids};
+ghost use Rattle.fhir_decimal.specs.Whole.{count};
+ghost use Rattle.fhir_fp_syntax.specs.Expression.{nothing, boolean, this, name, call, typed, filtered, binary};
+ghost use Rattle.fhir_fp_syntax.specs.declared.expr.Operator.TheVariants.{Index, Intersect, Union, Less, LessOrEqual, Equal, NotEqual, In, And, Or, Implies};
+ghost use Rattle.fhir_fp_syntax.specs.declared.expr.Function.TheVariants.{Count, First, Exists, HasValue, Descendants};
+ghost use Rattle.fhir_fp_syntax.specs.declared.expr.Filter.TheVariants.{Exists as ExistsWhere};
+ghost use Rattle.fhir_fp_syntax.specs.declared.expr.TypeTest.TheVariants.{Is, As, OfType};
+ghost use Rattle.fhir_fp_eval.specs.declared.fault.EvalFault.TheVariants.{Several, Kind};
+ghost use Rattle.fhir_fp_eval.specs.Values.{node, number};
+ghost use Rattle.fhir_fp_eval.specs.Example.{is, none, leaf, whole, patient, given_by, between, given_names, digits, quoted, has_content, around};
+ghost use Rattle.fhir_fp_eval.specs.Meaning.{den};
+
+/// When values are equal (FHIRPath N1, section 6.1): numbers by value (`decimals`), values of two kinds not (`kinds`), a
+/// year and a month of it are undecided (`moments`), as is what is compared with nothing (`nothing`); lists of other lengths
+/// aren't (`counts`), and items by their parts (`parts`).
+pub fn equality_example()
+    ensures decimals { given_by (binary Equal (digits (codes "0.5")) (digits (codes "0.50"))) ≡ is true }
+    ensures kinds { given_by (binary Equal (quoted (codes "a")) (digits (codes "1"))) ≡ is false }
+    ensures moments { between Equal (leaf (codes "date") (string (codes "2020")))
+        (leaf (codes "date") (string (codes "2020-01"))) ≡ none }
+    ensures days { between Equal (leaf (codes "date") (string (codes "2020")))
+        (leaf (codes "date") (string (codes "2021-01"))) ≡ is false }
+    ensures times { between Equal (leaf (codes "date") (string (codes "2020")))
+        (leaf (codes "time") (string (codes "20:20:00"))) ≡ is false }
+    ensures nothing { given_by (binary NotEqual nothing (digits (codes "1"))) ≡ none }
+    ensures counts { given_by (binary Equal given_names (quoted (codes "A"))) ≡ is false }
+    ensures parts { given_by (binary Equal this this) ≡ is true }
+{}
+
+/// The order of values (FHIRPath N1, section 6.2): of strings by their bytes, of dates as far as they have one, and of nothing
+/// else.
+pub fn order_example()
+    ensures strings { given_by (binary Less (quoted (codes "B")) (quoted (codes "a"))) ≡ is true }
+    ensures prefixes { given_by (binary Less (quoted (codes "a")) (quoted (codes "ab"))) ≡ is true }
+    ensures itself { given_by (binary Less (quoted (codes "a")) (quoted (codes "a"))) ≡ is false }
+    ensures at_most { given_by (binary LessOrEqual (digits (codes "1.0")) (digits (codes "1"))) ≡ is true }
+    ensures dates { between Less (leaf (codes "date") (string (codes "2020-01")))
+        (leaf (codes "date") (string (codes "2020-02"))) ≡ is true }
+    ensures undecided { between Less (leaf (codes "date") (string (codes "2020")))
+        (leaf (codes "date") (string (codes "2020-02"))) ≡ none }
+    ensures times { between Less (leaf (codes "date") (string (codes "2020")))
+        (leaf (codes "time") (string (codes "20:20:00"))) ≡ none }
+    ensures kinds { given_by (binary Less (call First given_names) (digits (codes "1"))) ≡ Err Kind }
+    ensures booleans { given_by (binary Less (boolean false) (boolean true)) ≡ Err Kind }
+    ensures items { given_by (binary Less this this) ≡ Err Kind }
+{}
+
+/// What paths, functions and sets give at a patient with the given names A and B, and where they have a fault.
+pub fn paths_example()
+    ensures count { given_by (binary Equal (call Count given_names) (digits (codes "2"))) ≡ is true }
+    ensures joined { given_by (call Count (binary Union given_names given_names)) ≡ Ok (number (count 2) ∷ []) }
+    ensures common { given_by (binary Intersect (binary Union given_names (quoted (codes "C"))) (quoted (codes "B")))
+        ≡ Ok (node (leaf (codes "string") (string (codes "B"))) ∷ []) }
+    ensures first { given_by (binary Index given_names (digits (codes "0.0")))
+        ≡ Ok (node (leaf (codes "string") (string (codes "A"))) ∷ []) }
+    ensures beyond { given_by (binary Index given_names (digits (codes "2"))) ≡ none }
+    ensures between { given_by (binary Index given_names (digits (codes "0.5"))) ≡ Err Kind }
+    ensures several { given_by (binary In given_names (quoted (codes "A"))) ≡ Err Several }
+    ensures second { given_by (binary In (quoted (codes "B")) given_names) ≡ is true }
+    ensures both { given_by (binary And (call Exists (name (codes "birthDate"))) given_names) ≡ Err Several }
+    ensures asked { given_by (filtered ExistsWhere given_names
+        (binary Or (binary Equal this (quoted (codes "A"))) (binary Less this (digits (codes "1"))))) ≡ Err Kind }
+    ensures implied { given_by (binary Implies nothing (boolean true)) ≡ is true }
+    ensures types { given_by (typed Is given_names (codes "string")) ≡ Err Several }
+    ensures choice { given_by (binary Equal (name (codes "multipleBirth")) (digits (codes "1"))) ≡ is true }
+    ensures spelled { given_by (name (codes "multipleBirth[x]")) ≡ none }
+    ensures element { given_by has_content ≡ is true }
+    ensures bare { den (around patient) has_content (node (whole (codes "HumanName")
+        (kid (codes "id") (leaf (codes "id") (string (codes "n"))) no_kids))) ≡ is false }
+    ensures value { den (around patient) has_content (node (leaf (codes "boolean") (flag false))) ≡ is true }
+    ensures below { given_by (call Count (call Descendants this)) ≡ Ok (number (count 5) ∷ []) }
+{}
