@@ -1,7 +1,7 @@
 -- Tests over lists.
 use Rattle.std.proofs.Common.{◌≡◌, ℕ, zero, suc, Bool, true, false, List, [], ◌∷◌, ◌++◌, map, get_or, Option, Some, None, refl, inl, inr, ◌⊎◌, arith, IsTrue, cond, nat_eq, length}
 use Rattle.std.specs.Prelude.{if◌then◌else◌}
-use Rattle.std.specs.List.{list_all, list_any, find, flat_map, AllByRecursion}
+use Rattle.std.specs.List.{list_all, list_any, find, flat_map, slice_get, AllByRecursion}
 use Rattle.std.specs.Option.{option_map_or}
 use Rattle.std.proofs.lemmas.Bool.{and_parts, and_from, or_cases, eqb-true, or_left, or_right, false≢true}
 use Rattle.std.proofs.lemmas.Option.{none-some, same_Some}
@@ -29,6 +29,12 @@ any_step p q f (x ∷ xs) some =
       | inl here ↦ or_left (q x) (list_any q xs) (f x here)
       | inr there ↦ or_right (q x) (list_any q xs) (any_step p q f xs there)
     ]
+
+-- one that stands at a position
+pub any_placed : {A : Type 0} (p : A → Bool) (xs : List A) (i : ℕ) → IsTrue (option_map_or p (slice_get xs i) false) → IsTrue (list_any p xs)
+any_placed p [] i here = absurd (false≢true here)
+any_placed p (x ∷ xs) zero here = or_left (p x) (list_any p xs) here
+any_placed p (x ∷ xs) (suc i) here = or_right (p x) (list_any p xs) (any_placed p xs i here)
 
 -- what one of the first list passes gives what one of the second does
 pub answers_any : {A B : Type 0} (r : A → B → Bool) (p : A → Bool) (q : B → Bool) → ((a : A) (b : B) → IsTrue (r a b) → IsTrue (p a) → IsTrue (q b))
@@ -76,6 +82,13 @@ pub all_behind : {A : Type 0} (p : A → Bool) (xs ys zs : List A) → (IsTrue (
 all_behind p xs ys zs step each =
     let parts = all_append p xs ys each in
     all_joined p xs zs parts.0 (step parts.1)
+
+-- two parts, each in its place
+pub all_both : {A : Type 0} (p : A → Bool) (xs ys zs ws : List A) → (IsTrue (list_all p xs) → IsTrue (list_all p zs))
+    → (IsTrue (list_all p ys) → IsTrue (list_all p ws)) → IsTrue (list_all p (xs ++ ys)) → IsTrue (list_all p (zs ++ ws))
+all_both p xs ys zs ws first second each =
+    let parts = all_append p xs ys each in
+    all_joined p zs ws (first parts.0) (second parts.1)
 
 -- what holds of all that each gives
 pub all_given : {A B : Type 0} (p : B → Bool) (f : A → List B) (xs : List A) → IsTrue (list_all p (flat_map f xs))

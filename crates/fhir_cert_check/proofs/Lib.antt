@@ -1,6 +1,7 @@
 pub mod Orders
 pub mod First
 pub mod Answered
+pub mod Constrained
 pub mod Keeping
 pub mod Certified
 pub mod Promised

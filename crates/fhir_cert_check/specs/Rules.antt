@@ -1,11 +1,13 @@
 -- The rules of a certificate's pairs: when a pair is right by the certificate's others. A pair of items says that each
 -- item which conforms to its derived node conforms to its base node, and a pair of children the same of an item's
 -- children; no item occurs in the rules.
-use Rattle.std.specs.Prelude.{List, [], ◌∷◌, Bool, true, false, not, ◌&&◌, ◌||◌, Option, None, Some, if◌then◌else◌}
+use Rattle.std.specs.Prelude.{List, [], ◌∷◌, ◌++◌, Bool, true, false, not, ◌&&◌, ◌||◌, Option, None, Some, is_none, if◌then◌else◌}
 use Rattle.std.specs.Option.{option_map_or}
-use Rattle.std.specs.List.{list_all, flat_map}
+use Rattle.std.specs.List.{list_all, list_any, flat_map}
+use Rattle.std.specs.Str.{bytes_eq}
 use Rattle.fhir_json.specs.Tree.{Text}
 use Rattle.fhir_elements.specs.TypeEntry.{TypeEntry}
+use Rattle.fhir_elements.specs.Constraint.{Constraint, must_hold}
 use Rattle.fhir_elements.specs.Element.{Element, required_value_set}
 use Rattle.fhir_elements.specs.Tests.{first_of, all_hold}
 use Rattle.fhir_schema.specs.declared.node.NodeRef.{NodeRef}
@@ -21,7 +23,7 @@ use Rattle.fhir_facets.specs.Counts.{count_narrower, is_forbidden}
 use Rattle.fhir_slicing.specs.Conformance.{range_of, is_untyped}
 use Rattle.fhir_certificate.specs.declared.pair.Pair.{Pair}
 use Rattle.fhir_certificate.specs.declared.pair.Pair.TheVariants.{Item, Kids}
-use Rattle.fhir_cert_check.specs.Rule.{RuleName, type, fixed, pattern, range, length_limit, binding, children, slot, cardinality, entry}
+use Rattle.fhir_cert_check.specs.Rule.{RuleName, type, fixed, pattern, range, length_limit, binding, constraint, children, slot, cardinality, entry}
 use Rattle.fhir_cert_check.specs.Lists.{each_answers}
 
 -- ---- types
@@ -70,6 +72,28 @@ elements_answer answers s n m = is_answered answers (element_at s n) (element_at
 abbrev pub is_forbidden_at : SchemaValue → NodeRef → Bool
 is_forbidden_at s n = option_map_or is_forbidden (element_at s n) false
 
+-- ---- constraints: each of the base's that must hold is answered by one of the derived's that must
+
+-- the same expression; or, where neither has one, the same key
+abbrev pub says_same : Constraint → Constraint → Bool
+says_same own base =
+    option_map_or (λ asked. option_map_or (bytes_eq asked) own.expression false) base.expression
+    (is_none own.expression && bytes_eq base.key own.key)
+
+abbrev pub constraint_answers : Constraint → Constraint → Bool
+constraint_answers own base = must_hold own && says_same own base
+
+-- what the base's constraint asks of the derived element's constraints
+abbrev pub constraint_rule : List Constraint → Constraint → List (Bool × RuleName)
+constraint_rule own base =
+    if must_hold base then (list_any (λ c. constraint_answers c base) own, constraint base.key) ∷ [] else []
+
+abbrev pub constraints_at : SchemaValue → NodeRef → List Constraint
+constraints_at s n = option_map_or (λ e. e.constraints) (element_at s n) []
+
+abbrev pub constraint_rules : SchemaValue → NodeRef → NodeRef → List (Bool × RuleName)
+constraint_rules s n m = flat_map (constraint_rule (constraints_at s n)) (constraints_at s m)
+
 -- ---- the rules, in their order
 
 module _ (pairs : Pair → Bool) where
@@ -106,8 +130,7 @@ module _ (pairs : Pair → Bool) where
         ∷ (elements_answer range_answers s n m, range)
         ∷ (elements_answer length_answers s n m, length_limit)
         ∷ (elements_answer (binding_answers s) s n m, binding)
-        ∷ (children_answer n m, children)
-        ∷ []
+        ∷ (constraint_rules s n m ++ (children_answer n m, children) ∷ [])
 
     -- where none may be, nothing more is asked
     abbrev pub entry_rules : Text → NodeRef → NodeRef → List (Bool × RuleName)

@@ -2,10 +2,10 @@
 use Rattle.std.specs.Prelude.{Bool, true, false, Option, None, Some, option_map}
 use Rattle.fhir_certificate.specs.declared.pair.Pair.{Pair}
 use Rattle.fhir_cert_check.specs.declared.rule.Rule.{Rule}
-use Rattle.fhir_cert_check.specs.declared.rule.Rule.TheVariants.{Root, TypeCode, Fixed, Pattern, Range, Length, Binding, Children, Slot, Cardinality, Entry}
+use Rattle.fhir_cert_check.specs.declared.rule.Rule.TheVariants.{Root, TypeCode, Fixed, Pattern, Range, Length, Binding, Constraint, Children, Slot, Cardinality, Entry}
 use Rattle.fhir_cert_check.specs.declared.answer.Answer.{Answer}
 use Rattle.fhir_cert_check.specs.declared.answer.Answer.TheVariants.{Yes, No}
-use Rattle.fhir_cert_check.specs.Rule.{RuleName, root, type, fixed, pattern, range, length_limit, binding, children, slot, cardinality, entry}
+use Rattle.fhir_cert_check.specs.Rule.{RuleName, root, type, fixed, pattern, range, length_limit, binding, constraint, children, slot, cardinality, entry}
 
 abbrev pub rule_name : Rule → RuleName
 rule_name Root = root
@@ -15,6 +15,7 @@ rule_name Pattern = pattern
 rule_name Range = range
 rule_name Length = length_limit
 rule_name Binding = binding
+rule_name (Constraint key) = constraint key.now
 rule_name Children = children
 rule_name (Slot name) = slot name.now
 rule_name (Cardinality name) = cardinality name.now

@@ -17,6 +17,7 @@ ghost use Rattle.fhir_cert_check.specs.Facets.{element_rules, facet_rules};
 ghost use Rattle.fhir_cert_check.specs.Views.{rule_name};
 ghost use Rattle.fhir_cert_check.specs.PairSet.{has_in};
 
+use crate::constraints::constraint_failing;
 use crate::pair_set::PairSet;
 use crate::rule::Rule;
 use fhir_certificate::{NodePair, Pair};
@@ -263,6 +264,9 @@ pub(crate) fn item_failing<'s>(
         return Some(Rule::TypeCode);
     }
     if let Some(rule) = facet_failing(schema, n, m) {
+        return Some(rule);
+    }
+    if let Some(rule) = constraint_failing(schema, n, m) {
         return Some(rule);
     }
     if !children_answer(schema, pairs, n, m) {

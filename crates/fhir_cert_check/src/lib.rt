@@ -18,6 +18,7 @@
 
 mod answer;
 mod checking;
+mod constraints;
 mod items;
 mod kids;
 mod laws;

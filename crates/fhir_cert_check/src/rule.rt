@@ -2,12 +2,13 @@
 
 ghost use Rattle.std.specs.Prelude.{◌≡◌};
 ghost use Rattle.fhir_json.specs.Views.{text_seen};
-ghost use Rattle.fhir_cert_check.specs.Rule.{word_of, slot_name_of};
+ghost use Rattle.fhir_cert_check.specs.Rule.{word_of, about};
 ghost use Rattle.fhir_cert_check.specs.Views.{rule_name};
 
 use std::fmt;
 
-/// A rule of a pair, with the name of the slot that it is about. `Display` prints its word, and the name behind a blank.
+/// A rule of a pair, with the key of the constraint, or the name of the slot, that it is about. `Display` prints its word, and
+/// the key or the name behind a blank.
 #[derive(Clone, Copy, Debug, PartialEq, Eq, Drop)]
 pub enum Rule<'s> {
     /// `root`: the certificate has the pair of the two roots.
@@ -29,6 +30,9 @@ pub enum Rule<'s> {
     /// `binding`: the derived node's required binding is to the base node's value set, or to one within (ElementDefinition,
     /// binding).
     Binding,
+    /// `constraint`: the base node's constraint of that key needn't hold, or the derived node has one that must hold and says the
+    /// same: the same expression, or, where neither has one, the same key (ElementDefinition, constraint).
+    Constraint(&'s str),
     /// `children`: the base node has no children, or there is a pair for them, with the children of the derived node or with
     /// those of each type that it names.
     Children,
@@ -54,6 +58,7 @@ impl<'s> Rule<'s> {
             Rule::Range => "range",
             Rule::Length => "length",
             Rule::Binding => "binding",
+            Rule::Constraint(_) => "constraint",
             Rule::Children => "children",
             Rule::Slot(_) => "slot",
             Rule::Cardinality(_) => "cardinality",
@@ -61,12 +66,15 @@ impl<'s> Rule<'s> {
         }
     }
 
-    /// The name of the slot that the rule is about.
-    pub fn slot_name(&self) -> Option<&'s str>
-        ensures { text_seen result ≡ slot_name_of (rule_name self.now) }
+    /// The key of the constraint, or the name of the slot, that the rule is about.
+    pub fn about(&self) -> Option<&'s str>
+        ensures { text_seen result ≡ about (rule_name self.now) }
     {
         match self {
-            Rule::Slot(name) | Rule::Cardinality(name) | Rule::Entry(name) => Some(*name),
+            Rule::Constraint(name)
+            | Rule::Slot(name)
+            | Rule::Cardinality(name)
+            | Rule::Entry(name) => Some(*name),
             Rule::Root
             | Rule::TypeCode
             | Rule::Fixed
@@ -81,7 +89,7 @@ impl<'s> Rule<'s> {
 
 impl fmt::Display for Rule<'_> {
     fn fmt<W: fmt::Write>(&self, f: &mut fmt::Formatter<W>) -> fmt::Result {
-        match self.slot_name() {
+        match self.about() {
             Some(name) => write!(f, "{} {name}", self.word()),
             None => write!(f, "{}", self.word()),
         }
