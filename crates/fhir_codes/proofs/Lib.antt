@@ -13,3 +13,4 @@ mod Letters
 mod Parts
 mod Taking
 mod Completes
+mod SameSets

@@ -4,6 +4,8 @@ pub mod ValueSets
 pub mod Expanding
 pub mod Coding
 pub mod Placing
+pub mod Tables
+pub mod Including
 pub mod Least
 pub mod Filled
 pub mod Listing

@@ -26,6 +26,7 @@ mod combining;
 mod composing;
 mod concept_set;
 mod filling;
+mod included;
 mod includes;
 mod laws;
 mod order;
