@@ -14,3 +14,4 @@ mod Parts
 mod Taking
 mod Completes
 mod SameSets
+mod Tabling

@@ -5,12 +5,12 @@ use Rattle.std.specs.Option.{option_map_or}
 use Rattle.std.proofs.lemmas.List.Folds.{list_all-append, list_all-map}
 use Rattle.std.specs.FinSet as set
 use Rattle.fhir_json.specs.Tree.{Text, Tree}
-use Rattle.fhir_json.specs.Fields.{field, text_in, text_or_empty, items_in}
+use Rattle.fhir_json.specs.Fields.{field, text_or_empty, items_in}
 use Rattle.fhir_json.specs.Views.{tree_of, trees_of}
 use Rattle.fhir_json.specs.declared.json.Json.{Json}
 use Rattle.fhir_package.specs.Definitions.{Definitions}
-use Rattle.fhir_codes.specs.Concepts.{Concepts, of_system, common, united}
-use Rattle.fhir_codes.specs.ValueSets.{sets_named, includes, excludes, is_compose, named, codes_taken, is_plain_include, of_set, of_include, composed, is_read}
+use Rattle.fhir_codes.specs.Concepts.{Concepts, united}
+use Rattle.fhir_codes.specs.ValueSets.{sets_named, includes, excludes, is_compose, named, is_plain_include, of_include, composed, is_read}
 use Rattle.fhir_codes.specs.Placing.{Found, known, is_known, names_known}
 
 map_twice : {A B C : Type 0} (f : B → C) (g : A → B) (xs : List A) → map f (map g xs) ≡ map (λ x. f (g x)) xs
@@ -44,25 +44,15 @@ map_named f t xs e =
 pub united_trees : (f : Tree → Concepts) (ts : List Tree) (xs : List Json) → trees_of xs ≡ ts → united (map (λ j. f (tree_of j)) xs) ≡ united (map f ts)
 united_trees f ts xs e = ap united (sym (map_twice f tree_of xs)) ∙ ap (λ us. united (map f us)) e
 
--- ---- an include
+-- ---- a value set
 
-pub include_sets : (p : Definitions) (sets : Found) (t : Tree) (xs : List Json) (none some all : List Concepts)
-    → none ≡ []
-    → some ≡ none ++ option_map_or (λ system. of_system system (codes_taken p t system) ∷ []) (text_in (codes "system") t) []
-    → all ≡ some ++ map (λ j. of_set p (known p sets) (text_or_empty (tree_of j))) xs
-    → trees_of xs ≡ items_in (codes "valueSet") t
-    → common all ≡ of_include p (known p sets) t
-include_sets p sets t xs none some all nothing first then e =
-    ap common (then ∙ ap (λ l. l ++ map (λ j. of_set p (known p sets) (text_or_empty (tree_of j))) xs) (first ∙ ap (λ l. l ++ option_map_or (λ system. of_system system (codes_taken p t system) ∷ []) (text_in (codes "system") t) []) nothing)
-    ∙ ap (λ l. option_map_or (λ system. of_system system (codes_taken p t system) ∷ []) (text_in (codes "system") t) [] ++ l) (map_named (of_set p (known p sets)) t xs e))
-
-pub composed_of : (p : Definitions) (sets : Found) (t : Tree) (xs ys : List Json) (ms ls : List Concepts) (more less : Concepts)
-    → ms ≡ map (λ j. of_include p (known p sets) (tree_of j)) xs → ls ≡ map (λ j. of_include p (known p sets) (tree_of j)) ys
-    → more ≡ united ms → less ≡ united ls → trees_of xs ≡ includes t → trees_of ys ≡ excludes t
+pub composed_of : (p : Definitions) (sets : Found) (t : Tree) (xs ys : List Json) (more less : Concepts)
+    → more ≡ united (map (λ j. of_include p (known p sets) (tree_of j)) xs) → less ≡ united (map (λ j. of_include p (known p sets) (tree_of j)) ys)
+    → trees_of xs ≡ includes t → trees_of ys ≡ excludes t
     → set.difference more less ≡ composed p (known p sets) t
-composed_of p sets t xs ys ms ls more less hm hl m l is es =
-    ap (λ s. set.difference s less) (m ∙ ap united hm ∙ united_trees (of_include p (known p sets)) (includes t) xs is)
-    ∙ ap (λ s. set.difference (united (map (of_include p (known p sets)) (includes t))) s) (l ∙ ap united hl ∙ united_trees (of_include p (known p sets)) (excludes t) ys es)
+composed_of p sets t xs ys more less m l is es =
+    ap (λ s. set.difference s less) (m ∙ united_trees (of_include p (known p sets)) (includes t) xs is)
+    ∙ ap (λ s. set.difference (united (map (of_include p (known p sets)) (includes t))) s) (l ∙ united_trees (of_include p (known p sets)) (excludes t) ys es)
 
 -- ---- whether all is read
 

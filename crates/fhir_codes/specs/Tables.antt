@@ -1,6 +1,6 @@
 -- Tables of concepts under numbers. What a value set is found to have is kept as the number of its table, so that sets with
 -- one table are told to be one by their numbers (used by private contracts alone).
-use Rattle.std.specs.Prelude.{◌≡◌, ℕ, List, map, length, Bool, true, Option, unwrap_or, nat_lt, IsTrue}
+use Rattle.std.specs.Prelude.{◌≡◌, ℕ, List, map, length, Bool, true, Option, unwrap_or, nat_lt}
 use Rattle.std.specs.Option.{option_map_or, option_and_then}
 use Rattle.std.specs.List.{slice_get, list_any, list_all}
 use Rattle.std.specs.FinSet as set

@@ -1,8 +1,8 @@
 //! What an include or an exclude takes (FHIR R4, ValueSet, compose).
 
-ghost use Rattle.std.specs.Prelude.{◌≡◌, ◌&&◌, ◌||◌, not, true, false, is_some, codes, map};
+ghost use Rattle.std.specs.Prelude.{◌≡◌, ◌&&◌, ◌||◌, not, true, false, is_some, codes, map, IfSome, Some};
 ghost use Rattle.std.specs.Option.{option_map_or, option_and_then};
-ghost use Rattle.std.specs.List.{list_all};
+ghost use Rattle.std.specs.List.{list_all, slice_get};
 ghost use Rattle.fhir_json.specs.Bytes.{is_empty};
 ghost use Rattle.fhir_json.specs.Fields.{field, is_object, text_in, items_in, texts_in, allows_text, allows_items, allows_texts};
 ghost use Rattle.fhir_json.specs.Views.{tree_of, trees_of, tree_seen};
@@ -10,6 +10,7 @@ ghost use Rattle.fhir_json.specs.Memory.{Gives};
 ghost use Rattle.fhir_codes.specs.Concepts.{of_system};
 ghost use Rattle.fhir_package.specs.Canonical.{has_version};
 ghost use Rattle.fhir_codes.specs.CodeSystems.{is_complete};
+ghost use Rattle.fhir_codes.specs.Tables.{found};
 ghost use Rattle.fhir_codes.specs.ValueSets.{listed, sets_named, lists_no_concept, is_listed_concept, has_right_fields, is_version_of, code_system, codes_taken, can_take, is_plain_include};
 
 use crate::code_systems::concepts_listed;
@@ -110,7 +111,7 @@ fn names_sets_alone(include: &Json<'_>) -> bool
 impl<'p, 'a> Sources<'p, 'a> {
     // The code system of that url, of the include's version if both have one.
     fn code_system(&self, include: &Json<'_>, url: &str) -> Option<&'p Json<'a>>
-        ensures { tree_seen result ≡ code_system self.now (tree_of include.now) url.now }
+        ensures { tree_seen result ≡ code_system self.now.definitions (tree_of include.now) url.now }
     {
         match self.package().at_url(Kind::CodeSystem, url) {
             Some(system) if is_version_of(include, system) => Some(system),
@@ -119,20 +120,20 @@ impl<'p, 'a> Sources<'p, 'a> {
     }
 
     fn is_complete(&self, include: &Json<'_>, url: &str) -> bool
-        ensures { result ≡ option_map_or is_complete (code_system self.now (tree_of include.now) url.now) false }
+        ensures { result ≡ option_map_or is_complete (code_system self.now.definitions (tree_of include.now) url.now) false }
     {
         self.code_system(include, url).is_some() && self.complete_at(url)
     }
 
     fn can_take(&self, include: &Json<'_>, url: &str) -> bool
-        ensures { result ≡ can_take self.now (tree_of include.now) url.now }
+        ensures { result ≡ can_take self.now.definitions (tree_of include.now) url.now }
     {
         !lists_no_concept(include) || self.is_complete(include, url)
     }
 
     /// Whether nothing in an include is unread by itself.
     pub(crate) fn is_plain_include(&self, include: &Json<'_>) -> bool
-        ensures { result ≡ is_plain_include self.now (tree_of include.now) }
+        ensures { result ≡ is_plain_include self.now.definitions (tree_of include.now) }
     {
         if !has_right_fields(include) {
             return false;
@@ -145,22 +146,21 @@ impl<'p, 'a> Sources<'p, 'a> {
 
     // Keeps the code system that an include takes whole.
     fn keep_taken(&mut self, alloc: Global, include: &Json<'_>) -> Result<(), NoMemory>
-        ensures { self.new ≡ self.old }
+        ensures definitions { self.new.definitions ≡ self.old.definitions }
+        ensures found { found self.new ≡ found self.old }
     {
         if !lists_no_concept(include) {
             return Ok(());
         }
         match include.text_in("system") {
-            Some(url) if self.complete_at(url) => {
-                let _concepts = self.whole(alloc, url)?;
-                Ok(())
-            }
+            Some(url) if self.complete_at(url) => self.keep_whole(alloc, url),
             _ => Ok(()),
         }
     }
 
     fn keep_all_taken(&mut self, alloc: Global, includes: &[Json<'_>]) -> Result<(), NoMemory>
-        ensures { self.new ≡ self.old }
+        ensures definitions { self.new.definitions ≡ self.old.definitions }
+        ensures found { found self.new ≡ found self.old }
     {
         for include in includes {
             self.keep_taken(alloc, include)?;
@@ -168,9 +168,11 @@ impl<'p, 'a> Sources<'p, 'a> {
         Ok(())
     }
 
-    /// Keeps all code systems that value sets take whole, so that those that list some of their concepts share their texts.
+    /// Keeps all code systems that value sets take whole, so that each is read once, and those that list some of their
+    /// concepts share their texts.
     pub(crate) fn keep_wholes(&mut self, alloc: Global) -> Result<(), NoMemory>
-        ensures { self.new ≡ self.old }
+        ensures definitions { self.new.definitions ≡ self.old.definitions }
+        ensures found { found self.new ≡ found self.old }
     {
         for place in 0..self.len() {
             if let Some(json) = self.tree(place) {
@@ -181,15 +183,28 @@ impl<'p, 'a> Sources<'p, 'a> {
         Ok(())
     }
 
+    /// The number of the table of what an include takes of the system of that url, where it takes a whole system.
+    pub(crate) fn taken_number(&self, include: &Json<'_>, url: &str) -> Option<usize>
+        ensures { IfSome result (λ n. slice_get self.now.tables n
+            ≡ Some (of_system url.now (codes_taken self.now.definitions (tree_of include.now) url.now))) }
+    {
+        if !lists_no_concept(include) {
+            return None;
+        }
+        match self.code_system(include, url) {
+            Some(_system) => self.system_number(url),
+            None => None,
+        }
+    }
+
     /// The concepts that an include takes of the system of that url: those that it lists, or all.
     pub(crate) fn taken(
-        &mut self,
+        &self,
         alloc: Global,
         include: &Json<'_>,
         url: &str,
     ) -> Result<ConceptSet, NoMemory>
-        ensures gives { Gives (λ s. s) result (of_system url.now (codes_taken self.old (tree_of include.now) url.now)) }
-        ensures same { self.new ≡ self.old }
+        ensures { Gives (λ s. s) result (of_system url.now (codes_taken self.now.definitions (tree_of include.now) url.now)) }
     {
         if !lists_no_concept(include) {
             return concepts_listed(alloc, url, listed(include), self.kept_whole(url));

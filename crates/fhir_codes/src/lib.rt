@@ -28,6 +28,7 @@ mod concept_set;
 mod filling;
 mod included;
 mod includes;
+mod joining;
 mod laws;
 mod order;
 mod shared_concept;
