@@ -1,5 +1,6 @@
 pub mod Concepts
 pub mod CodeSystems
+pub mod Adding
 pub mod ValueSets
 pub mod Expanding
 pub mod Coding

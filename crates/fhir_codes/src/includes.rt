@@ -9,11 +9,11 @@ ghost use Rattle.fhir_json.specs.Views.{tree_of, trees_of, tree_seen};
 ghost use Rattle.fhir_json.specs.Memory.{Gives};
 ghost use Rattle.fhir_codes.specs.Concepts.{of_system};
 ghost use Rattle.fhir_package.specs.Canonical.{has_version};
-ghost use Rattle.fhir_codes.specs.CodeSystems.{is_complete};
+ghost use Rattle.fhir_codes.specs.CodeSystems.{is_coded, is_complete};
 ghost use Rattle.fhir_codes.specs.Tables.{found};
-ghost use Rattle.fhir_codes.specs.ValueSets.{listed, sets_named, lists_no_concept, is_listed_concept, has_right_fields, is_version_of, code_system, codes_taken, can_take, is_plain_include};
+ghost use Rattle.fhir_codes.specs.ValueSets.{listed, sets_named, lists_no_concept, has_right_fields, is_version_of, code_system, codes_taken, can_take, is_plain_include};
 
-use crate::code_systems::concepts_listed;
+use crate::code_systems::{concepts_listed, is_coded};
 use crate::composing::{excludes, includes};
 use crate::concept_set::ConceptSet;
 use crate::sources::Sources;
@@ -43,22 +43,16 @@ fn lists_no_concept(include: &Json<'_>) -> bool
     is_none_of(listed(include))
 }
 
-fn is_listed_concept(json: &Json<'_>) -> bool
-    ensures { result ≡ is_listed_concept (tree_of json.now) }
+fn each_is_coded(items: &[Json<'_>]) -> bool
+    ensures { result ≡ list_all (λ j. is_coded (tree_of j)) items.now }
 {
-    json.text_in("code").is_some()
+    items.iter().all(|json| is_coded(json))
 }
 
-fn each_is_listed(items: &[Json<'_>]) -> bool
-    ensures { result ≡ list_all (λ j. is_listed_concept (tree_of j)) items.now }
+fn are_coded(items: &[Json<'_>]) -> bool
+    ensures { result ≡ list_all is_coded (trees_of items.now) }
 {
-    items.iter().all(|json| is_listed_concept(json))
-}
-
-fn are_listed_concepts(items: &[Json<'_>]) -> bool
-    ensures { result ≡ list_all is_listed_concept (trees_of items.now) }
-{
-    each_is_listed(items)
+    each_is_coded(items)
 }
 
 fn has_texts(include: &Json<'_>) -> bool
@@ -76,7 +70,7 @@ fn has_right_fields(include: &Json<'_>) -> bool
 {
     let texts = has_texts(include);
     let concepts = include.allows_items("concept");
-    let listed = are_listed_concepts(listed(include));
+    let listed = are_coded(listed(include));
     let sets = include.allows_texts("valueSet");
     let filters = include.allows_items("filter");
     let unfiltered = is_none_of(include.items_in("filter"));
