@@ -46,9 +46,7 @@ pub(crate) fn excludes<'t, 'j>(json: &'t Json<'j>) -> &'t [Json<'j>]
 fn is_compose(json: &Json<'_>) -> bool
     ensures { result ≡ is_compose (tree_of json.now) }
 {
-    let includes = json.allows_items("include");
-    let excludes = json.allows_items("exclude");
-    json.is_object() & includes & excludes
+    json.is_object() && json.allows_items("include") && json.allows_items("exclude")
 }
 
 fn has_compose(json: &Json<'_>) -> bool
@@ -108,21 +106,21 @@ impl<'p, 'a> Sources<'p, 'a> {
         self.is_plain_include(include) && self.names_known(include)
     }
 
-    fn all_read(&self, includes: &[Json<'_>]) -> bool
+    fn all_read<'t, 'j>(&self, includes: &'t [Json<'j>], excludes: &'t [Json<'j>]) -> bool
         ensures { result ≡ list_all (λ j. is_plain_include self.now.definitions (tree_of j)
-            && names_known self.now.definitions (found self.now) (tree_of j)) includes.now }
+            && names_known self.now.definitions (found self.now) (tree_of j)) (includes.now ++ excludes.now) }
     {
-        includes.iter().all(|include| self.include_is_read(include))
+        includes
+            .iter()
+            .chain(excludes.iter())
+            .all(|include| self.include_is_read(include))
     }
 
     /// Whether nothing in a value set is unread, and all value sets that it names have been found.
     pub(crate) fn is_read(&self, json: &Json<'_>) -> bool
         ensures { result ≡ is_read self.now.definitions (known_in self.now) (tree_of json.now) }
     {
-        let compose = has_compose(json);
-        let included = self.all_read(includes(json));
-        let excluded = self.all_read(excludes(json));
-        compose & included & excluded
+        has_compose(json) && self.all_read(includes(json), excludes(json))
     }
 
     // ---- its includes

@@ -60,21 +60,18 @@ fn has_texts(include: &Json<'_>) -> bool
         && allows_text (codes "system") (tree_of include.now)
         && allows_text (codes "version") (tree_of include.now)) }
 {
-    let system = include.allows_text("system");
-    let version = include.allows_text("version");
-    include.is_object() & system & version
+    include.is_object() && include.allows_text("system") && include.allows_text("version")
 }
 
 fn has_right_fields(include: &Json<'_>) -> bool
     ensures { result ≡ has_right_fields (tree_of include.now) }
 {
-    let texts = has_texts(include);
-    let concepts = include.allows_items("concept");
-    let listed = are_coded(listed(include));
-    let sets = include.allows_texts("valueSet");
-    let filters = include.allows_items("filter");
-    let unfiltered = is_none_of(include.items_in("filter"));
-    texts & concepts & listed & sets & filters & unfiltered
+    has_texts(include)
+        && include.allows_items("concept")
+        && are_coded(listed(include))
+        && include.allows_texts("valueSet")
+        && include.allows_items("filter")
+        && is_none_of(include.items_in("filter"))
 }
 
 fn is_version_of(include: &Json<'_>, system: &Json<'_>) -> bool
