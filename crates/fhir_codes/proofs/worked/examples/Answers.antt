@@ -30,12 +30,3 @@ returns-clause-itself c = refl
 
 pub returns-clause-missing : goal.returns-clause-missing
 returns-clause-missing c = refl
-
-pub returns-clause-other_version : goal.returns-clause-other_version
-returns-clause-other_version c = refl
-
-pub returns-clause-fragment : goal.returns-clause-fragment
-returns-clause-fragment c = refl
-
-pub returns-clause-codeless : goal.returns-clause-codeless
-returns-clause-codeless c = refl
