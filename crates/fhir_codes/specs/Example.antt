@@ -100,7 +100,6 @@ example = record {
       ∷ (codes "urn:absent", value_set (of_url (codes "urn:nothing") no_members) no_items)
       ∷ (codes "urn:systemless", value_set (object (these only_a no_members)) no_items)
       ∷ (codes "urn:empty", value_set (object no_members) no_items)
-      ∷ (codes "urn:misfit", value_set (of_url (codes "urn:second") (member (codes "version") (array no_items) no_members)) no_items)
       ∷ (codes "urn:unlisted", value_set (of_letters (these (one_more (object no_members) no_items) no_members)) no_items)
       ∷ (codes "urn:excluded", value_set all_letters (one_more (object no_members) no_items))
       ∷ (codes "urn:uncomposed", object no_members)
@@ -113,8 +112,35 @@ example = record {
       ∷ (codes "urn:second", second)
       ∷ (codes "urn:part", fragment)
       ∷ (codes "urn:uncoded", codeless)
+      ∷ (codes "urn:unlisted", object (member (codes "content") (string (codes "complete")) (member (codes "concept") (object no_members) no_members)))
       ∷ [];
 }
+
+-- the same with one more value set
+abbrev pub example_with : Tree → Definitions
+example_with t = record {
+  structure_definitions = [];
+  value_sets = (codes "urn:more", t) ∷ example.value_sets;
+  code_systems = example.code_systems;
+}
+
+abbrev pub composed_by : Members → Tree
+composed_by parts = object (member (codes "compose") (object parts) no_members)
+
+-- value sets in which a part is of another kind: of an include its system, version, concept, valueSet and filter; of a code
+-- system that is taken its concept; an exclude, an include, and the compose
+abbrev pub misfits : List Tree
+misfits =
+    value_set (object (member (codes "system") (array no_items) (in_set (codes "urn:all")))) no_items
+    ∷ value_set (of_url (codes "urn:second") (member (codes "version") (array no_items) no_members)) no_items
+    ∷ value_set (of_letters (member (codes "concept") (object no_members) no_members)) no_items
+    ∷ value_set (of_letters (member (codes "valueSet") (string (codes "urn:all")) no_members)) no_items
+    ∷ value_set (of_letters (member (codes "filter") (object no_members) no_members)) no_items
+    ∷ value_set (of_url (codes "urn:unlisted") no_members) no_items
+    ∷ composed_by (member (codes "include") (array (one_more all_letters no_items)) (member (codes "exclude") (object no_members) no_members))
+    ∷ composed_by (member (codes "include") (object no_members) no_members)
+    ∷ object (member (codes "compose") (array no_items) no_members)
+    ∷ []
 
 -- the set of these letters
 abbrev pub set_of : List Text → Concepts

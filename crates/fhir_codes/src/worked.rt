@@ -1,9 +1,10 @@
 //! A worked package.
 
-ghost use Rattle.std.specs.Prelude.{◌≡◌, [], ◌∷◌, None, Some, codes};
+ghost use Rattle.std.specs.Prelude.{◌≡◌, [], ◌∷◌, None, Some, is_none, true, codes};
+ghost use Rattle.std.specs.List.{list_all};
 ghost use Rattle.fhir_codes.specs.Concepts.{of_system};
 ghost use Rattle.fhir_codes.specs.ValueSets.{concepts_of};
-ghost use Rattle.fhir_codes.specs.Example.{example, set_of};
+ghost use Rattle.fhir_codes.specs.Example.{example, example_with, misfits, set_of};
 
 /// What the value sets of a small package have. A code system has a and c, and b nested in a. A value set may have all of it
 /// (`all`), or all without one (`without`), or all without what another value set has (`without_other`), or unite two includes
@@ -25,8 +26,8 @@ pub fn examples()
 /// Which value sets of it can't be read besides. Of code systems that are taken whole: one of another version than is named
 /// (`other_version`), one that isn't there (`absent`), one that doesn't say that it is complete (`fragment`), and one that has a
 /// concept without a code (`codeless`). Of includes: concepts without a system (`systemless`), one that names neither a system
-/// nor a value set (`empty`), a version that is no text (`misfit`), a concept without a code (`unlisted`), and an exclude of
-/// these (`excluded`). And a value set that isn't composed (`uncomposed`).
+/// nor a value set (`empty`), a concept without a code (`unlisted`), and an exclude of these (`excluded`). And a value set that
+/// isn't composed (`uncomposed`), and each in which a part is of another kind (`misfits`).
 pub fn unread_examples()
     ensures other_version { concepts_of example (codes "urn:other-version") ≡ None }
     ensures absent { concepts_of example (codes "urn:absent") ≡ None }
@@ -34,8 +35,8 @@ pub fn unread_examples()
     ensures codeless { concepts_of example (codes "urn:codeless") ≡ None }
     ensures systemless { concepts_of example (codes "urn:systemless") ≡ None }
     ensures empty { concepts_of example (codes "urn:empty") ≡ None }
-    ensures misfit { concepts_of example (codes "urn:misfit") ≡ None }
     ensures unlisted { concepts_of example (codes "urn:unlisted") ≡ None }
     ensures excluded { concepts_of example (codes "urn:excluded") ≡ None }
     ensures uncomposed { concepts_of example (codes "urn:uncomposed") ≡ None }
+    ensures misfits { list_all (λ t. is_none (concepts_of (example_with t) (codes "urn:more"))) misfits ≡ true }
 {}

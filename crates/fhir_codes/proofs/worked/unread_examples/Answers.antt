@@ -19,8 +19,8 @@ returns-clause-systemless c = refl
 pub returns-clause-empty : goal.returns-clause-empty
 returns-clause-empty c = refl
 
-pub returns-clause-misfit : goal.returns-clause-misfit
-returns-clause-misfit c = refl
+pub returns-clause-misfits : goal.returns-clause-misfits
+returns-clause-misfits c = refl
 
 pub returns-clause-unlisted : goal.returns-clause-unlisted
 returns-clause-unlisted c = refl
