@@ -92,3 +92,45 @@ common_a =
     ∙ both_a (bytes_eq c.system letters) (bytes_eq c.code (codes "a")) (bytes_eq c.code (codes "b")) (bytes_eq c.code (codes "d"))
     (apart c.code (codes "a") (codes "b") (bytes_eq c.code (codes "a")) (bytes_eq c.code (codes "b")) refl refl refl)
     ∙ sym (has-of_system letters (codes "a" ∷ []) c))
+
+either : (s a c : Bool) → (((s && (a || false)) || ((s && (c || false)) || false)) && true) ≡ (s && (a || (c || false)))
+either false a c = refl
+either true true c = refl
+either true false true = refl
+either true false false = refl
+
+pub united_a_c : set.difference (united (set_of (codes "a" ∷ []) ∷ set_of (codes "c" ∷ []) ∷ [])) (united []) ≡ set_of (codes "a" ∷ codes "c" ∷ [])
+united_a_c =
+    one_set (set.difference (united (set_of (codes "a" ∷ []) ∷ set_of (codes "c" ∷ []) ∷ [])) (united [])) (set_of (codes "a" ∷ codes "c" ∷ [])) (λ c.
+    has_less (set_of (codes "a" ∷ []) ∷ set_of (codes "c" ∷ []) ∷ []) [] c
+    ∙ ap (λ x. (x || (has (set_of (codes "c" ∷ [])) c || false)) && true) (has-of_system letters (codes "a" ∷ []) c)
+    ∙ ap (λ x. ((bytes_eq c.system letters && (bytes_eq c.code (codes "a") || false)) || (x || false)) && true) (has-of_system letters (codes "c" ∷ []) c)
+    ∙ either (bytes_eq c.system letters) (bytes_eq c.code (codes "a")) (bytes_eq c.code (codes "c"))
+    ∙ sym (has-of_system letters (codes "a" ∷ codes "c" ∷ []) c))
+
+less_other : (s a b c d : Bool) → (a && c) ≡ false → (b && c) ≡ false → (d && c) ≡ false
+    → (((s && (a || (b || (c || false)))) || false) && not ((((s && (a || (b || (d || false)))) || false) && true) || false)) ≡ (s && (c || false))
+less_other false a b c d h k l = refl
+less_other true true b true d h k l = absurd (false≢true (sym h))
+less_other true true b false d h k l = refl
+less_other true false true true d h k l = absurd (false≢true (sym k))
+less_other true false true false d h k l = refl
+less_other true false false true true h k l = absurd (false≢true (sym l))
+less_other true false false true false h k l = refl
+less_other true false false false true h k l = refl
+less_other true false false false false h k l = refl
+
+abbrev abc : Concepts
+abc = set_of (codes "a" ∷ codes "b" ∷ codes "c" ∷ [])
+
+pub without_other_c : set.difference (united (abc ∷ [])) (united (other ∷ [])) ≡ set_of (codes "c" ∷ [])
+without_other_c =
+    one_set (set.difference (united (abc ∷ [])) (united (other ∷ []))) (set_of (codes "c" ∷ [])) (λ c.
+    has_less (abc ∷ []) (other ∷ []) c
+    ∙ ap (λ x. (x || false) && not (has other c || false)) (has-of_system letters (codes "a" ∷ codes "b" ∷ codes "c" ∷ []) c)
+    ∙ ap (λ x. ((bytes_eq c.system letters && list_any (bytes_eq c.code) (codes "a" ∷ codes "b" ∷ codes "c" ∷ [])) || false) && not (x || false)) (has_other c)
+    ∙ less_other (bytes_eq c.system letters) (bytes_eq c.code (codes "a")) (bytes_eq c.code (codes "b")) (bytes_eq c.code (codes "c")) (bytes_eq c.code (codes "d"))
+    (apart c.code (codes "a") (codes "c") (bytes_eq c.code (codes "a")) (bytes_eq c.code (codes "c")) refl refl refl)
+    (apart c.code (codes "b") (codes "c") (bytes_eq c.code (codes "b")) (bytes_eq c.code (codes "c")) refl refl refl)
+    (apart c.code (codes "d") (codes "c") (bytes_eq c.code (codes "d")) (bytes_eq c.code (codes "c")) refl refl refl)
+    ∙ sym (has-of_system letters (codes "c" ∷ []) c))

@@ -13,3 +13,5 @@ mod Letters
 mod Parts
 mod Taking
 mod Completes
+mod SameSets
+mod Tabling

@@ -1,7 +1,8 @@
 -- One more turn of a loop that builds a list, and answers at an equal value.
-use Rattle.std.proofs.Common.{◌≡◌, ℕ, ◌<◌, ◌+◌, List, [], ◌∷◌, ◌++◌, map, length, get_or, take, filter, Bool, true, false, cond, ◌||◌, Some, ◌≤◌, if◌then◌else◌, Result, sym, ◌∙◌, ap, subst}
+use Rattle.std.proofs.Common.{◌≡◌, ℕ, ◌<◌, ◌+◌, List, [], ◌∷◌, ◌++◌, map, length, get_or, take, filter, Bool, true, false, cond, ◌||◌, Some, ◌≤◌, if◌then◌else◌, Result, sym, ◌∙◌, ap, subst, inl, inr, arith}
 use Rattle.std.specs.List.{list_any, slice_get}
 use Rattle.std.specs.Map.{keys_of}
+use Rattle.std.proofs.lemmas.Bool.{cases_eq}
 use Rattle.std.proofs.lemmas.List.{take_more, append-nil, map-append, length-map, length-take-le}
 use Rattle.std.proofs.lemmas.Option.{slice_get_within, get_or_from_slice_get}
 use Rattle.std.proofs.lemmas.List.Elements.{filter_more}
@@ -50,3 +51,7 @@ keys_more es i e at = sym (ap keys_of (take_at es i e at) ∙ map-append (λ (e 
 
 pub count_keys : {V : Type 0} (es : List (Text × V)) (i : ℕ) → i ≤ length es → length (keys_of (take i es)) ≡ i
 count_keys es i le = length-map (take i es) (λ e. e.0) ∙ length-take-le i es le
+
+-- none up to one more
+pub none_more : (test : ℕ → Bool) (n : ℕ) → ((k : ℕ) → k < n → test k ≡ false) → test n ≡ false → (k : ℕ) → k < n + 1 → test k ≡ false
+none_more test n below here k lt = elim (cases_eq k n) [ inl same ↦ ap test same ∙ here | inr ne ↦ below k (omega (arith, ne, lt)) ]

@@ -2,15 +2,16 @@
 use Rattle.std.proofs.Common.{◌≡◌, List, [], ◌∷◌, ◌++◌, map, Bool, true, false, ◌&&◌, codes, refl, sym, ◌∙◌, ap}
 use Rattle.std.specs.List.{list_all, flat_map}
 use Rattle.std.specs.Option.{option_map_or}
+use Rattle.std.proofs.lemmas.List.{map-append}
 use Rattle.std.proofs.lemmas.List.Folds.{list_all-append, list_all-map}
 use Rattle.std.specs.FinSet as set
 use Rattle.fhir_json.specs.Tree.{Text, Tree}
-use Rattle.fhir_json.specs.Fields.{field, text_in, text_or_empty, items_in}
+use Rattle.fhir_json.specs.Fields.{field, text_or_empty, items_in}
 use Rattle.fhir_json.specs.Views.{tree_of, trees_of}
 use Rattle.fhir_json.specs.declared.json.Json.{Json}
 use Rattle.fhir_package.specs.Definitions.{Definitions}
-use Rattle.fhir_codes.specs.Concepts.{Concepts, of_system, common, united}
-use Rattle.fhir_codes.specs.ValueSets.{sets_named, includes, excludes, is_compose, named, codes_taken, is_plain_include, of_set, of_include, composed, is_read}
+use Rattle.fhir_codes.specs.Concepts.{Concepts, united}
+use Rattle.fhir_codes.specs.ValueSets.{sets_named, includes, excludes, is_compose, named, is_plain_include, of_include, composed, is_read}
 use Rattle.fhir_codes.specs.Placing.{Found, known, is_known, names_known}
 
 map_twice : {A B C : Type 0} (f : B → C) (g : A → B) (xs : List A) → map f (map g xs) ≡ map (λ x. f (g x)) xs
@@ -44,25 +45,15 @@ map_named f t xs e =
 pub united_trees : (f : Tree → Concepts) (ts : List Tree) (xs : List Json) → trees_of xs ≡ ts → united (map (λ j. f (tree_of j)) xs) ≡ united (map f ts)
 united_trees f ts xs e = ap united (sym (map_twice f tree_of xs)) ∙ ap (λ us. united (map f us)) e
 
--- ---- an include
+-- ---- a value set
 
-pub include_sets : (p : Definitions) (sets : Found) (t : Tree) (xs : List Json) (none some all : List Concepts)
-    → none ≡ []
-    → some ≡ none ++ option_map_or (λ system. of_system system (codes_taken p t system) ∷ []) (text_in (codes "system") t) []
-    → all ≡ some ++ map (λ j. of_set p (known p sets) (text_or_empty (tree_of j))) xs
-    → trees_of xs ≡ items_in (codes "valueSet") t
-    → common all ≡ of_include p (known p sets) t
-include_sets p sets t xs none some all nothing first then e =
-    ap common (then ∙ ap (λ l. l ++ map (λ j. of_set p (known p sets) (text_or_empty (tree_of j))) xs) (first ∙ ap (λ l. l ++ option_map_or (λ system. of_system system (codes_taken p t system) ∷ []) (text_in (codes "system") t) []) nothing)
-    ∙ ap (λ l. option_map_or (λ system. of_system system (codes_taken p t system) ∷ []) (text_in (codes "system") t) [] ++ l) (map_named (of_set p (known p sets)) t xs e))
-
-pub composed_of : (p : Definitions) (sets : Found) (t : Tree) (xs ys : List Json) (ms ls : List Concepts) (more less : Concepts)
-    → ms ≡ map (λ j. of_include p (known p sets) (tree_of j)) xs → ls ≡ map (λ j. of_include p (known p sets) (tree_of j)) ys
-    → more ≡ united ms → less ≡ united ls → trees_of xs ≡ includes t → trees_of ys ≡ excludes t
+pub composed_of : (p : Definitions) (sets : Found) (t : Tree) (xs ys : List Json) (more less : Concepts)
+    → more ≡ united (map (λ j. of_include p (known p sets) (tree_of j)) xs) → less ≡ united (map (λ j. of_include p (known p sets) (tree_of j)) ys)
+    → trees_of xs ≡ includes t → trees_of ys ≡ excludes t
     → set.difference more less ≡ composed p (known p sets) t
-composed_of p sets t xs ys ms ls more less hm hl m l is es =
-    ap (λ s. set.difference s less) (m ∙ ap united hm ∙ united_trees (of_include p (known p sets)) (includes t) xs is)
-    ∙ ap (λ s. set.difference (united (map (of_include p (known p sets)) (includes t))) s) (l ∙ ap united hl ∙ united_trees (of_include p (known p sets)) (excludes t) ys es)
+composed_of p sets t xs ys more less m l is es =
+    ap (λ s. set.difference s less) (m ∙ united_trees (of_include p (known p sets)) (includes t) xs is)
+    ∙ ap (λ s. set.difference (united (map (of_include p (known p sets)) (includes t))) s) (l ∙ united_trees (of_include p (known p sets)) (excludes t) ys es)
 
 -- ---- whether all is read
 
@@ -72,28 +63,24 @@ composes t = option_map_or is_compose (field (codes "compose") t) false
 abbrev both : Definitions → Found → Tree → Bool
 both p sets t = is_plain_include p t && names_known p sets t
 
-and_assoc : (a b c : Bool) → ((a && b) && c) ≡ (a && (b && c))
-and_assoc true b c = refl
-and_assoc false b c = refl
-
 all_in_both : (p : Definitions) (sets : Found) (ts : List Tree) → list_all (both p sets) ts ≡ (list_all (is_plain_include p) ts && list_all (is_known p sets) (flat_map sets_named ts))
 all_in_both p sets ts =
     all_both (is_plain_include p) (names_known p sets) ts
     ∙ ap (λ b. list_all (is_plain_include p) ts && b) (sym (all_flat (is_known p sets) sets_named ts))
 
-of_trees : (f : Tree → Bool) (ts : List Tree) (xs : List Json) → trees_of xs ≡ ts → list_all (λ j. f (tree_of j)) xs ≡ list_all f ts
-of_trees f ts xs e = sym (list_all-map f tree_of xs) ∙ ap (list_all f) e
+-- a value set of which all parts are read is read, if it is composed
+read_if : (b : Bool) (p : Definitions) (sets : Found) (t : Tree) → composes t ≡ b → (b && list_all (both p sets) (includes t ++ excludes t)) ≡ is_read p (known p sets) t
+read_if true p sets t is =
+    all_in_both p sets (includes t ++ excludes t)
+    ∙ ap (λ b. (b && list_all (is_plain_include p) (includes t ++ excludes t)) && list_all (is_known p sets) (named t)) (sym is)
+read_if false p sets t is = ap (λ b. (b && list_all (is_plain_include p) (includes t ++ excludes t)) && list_all (is_known p sets) (named t)) (sym is)
 
-three : (a b c d e : Bool) → (b && c) ≡ (d && e) → ((a && b) && c) ≡ ((a && d) && e)
-three a b c d e h = and_assoc a b c ∙ ap (λ x. a && x) h ∙ sym (and_assoc a d e)
+pub read_parts : (p : Definitions) (sets : Found) (t : Tree) (xs ys : List Json) → composes t ≡ true → trees_of xs ≡ includes t → trees_of ys ≡ excludes t
+    → list_all (λ j. both p sets (tree_of j)) (xs ++ ys) ≡ is_read p (known p sets) t
+read_parts p sets t xs ys compose is es =
+    sym (list_all-map (both p sets) tree_of (xs ++ ys))
+    ∙ ap (list_all (both p sets)) (map-append tree_of xs ys ∙ ap (λ ts. ts ++ trees_of ys) is ∙ ap (λ ts. includes t ++ ts) es)
+    ∙ read_if true p sets t compose
 
-pub read_parts : (p : Definitions) (sets : Found) (t : Tree) (xs ys : List Json) (a b c : Bool)
-    → a ≡ composes t → b ≡ list_all (λ j. both p sets (tree_of j)) xs → c ≡ list_all (λ j. both p sets (tree_of j)) ys
-    → trees_of xs ≡ includes t → trees_of ys ≡ excludes t
-    → ((a && b) && c) ≡ is_read p (known p sets) t
-read_parts p sets t xs ys a b c ha hb hc is es =
-    ap (λ x. (x && b) && c) ha
-    ∙ ap (λ x. (composes t && x) && c) (hb ∙ of_trees (both p sets) (includes t) xs is)
-    ∙ ap (λ x. (composes t && list_all (both p sets) (includes t)) && x) (hc ∙ of_trees (both p sets) (excludes t) ys es)
-    ∙ three (composes t) (list_all (both p sets) (includes t)) (list_all (both p sets) (excludes t)) (list_all (is_plain_include p) (includes t ++ excludes t)) (list_all (is_known p sets) (named t))
-    (sym (list_all-append (both p sets) (includes t) (excludes t)) ∙ all_in_both p sets (includes t ++ excludes t))
+pub not_composed : (p : Definitions) (sets : Found) (t : Tree) → composes t ≡ false → false ≡ is_read p (known p sets) t
+not_composed p sets t compose = read_if false p sets t compose

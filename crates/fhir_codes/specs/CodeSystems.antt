@@ -5,12 +5,16 @@ use Rattle.std.specs.Str.{bytes_eq}
 use Rattle.fhir_json.specs.Tree.{Text, Tree, array, object, Items, no_items, item, Members, no_members, member}
 use Rattle.fhir_json.specs.Fields.{text_in, text_at}
 
+-- it has a code
+abbrev pub is_coded : Tree → Bool
+is_coded t = is_some (text_in (codes "code") t)
+
 -- ---- the concepts in the field `concept` of a code system, and of a concept
 
 abbrev mutual
   -- a concept has a code, and what is nested in it are concepts
   pub is_concept : Tree → Bool
-  is_concept (object ms) = is_some (text_in (codes "code") (object ms)) && nested_are_concepts ms
+  is_concept (object ms) = is_coded (object ms) && nested_are_concepts ms
   is_concept _ = false
 
   pub nested_are_concepts : Members → Bool

@@ -1,9 +1,12 @@
 pub mod Concepts
 pub mod CodeSystems
+pub mod Adding
 pub mod ValueSets
 pub mod Expanding
 pub mod Coding
 pub mod Placing
+pub mod Tables
+pub mod Including
 pub mod Least
 pub mod Filled
 pub mod Listing

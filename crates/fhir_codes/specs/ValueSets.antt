@@ -12,7 +12,7 @@ use Rattle.fhir_package.specs.declared.kind.Kind.TheVariants.{ValueSet, CodeSyst
 use Rattle.fhir_package.specs.Definitions.{Definitions, at_url}
 use Rattle.fhir_package.specs.Canonical.{has_version, named_by}
 use Rattle.fhir_codes.specs.Concepts.{Concepts, of_system, united, common}
-use Rattle.fhir_codes.specs.CodeSystems.{is_complete, codes_defined}
+use Rattle.fhir_codes.specs.CodeSystems.{is_coded, is_complete, codes_defined}
 
 -- ---- fields of an include, and of an exclude
 
@@ -25,17 +25,14 @@ sets_named t = texts_in (codes "valueSet") t
 abbrev pub lists_no_concept : Tree → Bool
 lists_no_concept t = is_empty (listed t)
 
-abbrev pub is_listed_concept : Tree → Bool
-is_listed_concept t = is_some (text_in (codes "code") t)
-
--- its fields are of their kinds, and it has no filter
+-- its fields are of their kinds, each concept that it lists has a code, and it has no filter
 abbrev pub has_right_fields : Tree → Bool
 has_right_fields t =
     is_object t
     && allows_text (codes "system") t
     && allows_text (codes "version") t
     && allows_items (codes "concept") t
-    && list_all is_listed_concept (listed t)
+    && list_all is_coded (listed t)
     && allows_texts (codes "valueSet") t
     && allows_items (codes "filter") t
     && is_empty (items_in (codes "filter") t)

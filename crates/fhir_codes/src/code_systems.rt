@@ -7,8 +7,9 @@ ghost use Rattle.std.specs.Rc.{rc_str_bytes};
 ghost use Rattle.fhir_json.specs.Fields.{text_in, text_at};
 ghost use Rattle.fhir_json.specs.Views.{tree_of, trees_of, items_view, members_view};
 ghost use Rattle.fhir_json.specs.Memory.{Gives};
-ghost use Rattle.fhir_codes.specs.CodeSystems.{is_concept, nested_are_concepts, is_concept_list, are_concepts, codes_of_concept, nested_codes, codes_of_list, codes_of_concepts, is_complete, codes_defined};
+ghost use Rattle.fhir_codes.specs.CodeSystems.{is_coded, is_concept, nested_are_concepts, is_concept_list, are_concepts, codes_of_concept, nested_codes, codes_of_list, codes_of_concepts, is_complete, codes_defined};
 ghost use Rattle.fhir_codes.specs.Concepts.{concept, of_system};
+ghost use Rattle.fhir_codes.specs.Adding.{Adds};
 
 use crate::concept_set::ConceptSet;
 use crate::shared_concept::SharedConcept;
@@ -18,8 +19,9 @@ use std::rc::RcStr;
 
 // ---- whether concepts can be read
 
-fn is_coded(json: &Json<'_>) -> bool
-    ensures { result ≡ is_some (text_in (codes "code") (tree_of json.now)) }
+/// Whether it has a code.
+pub(crate) fn is_coded(json: &Json<'_>) -> bool
+    ensures { result ≡ is_coded (tree_of json.now) }
 {
     json.text_in("code").is_some()
 }
@@ -29,7 +31,7 @@ fn is_concept(json: &Json<'_>) -> bool
     ensures { result ≡ is_concept (tree_of json.now) }
 {
     match json {
-        Json::Obj(members) => nested_are_concepts(members) & is_coded(json),
+        Json::Obj(members) => is_coded(json) && nested_are_concepts(members),
         _ => false,
     }
 }
@@ -111,8 +113,7 @@ fn put_concept(
     system: &RcStr,
     out: &mut Vec<SharedConcept>,
 ) -> Result<(), NoMemory>
-    ensures { OnOk result (out.new.items ≡ out.old.items
-        ++ map (concept (rc_str_bytes system.now)) (codes_of_concept (tree_of json.now))) }
+    ensures { OnOk result (Adds (rc_str_bytes system.now) (codes_of_concept (tree_of json.now)) out.old.items out.new.items) }
 {
     match json {
         Json::Obj(members) => {
@@ -130,8 +131,7 @@ fn put_nested(
     system: &RcStr,
     out: &mut Vec<SharedConcept>,
 ) -> Result<(), NoMemory>
-    ensures { OnOk result (out.new.items ≡ out.old.items
-        ++ map (concept (rc_str_bytes system.now)) (nested_codes (members_view members.now.items))) }
+    ensures { OnOk result (Adds (rc_str_bytes system.now) (nested_codes (members_view members.now.items)) out.old.items out.new.items) }
 {
     for member in members {
         if member.name.as_str() == "concept" {
@@ -148,8 +148,7 @@ fn put_list(
     system: &RcStr,
     out: &mut Vec<SharedConcept>,
 ) -> Result<(), NoMemory>
-    ensures { OnOk result (out.new.items ≡ out.old.items
-        ++ map (concept (rc_str_bytes system.now)) (codes_of_list (tree_of json.now))) }
+    ensures { OnOk result (Adds (rc_str_bytes system.now) (codes_of_list (tree_of json.now)) out.old.items out.new.items) }
 {
     match json {
         Json::Arr(items) => put_concepts(items, alloc, system, out),
@@ -164,8 +163,7 @@ fn put_concepts(
     system: &RcStr,
     out: &mut Vec<SharedConcept>,
 ) -> Result<(), NoMemory>
-    ensures { OnOk result (out.new.items ≡ out.old.items
-        ++ map (concept (rc_str_bytes system.now)) (codes_of_concepts (items_view items.now.items))) }
+    ensures { OnOk result (Adds (rc_str_bytes system.now) (codes_of_concepts (items_view items.now.items)) out.old.items out.new.items) }
 {
     for item in items {
         put_concept(item, alloc, system, out)?;
@@ -179,8 +177,7 @@ fn put_defined(
     system: &RcStr,
     out: &mut Vec<SharedConcept>,
 ) -> Result<(), NoMemory>
-    ensures { OnOk result (out.new.items ≡ out.old.items
-        ++ map (concept (rc_str_bytes system.now)) (codes_defined (tree_of json.now))) }
+    ensures { OnOk result (Adds (rc_str_bytes system.now) (codes_defined (tree_of json.now)) out.old.items out.new.items) }
 {
     match json {
         Json::Obj(members) => put_nested(members, alloc, system, out),
@@ -245,8 +242,7 @@ fn put_listed(
     kept: Option<&ConceptSet>,
     out: &mut Vec<SharedConcept>,
 ) -> Result<(), NoMemory>
-    ensures { OnOk result (out.new.items ≡ out.old.items
-        ++ map (concept (rc_str_bytes system.now)) (map (text_at (codes "code")) (trees_of concepts.now))) }
+    ensures { OnOk result (Adds (rc_str_bytes system.now) (map (text_at (codes "code")) (trees_of concepts.now)) out.old.items out.new.items) }
 {
     for json in concepts {
         put_shared(json.text_at("code"), alloc, system, kept, out)?;

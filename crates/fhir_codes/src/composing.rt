@@ -1,30 +1,24 @@
 //! The concepts of one value set (FHIR R4, ValueSet, compose), from those of the value sets that it names.
 
-ghost use Rattle.std.specs.Prelude.{◌≡◌, ◌∷◌, ◌++◌, [], map, codes, OnOk, IfOk, true, false, ◌&&◌};
+ghost use Rattle.std.specs.Prelude.{◌≡◌, ◌∷◌, ◌++◌, map, codes, OnOk, IfOk, IfSome, Some, false, ◌&&◌};
 ghost use Rattle.std.specs.Option.{option_copied, option_map_or};
-ghost use Rattle.std.specs.List.{list_all, flat_map};
+ghost use Rattle.std.specs.List.{list_all, slice_get};
+ghost use Rattle.std.specs.FinSet as set;
 ghost use Rattle.fhir_json.specs.Fields.{text_in, text_or_empty, field};
 ghost use Rattle.fhir_json.specs.Views.{tree_of, trees_of};
 ghost use Rattle.fhir_json.specs.Memory.{Gives};
-ghost use Rattle.fhir_codes.specs.Concepts.{of_system};
-ghost use Rattle.fhir_codes.specs.ValueSets.{sets_named, part_in, includes, excludes, is_compose, named, codes_taken, is_plain_include, of_set, of_include, composed, is_read};
-ghost use Rattle.fhir_codes.specs.Placing.{found_at, known, is_known, names_known};
+ghost use Rattle.fhir_codes.specs.Concepts.{of_system, united, common};
+ghost use Rattle.fhir_codes.specs.ValueSets.{sets_named, part_in, includes, excludes, is_compose, codes_taken, is_plain_include, of_set, of_include, composed, is_read};
+ghost use Rattle.fhir_codes.specs.Placing.{found_at, is_known, names_known};
+ghost use Rattle.fhir_codes.specs.Tables.{table_at, found, known_in};
+ghost use Rattle.fhir_codes.specs.Including.{included};
 
-use crate::combining::{common, united, without};
+use crate::combining::without;
 use crate::concept_set::ConceptSet;
+use crate::included::{Included, distinct};
 use crate::sources::Sources;
 use fhir_json::{Json, NoMemory};
 use std::alloc::Global;
-
-/// What has been found at a place.
-pub(crate) fn found_at(sets: &[Option<ConceptSet>], place: usize) -> Option<&ConceptSet>
-    ensures { option_copied result ≡ found_at sets.now place }
-{
-    match sets.get(place) {
-        Some(Some(concepts)) => Some(concepts),
-        _ => None,
-    }
-}
 
 fn part_in<'t, 'j>(json: &'t Json<'j>, name: &str) -> &'t [Json<'j>]
     ensures { trees_of result.now ≡ part_in name.now (tree_of json.now) }
@@ -52,9 +46,7 @@ pub(crate) fn excludes<'t, 'j>(json: &'t Json<'j>) -> &'t [Json<'j>]
 fn is_compose(json: &Json<'_>) -> bool
     ensures { result ≡ is_compose (tree_of json.now) }
 {
-    let includes = json.allows_items("include");
-    let excludes = json.allows_items("exclude");
-    json.is_object() & includes & excludes
+    json.is_object() && json.allows_items("include") && json.allows_items("exclude")
 }
 
 fn has_compose(json: &Json<'_>) -> bool
@@ -67,163 +59,198 @@ fn has_compose(json: &Json<'_>) -> bool
 }
 
 impl<'p, 'a> Sources<'p, 'a> {
-    /// The concepts of the value set that a canonical names, if they have been found.
-    pub(crate) fn known<'s>(
-        &self,
-        canonical: &str,
-        sets: &'s [Option<ConceptSet>],
-    ) -> Option<&'s ConceptSet>
-        ensures { option_copied result ≡ known self.now sets.now canonical.now }
+    /// What has been found at a place.
+    pub(crate) fn found_at(&self, place: usize) -> Option<&ConceptSet>
+        ensures { option_copied result ≡ found_at (found self.now) place }
     {
-        match self.place(canonical) {
-            Some(place) => found_at(sets, place),
+        match self.number_at(place) {
+            Some(number) => self.table(number),
+            None => None,
+        }
+    }
+
+    /// The concepts of the value set that a canonical names, if they have been found.
+    pub(crate) fn known(&self, canonical: &str) -> Option<&ConceptSet>
+        ensures { option_copied result ≡ known_in self.now canonical.now }
+    {
+        match self.number(canonical) {
+            Some(number) => self.table(number),
             None => None,
         }
     }
 
     // ---- whether it can be read
 
-    fn is_known(&self, canonical: &str, sets: &[Option<ConceptSet>]) -> bool
-        ensures { result ≡ is_known self.now sets.now canonical.now }
+    fn is_known(&self, canonical: &str) -> bool
+        ensures { result ≡ is_known self.now.definitions (found self.now) canonical.now }
     {
-        self.known(canonical, sets).is_some()
+        self.known(canonical).is_some()
     }
 
-    fn texts_known(&self, texts: &[Json<'_>], sets: &[Option<ConceptSet>]) -> bool
-        ensures { result ≡ list_all (λ j. is_known self.now sets.now (text_or_empty (tree_of j))) texts.now }
+    fn texts_known(&self, texts: &[Json<'_>]) -> bool
+        ensures { result ≡ list_all (λ j. is_known self.now.definitions (found self.now) (text_or_empty (tree_of j))) texts.now }
     {
-        texts
-            .iter()
-            .all(|text| self.is_known(text.text_or_empty(), sets))
+        texts.iter().all(|text| self.is_known(text.text_or_empty()))
     }
 
-    fn names_known(&self, include: &Json<'_>, sets: &[Option<ConceptSet>]) -> bool
-        ensures { result ≡ names_known self.now sets.now (tree_of include.now) }
+    fn names_known(&self, include: &Json<'_>) -> bool
+        ensures { result ≡ names_known self.now.definitions (found self.now) (tree_of include.now) }
     {
-        self.texts_known(include.items_in("valueSet"), sets)
+        self.texts_known(include.items_in("valueSet"))
     }
 
-    fn include_is_read(&self, include: &Json<'_>, sets: &[Option<ConceptSet>]) -> bool
-        ensures { result ≡ (is_plain_include self.now (tree_of include.now) && names_known self.now sets.now (tree_of include.now)) }
+    fn include_is_read(&self, include: &Json<'_>) -> bool
+        ensures { result ≡ (is_plain_include self.now.definitions (tree_of include.now)
+            && names_known self.now.definitions (found self.now) (tree_of include.now)) }
     {
-        self.is_plain_include(include) && self.names_known(include, sets)
+        self.is_plain_include(include) && self.names_known(include)
     }
 
-    fn all_read(&self, includes: &[Json<'_>], sets: &[Option<ConceptSet>]) -> bool
-        ensures { result ≡ list_all (λ j. is_plain_include self.now (tree_of j) && names_known self.now sets.now (tree_of j)) includes.now }
+    fn all_read<'t, 'j>(&self, includes: &'t [Json<'j>], excludes: &'t [Json<'j>]) -> bool
+        ensures { result ≡ list_all (λ j. is_plain_include self.now.definitions (tree_of j)
+            && names_known self.now.definitions (found self.now) (tree_of j)) (includes.now ++ excludes.now) }
     {
         includes
             .iter()
-            .all(|include| self.include_is_read(include, sets))
+            .chain(excludes.iter())
+            .all(|include| self.include_is_read(include))
     }
 
     /// Whether nothing in a value set is unread, and all value sets that it names have been found.
-    pub(crate) fn is_read(&self, json: &Json<'_>, sets: &[Option<ConceptSet>]) -> bool
-        ensures { result ≡ is_read self.now (known self.now sets.now) (tree_of json.now) }
+    pub(crate) fn is_read(&self, json: &Json<'_>) -> bool
+        ensures { result ≡ is_read self.now.definitions (known_in self.now) (tree_of json.now) }
     {
-        let compose = has_compose(json);
-        let included = self.all_read(includes(json), sets);
-        let excluded = self.all_read(excludes(json), sets);
-        compose & included & excluded
+        has_compose(json) && self.all_read(includes(json), excludes(json))
     }
 
-    // ---- its concepts
+    // ---- its includes
 
-    fn set_of(
-        &self,
-        alloc: Global,
-        canonical: &str,
-        sets: &[Option<ConceptSet>],
-    ) -> Result<ConceptSet, NoMemory>
-        ensures { Gives (λ s. s) result (of_set self.now (known self.now sets.now) canonical.now) }
+    // The number of its table, or one that no table has.
+    fn number_named(&self, canonical: &str) -> usize
+        ensures { table_at self.now.tables result ≡ of_set self.now.definitions (known_in self.now) canonical.now }
     {
-        match self.known(canonical, sets) {
-            Some(concepts) => concepts.share(),
-            None => ConceptSet::of(Vec::new(alloc)),
+        match self.number(canonical) {
+            Some(number) => number,
+            None => self.no_number(),
         }
     }
 
-    fn put_named(
-        &self,
-        alloc: Global,
-        texts: &[Json<'_>],
-        sets: &[Option<ConceptSet>],
-        out: &mut Vec<ConceptSet>,
-    ) -> Result<(), NoMemory>
-        ensures { OnOk result (out.new.items ≡ out.old.items
-            ++ map (λ j. of_set self.now (known self.now sets.now) (text_or_empty (tree_of j))) texts.now) }
+    fn put_named(&self, texts: &[Json<'_>], out: &mut Vec<usize>) -> Result<(), NoMemory>
+        ensures { OnOk result (map (table_at self.now.tables) out.new.items ≡ map (table_at self.now.tables) out.old.items
+            ++ map (λ j. of_set self.now.definitions (known_in self.now) (text_or_empty (tree_of j))) texts.now) }
     {
         for text in texts {
-            let concepts = self.set_of(alloc, text.text_or_empty(), sets)?;
-            out.push(concepts)?;
+            out.push(self.number_named(text.text_or_empty()))?;
         }
         Ok(())
     }
 
-    fn put_taken(
-        &mut self,
+    fn numbers_named(&self, alloc: Global, include: &Json<'_>) -> Result<Vec<usize>, NoMemory>
+        ensures { IfOk result (λ v. map (table_at self.now.tables) v.items
+            ≡ map (of_set self.now.definitions (known_in self.now)) (sets_named (tree_of include.now))) }
+    {
+        let mut numbers = Vec::new(alloc);
+        self.put_named(include.items_in("valueSet"), &mut numbers)?;
+        Ok(numbers)
+    }
+
+    fn of_system_within(
+        &self,
         alloc: Global,
         include: &Json<'_>,
-        out: &mut Vec<ConceptSet>,
-    ) -> Result<(), NoMemory>
-        ensures put { OnOk result (out.new.items ≡ out.old.items
-            ++ option_map_or (λ system. of_system system (codes_taken self.old (tree_of include.now) system) ∷ [])
-            (text_in (codes "system") (tree_of include.now)) []) }
-        ensures same { self.new ≡ self.old }
+        url: &str,
+        mut numbers: Vec<usize>,
+    ) -> Result<Included, NoMemory>
+        ensures { IfOk result (λ i. included self.now.tables i
+            ≡ common (of_system url.now (codes_taken self.now.definitions (tree_of include.now) url.now)
+            ∷ map (table_at self.now.tables) numbers.items)) }
     {
-        if let Some(url) = include.text_in("system") {
-            let concepts = self.taken(alloc, include, url)?;
-            out.push(concepts)?;
+        match self.taken_number(include, url) {
+            Some(number) => {
+                numbers.push(number)?;
+                Ok(Included::in_all(numbers))
+            }
+            None => {
+                let concepts = self.taken(alloc, include, url)?;
+                self.within(alloc, concepts, numbers)
+            }
         }
-        Ok(())
     }
 
-    fn of_include(
-        &mut self,
-        alloc: Global,
-        include: &Json<'_>,
-        sets: &[Option<ConceptSet>],
-    ) -> Result<ConceptSet, NoMemory>
-        ensures gives { Gives (λ s. s) result (of_include self.old (known self.old sets.now) (tree_of include.now)) }
-        ensures same { self.new ≡ self.old }
+    fn of_include(&self, alloc: Global, include: &Json<'_>) -> Result<Included, NoMemory>
+        ensures { IfOk result (λ i. included self.now.tables i
+            ≡ of_include self.now.definitions (known_in self.now) (tree_of include.now)) }
     {
-        let mut all = Vec::new(alloc);
-        self.put_taken(alloc, include, &mut all)?;
-        self.put_named(alloc, include.items_in("valueSet"), sets, &mut all)?;
-        common(alloc, &all)
+        let numbers = self.numbers_named(alloc, include)?;
+        match include.text_in("system") {
+            Some(url) => self.of_system_within(alloc, include, url, numbers),
+            None => Ok(Included::in_all(numbers)),
+        }
     }
 
-    fn of_includes(
-        &mut self,
-        alloc: Global,
-        includes: &[Json<'_>],
-        sets: &[Option<ConceptSet>],
-    ) -> Result<Vec<ConceptSet>, NoMemory>
-        ensures gives { IfOk result (λ v. v.items ≡ map (λ j. of_include self.old (known self.old sets.now) (tree_of j)) includes.now) }
-        ensures same { self.new ≡ self.old }
+    fn of_includes(&self, alloc: Global, includes: &[Json<'_>]) -> Result<Vec<Included>, NoMemory>
+        ensures { IfOk result (λ v. map (included self.now.tables) v.items
+            ≡ map (λ j. of_include self.now.definitions (known_in self.now) (tree_of j)) includes.now) }
     {
         let mut all = Vec::new(alloc);
         for include in includes {
-            let concepts = self.of_include(alloc, include, sets)?;
-            all.push(concepts)?;
+            let part = self.of_include(alloc, include)?;
+            all.push(part)?;
         }
         Ok(all)
     }
 
-    /// The concepts of a value set: those of its includes, without those of its excludes.
-    pub(crate) fn composed(
-        &mut self,
-        alloc: Global,
-        json: &Json<'_>,
-        sets: &[Option<ConceptSet>],
-    ) -> Result<ConceptSet, NoMemory>
-        ensures gives { Gives (λ s. s) result (composed self.old (known self.old sets.now) (tree_of json.now)) }
-        ensures same { self.new ≡ self.old }
+    // Those of the same tables stand there once.
+    fn parts_of(&self, alloc: Global, includes: &[Json<'_>]) -> Result<Vec<Included>, NoMemory>
+        ensures { IfOk result (λ v. united (map (included self.now.tables) v.items)
+            ≡ united (map (λ j. of_include self.now.definitions (known_in self.now) (tree_of j)) includes.now)) }
     {
-        let more = self.of_includes(alloc, includes(json), sets)?;
-        let more = united(alloc, &more)?;
-        let less = self.of_includes(alloc, excludes(json), sets)?;
-        let less = united(alloc, &less)?;
-        without(alloc, &more, &less)
+        let all = self.of_includes(alloc, includes)?;
+        Ok(distinct(all))
+    }
+
+    // ---- its concepts
+
+    // The number of the table that has the same concepts, if there is one.
+    fn kept_number(&self, more: &[Included], less: &ConceptSet) -> Option<usize>
+        ensures { IfSome result (λ n. slice_get self.now.tables n
+            ≡ Some (set.difference (united (map (included self.now.tables) more.now)) less.now)) }
+    {
+        if !less.is_empty() {
+            return None;
+        }
+        match more {
+            [only] => self.only_number(only),
+            _ => None,
+        }
+    }
+
+    fn composed_of(
+        &self,
+        alloc: Global,
+        more: &[Included],
+        less: &ConceptSet,
+    ) -> Result<ConceptSet, NoMemory>
+        ensures { Gives (λ s. s) result (set.difference (united (map (included self.now.tables) more.now)) less.now) }
+    {
+        let more = self.united_of(alloc, more)?;
+        without(alloc, &more, less)
+    }
+
+    /// The number of the table of a value set: of its includes, without its excludes.
+    pub(crate) fn composed(&mut self, alloc: Global, json: &Json<'_>) -> Result<usize, NoMemory>
+        ensures composed { IfOk result (λ n. slice_get self.new.tables n
+            ≡ Some (composed self.old.definitions (known_in self.old) (tree_of json.now))) }
+        ensures definitions { self.new.definitions ≡ self.old.definitions }
+        ensures found { found self.new ≡ found self.old }
+    {
+        let more = self.parts_of(alloc, includes(json))?;
+        let less = self.parts_of(alloc, excludes(json))?;
+        let less = self.united_of(alloc, &less)?;
+        if let Some(number) = self.kept_number(&more, &less) {
+            return Ok(number);
+        }
+        let concepts = self.composed_of(alloc, &more, &less)?;
+        self.keep(concepts)
     }
 }

@@ -1,18 +1,19 @@
 //! What an include or an exclude takes (FHIR R4, ValueSet, compose).
 
-ghost use Rattle.std.specs.Prelude.{◌≡◌, ◌&&◌, ◌||◌, not, true, false, is_some, codes, map};
+ghost use Rattle.std.specs.Prelude.{◌≡◌, ◌&&◌, ◌||◌, not, true, false, is_some, codes, map, IfSome, Some};
 ghost use Rattle.std.specs.Option.{option_map_or, option_and_then};
-ghost use Rattle.std.specs.List.{list_all};
+ghost use Rattle.std.specs.List.{list_all, slice_get};
 ghost use Rattle.fhir_json.specs.Bytes.{is_empty};
 ghost use Rattle.fhir_json.specs.Fields.{field, is_object, text_in, items_in, texts_in, allows_text, allows_items, allows_texts};
 ghost use Rattle.fhir_json.specs.Views.{tree_of, trees_of, tree_seen};
 ghost use Rattle.fhir_json.specs.Memory.{Gives};
 ghost use Rattle.fhir_codes.specs.Concepts.{of_system};
 ghost use Rattle.fhir_package.specs.Canonical.{has_version};
-ghost use Rattle.fhir_codes.specs.CodeSystems.{is_complete};
-ghost use Rattle.fhir_codes.specs.ValueSets.{listed, sets_named, lists_no_concept, is_listed_concept, has_right_fields, is_version_of, code_system, codes_taken, can_take, is_plain_include};
+ghost use Rattle.fhir_codes.specs.CodeSystems.{is_coded, is_complete};
+ghost use Rattle.fhir_codes.specs.Tables.{found};
+ghost use Rattle.fhir_codes.specs.ValueSets.{listed, sets_named, lists_no_concept, has_right_fields, is_version_of, code_system, codes_taken, can_take, is_plain_include};
 
-use crate::code_systems::concepts_listed;
+use crate::code_systems::{concepts_listed, is_coded};
 use crate::composing::{excludes, includes};
 use crate::concept_set::ConceptSet;
 use crate::sources::Sources;
@@ -42,22 +43,16 @@ fn lists_no_concept(include: &Json<'_>) -> bool
     is_none_of(listed(include))
 }
 
-fn is_listed_concept(json: &Json<'_>) -> bool
-    ensures { result ≡ is_listed_concept (tree_of json.now) }
+fn each_is_coded(items: &[Json<'_>]) -> bool
+    ensures { result ≡ list_all (λ j. is_coded (tree_of j)) items.now }
 {
-    json.text_in("code").is_some()
+    items.iter().all(|json| is_coded(json))
 }
 
-fn each_is_listed(items: &[Json<'_>]) -> bool
-    ensures { result ≡ list_all (λ j. is_listed_concept (tree_of j)) items.now }
+fn are_coded(items: &[Json<'_>]) -> bool
+    ensures { result ≡ list_all is_coded (trees_of items.now) }
 {
-    items.iter().all(|json| is_listed_concept(json))
-}
-
-fn are_listed_concepts(items: &[Json<'_>]) -> bool
-    ensures { result ≡ list_all is_listed_concept (trees_of items.now) }
-{
-    each_is_listed(items)
+    each_is_coded(items)
 }
 
 fn has_texts(include: &Json<'_>) -> bool
@@ -65,21 +60,18 @@ fn has_texts(include: &Json<'_>) -> bool
         && allows_text (codes "system") (tree_of include.now)
         && allows_text (codes "version") (tree_of include.now)) }
 {
-    let system = include.allows_text("system");
-    let version = include.allows_text("version");
-    include.is_object() & system & version
+    include.is_object() && include.allows_text("system") && include.allows_text("version")
 }
 
 fn has_right_fields(include: &Json<'_>) -> bool
     ensures { result ≡ has_right_fields (tree_of include.now) }
 {
-    let texts = has_texts(include);
-    let concepts = include.allows_items("concept");
-    let listed = are_listed_concepts(listed(include));
-    let sets = include.allows_texts("valueSet");
-    let filters = include.allows_items("filter");
-    let unfiltered = is_none_of(include.items_in("filter"));
-    texts & concepts & listed & sets & filters & unfiltered
+    has_texts(include)
+        && include.allows_items("concept")
+        && are_coded(listed(include))
+        && include.allows_texts("valueSet")
+        && include.allows_items("filter")
+        && is_none_of(include.items_in("filter"))
 }
 
 fn is_version_of(include: &Json<'_>, system: &Json<'_>) -> bool
@@ -110,7 +102,7 @@ fn names_sets_alone(include: &Json<'_>) -> bool
 impl<'p, 'a> Sources<'p, 'a> {
     // The code system of that url, of the include's version if both have one.
     fn code_system(&self, include: &Json<'_>, url: &str) -> Option<&'p Json<'a>>
-        ensures { tree_seen result ≡ code_system self.now (tree_of include.now) url.now }
+        ensures { tree_seen result ≡ code_system self.now.definitions (tree_of include.now) url.now }
     {
         match self.package().at_url(Kind::CodeSystem, url) {
             Some(system) if is_version_of(include, system) => Some(system),
@@ -119,20 +111,20 @@ impl<'p, 'a> Sources<'p, 'a> {
     }
 
     fn is_complete(&self, include: &Json<'_>, url: &str) -> bool
-        ensures { result ≡ option_map_or is_complete (code_system self.now (tree_of include.now) url.now) false }
+        ensures { result ≡ option_map_or is_complete (code_system self.now.definitions (tree_of include.now) url.now) false }
     {
         self.code_system(include, url).is_some() && self.complete_at(url)
     }
 
     fn can_take(&self, include: &Json<'_>, url: &str) -> bool
-        ensures { result ≡ can_take self.now (tree_of include.now) url.now }
+        ensures { result ≡ can_take self.now.definitions (tree_of include.now) url.now }
     {
         !lists_no_concept(include) || self.is_complete(include, url)
     }
 
     /// Whether nothing in an include is unread by itself.
     pub(crate) fn is_plain_include(&self, include: &Json<'_>) -> bool
-        ensures { result ≡ is_plain_include self.now (tree_of include.now) }
+        ensures { result ≡ is_plain_include self.now.definitions (tree_of include.now) }
     {
         if !has_right_fields(include) {
             return false;
@@ -145,22 +137,21 @@ impl<'p, 'a> Sources<'p, 'a> {
 
     // Keeps the code system that an include takes whole.
     fn keep_taken(&mut self, alloc: Global, include: &Json<'_>) -> Result<(), NoMemory>
-        ensures { self.new ≡ self.old }
+        ensures definitions { self.new.definitions ≡ self.old.definitions }
+        ensures found { found self.new ≡ found self.old }
     {
         if !lists_no_concept(include) {
             return Ok(());
         }
         match include.text_in("system") {
-            Some(url) if self.complete_at(url) => {
-                let _concepts = self.whole(alloc, url)?;
-                Ok(())
-            }
+            Some(url) if self.complete_at(url) => self.keep_whole(alloc, url),
             _ => Ok(()),
         }
     }
 
     fn keep_all_taken(&mut self, alloc: Global, includes: &[Json<'_>]) -> Result<(), NoMemory>
-        ensures { self.new ≡ self.old }
+        ensures definitions { self.new.definitions ≡ self.old.definitions }
+        ensures found { found self.new ≡ found self.old }
     {
         for include in includes {
             self.keep_taken(alloc, include)?;
@@ -168,9 +159,11 @@ impl<'p, 'a> Sources<'p, 'a> {
         Ok(())
     }
 
-    /// Keeps all code systems that value sets take whole, so that those that list some of their concepts share their texts.
+    /// Keeps all code systems that value sets take whole, so that each is read once, and those that list some of their
+    /// concepts share their texts.
     pub(crate) fn keep_wholes(&mut self, alloc: Global) -> Result<(), NoMemory>
-        ensures { self.new ≡ self.old }
+        ensures definitions { self.new.definitions ≡ self.old.definitions }
+        ensures found { found self.new ≡ found self.old }
     {
         for place in 0..self.len() {
             if let Some(json) = self.tree(place) {
@@ -181,15 +174,28 @@ impl<'p, 'a> Sources<'p, 'a> {
         Ok(())
     }
 
+    /// The number of the table of what an include takes of the system of that url, where it takes a whole system.
+    pub(crate) fn taken_number(&self, include: &Json<'_>, url: &str) -> Option<usize>
+        ensures { IfSome result (λ n. slice_get self.now.tables n
+            ≡ Some (of_system url.now (codes_taken self.now.definitions (tree_of include.now) url.now))) }
+    {
+        if !lists_no_concept(include) {
+            return None;
+        }
+        match self.code_system(include, url) {
+            Some(_system) => self.system_number(url),
+            None => None,
+        }
+    }
+
     /// The concepts that an include takes of the system of that url: those that it lists, or all.
     pub(crate) fn taken(
-        &mut self,
+        &self,
         alloc: Global,
         include: &Json<'_>,
         url: &str,
     ) -> Result<ConceptSet, NoMemory>
-        ensures gives { Gives (λ s. s) result (of_system url.now (codes_taken self.old (tree_of include.now) url.now)) }
-        ensures same { self.new ≡ self.old }
+        ensures { Gives (λ s. s) result (of_system url.now (codes_taken self.now.definitions (tree_of include.now) url.now)) }
     {
         if !lists_no_concept(include) {
             return concepts_listed(alloc, url, listed(include), self.kept_whole(url));

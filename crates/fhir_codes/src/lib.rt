@@ -17,7 +17,8 @@
 //! ```
 //!
 //! The contract to read first is that of [`expand`]. Which concepts a value set has stands in `specs/ValueSets.antt`
-//! (`concepts_of`); the law [`least_closed`] says it without counting steps, and [`examples`] shows it on a small package.
+//! (`concepts_of`); the law [`least_closed`] says it without counting steps, and [`examples`] and [`unread_examples`] show it
+//! on a small package.
 #![tactic(auto)]
 
 mod code_set;
@@ -26,7 +27,9 @@ mod combining;
 mod composing;
 mod concept_set;
 mod filling;
+mod included;
 mod includes;
+mod joining;
 mod laws;
 mod order;
 mod shared_concept;
@@ -38,4 +41,4 @@ pub use code_set::{CodeSet, subset};
 pub use concept_set::ConceptSet;
 pub use laws::{algebra, any_order, codes_of_subset, least_closed, resolved, subsets};
 pub use value_sets::{ValueSets, expand};
-pub use worked::examples;
+pub use worked::{examples, unread_examples};

@@ -13,11 +13,11 @@ ghost use Rattle.fhir_codes.specs.Expanding.{expansions_of, expansion_of, at_ver
 ghost use Rattle.fhir_codes.specs.Filled.{AreDone};
 ghost use Rattle.fhir_codes.specs.Listing.{found_set, found_sets};
 ghost use Rattle.fhir_codes.specs.Placing.{found_at};
+ghost use Rattle.fhir_codes.specs.Tables.{found};
 ghost use Rattle.fhir_codes.specs.ValueSets.{concepts_of};
 ghost use Rattle.fhir_codes.specs.Views.{code_set_seen};
 
 use crate::code_set::CodeSet;
-use crate::composing::found_at;
 use crate::concept_set::ConceptSet;
 use crate::sources::Sources;
 use fhir_json::{Json, NoMemory};
@@ -70,10 +70,10 @@ fn version_of(alloc: Global, json: &Json<'_>) -> Result<Option<Json<'static>>, N
     }
 }
 
-fn shared_at(sets: &[Option<ConceptSet>], place: usize) -> Result<Option<ConceptSet>, NoMemory>
-    ensures { Gives (λ s. s) result (found_at sets.now place) }
+fn shared_at(sources: &Sources<'_, '_>, place: usize) -> Result<Option<ConceptSet>, NoMemory>
+    ensures { Gives (λ s. s) result (found_at (found sources.now) place) }
 {
-    match found_at(sets, place) {
+    match sources.found_at(place) {
         Some(concepts) => Ok(Some(concepts.share()?)),
         None => Ok(None),
     }
@@ -100,9 +100,9 @@ fn found_set(
 fn found_sets(
     alloc: Global,
     from: &Package<'_>,
-    sets: &[Option<ConceptSet>],
+    sources: &Sources<'_, '_>,
 ) -> Result<Vec<FoundSet>, NoMemory>
-    requires { AreDone from.now sets.now }
+    requires { AreDone from.now (found sources.now) }
     ensures { IfOk result (λ v. found_sets v.items ≡ expansions_of from.now) }
 {
     let mut entries = Vec::new(alloc);
@@ -110,7 +110,7 @@ fn found_sets(
         let Some((url, json)) = from.at(Kind::ValueSet, place) else {
             return Ok(entries);
         };
-        let concepts = shared_at(sets, place)?;
+        let concepts = shared_at(sources, place)?;
         let entry = found_set(alloc, url, json, concepts)?;
         entries.push(entry)?;
     }
@@ -139,8 +139,8 @@ impl ValueSets {
         ensures { Gives (λ s. s) result (expansions_of from.now) }
     {
         let mut sources = Sources::of(alloc, from)?;
-        let sets = sources.expand_all(alloc)?;
-        let entries = found_sets(alloc, from, &sets)?;
+        sources.expand_all(alloc)?;
+        let entries = found_sets(alloc, from, &sources)?;
         let urls = sources.into_places();
         Ok(ValueSets { entries, urls })
     }
@@ -180,8 +180,8 @@ pub fn expand(alloc: Global, from: &Package<'_>, canonical: &str) -> Result<Code
     ensures { Gives code_set_seen result (concepts_of from.now canonical.now) }
 {
     let mut sources = Sources::of(alloc, from)?;
-    let sets = sources.expand_all(alloc)?;
-    match sources.known(canonical, &sets) {
+    sources.expand_all(alloc)?;
+    match sources.known(canonical) {
         Some(concepts) => Ok(CodeSet::Enumerated(concepts.share()?)),
         None => Ok(CodeSet::Unread),
     }

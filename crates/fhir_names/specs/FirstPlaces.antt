@@ -53,8 +53,13 @@ module _ {V : Type 0} where
   value_then es None = refl
   value_then es (Some p) = refl
 
-  -- of a list of entries, by their keys
+  -- of a list of entries, by their keys: at the first place of one
+  pub value_at_first : (es : List (Text × V)) (n : Text)
+      → option_and_then (λ p. option_map (λ e. e.1) (slice_get es p)) (position_from (bytes_eq n) 0 (keys_of es)) ≡ lookup (bytes_eq n) es
+  value_at_first es n =
+      value_then es (position_from (bytes_eq n) 0 (keys_of es)) ∙ ap (option_map (λ e. e.1)) (at_first (λ e. e.0) (bytes_eq n) es) ∙ found_value (bytes_eq n) es
+
+  -- and at the place that the index has
   pub value_at_place : (places : Places) (es : List (Text × V)) (n : Text) (place : Option ℕ) → Finds places (keys_of es) → place ≡ place_of places n
       → option_and_then (λ p. option_map (λ e. e.1) (slice_get es p)) place ≡ lookup (bytes_eq n) es
-  value_at_place places es n place h e =
-      value_then es place ∙ ap (option_map (λ e. e.1)) (item_at_place (λ e. e.0) places es n place h e) ∙ found_value (bytes_eq n) es
+  value_at_place places es n place h e = ap (option_and_then (λ p. option_map (λ e. e.1) (slice_get es p))) (e ∙ h n) ∙ value_at_first es n

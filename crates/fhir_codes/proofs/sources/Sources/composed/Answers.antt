@@ -1,26 +1,38 @@
-use Rattle.std.proofs.Common.{◌≡◌, ◌∙◌, map, ap, subst}
+use Rattle.std.proofs.Common.{◌≡◌, ◌∙◌, map, Some, ap, subst}
 use Rattle.std.specs.FinSet as set
+use Rattle.std.specs.List.{slice_get}
+use Rattle.std.specs.Result.{IfOk}
 use Rattle.fhir_json.specs.Views.{tree_of}
-use Rattle.fhir_package.specs.Definitions.{Definitions}
-use Rattle.fhir_codes.specs.Concepts.{united}
-use Rattle.fhir_codes.specs.ValueSets.{of_include, composed}
-use Rattle.fhir_codes.specs.Placing.{known}
-use Rattle.fhir_codes.proofs.Looping.{gives_as}
+use Rattle.fhir_codes.specs.Concepts.{Concepts, united}
+use Rattle.fhir_codes.specs.ValueSets.{composed}
+use Rattle.fhir_codes.specs.Tables.{known_in, found}
+use Rattle.fhir_codes.specs.Including.{included}
 use Rattle.fhir_codes.proofs.Parts.{composed_of}
 use Rattle.fhir_codes.proofs.sources.Sources.composed.Goals as goal
+use Rattle.fhir_codes.proofs.sources.Sources.composed.Goals.{After-kept_number}
 
-pub returns-clause-gives : goal.returns-clause-gives
-returns-clause-gives c =
-    let p = c.args.self.now in
-    let sets = c.args.sets.now in
-    let t = tree_of c.args.json.now in
-    let xs = c.includes.result.now in
-    let ys = c.excludes.result.now in
-    let ms = c.in_ok-more.more.items in
-    let ls = c.in_ok-less.less.items in
-    let more = c.in_ok-more-2.more in
-    let less = c.in_ok-less-2.less in
-    let less_of : ls ≡ map (λ j. of_include p (known p sets) (tree_of j)) ys =
-    subst (λ (q : Definitions). ls ≡ map (λ j. of_include q (known q sets) (tree_of j)) ys) c.of_includes.ensures.same c.in_ok-less.ensures.gives in
-    gives_as (λ s. s) c.without.result (set.difference more less) (composed p (known p sets) t)
-    (composed_of p sets t xs ys ms ls more less c.in_ok-more.ensures.gives less_of (c.in_ok-more-2.ensures ∙ ap united c.deref.ensures.value) (c.in_ok-less-2.ensures ∙ ap united c.deref-2.ensures.value) c.includes.ensures c.excludes.ensures) c.without.ensures
+-- what the parts of the includes and of the excludes have is the value set
+parts_composed : (c : After-kept_number) → set.difference (united (map (included c.args.self.now.tables) c.in_ok-more.more.items)) c.in_ok-less-2.less
+    ≡ composed c.args.self.now.definitions (known_in c.args.self.now) (tree_of c.args.json.now)
+parts_composed c =
+    let s = c.args.self.now in
+    composed_of s.definitions (found s) (tree_of c.args.json.now) c.includes.result.now c.excludes.result.now
+    (united (map (included s.tables) c.in_ok-more.more.items)) c.in_ok-less-2.less c.in_ok-more.ensures
+    (c.in_ok-less-2.ensures ∙ ap (λ xs. united (map (included s.tables) xs)) c.deref.ensures.value ∙ c.in_ok-less.ensures)
+    c.includes.ensures c.excludes.ensures
+
+pub returns-in-Some-clause-composed : goal.returns-in-Some-clause-composed
+returns-in-Some-clause-composed c =
+    let s = c.args.self.now in
+    c.in-Some.ensures
+    ∙ ap (λ xs. Some (set.difference (united (map (included s.tables) xs)) c.in_ok-less-2.less)) c.deref-2.ensures.value
+    ∙ ap Some (parts_composed (goal.at.returns-in-Some-clause-composed c).After-kept_number)
+
+pub returns-clause-composed : goal.returns-clause-composed
+returns-clause-composed c =
+    let s = c.args.self.now in
+    let is : c.in_ok-concepts.concepts ≡ composed s.definitions (known_in s) (tree_of c.args.json.now) =
+    c.in_ok-concepts.ensures
+    ∙ ap (λ xs. set.difference (united (map (included s.tables) xs)) c.in_ok-less-2.less) c.deref-3.ensures.value
+    ∙ parts_composed (goal.at.returns-clause-composed c).After-kept_number in
+    subst (λ (t : Concepts). IfOk c.keep.result (λ n. slice_get c.keep.new.self.tables n ≡ Some t)) is c.keep.ensures.kept

@@ -10,7 +10,7 @@ pub invariant_of-result : goal.invariant_of-result
 invariant_of-result c =
     let p = c.args.from.now in
     subst (Finds c.into_places-urls.result)
-    (ap (λ (d : Definitions). keys_of d.value_sets) (c.expand_all.ensures.same ∙ c.in_ok-sources.ensures)
+    (ap (λ (d : Definitions). keys_of d.value_sets) (c.expand_all.ensures.definitions ∙ c.in_ok-sources.ensures.of)
     ∙ sym (keys_of-map_values (expansion_of p) p.value_sets)
     ∙ ap keys_of (sym c.in_ok-entries.ensures))
     c.into_places-urls.ensures
