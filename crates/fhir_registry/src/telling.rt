@@ -25,7 +25,7 @@ fn word_and_name(alloc: Global, word: &str, name: &str) -> Result<String, AllocE
 fn rule_text(alloc: Global, rule: Rule<'_>) -> Result<String, AllocError>
     ensures { IfOk result (λ text. string_bytes text ≡ rule_text (rule_name rule.entry)) }
 {
-    match rule.slot_name() {
+    match rule.about() {
         Some(name) => word_and_name(alloc, rule.word(), name),
         None => String::from_str(alloc, rule.word()),
     }
