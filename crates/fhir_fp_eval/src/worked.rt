@@ -5,14 +5,14 @@ ghost use Rattle.fhir_json.specs.Tree.{string};
 ghost use Rattle.fhir_json.specs.Tree.{boolean as flag};
 ghost use Rattle.fhir_instance.specs.Items.{kid, no_kids};
 ghost use Rattle.fhir_decimal.specs.Whole.{count};
-ghost use Rattle.fhir_fp_syntax.specs.Expression.{nothing, boolean, this, name, call, typed, filtered, binary};
+ghost use Rattle.fhir_fp_syntax.specs.Expression.{nothing, boolean, this, context, name, call, typed, filtered, binary};
 ghost use Rattle.fhir_fp_syntax.specs.declared.expr.Operator.TheVariants.{Index, Intersect, Union, Less, LessOrEqual, Equal, NotEqual, In, And, Or, Implies};
-ghost use Rattle.fhir_fp_syntax.specs.declared.expr.Function.TheVariants.{Count, First, Exists, HasValue, Descendants};
+ghost use Rattle.fhir_fp_syntax.specs.declared.expr.Function.TheVariants.{Count, First, Exists, HasValue, Children, Descendants};
 ghost use Rattle.fhir_fp_syntax.specs.declared.expr.Filter.TheVariants.{Exists as ExistsWhere};
 ghost use Rattle.fhir_fp_syntax.specs.declared.expr.TypeTest.TheVariants.{Is, As, OfType};
 ghost use Rattle.fhir_fp_eval.specs.declared.fault.EvalFault.TheVariants.{Several, Kind};
 ghost use Rattle.fhir_fp_eval.specs.Values.{node, number};
-ghost use Rattle.fhir_fp_eval.specs.Example.{is, none, leaf, whole, patient, given_by, between, given_names, digits, quoted, has_content, around};
+ghost use Rattle.fhir_fp_eval.specs.Example.{is, none, leaf, whole, quantity, twice, patient, given_by, between, given_names, digits, quoted, has_content, around};
 ghost use Rattle.fhir_fp_eval.specs.Meaning.{den};
 
 /// When values are equal (FHIRPath N1, section 6.1): numbers by value (`decimals`), values of two kinds not (`kinds`), a
@@ -32,8 +32,8 @@ pub fn equality_example()
     ensures parts { given_by (binary Equal this this) ≡ is true }
 {}
 
-/// The order of values (FHIRPath N1, section 6.2): of strings by their bytes, of dates as far as they have one, and of nothing
-/// else.
+/// The order of values (FHIRPath N1, section 6.2): of strings by their bytes, of numbers by value, of dates as far as they have
+/// one, and of quantities in one unit. Other values have none, nor have values of two kinds.
 pub fn order_example()
     ensures strings { given_by (binary Less (quoted (codes "B")) (quoted (codes "a"))) ≡ is true }
     ensures prefixes { given_by (binary Less (quoted (codes "a")) (quoted (codes "ab"))) ≡ is true }
@@ -47,10 +47,13 @@ pub fn order_example()
         (leaf (codes "time") (string (codes "20:20:00"))) ≡ none }
     ensures kinds { given_by (binary Less (call First given_names) (digits (codes "1"))) ≡ Err Kind }
     ensures booleans { given_by (binary Less (boolean false) (boolean true)) ≡ Err Kind }
+    ensures amounts { between Less (quantity (codes "1.5") (codes "mg")) (quantity (codes "2") (codes "mg")) ≡ is true }
+    ensures units { between Less (quantity (codes "1.5") (codes "mg")) (quantity (codes "2") (codes "g")) ≡ none }
     ensures items { given_by (binary Less this this) ≡ Err Kind }
 {}
 
-/// What paths, functions and sets give at a patient with the given names A and B, and where they have a fault.
+/// What paths, functions and sets give at a patient with the given names A and B, and where they have a fault. A fault stays one
+/// where the other operand or another item would decide (`both`, `asked`).
 pub fn paths_example()
     ensures count { given_by (binary Equal (call Count given_names) (digits (codes "2"))) ≡ is true }
     ensures joined { given_by (call Count (binary Union given_names given_names)) ≡ Ok (number (count 2) ∷ []) }
@@ -66,6 +69,13 @@ pub fn paths_example()
     ensures asked { given_by (filtered ExistsWhere given_names
         (binary Or (binary Equal this (quoted (codes "A"))) (binary Less this (digits (codes "1"))))) ≡ Err Kind }
     ensures implied { given_by (binary Implies nothing (boolean true)) ≡ is true }
+    ensures once { given_by (call Count (binary Intersect (binary Union given_names given_names) given_names))
+        ≡ Ok (number (count 2) ∷ []) }
+    ensures repeated { den (around (whole (codes "List") twice)) (call Count (binary Intersect (call Children context) (quoted (codes "A"))))
+        (node patient) ≡ Ok (number (count 1) ∷ []) }
+    ensures own_type { given_by (typed Is this (codes "Patient")) ≡ is true }
+    ensures others { given_by (typed OfType given_names (codes "code")) ≡ none }
+    ensures cast { given_by (typed As this (codes "Patient")) ≡ Ok (node patient ∷ []) }
     ensures types { given_by (typed Is given_names (codes "string")) ≡ Err Several }
     ensures choice { given_by (binary Equal (name (codes "multipleBirth")) (digits (codes "1"))) ≡ is true }
     ensures spelled { given_by (name (codes "multipleBirth[x]")) ≡ none }
