@@ -33,6 +33,10 @@ patient =
     (kid (codes "multipleBirth[x]") (leaf (codes "integer") (number_text (codes "1")))
     no_kids)))
 
+-- a period of which one end is known
+abbrev pub period : Text → Text → Item
+period end date = whole (codes "Period") (kid end (leaf (codes "dateTime") (string date)) no_kids)
+
 -- so much of a unit
 abbrev pub quantity : Text → Text → Item
 quantity value unit =

@@ -12,12 +12,13 @@ ghost use Rattle.fhir_fp_syntax.specs.declared.expr.Filter.TheVariants.{Exists a
 ghost use Rattle.fhir_fp_syntax.specs.declared.expr.TypeTest.TheVariants.{Is, As, OfType};
 ghost use Rattle.fhir_fp_eval.specs.declared.fault.EvalFault.TheVariants.{Several, Kind};
 ghost use Rattle.fhir_fp_eval.specs.Values.{node, number};
-ghost use Rattle.fhir_fp_eval.specs.Example.{is, none, leaf, whole, quantity, twice, patient, given_by, between, given_names, digits, quoted, has_content, around};
+ghost use Rattle.fhir_fp_eval.specs.Example.{is, none, leaf, whole, period, quantity, twice, patient, given_by, between, given_names, digits, quoted, has_content, around};
 ghost use Rattle.fhir_fp_eval.specs.Meaning.{den};
 
 /// When values are equal (FHIRPath N1, section 6.1): numbers by value (`decimals`), values of two kinds not (`kinds`), a
 /// year and a month of it are undecided (`moments`), as is what is compared with nothing (`nothing`); lists of other lengths
-/// aren't (`counts`), and items by their parts (`parts`).
+/// aren't (`counts`), and items without values by their types and their parts (`types`, `parts`, `names`), which may leave them
+/// undecided (`undecided`).
 pub fn equality_example()
     ensures decimals { given_by (binary Equal (digits (codes "0.5")) (digits (codes "0.50"))) ≡ is true }
     ensures kinds { given_by (binary Equal (quoted (codes "a")) (digits (codes "1"))) ≡ is false }
@@ -29,7 +30,18 @@ pub fn equality_example()
         (leaf (codes "time") (string (codes "20:20:00"))) ≡ is false }
     ensures nothing { given_by (binary NotEqual nothing (digits (codes "1"))) ≡ none }
     ensures counts { given_by (binary Equal given_names (quoted (codes "A"))) ≡ is false }
+    ensures booleans { between Equal (leaf (codes "boolean") (flag true)) (leaf (codes "boolean") (flag false)) ≡ is false }
+    ensures codes_and_strings { between Equal (leaf (codes "code") (string (codes "a")))
+        (leaf (codes "string") (string (codes "a"))) ≡ is true }
+    ensures instants { between Equal (leaf (codes "instant") (string (codes "2020-01-01T00:30:00Z")))
+        (leaf (codes "dateTime") (string (codes "2020-01-01T01:30:00.0+01:00"))) ≡ is true }
+    ensures valueless { between Equal (leaf (codes "code") (string (codes "a"))) (whole (codes "code") no_kids) ≡ is false }
+    ensures types { between Equal (whole (codes "Period") no_kids) (whole (codes "Range") no_kids) ≡ is false }
     ensures parts { given_by (binary Equal this this) ≡ is true }
+    ensures names { between Equal (period (codes "start") (codes "2020")) (period (codes "end") (codes "2020")) ≡ is false }
+    ensures undecided { between Equal (period (codes "start") (codes "2020")) (period (codes "start") (codes "2020-01")) ≡ none }
+    ensures one_differs { given_by (binary Equal (binary Union (quoted (codes "a")) (quoted (codes "b")))
+        (binary Union (quoted (codes "a")) (quoted (codes "c")))) ≡ is false }
 {}
 
 /// The order of values (FHIRPath N1, section 6.2): of strings by their bytes, of numbers by value, of dates as far as they have
@@ -83,5 +95,7 @@ pub fn paths_example()
     ensures bare { den (around patient) has_content (node (whole (codes "HumanName")
         (kid (codes "id") (leaf (codes "id") (string (codes "n"))) no_kids))) ≡ is false }
     ensures value { den (around patient) has_content (node (leaf (codes "boolean") (flag false))) ≡ is true }
+    ensures single { given_by (binary And (quoted (codes "a")) (boolean true)) ≡ is true }
+    ensures in_order { given_by (filtered ExistsWhere (call Descendants this) (binary Equal this (quoted (codes "B")))) ≡ is true }
     ensures below { given_by (call Count (call Descendants this)) ≡ Ok (number (count 5) ∷ []) }
 {}

@@ -98,3 +98,11 @@ returns-clause-others c = refl
 pub returns-clause-cast : goal.returns-clause-cast
 unfolding den kept joined shared at_from of_types alike pairs order_of parts value_of value_order is_whole_value
 returns-clause-cast c = refl
+
+pub returns-clause-single : goal.returns-clause-single
+unfolding den kept joined shared at_from of_types alike pairs order_of parts value_of value_order is_whole_value
+returns-clause-single c = refl
+
+pub returns-clause-in_order : goal.returns-clause-in_order
+unfolding den kept joined shared at_from of_types alike pairs order_of parts value_of value_order is_whole_value
+returns-clause-in_order c = refl
