@@ -33,6 +33,25 @@ patient =
     (kid (codes "multipleBirth[x]") (leaf (codes "integer") (number_text (codes "1")))
     no_kids)))
 
+-- a period of which one end is known
+abbrev pub period : Text → Text → Item
+period end date = whole (codes "Period") (kid end (leaf (codes "dateTime") (string date)) no_kids)
+
+-- so much of a unit
+abbrev pub quantity : Text → Text → Item
+quantity value unit =
+    whole (codes "Quantity")
+    (kid (codes "value") (leaf (codes "decimal") (number_text value))
+    (kid (codes "unit") (leaf (codes "string") (string unit))
+    no_kids))
+
+-- the name A twice
+abbrev pub twice : Kids
+twice =
+    kid (codes "item") (leaf (codes "string") (string (codes "A")))
+    (kid (codes "item") (leaf (codes "string") (string (codes "A")))
+    no_kids)
+
 -- ---- worlds
 
 -- no types, and the context is this

@@ -21,6 +21,7 @@ use fhir_decimal::Number;
 use fhir_fp_syntax::{Expr, Filter};
 use fhir_instance::Typed;
 use fhir_json::NoMemory;
+use fhir_schema::Schema;
 use std::alloc::{AllocError, Global};
 
 fn filtered_by<'e, 'a, 'j>(
@@ -153,18 +154,26 @@ pub fn eval<'e, 'a, 'j>(
     evaluate(alloc, env, expr, Value::Node(item))
 }
 
-/// Whether an expression is true of an item: the truth of what it gives there. A fault isn't true, and an empty result
-/// isn't. The one refusal is want of memory.
+// Whether an expression is true of an item, where all that is borrowed is borrowed as long.
 #[tactic(auto, unfolding(crate::specs::Meaning::is_true))]
-pub fn holds<'e, 'a, 'j>(
+fn holds_in<'e, 'a, 'j>(
     alloc: Global,
     expr: &'e Expr,
-    env: &Env<'e, 'a, 'j>,
+    schema: &'e Schema,
+    resource: &'e Typed<'a, 'j>,
+    context: &'e Typed<'a, 'j>,
     item: &'e Typed<'a, 'j>,
 ) -> Result<bool, NoMemory>
-    ensures exact { Gives (λ b. b) result (is_true (world_of env.now) (expression_of expr.now) (item_of item.now)) }
+    ensures { Gives (λ b. b) result (is_true
+        (record { schema = schema.now; resource = item_of resource.now; context = item_of context.now })
+        (expression_of expr.now) (item_of item.now)) }
 {
-    match asked(alloc, env, expr, Value::Node(item)) {
+    let env = Env {
+        schema,
+        resource,
+        context,
+    };
+    match asked(alloc, &env, expr, Value::Node(item)) {
         Ok(holds) => Ok(holds),
         Err(fault) => match fault {
             EvalFault::Several => Ok(false),
@@ -172,4 +181,17 @@ pub fn holds<'e, 'a, 'j>(
             EvalFault::NoMemory => Err(NoMemory),
         },
     }
+}
+
+/// Whether an expression is true of an item: the truth of what it gives there. A fault isn't true, and an empty result
+/// isn't. The one refusal is want of memory.
+pub fn holds<'a, 'j>(
+    alloc: Global,
+    expr: &Expr,
+    env: &Env<'_, 'a, 'j>,
+    item: &Typed<'a, 'j>,
+) -> Result<bool, NoMemory>
+    ensures exact { Gives (λ b. b) result (is_true (world_of env.now) (expression_of expr.now) (item_of item.now)) }
+{
+    holds_in(alloc, expr, env.schema, env.resource, env.context, item)
 }

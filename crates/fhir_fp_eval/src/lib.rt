@@ -1,4 +1,19 @@
-//! What expressions of FHIRPath give, and of which items they are true.
+//! What expressions of FHIRPath give (FHIRPath N1), and of which items they are true, as constraints ask (FHIR R4,
+//! ElementDefinition, constraint.expression).
+//!
+//! ```
+//! /// Whether an expression is true of a resource as a whole.
+//! pub fn is_true_of(alloc: Global, expr: &Expr, schema: &Schema, resource: &Typed<'_, '_>) -> Result<bool, NoMemory>
+//!     ensures { Gives (λ b. b) result (is_true (record { schema = schema.now; resource = item_of resource.now; context = item_of resource.now })
+//!         (expression_of expr.now) (item_of resource.now)) }
+//! {
+//!     let env = Env { schema, resource, context: resource };
+//!     holds(alloc, expr, &env, resource)
+//! }
+//! ```
+//!
+//! Read first the contract of [`eval`]: it gives what the word `den` of `specs/Meaning.antt` says, line by line of the forms of an
+//! expression. Then read the laws [`faults_pass`] and [`truth_tables`]: nothing is cut short, and truths are those of Kleene.
 #![tactic(auto)]
 
 mod comparing;

@@ -5,19 +5,20 @@ ghost use Rattle.fhir_json.specs.Tree.{string};
 ghost use Rattle.fhir_json.specs.Tree.{boolean as flag};
 ghost use Rattle.fhir_instance.specs.Items.{kid, no_kids};
 ghost use Rattle.fhir_decimal.specs.Whole.{count};
-ghost use Rattle.fhir_fp_syntax.specs.Expression.{nothing, boolean, this, name, call, typed, filtered, binary};
+ghost use Rattle.fhir_fp_syntax.specs.Expression.{nothing, boolean, this, context, name, call, typed, filtered, binary};
 ghost use Rattle.fhir_fp_syntax.specs.declared.expr.Operator.TheVariants.{Index, Intersect, Union, Less, LessOrEqual, Equal, NotEqual, In, And, Or, Implies};
-ghost use Rattle.fhir_fp_syntax.specs.declared.expr.Function.TheVariants.{Count, First, Exists, HasValue, Descendants};
+ghost use Rattle.fhir_fp_syntax.specs.declared.expr.Function.TheVariants.{Count, First, Exists, HasValue, Children, Descendants};
 ghost use Rattle.fhir_fp_syntax.specs.declared.expr.Filter.TheVariants.{Exists as ExistsWhere};
 ghost use Rattle.fhir_fp_syntax.specs.declared.expr.TypeTest.TheVariants.{Is, As, OfType};
 ghost use Rattle.fhir_fp_eval.specs.declared.fault.EvalFault.TheVariants.{Several, Kind};
 ghost use Rattle.fhir_fp_eval.specs.Values.{node, number};
-ghost use Rattle.fhir_fp_eval.specs.Example.{is, none, leaf, whole, patient, given_by, between, given_names, digits, quoted, has_content, around};
+ghost use Rattle.fhir_fp_eval.specs.Example.{is, none, leaf, whole, period, quantity, twice, patient, given_by, between, given_names, digits, quoted, has_content, around};
 ghost use Rattle.fhir_fp_eval.specs.Meaning.{den};
 
 /// When values are equal (FHIRPath N1, section 6.1): numbers by value (`decimals`), values of two kinds not (`kinds`), a
 /// year and a month of it are undecided (`moments`), as is what is compared with nothing (`nothing`); lists of other lengths
-/// aren't (`counts`), and items by their parts (`parts`).
+/// aren't (`counts`), and items without values by their types and their parts (`types`, `parts`, `names`), which may leave them
+/// undecided (`undecided`).
 pub fn equality_example()
     ensures decimals { given_by (binary Equal (digits (codes "0.5")) (digits (codes "0.50"))) ≡ is true }
     ensures kinds { given_by (binary Equal (quoted (codes "a")) (digits (codes "1"))) ≡ is false }
@@ -29,11 +30,22 @@ pub fn equality_example()
         (leaf (codes "time") (string (codes "20:20:00"))) ≡ is false }
     ensures nothing { given_by (binary NotEqual nothing (digits (codes "1"))) ≡ none }
     ensures counts { given_by (binary Equal given_names (quoted (codes "A"))) ≡ is false }
+    ensures booleans { between Equal (leaf (codes "boolean") (flag true)) (leaf (codes "boolean") (flag false)) ≡ is false }
+    ensures codes_and_strings { between Equal (leaf (codes "code") (string (codes "a")))
+        (leaf (codes "string") (string (codes "a"))) ≡ is true }
+    ensures instants { between Equal (leaf (codes "instant") (string (codes "2020-01-01T00:30:00Z")))
+        (leaf (codes "dateTime") (string (codes "2020-01-01T01:30:00.0+01:00"))) ≡ is true }
+    ensures valueless { between Equal (leaf (codes "code") (string (codes "a"))) (whole (codes "code") no_kids) ≡ is false }
+    ensures types { between Equal (whole (codes "Period") no_kids) (whole (codes "Range") no_kids) ≡ is false }
     ensures parts { given_by (binary Equal this this) ≡ is true }
+    ensures names { between Equal (period (codes "start") (codes "2020")) (period (codes "end") (codes "2020")) ≡ is false }
+    ensures undecided { between Equal (period (codes "start") (codes "2020")) (period (codes "start") (codes "2020-01")) ≡ none }
+    ensures one_differs { given_by (binary Equal (binary Union (quoted (codes "a")) (quoted (codes "b")))
+        (binary Union (quoted (codes "a")) (quoted (codes "c")))) ≡ is false }
 {}
 
-/// The order of values (FHIRPath N1, section 6.2): of strings by their bytes, of dates as far as they have one, and of nothing
-/// else.
+/// The order of values (FHIRPath N1, section 6.2): of strings by their bytes, of numbers by value, of dates as far as they have
+/// one, and of quantities in one unit. Other values have none, nor have values of two kinds.
 pub fn order_example()
     ensures strings { given_by (binary Less (quoted (codes "B")) (quoted (codes "a"))) ≡ is true }
     ensures prefixes { given_by (binary Less (quoted (codes "a")) (quoted (codes "ab"))) ≡ is true }
@@ -47,10 +59,13 @@ pub fn order_example()
         (leaf (codes "time") (string (codes "20:20:00"))) ≡ none }
     ensures kinds { given_by (binary Less (call First given_names) (digits (codes "1"))) ≡ Err Kind }
     ensures booleans { given_by (binary Less (boolean false) (boolean true)) ≡ Err Kind }
+    ensures amounts { between Less (quantity (codes "1.5") (codes "mg")) (quantity (codes "2") (codes "mg")) ≡ is true }
+    ensures units { between Less (quantity (codes "1.5") (codes "mg")) (quantity (codes "2") (codes "g")) ≡ none }
     ensures items { given_by (binary Less this this) ≡ Err Kind }
 {}
 
-/// What paths, functions and sets give at a patient with the given names A and B, and where they have a fault.
+/// What paths, functions and sets give at a patient with the given names A and B, and where they have a fault. A fault stays one
+/// where the other operand or another item would decide (`both`, `asked`).
 pub fn paths_example()
     ensures count { given_by (binary Equal (call Count given_names) (digits (codes "2"))) ≡ is true }
     ensures joined { given_by (call Count (binary Union given_names given_names)) ≡ Ok (number (count 2) ∷ []) }
@@ -66,6 +81,13 @@ pub fn paths_example()
     ensures asked { given_by (filtered ExistsWhere given_names
         (binary Or (binary Equal this (quoted (codes "A"))) (binary Less this (digits (codes "1"))))) ≡ Err Kind }
     ensures implied { given_by (binary Implies nothing (boolean true)) ≡ is true }
+    ensures once { given_by (call Count (binary Intersect (binary Union given_names given_names) given_names))
+        ≡ Ok (number (count 2) ∷ []) }
+    ensures repeated { den (around (whole (codes "List") twice)) (call Count (binary Intersect (call Children context) (quoted (codes "A"))))
+        (node patient) ≡ Ok (number (count 1) ∷ []) }
+    ensures own_type { given_by (typed Is this (codes "Patient")) ≡ is true }
+    ensures others { given_by (typed OfType given_names (codes "code")) ≡ none }
+    ensures cast { given_by (typed As this (codes "Patient")) ≡ Ok (node patient ∷ []) }
     ensures types { given_by (typed Is given_names (codes "string")) ≡ Err Several }
     ensures choice { given_by (binary Equal (name (codes "multipleBirth")) (digits (codes "1"))) ≡ is true }
     ensures spelled { given_by (name (codes "multipleBirth[x]")) ≡ none }
@@ -73,5 +95,7 @@ pub fn paths_example()
     ensures bare { den (around patient) has_content (node (whole (codes "HumanName")
         (kid (codes "id") (leaf (codes "id") (string (codes "n"))) no_kids))) ≡ is false }
     ensures value { den (around patient) has_content (node (leaf (codes "boolean") (flag false))) ≡ is true }
+    ensures single { given_by (binary And (quoted (codes "a")) (boolean true)) ≡ is true }
+    ensures in_order { given_by (filtered ExistsWhere (call Descendants this) (binary Equal this (quoted (codes "B")))) ≡ is true }
     ensures below { given_by (call Count (call Descendants this)) ≡ Ok (number (count 5) ∷ []) }
 {}

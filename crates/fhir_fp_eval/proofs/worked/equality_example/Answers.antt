@@ -38,3 +38,35 @@ returns-clause-counts c = refl
 pub returns-clause-parts : goal.returns-clause-parts
 unfolding den kept joined shared at_from of_types alike pairs order_of parts value_of value_order is_whole_value
 returns-clause-parts c = refl
+
+pub returns-clause-booleans : goal.returns-clause-booleans
+unfolding den kept joined shared at_from of_types alike pairs order_of parts value_of value_order is_whole_value
+returns-clause-booleans c = refl
+
+pub returns-clause-codes_and_strings : goal.returns-clause-codes_and_strings
+unfolding den kept joined shared at_from of_types alike pairs order_of parts value_of value_order is_whole_value
+returns-clause-codes_and_strings c = refl
+
+pub returns-clause-instants : goal.returns-clause-instants
+unfolding den kept joined shared at_from of_types alike pairs order_of parts value_of value_order is_whole_value
+returns-clause-instants c = refl
+
+pub returns-clause-valueless : goal.returns-clause-valueless
+unfolding den kept joined shared at_from of_types alike pairs order_of parts value_of value_order is_whole_value
+returns-clause-valueless c = refl
+
+pub returns-clause-types : goal.returns-clause-types
+unfolding den kept joined shared at_from of_types alike pairs order_of parts value_of value_order is_whole_value
+returns-clause-types c = refl
+
+pub returns-clause-names : goal.returns-clause-names
+unfolding den kept joined shared at_from of_types alike pairs order_of parts value_of value_order is_whole_value
+returns-clause-names c = refl
+
+pub returns-clause-undecided : goal.returns-clause-undecided
+unfolding den kept joined shared at_from of_types alike pairs order_of parts value_of value_order is_whole_value
+returns-clause-undecided c = refl
+
+pub returns-clause-one_differs : goal.returns-clause-one_differs
+unfolding den kept joined shared at_from of_types alike pairs order_of parts value_of value_order is_whole_value
+returns-clause-one_differs c = refl

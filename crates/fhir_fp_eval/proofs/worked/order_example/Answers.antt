@@ -46,3 +46,11 @@ returns-clause-booleans c = refl
 pub returns-clause-items : goal.returns-clause-items
 unfolding den kept joined shared at_from of_types alike pairs order_of parts value_of value_order is_whole_value
 returns-clause-items c = refl
+
+pub returns-clause-amounts : goal.returns-clause-amounts
+unfolding den kept joined shared at_from of_types alike pairs order_of parts value_of value_order is_whole_value
+returns-clause-amounts c = refl
+
+pub returns-clause-units : goal.returns-clause-units
+unfolding den kept joined shared at_from of_types alike pairs order_of parts value_of value_order is_whole_value
+returns-clause-units c = refl

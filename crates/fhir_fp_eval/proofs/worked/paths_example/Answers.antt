@@ -78,3 +78,31 @@ returns-clause-value c = refl
 pub returns-clause-below : goal.returns-clause-below
 unfolding den kept joined shared at_from of_types alike pairs order_of parts value_of value_order is_whole_value
 returns-clause-below c = refl
+
+pub returns-clause-once : goal.returns-clause-once
+unfolding den kept joined shared at_from of_types alike pairs order_of parts value_of value_order is_whole_value
+returns-clause-once c = refl
+
+pub returns-clause-repeated : goal.returns-clause-repeated
+unfolding den kept joined shared at_from of_types alike pairs order_of parts value_of value_order is_whole_value
+returns-clause-repeated c = refl
+
+pub returns-clause-own_type : goal.returns-clause-own_type
+unfolding den kept joined shared at_from of_types alike pairs order_of parts value_of value_order is_whole_value
+returns-clause-own_type c = refl
+
+pub returns-clause-others : goal.returns-clause-others
+unfolding den kept joined shared at_from of_types alike pairs order_of parts value_of value_order is_whole_value
+returns-clause-others c = refl
+
+pub returns-clause-cast : goal.returns-clause-cast
+unfolding den kept joined shared at_from of_types alike pairs order_of parts value_of value_order is_whole_value
+returns-clause-cast c = refl
+
+pub returns-clause-single : goal.returns-clause-single
+unfolding den kept joined shared at_from of_types alike pairs order_of parts value_of value_order is_whole_value
+returns-clause-single c = refl
+
+pub returns-clause-in_order : goal.returns-clause-in_order
+unfolding den kept joined shared at_from of_types alike pairs order_of parts value_of value_order is_whole_value
+returns-clause-in_order c = refl
