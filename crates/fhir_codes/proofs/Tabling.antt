@@ -2,7 +2,7 @@
 use Rattle.std.proofs.Common.{◌≡◌, ℕ, zero, suc, ◌<◌, List, [], ◌∷◌, ◌++◌, map, length, set, true, Option, None, Some, is_none, unwrap_or, refl, sym, ◌∙◌, ap, arith}
 use mathlib.Core.Bool.{false≢true}
 use Rattle.std.specs.List.{slice_get, list_all}
-use Rattle.std.specs.Option.{option_map_or, option_and_then}
+use Rattle.std.specs.Option.{option_and_then}
 use Rattle.std.specs.FinSet as sets
 use Rattle.std.proofs.lemmas.Bool.{and_parts, and_from, ltb-true, lt-ltb}
 use Rattle.std.proofs.lemmas.List.{map-set, map-append, length-map, length-append}
@@ -63,11 +63,6 @@ found_set_number tables numbers place n = map-set (option_and_then (slice_get ta
 
 -- ---- no numbers
 
-pub no_numbers_right : (tables : List Concepts) (numbers : List (Option ℕ)) → list_all is_none numbers ≡ true → AreNumbers tables numbers
-no_numbers_right tables [] none = refl
-no_numbers_right tables (None ∷ numbers) none = no_numbers_right tables numbers none
-no_numbers_right tables (Some n ∷ numbers) none = absurd (false≢true none)
-
 none_found : (tables : List Concepts) (numbers : List (Option ℕ)) → list_all is_none numbers ≡ true → (k : ℕ) → found_at (found_of tables numbers) k ≡ None
 none_found tables [] none k = refl
 none_found tables (None ∷ numbers) none zero = refl
@@ -77,12 +72,6 @@ none_found tables (Some n ∷ numbers) none k = absurd (false≢true none)
 pub no_numbers_filled : (p : Definitions) (tables : List Concepts) (numbers : List (Option ℕ)) → length numbers ≡ length p.value_sets → list_all is_none numbers ≡ true → AreFilled p (found_of tables numbers)
 no_numbers_filled p tables numbers same none =
     none_filled p (found_of tables numbers) (length-map numbers (option_and_then (slice_get tables)) ∙ same) (none_found tables numbers none)
-
--- ---- what is found
-
-pub found_or_empty : {A : Type 0} (o : Option A) (d : A) → unwrap_or o d ≡ option_map_or (λ s. s) o d
-found_or_empty None d = refl
-found_or_empty (Some s) d = refl
 
 -- ---- what is in all of some tables
 

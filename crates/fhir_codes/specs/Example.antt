@@ -96,6 +96,7 @@ example = record {
       ∷ (codes "urn:same-version", value_set (of_url (codes "urn:second") (version (codes "2"))) no_items)
       ∷ (codes "urn:other-version", value_set (of_url (codes "urn:second") (version (codes "1"))) no_items)
       ∷ (codes "urn:fragment", value_set (of_url (codes "urn:part") no_members) no_items)
+      ∷ (codes "urn:untold", value_set (of_url (codes "urn:untold") no_members) no_items)
       ∷ (codes "urn:codeless", value_set (of_url (codes "urn:uncoded") no_members) no_items)
       ∷ (codes "urn:absent", value_set (of_url (codes "urn:nothing") no_members) no_items)
       ∷ (codes "urn:systemless", value_set (object (these only_a no_members)) no_items)
@@ -112,6 +113,7 @@ example = record {
       ∷ (codes "urn:second", second)
       ∷ (codes "urn:part", fragment)
       ∷ (codes "urn:uncoded", codeless)
+      ∷ (codes "urn:untold", object (these only_a no_members))
       ∷ (codes "urn:unlisted", object (member (codes "content") (string (codes "complete")) (member (codes "concept") (object no_members) no_members)))
       ∷ [];
 }

@@ -24,14 +24,15 @@ pub fn examples()
 {}
 
 /// Which value sets of it can't be read besides. Of code systems that are taken whole: one of another version than is named
-/// (`other_version`), one that isn't there (`absent`), one that doesn't say that it is complete (`fragment`), and one that has a
-/// concept without a code (`codeless`). Of includes: concepts without a system (`systemless`), one that names neither a system
+/// (`other_version`), one that isn't there (`absent`), one that is a fragment (`fragment`) or doesn't say whether it is complete
+/// (`untold`), and one that has a concept without a code (`codeless`). Of includes: concepts without a system (`systemless`), one that names neither a system
 /// nor a value set (`empty`), a concept without a code (`unlisted`), and an exclude of these (`excluded`). And a value set that
 /// isn't composed (`uncomposed`), and each in which a part is of another kind (`misfits`).
 pub fn unread_examples()
     ensures other_version { concepts_of example (codes "urn:other-version") ≡ None }
     ensures absent { concepts_of example (codes "urn:absent") ≡ None }
     ensures fragment { concepts_of example (codes "urn:fragment") ≡ None }
+    ensures untold { concepts_of example (codes "urn:untold") ≡ None }
     ensures codeless { concepts_of example (codes "urn:codeless") ≡ None }
     ensures systemless { concepts_of example (codes "urn:systemless") ≡ None }
     ensures empty { concepts_of example (codes "urn:empty") ≡ None }

@@ -10,6 +10,9 @@ returns-clause-absent c = refl
 pub returns-clause-fragment : goal.returns-clause-fragment
 returns-clause-fragment c = refl
 
+pub returns-clause-untold : goal.returns-clause-untold
+returns-clause-untold c = refl
+
 pub returns-clause-codeless : goal.returns-clause-codeless
 returns-clause-codeless c = refl
 
