@@ -16,9 +16,6 @@ use Rattle.fhir_fp_syntax.specs.Words.{Word, next_of, looseness, name_of, term_o
 abbrev pub Parse : Type 0
 Parse = List Word → Option (Expression × List Word)
 
-abbrev pub no_parse : Parse
-no_parse ts = None
-
 -- what stands behind the first word, if that is of the kind
 abbrev pub behind : (Word → Bool) → List Word → Option (List Word)
 behind is [] = None
@@ -29,9 +26,6 @@ before is e ts = behind is ts >>= λ us. Some (e, us)
 
 abbrev pub Calls : Type 0
 Calls = Expression → Text → Parse
-
-abbrev pub no_calls : Calls
-no_calls a w ts = None
 
 -- the name behind `FHIR` and its dot
 abbrev pub qualified_at : List Word → Option (Text × List Word)

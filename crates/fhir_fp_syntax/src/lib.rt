@@ -1,4 +1,8 @@
-//! Expressions of FHIRPath N1, as far as they are read here.
+//! Expressions of FHIRPath N1, as far as they are read here: paths, the operators but arithmetic and `&`, and a part of the
+//! functions (`docs/DEFINITIONS.md` says which).
+//!
+//! The contract to read first is that of [`parse`]: its clauses `found` and `only` say that an expression is read exactly where
+//! the text is written for it (`IsWritten` in `specs/Tokens.antt`). The law [`examples`] shows what some texts are.
 #![tactic(auto)]
 
 mod display;

@@ -39,7 +39,8 @@ pub enum Mark {
     Mod,
 }
 
-/// A token. A name in backquotes is a name, whatever it spells.
+/// A token. A name in backquotes is a name, whatever it spells. A text is what stands between the quotes of a string, with
+/// its escapes.
 #[derive(Clone, Copy, Debug)]
 pub enum Token<'a> {
     Name(&'a str),
