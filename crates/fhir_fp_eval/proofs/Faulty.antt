@@ -11,7 +11,7 @@ use Rattle.fhir_fp_syntax.specs.declared.expr.Operator.TheVariants.{And}
 use Rattle.fhir_fp_syntax.specs.declared.expr.Filter.{Filter}
 use Rattle.fhir_fp_eval.specs.declared.fault.EvalFault.{EvalFault}
 use Rattle.fhir_fp_eval.specs.Values.{Plain, node, World}
-use Rattle.fhir_fp_eval.specs.Equality.{Answer, and3, is_yes}
+use Rattle.fhir_fp_eval.specs.Equality.{Answer, kleene_and, is_yes}
 use Rattle.fhir_fp_eval.specs.Meaning.{◌>>=◌, Found, den, asked, kept, combined, of_truths, truth_of, answer, verdict, is_true}
 
 pub left_faulty : (w : World) (op : Operator) (a b : Expression) (x : Plain) (e : EvalFault) → den w a x ≡ Err e → den w (binary op a b) x ≡ Err e
@@ -49,7 +49,7 @@ asked_faulty w f a c x vs v e h k faulty = rw h (fault_first (kept (den w c) vs)
 abbrev verdict_of : Found → Bool
 verdict_of r = verdict (r >>= λ vs. (truth_of vs >>= λ p. Ok (is_yes p)))
 
-of_answers : (P Q : Result Answer EvalFault) → verdict ((P >>= λ p. (Q >>= λ q. Ok (answer (and3 p q)))) >>= λ vs. (truth_of vs >>= λ p. Ok (is_yes p)))
+of_answers : (P Q : Result Answer EvalFault) → verdict ((P >>= λ p. (Q >>= λ q. Ok (answer (kleene_and p q)))) >>= λ vs. (truth_of vs >>= λ p. Ok (is_yes p)))
     ≡ (verdict (P >>= λ p. Ok (is_yes p)) && verdict (Q >>= λ p. Ok (is_yes p)))
 of_answers (Ok (Some true)) (Ok (Some true)) = refl
 of_answers (Ok (Some true)) (Ok (Some false)) = refl
@@ -67,7 +67,7 @@ and_false : (b : Bool) → false ≡ (b && false)
 and_false true = refl
 and_false false = refl
 
-of_both : (r s : Found) → verdict_of (r >>= λ vs. (s >>= λ ws. of_truths and3 vs ws)) ≡ (verdict_of r && verdict_of s)
+of_both : (r s : Found) → verdict_of (r >>= λ vs. (s >>= λ ws. of_truths kleene_and vs ws)) ≡ (verdict_of r && verdict_of s)
 of_both (Ok vs) (Ok ws) = of_answers (truth_of vs) (truth_of ws)
 of_both (Ok vs) (Err e) = and_false (verdict_of (Ok vs))
 of_both (Err e) s = refl
