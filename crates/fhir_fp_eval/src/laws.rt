@@ -5,10 +5,12 @@ ghost use Rattle.std.specs.List.{Contains, filter, list_any, list_all};
 ghost use Rattle.fhir_json.specs.Tree.{Text};
 ghost use Rattle.fhir_schema.specs.Covers.{derives};
 ghost use Rattle.fhir_instance.specs.Items.{Item, type_of};
-ghost use Rattle.fhir_fp_syntax.specs.Expression.{Expression, nothing, boolean, name, call, filtered, binary};
+ghost use Rattle.fhir_fp_syntax.specs.Expression.{Expression, nothing, boolean, name, child, call, typed, filtered, binary};
 ghost use Rattle.fhir_fp_syntax.specs.declared.expr.Operator.{Operator};
 ghost use Rattle.fhir_fp_syntax.specs.declared.expr.Operator.TheVariants.{And, Or, Xor, Implies};
+ghost use Rattle.fhir_fp_syntax.specs.declared.expr.Function.{Function};
 ghost use Rattle.fhir_fp_syntax.specs.declared.expr.Function.TheVariants.{Not};
+ghost use Rattle.fhir_fp_syntax.specs.declared.expr.TypeTest.{TypeTest};
 ghost use Rattle.fhir_fp_syntax.specs.declared.expr.Filter.{Filter};
 ghost use Rattle.fhir_fp_syntax.specs.declared.expr.Filter.TheVariants.{Where, Exists, All};
 ghost use Rattle.fhir_fp_eval.specs.declared.fault.EvalFault.{EvalFault};
@@ -32,9 +34,17 @@ pub fn truth_tables()
     ensures not_nothing { given_by (call Not nothing) ≡ none }
 {}
 
-/// A fault anywhere is one of the whole: of an operator in either operand, whatever the other is, and of a function in what
-/// it asks of any value. So nothing is cut short.
+/// A fault anywhere is one of the whole: in what a name, a function or a type test follows, in either operand of an operator,
+/// whatever the other is, and in what a function asks of any value. So nothing is cut short.
 pub fn faults_pass()
+    ensures child { (w : World) (a : Expression) (n : Text) (x : Plain) (e : EvalFault)
+        → den w a x ≡ Err e → den w (child a n) x ≡ Err e }
+    ensures function { (w : World) (f : Function) (a : Expression) (x : Plain) (e : EvalFault)
+        → den w a x ≡ Err e → den w (call f a) x ≡ Err e }
+    ensures test { (w : World) (f : TypeTest) (a : Expression) (t : Text) (x : Plain) (e : EvalFault)
+        → den w a x ≡ Err e → den w (typed f a t) x ≡ Err e }
+    ensures filter { (w : World) (f : Filter) (a c : Expression) (x : Plain) (e : EvalFault)
+        → den w a x ≡ Err e → den w (filtered f a c) x ≡ Err e }
     ensures left { (w : World) (op : Operator) (a b : Expression) (x : Plain) (e : EvalFault)
         → den w a x ≡ Err e → den w (binary op a b) x ≡ Err e }
     ensures right { (w : World) (op : Operator) (a b : Expression) (x : Plain) (vs : List Plain) (e : EvalFault)
