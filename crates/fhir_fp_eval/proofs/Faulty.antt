@@ -5,14 +5,32 @@ use Rattle.std.specs.List.{Contains}
 use Rattle.fhir_json.specs.Tree.{Text}
 use Rattle.fhir_schema.specs.Covers.{derives}
 use Rattle.fhir_instance.specs.Items.{Item, type_of}
-use Rattle.fhir_fp_syntax.specs.Expression.{Expression, name, filtered, binary}
+use Rattle.fhir_fp_syntax.specs.Expression.{Expression, name, child, call, typed, filtered, binary}
 use Rattle.fhir_fp_syntax.specs.declared.expr.Operator.{Operator}
 use Rattle.fhir_fp_syntax.specs.declared.expr.Operator.TheVariants.{And}
 use Rattle.fhir_fp_syntax.specs.declared.expr.Filter.{Filter}
+use Rattle.fhir_fp_syntax.specs.declared.expr.Function.{Function}
+use Rattle.fhir_fp_syntax.specs.declared.expr.TypeTest.{TypeTest}
 use Rattle.fhir_fp_eval.specs.declared.fault.EvalFault.{EvalFault}
 use Rattle.fhir_fp_eval.specs.Values.{Plain, node, World}
-use Rattle.fhir_fp_eval.specs.Equality.{Answer, and3, is_yes}
-use Rattle.fhir_fp_eval.specs.Meaning.{◌>>=◌, Found, den, asked, kept, combined, of_truths, truth_of, answer, verdict, is_true}
+use Rattle.fhir_fp_eval.specs.Equality.{Answer, kleene_and, is_yes}
+use Rattle.fhir_fp_eval.specs.Meaning.{◌>>=◌, Found, den, asked, kept, children_of, applied, tested, combined, of_truths, truth_of, answer, filtered_by, verdict, is_true}
+
+pub child_faulty : (w : World) (a : Expression) (n : Text) (x : Plain) (e : EvalFault) → den w a x ≡ Err e → den w (child a n) x ≡ Err e
+unfolding den
+child_faulty w a n x e h = ap (λ (r : Found). r >>= λ vs. Ok (children_of n vs)) h
+
+pub function_faulty : (w : World) (f : Function) (a : Expression) (x : Plain) (e : EvalFault) → den w a x ≡ Err e → den w (call f a) x ≡ Err e
+unfolding den
+function_faulty w f a x e h = ap (λ (r : Found). r >>= λ vs. applied f vs) h
+
+pub test_faulty : (w : World) (f : TypeTest) (a : Expression) (t : Text) (x : Plain) (e : EvalFault) → den w a x ≡ Err e → den w (typed f a t) x ≡ Err e
+unfolding den
+test_faulty w f a t x e h = ap (λ (r : Found). r >>= λ vs. tested w.schema f t vs) h
+
+pub filter_faulty : (w : World) (f : Filter) (a c : Expression) (x : Plain) (e : EvalFault) → den w a x ≡ Err e → den w (filtered f a c) x ≡ Err e
+unfolding den
+filter_faulty w f a c x e h = ap (λ (r : Found). r >>= λ vs. (kept (den w c) vs >>= λ ws. Ok (filtered_by f vs ws))) h
 
 pub left_faulty : (w : World) (op : Operator) (a b : Expression) (x : Plain) (e : EvalFault) → den w a x ≡ Err e → den w (binary op a b) x ≡ Err e
 unfolding den
@@ -49,7 +67,7 @@ asked_faulty w f a c x vs v e h k faulty = rw h (fault_first (kept (den w c) vs)
 abbrev verdict_of : Found → Bool
 verdict_of r = verdict (r >>= λ vs. (truth_of vs >>= λ p. Ok (is_yes p)))
 
-of_answers : (P Q : Result Answer EvalFault) → verdict ((P >>= λ p. (Q >>= λ q. Ok (answer (and3 p q)))) >>= λ vs. (truth_of vs >>= λ p. Ok (is_yes p)))
+of_answers : (P Q : Result Answer EvalFault) → verdict ((P >>= λ p. (Q >>= λ q. Ok (answer (kleene_and p q)))) >>= λ vs. (truth_of vs >>= λ p. Ok (is_yes p)))
     ≡ (verdict (P >>= λ p. Ok (is_yes p)) && verdict (Q >>= λ p. Ok (is_yes p)))
 of_answers (Ok (Some true)) (Ok (Some true)) = refl
 of_answers (Ok (Some true)) (Ok (Some false)) = refl
@@ -67,7 +85,7 @@ and_false : (b : Bool) → false ≡ (b && false)
 and_false true = refl
 and_false false = refl
 
-of_both : (r s : Found) → verdict_of (r >>= λ vs. (s >>= λ ws. of_truths and3 vs ws)) ≡ (verdict_of r && verdict_of s)
+of_both : (r s : Found) → verdict_of (r >>= λ vs. (s >>= λ ws. of_truths kleene_and vs ws)) ≡ (verdict_of r && verdict_of s)
 of_both (Ok vs) (Ok ws) = of_answers (truth_of vs) (truth_of ws)
 of_both (Ok vs) (Err e) = and_false (verdict_of (Ok vs))
 of_both (Err e) s = refl

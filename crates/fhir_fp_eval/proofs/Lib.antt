@@ -4,3 +4,4 @@ pub mod Pairing
 pub mod At
 pub mod Parts
 pub mod Faulty
+pub mod Filtering

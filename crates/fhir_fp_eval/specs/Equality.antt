@@ -14,31 +14,31 @@ use Rattle.fhir_fp_eval.specs.Values.{Plain, node, Content, boolean_of, number_o
 abbrev pub Answer : Type 0
 Answer = Option Bool
 
-abbrev pub and3 : Answer → Answer → Answer
-and3 (Some false) q = Some false
-and3 (Some true) q = q
-and3 None (Some false) = Some false
-and3 None (Some true) = None
-and3 None None = None
+abbrev pub kleene_and : Answer → Answer → Answer
+kleene_and (Some false) q = Some false
+kleene_and (Some true) q = q
+kleene_and None (Some false) = Some false
+kleene_and None (Some true) = None
+kleene_and None None = None
 
-abbrev pub or3 : Answer → Answer → Answer
-or3 (Some true) q = Some true
-or3 (Some false) q = q
-or3 None (Some true) = Some true
-or3 None (Some false) = None
-or3 None None = None
+abbrev pub kleene_or : Answer → Answer → Answer
+kleene_or (Some true) q = Some true
+kleene_or (Some false) q = q
+kleene_or None (Some true) = Some true
+kleene_or None (Some false) = None
+kleene_or None None = None
 
-abbrev pub not3 : Answer → Answer
-not3 (Some b) = Some (not b)
-not3 None = None
+abbrev pub kleene_not : Answer → Answer
+kleene_not (Some b) = Some (not b)
+kleene_not None = None
 
-abbrev pub xor3 : Answer → Answer → Answer
-xor3 (Some a) (Some b) = Some (if a then not b else b)
-xor3 (Some a) None = None
-xor3 None q = None
+abbrev pub kleene_xor : Answer → Answer → Answer
+kleene_xor (Some a) (Some b) = Some (if a then not b else b)
+kleene_xor (Some a) None = None
+kleene_xor None q = None
 
-abbrev pub implies3 : Answer → Answer → Answer
-implies3 p q = or3 (not3 p) q
+abbrev pub kleene_implies : Answer → Answer → Answer
+kleene_implies p q = kleene_or (kleene_not p) q
 
 abbrev pub is_yes : Answer → Bool
 is_yes (Some b) = b
@@ -81,7 +81,7 @@ abbrev mutual
   equal_kids no_kids no_kids = Some true
   equal_kids no_kids (kid m y ls) = Some false
   equal_kids (kid n x ks) no_kids = Some false
-  equal_kids (kid n x ks) (kid m y ls) = and3 (if_same n m (equal x y)) (equal_kids ks ls)
+  equal_kids (kid n x ks) (kid m y ls) = kleene_and (if_same n m (equal x y)) (equal_kids ks ls)
 
 -- ---- values and lists of them
 
@@ -97,7 +97,7 @@ unfoldable pub pairs : List Plain → List Plain → Answer
 pairs [] [] = Some true
 pairs [] (y ∷ ys) = Some false
 pairs (x ∷ xs) [] = Some false
-pairs (x ∷ xs) (y ∷ ys) = and3 (alike x y) (pairs xs ys)
+pairs (x ∷ xs) (y ∷ ys) = kleene_and (alike x y) (pairs xs ys)
 
 abbrev pub equality : List Plain → List Plain → Answer
 equality [] ws = None

@@ -25,7 +25,7 @@ use Rattle.fhir_fp_eval.specs.declared.fault.EvalFault.{EvalFault}
 use Rattle.fhir_fp_eval.specs.declared.fault.EvalFault.TheVariants.{Several, Kind}
 use Rattle.fhir_fp_eval.specs.Values.{Plain, node, truth, number, text, World, Content, boolean_of, number_of, item_content, content}
 use Rattle.fhir_fp_eval.specs.Literals.{literal_value}
-use Rattle.fhir_fp_eval.specs.Equality.{Answer, and3, or3, not3, xor3, implies3, is_yes, has, equality}
+use Rattle.fhir_fp_eval.specs.Equality.{Answer, kleene_and, kleene_or, kleene_not, kleene_xor, kleene_implies, is_yes, has, equality}
 use Rattle.fhir_fp_eval.specs.Comparing.{Compared, order_of}
 
 abbrev pub Found : Type 0
@@ -159,7 +159,7 @@ applied functions.Count vs = Ok (number (count (length vs)) ∷ [])
 applied functions.First vs = Ok (first_of vs)
 applied functions.Children vs = Ok (below (λ x. all_kids (kids_of x)) vs)
 applied functions.Descendants vs = Ok (below descendants vs)
-applied functions.Not vs = truth_of vs >>= λ p. Ok (answer (not3 p))
+applied functions.Not vs = truth_of vs >>= λ p. Ok (answer (kleene_not p))
 applied functions.HasValue vs = Ok (truth (has_value vs) ∷ [])
 
 -- the item's type is this one, or derives from it; a plain value is of no type
@@ -190,13 +190,13 @@ combined s operators.LessOrEqual vs ws = in_order is_le (compared s vs ws)
 combined s operators.Greater vs ws = in_order is_gt (compared s vs ws)
 combined s operators.GreaterOrEqual vs ws = in_order is_ge (compared s vs ws)
 combined s operators.Equal vs ws = Ok (answer (equality vs ws))
-combined s operators.NotEqual vs ws = Ok (answer (not3 (equality vs ws)))
+combined s operators.NotEqual vs ws = Ok (answer (kleene_not (equality vs ws)))
 combined s operators.In vs ws = member_of vs ws
 combined s operators.Contains vs ws = member_of ws vs
-combined s operators.And vs ws = of_truths and3 vs ws
-combined s operators.Or vs ws = of_truths or3 vs ws
-combined s operators.Xor vs ws = of_truths xor3 vs ws
-combined s operators.Implies vs ws = of_truths implies3 vs ws
+combined s operators.And vs ws = of_truths kleene_and vs ws
+combined s operators.Or vs ws = of_truths kleene_or vs ws
+combined s operators.Xor vs ws = of_truths kleene_xor vs ws
+combined s operators.Implies vs ws = of_truths kleene_implies vs ws
 
 -- ---- what is evaluated for each value
 

@@ -10,7 +10,7 @@ ghost use Rattle.fhir_fp_eval.specs.Equality.{same_content, if_same, equal, equa
 ghost use Rattle.fhir_fp_eval.specs.Views.{plain_of, plains_of, content_seen};
 
 use crate::content::{Content, content_of, item_content};
-use crate::truths::{and3, is_yes, same_truth};
+use crate::truths::{is_yes, kleene_and, same_truth};
 use crate::value::Value;
 use fhir_instance::{Kid, Typed};
 use fhir_prims::{Moment, cmp_moment};
@@ -80,7 +80,7 @@ fn equal_kids(left: &[Kid<'_, '_>], right: &[Kid<'_, '_>]) -> Option<bool>
         let [other, others @ ..] = rest else {
             return Some(false);
         };
-        all = and3(all, equal_named(kid, other));
+        all = kleene_and(all, equal_named(kid, other));
         rest = others;
     }
     match rest {
@@ -121,7 +121,7 @@ fn pairs(left: &[Value<'_, '_, '_>], right: &[Value<'_, '_, '_>]) -> Option<bool
         let [other, others @ ..] = rest else {
             return Some(false);
         };
-        all = and3(all, alike(*value, *other));
+        all = kleene_and(all, alike(*value, *other));
         rest = others;
     }
     match rest {

@@ -1,18 +1,21 @@
 //! Laws: what the definitions say.
 
 ghost use Rattle.std.specs.Prelude.{◌≡◌, [], ◌∷◌, ◌&&◌, true, false, Result, Ok, Err, List, codes, IsTrue, IsErr};
-ghost use Rattle.std.specs.List.{Contains};
+ghost use Rattle.std.specs.List.{Contains, filter, list_any, list_all};
 ghost use Rattle.fhir_json.specs.Tree.{Text};
 ghost use Rattle.fhir_schema.specs.Covers.{derives};
 ghost use Rattle.fhir_instance.specs.Items.{Item, type_of};
-ghost use Rattle.fhir_fp_syntax.specs.Expression.{Expression, nothing, boolean, name, call, filtered, binary};
+ghost use Rattle.fhir_fp_syntax.specs.Expression.{Expression, nothing, boolean, name, child, call, typed, filtered, binary};
 ghost use Rattle.fhir_fp_syntax.specs.declared.expr.Operator.{Operator};
 ghost use Rattle.fhir_fp_syntax.specs.declared.expr.Operator.TheVariants.{And, Or, Xor, Implies};
+ghost use Rattle.fhir_fp_syntax.specs.declared.expr.Function.{Function};
 ghost use Rattle.fhir_fp_syntax.specs.declared.expr.Function.TheVariants.{Not};
+ghost use Rattle.fhir_fp_syntax.specs.declared.expr.TypeTest.{TypeTest};
 ghost use Rattle.fhir_fp_syntax.specs.declared.expr.Filter.{Filter};
+ghost use Rattle.fhir_fp_syntax.specs.declared.expr.Filter.TheVariants.{Where, Exists, All};
 ghost use Rattle.fhir_fp_eval.specs.declared.fault.EvalFault.{EvalFault};
-ghost use Rattle.fhir_fp_eval.specs.Values.{Plain, node, World};
-ghost use Rattle.fhir_fp_eval.specs.Meaning.{den, asked, is_true};
+ghost use Rattle.fhir_fp_eval.specs.Values.{Plain, node, truth, World};
+ghost use Rattle.fhir_fp_eval.specs.Meaning.{den, asked, verdict, is_true};
 ghost use Rattle.fhir_fp_eval.specs.Example.{is, none, table, truths, given_by};
 
 /// The truth tables of `and`, `or`, `xor` and `implies`, whose rows and columns are `true`, `false` and `{}`, and `not()`
@@ -31,15 +34,34 @@ pub fn truth_tables()
     ensures not_nothing { given_by (call Not nothing) ≡ none }
 {}
 
-/// A fault anywhere is one of the whole: of an operator in either operand, whatever the other is, and of a function in what
-/// it asks of any value. So nothing is cut short.
+/// A fault anywhere is one of the whole: in what a name, a function or a type test follows, in either operand of an operator,
+/// whatever the other is, and in what a function asks of any value. So nothing is cut short.
 pub fn faults_pass()
+    ensures child { (w : World) (a : Expression) (n : Text) (x : Plain) (e : EvalFault)
+        → den w a x ≡ Err e → den w (child a n) x ≡ Err e }
+    ensures function { (w : World) (f : Function) (a : Expression) (x : Plain) (e : EvalFault)
+        → den w a x ≡ Err e → den w (call f a) x ≡ Err e }
+    ensures test { (w : World) (f : TypeTest) (a : Expression) (t : Text) (x : Plain) (e : EvalFault)
+        → den w a x ≡ Err e → den w (typed f a t) x ≡ Err e }
+    ensures filter { (w : World) (f : Filter) (a c : Expression) (x : Plain) (e : EvalFault)
+        → den w a x ≡ Err e → den w (filtered f a c) x ≡ Err e }
     ensures left { (w : World) (op : Operator) (a b : Expression) (x : Plain) (e : EvalFault)
         → den w a x ≡ Err e → den w (binary op a b) x ≡ Err e }
     ensures right { (w : World) (op : Operator) (a b : Expression) (x : Plain) (vs : List Plain) (e : EvalFault)
         → den w a x ≡ Ok vs → den w b x ≡ Err e → den w (binary op a b) x ≡ Err e }
     ensures asked { (w : World) (f : Filter) (a c : Expression) (x : Plain) (vs : List Plain) (v : Plain) (e : EvalFault)
         → den w a x ≡ Ok vs → Contains vs v → asked (den w c) v ≡ Err e → IsErr (den w (filtered f a c) x) }
+{}
+
+/// Of the values that an expression gives, `where(c)` gives those of which c is true, in their order; `exists(c)` says whether
+/// it is true of any, and `all(c)` whether of each (FHIRPath N1, sections 5.1 and 5.2). So it is where there is no fault.
+pub fn criteria()
+    ensures where_true { (w : World) (a c : Expression) (x : Plain) (vs us : List Plain) → den w a x ≡ Ok vs
+        → den w (filtered Where a c) x ≡ Ok us → us ≡ filter (λ v. verdict (asked (den w c) v)) vs }
+    ensures exists { (w : World) (a c : Expression) (x : Plain) (vs us : List Plain) → den w a x ≡ Ok vs
+        → den w (filtered Exists a c) x ≡ Ok us → us ≡ truth (list_any (λ v. verdict (asked (den w c) v)) vs) ∷ [] }
+    ensures all { (w : World) (a c : Expression) (x : Plain) (vs us : List Plain) → den w a x ≡ Ok vs
+        → den w (filtered All a c) x ≡ Ok us → us ≡ truth (list_all (λ v. verdict (asked (den w c) v)) vs) ∷ [] }
 {}
 
 /// `a and b` is true where both are, and an expression that gives nothing, or has a fault, is not true.

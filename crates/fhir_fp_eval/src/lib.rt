@@ -3,9 +3,14 @@
 //!
 //! ```
 //! /// Whether an expression is true of a resource as a whole.
-//! pub fn is_true_of(alloc: Global, expr: &Expr, schema: &Schema, resource: &Typed<'_, '_>) -> Result<bool, NoMemory>
-//!     ensures { Gives (λ b. b) result (is_true (record { schema = schema.now; resource = item_of resource.now; context = item_of resource.now })
-//!         (expression_of expr.now) (item_of resource.now)) }
+//! pub fn is_true_of<'e, 'a, 'j>(
+//!     alloc: Global,
+//!     expr: &Expr,
+//!     schema: &'e Schema,
+//!     resource: &'e Typed<'a, 'j>,
+//! ) -> Result<bool, NoMemory>
+//!     ensures { Gives (λ b. b) result (is_true (record { schema = schema.now; resource = item_of resource.now;
+//!         context = item_of resource.now }) (expression_of expr.now) (item_of resource.now)) }
 //! {
 //!     let env = Env { schema, resource, context: resource };
 //!     holds(alloc, expr, &env, resource)
@@ -13,7 +18,8 @@
 //! ```
 //!
 //! Read first the contract of [`eval`]: it gives what the word `den` of `specs/Meaning.antt` says, line by line of the forms of an
-//! expression. Then read the laws [`faults_pass`] and [`truth_tables`]: nothing is cut short, and truths are those of Kleene.
+//! expression. Then read the laws [`faults_pass`], [`criteria`] and [`truth_tables`]: nothing is cut short, `where` keeps the values
+//! of which its criteria are true, and truths are those of Kleene.
 #![tactic(auto)]
 
 mod comparing;
@@ -33,6 +39,6 @@ mod worked;
 
 pub use evaluation::{eval, holds};
 pub use fault::EvalFault;
-pub use laws::{faults_pass, paths_by_type, true_expressions, truth_tables};
+pub use laws::{criteria, faults_pass, paths_by_type, true_expressions, truth_tables};
 pub use value::{Env, Value};
 pub use worked::{equality_example, order_example, paths_example};

@@ -3,7 +3,7 @@
 ghost use Rattle.std.specs.Prelude.{◌≡◌};
 ghost use Rattle.std.specs.Ordering.{is_lt, is_le, is_gt, is_ge};
 ghost use Rattle.fhir_json.specs.Memory.{GivesOr};
-ghost use Rattle.fhir_fp_eval.specs.Equality.{and3, or3, xor3, implies3};
+ghost use Rattle.fhir_fp_eval.specs.Equality.{kleene_and, kleene_or, kleene_xor, kleene_implies};
 ghost use Rattle.fhir_fp_eval.specs.Faults.{is_no_memory};
 ghost use Rattle.fhir_fp_eval.specs.Views.{plains_of};
 ghost use Rattle.fhir_fp_eval.specs.Meaning.{of_truths, compared, in_order, combined};
@@ -13,7 +13,7 @@ use crate::equality::equality;
 use crate::fault::EvalFault;
 use crate::lists::answer;
 use crate::sets::{intersection, member_of, union};
-use crate::truths::{and3, implies3, not3, or3, truth_of, xor3};
+use crate::truths::{kleene_and, kleene_implies, kleene_not, kleene_or, kleene_xor, truth_of};
 use crate::value::Value;
 use crate::words::indexed;
 use fhir_fp_syntax::Operator;
@@ -25,10 +25,10 @@ fn and_of<'e, 'a, 'j>(
     left: &[Value<'e, 'a, 'j>],
     right: &[Value<'e, 'a, 'j>],
 ) -> Result<Vec<Value<'e, 'a, 'j>>, EvalFault>
-    ensures { GivesOr is_no_memory (λ v. plains_of v.items) result (of_truths and3 (plains_of left.now) (plains_of right.now)) }
+    ensures { GivesOr is_no_memory (λ v. plains_of v.items) result (of_truths kleene_and (plains_of left.now) (plains_of right.now)) }
 {
     let (truth, other) = (truth_of(left)?, truth_of(right)?);
-    answer(alloc, and3(truth, other))
+    answer(alloc, kleene_and(truth, other))
 }
 
 fn or_of<'e, 'a, 'j>(
@@ -36,10 +36,10 @@ fn or_of<'e, 'a, 'j>(
     left: &[Value<'e, 'a, 'j>],
     right: &[Value<'e, 'a, 'j>],
 ) -> Result<Vec<Value<'e, 'a, 'j>>, EvalFault>
-    ensures { GivesOr is_no_memory (λ v. plains_of v.items) result (of_truths or3 (plains_of left.now) (plains_of right.now)) }
+    ensures { GivesOr is_no_memory (λ v. plains_of v.items) result (of_truths kleene_or (plains_of left.now) (plains_of right.now)) }
 {
     let (truth, other) = (truth_of(left)?, truth_of(right)?);
-    answer(alloc, or3(truth, other))
+    answer(alloc, kleene_or(truth, other))
 }
 
 fn xor_of<'e, 'a, 'j>(
@@ -47,10 +47,10 @@ fn xor_of<'e, 'a, 'j>(
     left: &[Value<'e, 'a, 'j>],
     right: &[Value<'e, 'a, 'j>],
 ) -> Result<Vec<Value<'e, 'a, 'j>>, EvalFault>
-    ensures { GivesOr is_no_memory (λ v. plains_of v.items) result (of_truths xor3 (plains_of left.now) (plains_of right.now)) }
+    ensures { GivesOr is_no_memory (λ v. plains_of v.items) result (of_truths kleene_xor (plains_of left.now) (plains_of right.now)) }
 {
     let (truth, other) = (truth_of(left)?, truth_of(right)?);
-    answer(alloc, xor3(truth, other))
+    answer(alloc, kleene_xor(truth, other))
 }
 
 fn implies_of<'e, 'a, 'j>(
@@ -58,10 +58,10 @@ fn implies_of<'e, 'a, 'j>(
     left: &[Value<'e, 'a, 'j>],
     right: &[Value<'e, 'a, 'j>],
 ) -> Result<Vec<Value<'e, 'a, 'j>>, EvalFault>
-    ensures { GivesOr is_no_memory (λ v. plains_of v.items) result (of_truths implies3 (plains_of left.now) (plains_of right.now)) }
+    ensures { GivesOr is_no_memory (λ v. plains_of v.items) result (of_truths kleene_implies (plains_of left.now) (plains_of right.now)) }
 {
     let (truth, other) = (truth_of(left)?, truth_of(right)?);
-    answer(alloc, implies3(truth, other))
+    answer(alloc, kleene_implies(truth, other))
 }
 
 fn less_of<'e, 'a, 'j>(
@@ -144,7 +144,7 @@ pub(crate) fn combined<'e, 'a, 'j>(
         Operator::Greater => greater_of(alloc, schema, left, right),
         Operator::GreaterOrEqual => at_least_of(alloc, schema, left, right),
         Operator::Equal => answer(alloc, equality(left, right)),
-        Operator::NotEqual => answer(alloc, not3(equality(left, right))),
+        Operator::NotEqual => answer(alloc, kleene_not(equality(left, right))),
         Operator::In => member_of(alloc, left, right),
         Operator::Contains => member_of(alloc, right, left),
         Operator::And => and_of(alloc, left, right),

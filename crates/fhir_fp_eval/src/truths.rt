@@ -2,7 +2,7 @@
 
 ghost use Rattle.std.specs.Prelude.{◌≡◌, option_map};
 ghost use Rattle.fhir_json.specs.Memory.{GivesOr};
-ghost use Rattle.fhir_fp_eval.specs.Equality.{and3, or3, not3, xor3, implies3, is_yes, same_truth};
+ghost use Rattle.fhir_fp_eval.specs.Equality.{kleene_and, kleene_or, kleene_not, kleene_xor, kleene_implies, is_yes, same_truth};
 ghost use Rattle.fhir_fp_eval.specs.Faults.{is_no_memory};
 ghost use Rattle.fhir_fp_eval.specs.Meaning.{truth_in, truth_of};
 ghost use Rattle.fhir_fp_eval.specs.Views.{plains_of, content_seen};
@@ -11,8 +11,8 @@ use crate::content::{Content, content_of};
 use crate::fault::EvalFault;
 use crate::value::Value;
 
-pub(crate) fn and3(left: Option<bool>, right: Option<bool>) -> Option<bool>
-    ensures { result ≡ and3 left right }
+pub(crate) fn kleene_and(left: Option<bool>, right: Option<bool>) -> Option<bool>
+    ensures { result ≡ kleene_and left right }
 {
     match left {
         Some(false) => Some(false),
@@ -25,8 +25,8 @@ pub(crate) fn and3(left: Option<bool>, right: Option<bool>) -> Option<bool>
     }
 }
 
-pub(crate) fn or3(left: Option<bool>, right: Option<bool>) -> Option<bool>
-    ensures { result ≡ or3 left right }
+pub(crate) fn kleene_or(left: Option<bool>, right: Option<bool>) -> Option<bool>
+    ensures { result ≡ kleene_or left right }
 {
     match left {
         Some(true) => Some(true),
@@ -39,8 +39,8 @@ pub(crate) fn or3(left: Option<bool>, right: Option<bool>) -> Option<bool>
     }
 }
 
-pub(crate) fn not3(truth: Option<bool>) -> Option<bool>
-    ensures { result ≡ not3 truth }
+pub(crate) fn kleene_not(truth: Option<bool>) -> Option<bool>
+    ensures { result ≡ kleene_not truth }
 {
     match truth {
         Some(flag) => Some(!flag),
@@ -48,8 +48,8 @@ pub(crate) fn not3(truth: Option<bool>) -> Option<bool>
     }
 }
 
-pub(crate) fn xor3(left: Option<bool>, right: Option<bool>) -> Option<bool>
-    ensures { result ≡ xor3 left right }
+pub(crate) fn kleene_xor(left: Option<bool>, right: Option<bool>) -> Option<bool>
+    ensures { result ≡ kleene_xor left right }
 {
     match left {
         Some(left) => match right {
@@ -60,10 +60,10 @@ pub(crate) fn xor3(left: Option<bool>, right: Option<bool>) -> Option<bool>
     }
 }
 
-pub(crate) fn implies3(left: Option<bool>, right: Option<bool>) -> Option<bool>
-    ensures { result ≡ implies3 left right }
+pub(crate) fn kleene_implies(left: Option<bool>, right: Option<bool>) -> Option<bool>
+    ensures { result ≡ kleene_implies left right }
 {
-    or3(not3(left), right)
+    kleene_or(kleene_not(left), right)
 }
 
 pub(crate) fn is_yes(truth: Option<bool>) -> bool

@@ -12,7 +12,7 @@ use crate::fault::EvalFault;
 use crate::lists::{
     all_children, all_descendants, answer, children_of, first_of, is_empty, single,
 };
-use crate::truths::{not3, truth_of};
+use crate::truths::{kleene_not, truth_of};
 use crate::value::Value;
 use fhir_decimal::Number;
 use fhir_fp_syntax::{Function, TypeTest};
@@ -125,7 +125,7 @@ pub(crate) fn applied<'e, 'a, 'j>(
         Function::Descendants => all_descendants(alloc, values),
         Function::Not => {
             let truth = truth_of(values)?;
-            answer(alloc, not3(truth))
+            answer(alloc, kleene_not(truth))
         }
         Function::HasValue => single(alloc, Value::Truth(has_value(values))),
     }

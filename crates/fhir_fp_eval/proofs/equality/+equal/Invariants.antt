@@ -1,7 +1,7 @@
 use Rattle.std.proofs.Common.{◌≡◌, ◌+◌, ◌*◌, drop}
 use Rattle.fhir_instance.specs.Items.{kids_in}
 use Rattle.fhir_instance.specs.View.{item_of, named_of, named_in}
-use Rattle.fhir_fp_eval.specs.Equality.{and3, equal_kids}
+use Rattle.fhir_fp_eval.specs.Equality.{kleene_and, equal_kids}
 use Rattle.fhir_fp_eval.proofs.Heights.{height, heights}
 use Rattle.fhir_fp_eval.proofs.equality.+equal.Given as goal
 
@@ -16,5 +16,5 @@ decreases-equal_kids l = 3 * heights (kids_in (named_in l.left.now)) + 2
 
 abbrev pub invariant-equal_kids-loop-kid : goal.invariant-equal_kids-loop-kid
 invariant-equal_kids-loop-kid l =
-    and3 l.all (equal_kids (kids_in (named_in (drop l.kid-index l.left))) (kids_in (named_in l.rest)))
+    kleene_and l.all (equal_kids (kids_in (named_in (drop l.kid-index l.left))) (kids_in (named_in l.rest)))
     ≡ equal_kids (kids_in (named_in l.left)) (kids_in (named_in l.right))
