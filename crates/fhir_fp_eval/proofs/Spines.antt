@@ -1,5 +1,5 @@
 -- An expression, step by step along its first operands.
-use Rattle.std.proofs.Common.{◌≡◌, ℕ, suc, ◌+◌, ◌<◌, ◌≤◌, Bool, true, false, List, [], ◌∷◌, ◌++◌, Option, Some, None, Result, Ok, Err, refl, sym, ap, ◌∙◌, append_assoc, arith}
+use Rattle.std.proofs.Common.{◌≡◌, ℕ, suc, ◌+◌, ◌<◌, ◌≤◌, Bool, true, false, List, [], ◌∷◌, ◌++◌, Option, Some, None, Ok, Err, refl, sym, ap, ◌∙◌, arith}
 use Rattle.std.specs.Borrow.{Bor}
 use Rattle.std.specs.Option.{option_map}
 use Rattle.fhir_json.specs.Memory.{IsFault}
@@ -19,32 +19,9 @@ abbrev pub spine_from : Option Expression → List Expression
 spine_from None = []
 spine_from (Some e) = spine e
 
-pub spine_out : (e : Expression) → spine e ≡ e ∷ spine_from (base_of e)
-spine_out nothing = refl
-spine_out (boolean b) = refl
-spine_out (expressions.number s) = refl
-spine_out (expressions.text s) = refl
-spine_out this = refl
-spine_out resource = refl
-spine_out context = refl
-spine_out (name n) = refl
-spine_out (child a n) = refl
-spine_out (call f a) = refl
-spine_out (typed f a t) = refl
-spine_out (filtered f a c) = refl
-spine_out (binary op a b) = refl
-
 pub steps_end : (es : List (Bor Expr)) (s : Bor Expr) → steps_of (es ++ s ∷ []) ≡ steps_of es ++ expression_of s.now ∷ []
 steps_end [] s = refl
 steps_end (e ∷ es) s = ap (λ (ds : List Expression). expression_of e.now ∷ ds) (steps_end es s)
-
-pub walked : (es : List (Bor Expr)) (s : Bor Expr) (next : Option Expression) (whole : List Expression) → next ≡ base_of (expression_of s.now)
-    → steps_of es ++ spine (expression_of s.now) ≡ whole → steps_of (es ++ s ∷ []) ++ spine_from next ≡ whole
-walked es s next whole is so_far =
-    ap (λ (ds : List Expression). ds ++ spine_from next) (steps_end es s)
-    ∙ (append_assoc (steps_of es) (expression_of s.now ∷ []) (spine_from next)
-    ∙ (ap (λ (m : Option Expression). steps_of es ++ expression_of s.now ∷ spine_from m) is
-    ∙ (ap (λ (ds : List Expression). steps_of es ++ ds) (sym (spine_out (expression_of s.now))) ∙ so_far)))
 
 -- ---- what the steps make of a result, from the last to the first
 

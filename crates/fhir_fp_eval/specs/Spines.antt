@@ -2,8 +2,7 @@
 use Rattle.std.specs.Prelude.{List, [], ◌∷◌, map, Option, Some, None, Ok}
 use Rattle.std.specs.Borrow.{Bor}
 use Rattle.fhir_fp_syntax.specs.declared.expr.Expr.{Expr}
-use Rattle.fhir_fp_syntax.specs.Expression.{Expression, nothing, boolean, this, resource, context, name, child, call, typed, filtered, binary, expression_of}
-use Rattle.fhir_fp_syntax.specs.Expression as expressions
+use Rattle.fhir_fp_syntax.specs.Expression.{Expression, child, call, typed, filtered, binary, expression_of}
 use Rattle.fhir_fp_eval.specs.Values.{Plain, World}
 use Rattle.fhir_fp_eval.specs.Meaning.{◌>>=◌, Found, children_of, applied, tested, combined, kept, filtered_by, den}
 

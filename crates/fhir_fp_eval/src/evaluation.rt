@@ -97,28 +97,28 @@ fn kept<'e, 'a, 'j>(
 }
 
 // The first operand.
-fn base_of<'e>(expr: &'e Expr) -> Option<&'e Expr>
+fn base_of(expr: &Expr) -> Option<&Expr>
     ensures { option_map (λ e. expression_of e.now) result ≡ base_of (expression_of expr.now) }
 {
     match expr {
-        Expr::Child(base, _) => Some(base),
-        Expr::Call(_, base) => Some(base),
-        Expr::Typed(_, base, _) => Some(base),
-        Expr::Filtered(_, base, _) => Some(base),
-        Expr::Binary(_, base, _) => Some(base),
-        Expr::Empty => None,
-        Expr::Boolean(_) => None,
-        Expr::Number(_) => None,
-        Expr::Text(_) => None,
-        Expr::This => None,
-        Expr::Resource => None,
-        Expr::Context => None,
-        Expr::Name(_) => None,
+        Expr::Child(base, _)
+        | Expr::Call(_, base)
+        | Expr::Typed(_, base, _)
+        | Expr::Filtered(_, base, _)
+        | Expr::Binary(_, base, _) => Some(base),
+        Expr::Empty
+        | Expr::Boolean(_)
+        | Expr::Number(_)
+        | Expr::Text(_)
+        | Expr::This
+        | Expr::Resource
+        | Expr::Context
+        | Expr::Name(_) => None,
     }
 }
 
 // The expression, its first operand, the first operand of that, and so on.
-fn spine_of<'e>(alloc: Global, expr: &'e Expr) -> Result<Vec<&'e Expr>, AllocError>
+fn spine_of(alloc: Global, expr: &Expr) -> Result<Vec<&Expr>, AllocError>
     ensures { IfOk result (λ steps. steps_of steps.items ≡ spine (expression_of expr.now)) }
 {
     let mut steps = Vec::new(alloc);

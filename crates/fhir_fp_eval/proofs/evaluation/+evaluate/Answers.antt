@@ -1,4 +1,4 @@
-use Rattle.std.proofs.Common.{◌≡◌, ◌≤◌, ◌+◌, ◌++◌, ◌∷◌, [], drop, List, ap, ◌∙◌, arith}
+use Rattle.std.proofs.Common.{◌≤◌, ◌+◌, drop, List, ap, ◌∙◌, arith}
 use Rattle.std.proofs.lemmas.Result.{err_from_is_err_and}
 use Rattle.fhir_fp_syntax.specs.Expression.{expression_of}
 use Rattle.fhir_fp_eval.specs.Values.{Plain}
@@ -52,7 +52,7 @@ pub evaluate-loop-step-preserved : goal.evaluate-loop-step-preserved
 evaluate-loop-step-preserved t c = record {
   exact = climb_goes (world_of c.args.env.now) (plain_of c.args.this) (steps_of c.loop-step.steps.items) (steps_of c.pop.new.self.items) (expression_of c.in-Some.step.now)
       (plains_of c.loop-step.values.items) (plains_of c.deref.result.now) _ (ap steps_of c.in-Some.ensures.items ∙ steps_end c.pop.new.self.items c.in-Some.step)
-    (ap plains_of c.deref.ensures.value) c.loop-step.invariant.exact
+      (ap plains_of c.deref.ensures.value) c.loop-step.invariant.exact
       (plains_of c.in_ok-values.values.items) c.in_ok-values.ensures;
   within = within_front (size (expression_of c.args.expr.now)) (steps_of c.pop.new.self.items) (expression_of c.in-Some.step.now)
       (rw (← steps_end c.pop.new.self.items c.in-Some.step, ← c.in-Some.ensures.items) c.loop-step.invariant.within);
