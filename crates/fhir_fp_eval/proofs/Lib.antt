@@ -5,3 +5,4 @@ pub mod At
 pub mod Parts
 pub mod Faulty
 pub mod Filtering
+pub mod Spines

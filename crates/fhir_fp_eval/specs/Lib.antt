@@ -5,4 +5,5 @@ pub mod Literals
 pub mod Equality
 pub mod Comparing
 pub mod Meaning
+pub mod Spines
 pub mod Example

@@ -1,6 +1,7 @@
 //! What an expression gives.
 
-ghost use Rattle.std.specs.Prelude.{◌≡◌, OnOk, Ok};
+ghost use Rattle.std.specs.Prelude.{◌≡◌, IfOk, OnOk, Ok};
+ghost use Rattle.std.specs.Option.{option_map};
 ghost use Rattle.fhir_json.specs.Memory.{Gives, GivesOr};
 ghost use Rattle.fhir_fp_syntax.specs.Expression.{expression_of};
 ghost use Rattle.fhir_instance.specs.View.{item_of};
@@ -9,6 +10,7 @@ ghost use Rattle.fhir_fp_eval.specs.Literals.{literal_value};
 ghost use Rattle.fhir_fp_eval.specs.Faults.{is_no_memory};
 ghost use Rattle.fhir_fp_eval.specs.Views.{plain_of, plains_of, world_of};
 ghost use Rattle.fhir_fp_eval.specs.Meaning.{asked, with_next, kept, filtered_by, den, verdict, is_true};
+ghost use Rattle.fhir_fp_eval.specs.Spines.{base_of, spine, made_of, steps_of};
 
 use crate::fault::EvalFault;
 use crate::lists::{children_of, is_empty, single};
@@ -94,17 +96,52 @@ fn kept<'e, 'a, 'j>(
     Ok(found)
 }
 
-// What the expression gives where `$this` is the value.
+// The first operand.
+fn base_of(expr: &Expr) -> Option<&Expr>
+    ensures { option_map (λ e. expression_of e.now) result ≡ base_of (expression_of expr.now) }
+{
+    match expr {
+        Expr::Child(base, _)
+        | Expr::Call(_, base)
+        | Expr::Typed(_, base, _)
+        | Expr::Filtered(_, base, _)
+        | Expr::Binary(_, base, _) => Some(base),
+        Expr::Empty
+        | Expr::Boolean(_)
+        | Expr::Number(_)
+        | Expr::Text(_)
+        | Expr::This
+        | Expr::Resource
+        | Expr::Context
+        | Expr::Name(_) => None,
+    }
+}
+
+// The expression, its first operand, the first operand of that, and so on.
+fn spine_of(alloc: Global, expr: &Expr) -> Result<Vec<&Expr>, AllocError>
+    ensures { IfOk result (λ steps. steps_of steps.items ≡ spine (expression_of expr.now)) }
+{
+    let mut steps = Vec::new(alloc);
+    let mut next = Some(expr);
+    while let Some(step) = next {
+        steps.push(step)?;
+        next = base_of(step);
+    }
+    Ok(steps)
+}
+
+// What an expression makes of its first operand's values, where `$this` is the value.
 #[cycle(evaluate)]
 #[tactic(auto, unfolding(crate::specs::Meaning::den))]
-fn evaluate<'e, 'a, 'j>(
+fn made_of<'e, 'a, 'j>(
     alloc: Global,
     env: &Env<'e, 'a, 'j>,
     expr: &'e Expr,
     this: Value<'e, 'a, 'j>,
+    values: &[Value<'e, 'a, 'j>],
 ) -> Result<Vec<Value<'e, 'a, 'j>>, EvalFault>
     ensures { GivesOr is_no_memory (λ v. plains_of v.items) result
-        (den (world_of env.now) (expression_of expr.now) (plain_of this.entry)) }
+        (made_of (world_of env.now) (plain_of this.entry) (expression_of expr.now) (plains_of values.now)) }
 {
     match expr {
         Expr::Empty => Ok(Vec::new(alloc)),
@@ -115,29 +152,37 @@ fn evaluate<'e, 'a, 'j>(
         Expr::Resource => single(alloc, Value::Node(env.resource)),
         Expr::Context => single(alloc, Value::Node(env.context)),
         Expr::Name(name) => starts(alloc, env.schema, name.as_str(), this),
-        Expr::Child(base, name) => {
-            let values = evaluate(alloc, env, base, this)?;
-            children_of(alloc, name.as_str(), &values)
+        Expr::Child(_, name) => children_of(alloc, name.as_str(), values),
+        Expr::Call(function, _) => applied(alloc, *function, values),
+        Expr::Typed(test, _, name) => tested(alloc, env.schema, *test, name.as_str(), values),
+        Expr::Filtered(filter, _, criteria) => {
+            let found = kept(alloc, env, criteria, values)?;
+            filtered_by(alloc, *filter, values, found)
         }
-        Expr::Call(function, base) => {
-            let values = evaluate(alloc, env, base, this)?;
-            applied(alloc, *function, &values)
-        }
-        Expr::Typed(test, base, name) => {
-            let values = evaluate(alloc, env, base, this)?;
-            tested(alloc, env.schema, *test, name.as_str(), &values)
-        }
-        Expr::Filtered(filter, base, criteria) => {
-            let values = evaluate(alloc, env, base, this)?;
-            let found = kept(alloc, env, criteria, &values)?;
-            filtered_by(alloc, *filter, &values, found)
-        }
-        Expr::Binary(operator, left, right) => {
-            let values = evaluate(alloc, env, left, this)?;
+        Expr::Binary(operator, _, right) => {
             let others = evaluate(alloc, env, right, this)?;
-            combined(alloc, env.schema, *operator, &values, &others)
+            combined(alloc, env.schema, *operator, values, &others)
         }
     }
+}
+
+// What the expression gives where `$this` is the value. First operands may lie thousands deep, so they are walked by a loop.
+#[cycle(evaluate)]
+fn evaluate<'e, 'a, 'j>(
+    alloc: Global,
+    env: &Env<'e, 'a, 'j>,
+    expr: &'e Expr,
+    this: Value<'e, 'a, 'j>,
+) -> Result<Vec<Value<'e, 'a, 'j>>, EvalFault>
+    ensures { GivesOr is_no_memory (λ v. plains_of v.items) result
+        (den (world_of env.now) (expression_of expr.now) (plain_of this.entry)) }
+{
+    let mut steps = spine_of(alloc, expr)?;
+    let mut values = Vec::new(alloc);
+    while let Some(step) = steps.pop() {
+        values = made_of(alloc, env, step, this, &values)?;
+    }
+    Ok(values)
 }
 
 /// What an expression gives at an item. It takes time near linear in what its parts give; `|` and `intersect` compare each

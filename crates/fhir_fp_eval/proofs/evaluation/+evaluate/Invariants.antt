@@ -1,11 +1,35 @@
-use Rattle.std.proofs.Common.{◌≡◌, drop}
+use Rattle.std.proofs.Common.{◌≡◌, ◌+◌, ◌*◌, drop, length, Ok}
 use Rattle.fhir_fp_syntax.specs.Expression.{expression_of}
-use Rattle.fhir_fp_eval.specs.Views.{plains_of, world_of}
+use Rattle.fhir_fp_eval.specs.Views.{plain_of, plains_of, world_of}
 use Rattle.fhir_fp_eval.specs.Meaning.{kept, den}
+use Rattle.fhir_fp_eval.specs.Spines.{steps_of}
 use Rattle.fhir_fp_eval.proofs.Kept.{in_front}
+use Rattle.fhir_fp_eval.proofs.Spines.{climbed, size, Within}
 use Rattle.fhir_fp_eval.proofs.evaluation.+evaluate.Given as goal
+
+abbrev pub decreases-made_of : goal.decreases-made_of
+decreases-made_of l = 4 * size (expression_of l.expr.now)
+
+abbrev pub decreases-evaluate : goal.decreases-evaluate
+decreases-evaluate l = 4 * size (expression_of l.expr.now) + 1
+
+abbrev pub decreases-asked : goal.decreases-asked
+decreases-asked l = 4 * size (expression_of l.criteria.now) + 2
+
+abbrev pub decreases-kept : goal.decreases-kept
+decreases-kept l = 4 * size (expression_of l.criteria.now) + 3
 
 abbrev pub invariant-kept-loop-value : goal.invariant-kept-loop-value
 invariant-kept-loop-value l =
     in_front (plains_of l.found.items) (kept (den (world_of l.env) (expression_of l.criteria)) (plains_of (drop l.value-index l.values)))
     ≡ kept (den (world_of l.env) (expression_of l.criteria)) (plains_of l.values)
+
+abbrev pub invariant-evaluate-loop-step : goal.invariant-evaluate-loop-step
+invariant-evaluate-loop-step l = record {
+  exact : climbed (world_of l.env) (plain_of l.this) (steps_of l.steps.items) (Ok (plains_of l.values.items))
+      ≡ den (world_of l.env) (expression_of l.expr) (plain_of l.this);
+  within : Within (size (expression_of l.expr)) (steps_of l.steps.items);
+}
+
+abbrev pub decreases-evaluate-loop-step : goal.decreases-evaluate-loop-step
+decreases-evaluate-loop-step l = length l.steps.items
