@@ -15,3 +15,4 @@ mod Taking
 mod Completes
 mod SameSets
 mod Tabling
+mod DistinctCodes

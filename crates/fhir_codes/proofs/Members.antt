@@ -1,10 +1,7 @@
 -- Concepts, their order, and sets of them by what they have.
-use Rattle.std.proofs.Common.{◌≡◌, ℕ, zero, suc, ◌<◌, ◌+◌, List, [], ◌∷◌, ◌++◌, map, length, get_or, filter, Result, Ok, Err, Some, Bool, true, false, not, cond, ◌||◌, ◌&&◌, refl, sym, ◌∙◌, ap, inl, inr, arith}
-use Rattle.std.specs.List.{list_any, list_all, Contains, dedup, slice_get}
-use Rattle.std.specs.Option.{IfSome}
-use Rattle.std.specs.Result.{result_ok}
-use Rattle.std.proofs.lemmas.Option.{slice_get-get_or}
-use Rattle.std.specs.List.Sorted.{IsSorted, IsBinarySearchResult, IsSearchInRange}
+use Rattle.std.proofs.Common.{◌≡◌, ℕ, zero, suc, ◌<◌, ◌+◌, List, [], ◌∷◌, ◌++◌, map, length, get_or, filter, Bool, true, false, not, cond, ◌||◌, ◌&&◌, refl, sym, ◌∙◌, ap, inl, inr, arith}
+use Rattle.std.specs.List.{list_any, list_all, Contains, dedup}
+use Rattle.std.specs.List.Sorted.{IsSorted}
 use Rattle.std.specs.declared.cmp.Ordering.{Ordering}
 use Rattle.std.specs.declared.cmp.Ordering.TheVariants.{Less, Equal, Greater}
 use Rattle.std.specs.Ordering.{ordering_reverse, eq_by_cmp, is_eq, is_lt, nat_cmp, ordering_then}
@@ -288,9 +285,3 @@ any_of_system false c system (k ∷ ks) is =
 
 pub has-of_system : (system : Text) (cs : List Text) (c : Concept) → has (of_system system cs) c ≡ (bytes_eq c.system system && list_any (bytes_eq c.code) cs)
 has-of_system system cs c = has-list (map (concept system) cs) c ∙ any_of_system (bytes_eq c.system system) c system cs refl
-
--- ---- what a search finds
-
-pub found_there : (xs : List Concept) (x : Concept) (r : Result ℕ ℕ) → IsSearchInRange r (length xs) → IsBinarySearchResult (λ y. concept_cmp y x) xs r → IfSome (result_ok r) (λ i. slice_get xs i ≡ Some x)
-found_there xs x (Ok i) lt at = slice_get-get_or xs i x lt ∙ ap Some (exact_concepts (get_or xs i x) x (at x))
-found_there xs x (Err i) le parts = tt

@@ -1,9 +1,10 @@
 //! The concepts that code systems define (FHIR R4, CodeSystem).
 
-ghost use Rattle.std.specs.Prelude.{◌≡◌, [], ◌∷◌, ◌++◌, map, OnOk, IfSome, false, is_some, codes};
+ghost use Rattle.std.specs.Prelude.{◌≡◌, [], ◌∷◌, ◌++◌, map, OnOk, false, is_some, codes};
 ghost use Rattle.std.specs.Option.{option_map_or};
 ghost use Rattle.std.specs.Str.{bytes_eq};
 ghost use Rattle.std.specs.Rc.{rc_str_bytes};
+ghost use Rattle.fhir_json.specs.Tree.{Text};
 ghost use Rattle.fhir_json.specs.Fields.{text_in, text_at};
 ghost use Rattle.fhir_json.specs.Views.{tree_of, trees_of, items_view, members_view};
 ghost use Rattle.fhir_json.specs.Memory.{Gives};
@@ -13,6 +14,7 @@ ghost use Rattle.fhir_codes.specs.Adding.{Adds};
 
 use crate::concept_set::ConceptSet;
 use crate::shared_concept::SharedConcept;
+use crate::texts::Texts;
 use fhir_json::{Json, Member, NoMemory};
 use std::alloc::Global;
 use std::rc::RcStr;
@@ -92,175 +94,169 @@ pub(crate) fn is_complete(json: &Json<'_>) -> bool
 
 // ---- their codes
 
+#[cycle(codes)]
+fn put_concept<'t>(json: &'t Json<'_>, out: &mut Vec<&'t str>) -> Result<(), NoMemory>
+    ensures { OnOk result (map (λ c. c.now) out.new.items
+        ≡ map (λ c. c.now) out.old.items ++ codes_of_concept (tree_of json.now)) }
+{
+    match json {
+        Json::Obj(members) => {
+            out.push(json.text_at("code"))?;
+            put_nested(members, out)
+        }
+        _ => Ok(()),
+    }
+}
+
+#[cycle(codes)]
+fn put_nested<'t>(members: &'t Vec<Member<'_>>, out: &mut Vec<&'t str>) -> Result<(), NoMemory>
+    ensures { OnOk result (map (λ c. c.now) out.new.items
+        ≡ map (λ c. c.now) out.old.items ++ nested_codes (members_view members.now.items)) }
+{
+    for member in members {
+        if member.name.as_str() == "concept" {
+            return put_list(&member.value, out);
+        }
+    }
+    Ok(())
+}
+
+#[cycle(codes)]
+fn put_list<'t>(json: &'t Json<'_>, out: &mut Vec<&'t str>) -> Result<(), NoMemory>
+    ensures { OnOk result (map (λ c. c.now) out.new.items ≡ map (λ c. c.now) out.old.items ++ codes_of_list (tree_of json.now)) }
+{
+    match json {
+        Json::Arr(items) => put_concepts(items, out),
+        _ => Ok(()),
+    }
+}
+
+#[cycle(codes)]
+fn put_concepts<'t>(items: &'t Vec<Json<'_>>, out: &mut Vec<&'t str>) -> Result<(), NoMemory>
+    ensures { OnOk result (map (λ c. c.now) out.new.items
+        ≡ map (λ c. c.now) out.old.items ++ codes_of_concepts (items_view items.now.items)) }
+{
+    for item in items {
+        put_concept(item, out)?;
+    }
+    Ok(())
+}
+
+fn put_defined<'t>(json: &'t Json<'_>, out: &mut Vec<&'t str>) -> Result<(), NoMemory>
+    ensures { OnOk result (map (λ c. c.now) out.new.items ≡ map (λ c. c.now) out.old.items ++ codes_defined (tree_of json.now)) }
+{
+    match json {
+        Json::Obj(members) => put_nested(members, out),
+        _ => Ok(()),
+    }
+}
+
+fn put_listed<'t>(concepts: &'t [Json<'_>], out: &mut Vec<&'t str>) -> Result<(), NoMemory>
+    ensures { OnOk result (map (λ c. c.now) out.new.items
+        ≡ map (λ c. c.now) out.old.items ++ map (text_at (codes "code")) (trees_of concepts.now)) }
+{
+    for json in concepts {
+        out.push(json.text_at("code"))?;
+    }
+    Ok(())
+}
+
+// ---- their concepts
+
+// The same codes in the order of their bytes, each once.
+fn distinct_codes<'t>(mut codes: Vec<&'t str>) -> Vec<&'t str>
+    ensures { (system : Text) → of_system system (map (λ c. c.now) result.items)
+        ≡ of_system system (map (λ c. c.now) codes.entry.items) }
+{
+    codes.sort_unstable();
+    codes.dedup();
+    codes
+}
+
 fn put_code(
     code: &str,
     alloc: Global,
+    texts: &mut Texts,
     system: &RcStr,
     out: &mut Vec<SharedConcept>,
 ) -> Result<(), NoMemory>
     ensures { OnOk result (out.new.items ≡ out.old.items ++ concept (rc_str_bytes system.now) code.now ∷ []) }
 {
-    let code = RcStr::from_str(alloc, code)?;
+    let code = texts.share(alloc, code)?;
     let system = system.clone()?;
     out.push(SharedConcept::new(system, code))?;
     Ok(())
 }
 
-#[cycle(codes)]
-fn put_concept(
-    json: &Json<'_>,
+fn put_codes(
+    codes: &[&str],
     alloc: Global,
+    texts: &mut Texts,
     system: &RcStr,
     out: &mut Vec<SharedConcept>,
 ) -> Result<(), NoMemory>
-    ensures { OnOk result (Adds (rc_str_bytes system.now) (codes_of_concept (tree_of json.now)) out.old.items out.new.items) }
+    ensures { OnOk result (Adds (rc_str_bytes system.now) (map (λ c. c.now) codes.now) out.old.items out.new.items) }
 {
-    match json {
-        Json::Obj(members) => {
-            put_code(json.text_at("code"), alloc, system, out)?;
-            put_nested(members, alloc, system, out)
-        }
-        _ => Ok(()),
-    }
-}
-
-#[cycle(codes)]
-fn put_nested(
-    members: &Vec<Member<'_>>,
-    alloc: Global,
-    system: &RcStr,
-    out: &mut Vec<SharedConcept>,
-) -> Result<(), NoMemory>
-    ensures { OnOk result (Adds (rc_str_bytes system.now) (nested_codes (members_view members.now.items)) out.old.items out.new.items) }
-{
-    for member in members {
-        if member.name.as_str() == "concept" {
-            return put_list(&member.value, alloc, system, out);
-        }
+    for code in codes {
+        put_code(code, alloc, texts, system, out)?;
     }
     Ok(())
 }
 
-#[cycle(codes)]
-fn put_list(
-    json: &Json<'_>,
+// The texts are made in the order of the table, so that a walk through it is one through memory.
+fn concepts_of(
     alloc: Global,
+    texts: &mut Texts,
     system: &RcStr,
-    out: &mut Vec<SharedConcept>,
-) -> Result<(), NoMemory>
-    ensures { OnOk result (Adds (rc_str_bytes system.now) (codes_of_list (tree_of json.now)) out.old.items out.new.items) }
+    codes: Vec<&str>,
+) -> Result<ConceptSet, NoMemory>
+    ensures { Gives (λ s. s) result (of_system (rc_str_bytes system.now) (map (λ c. c.now) codes.entry.items)) }
 {
-    match json {
-        Json::Arr(items) => put_concepts(items, alloc, system, out),
-        _ => Ok(()),
-    }
+    let codes = distinct_codes(codes);
+    let mut out = Vec::with_capacity(alloc, codes.len())?;
+    put_codes(&codes, alloc, texts, system, &mut out)?;
+    ConceptSet::of(out)
 }
 
-#[cycle(codes)]
-fn put_concepts(
-    items: &Vec<Json<'_>>,
+// The concepts of these codes in the system of that url.
+fn table_of(
     alloc: Global,
-    system: &RcStr,
-    out: &mut Vec<SharedConcept>,
-) -> Result<(), NoMemory>
-    ensures { OnOk result (Adds (rc_str_bytes system.now) (codes_of_concepts (items_view items.now.items)) out.old.items out.new.items) }
+    texts: &mut Texts,
+    url: &str,
+    codes: Vec<&str>,
+) -> Result<ConceptSet, NoMemory>
+    ensures { Gives (λ s. s) result (of_system url.now (map (λ c. c.now) codes.entry.items)) }
 {
-    for item in items {
-        put_concept(item, alloc, system, out)?;
-    }
-    Ok(())
-}
-
-fn put_defined(
-    json: &Json<'_>,
-    alloc: Global,
-    system: &RcStr,
-    out: &mut Vec<SharedConcept>,
-) -> Result<(), NoMemory>
-    ensures { OnOk result (Adds (rc_str_bytes system.now) (codes_defined (tree_of json.now)) out.old.items out.new.items) }
-{
-    match json {
-        Json::Obj(members) => put_nested(members, alloc, system, out),
-        _ => Ok(()),
-    }
+    texts.settle(alloc)?;
+    let system = texts.share(alloc, url)?;
+    texts.settle(alloc)?;
+    concepts_of(alloc, texts, &system, codes)
 }
 
 /// The concepts that a code system defines, in the system of that url.
 pub(crate) fn concepts_defined(
     alloc: Global,
+    texts: &mut Texts,
     url: &str,
     json: &Json<'_>,
 ) -> Result<ConceptSet, NoMemory>
     ensures { Gives (λ s. s) result (of_system url.now (codes_defined (tree_of json.now))) }
 {
-    let system = RcStr::from_str(alloc, url)?;
-    let mut out = Vec::new(alloc);
-    put_defined(json, alloc, &system, &mut out)?;
-    ConceptSet::of(out)
+    let mut codes = Vec::new(alloc);
+    put_defined(json, &mut codes)?;
+    table_of(alloc, texts, url, codes)
 }
 
-// The concept of a set, if one is at hand.
-fn kept_concept<'k>(
-    kept: Option<&'k ConceptSet>,
-    system: &str,
-    code: &str,
-) -> Option<&'k SharedConcept>
-    ensures { IfSome result (λ c. c.now ≡ concept system.now code.now) }
-{
-    match kept {
-        Some(kept) => kept.find(system, code),
-        None => None,
-    }
-}
-
-fn put_shared(
-    code: &str,
-    alloc: Global,
-    system: &RcStr,
-    kept: Option<&ConceptSet>,
-    out: &mut Vec<SharedConcept>,
-) -> Result<(), NoMemory>
-    ensures { OnOk result (out.new.items ≡ out.old.items ++ concept (rc_str_bytes system.now) code.now ∷ []) }
-{
-    match kept_concept(kept, system.as_str(), code) {
-        Some(concept) => put_kept(concept, out),
-        None => put_code(code, alloc, system, out),
-    }
-}
-
-fn put_kept(concept: &SharedConcept, out: &mut Vec<SharedConcept>) -> Result<(), NoMemory>
-    ensures { OnOk result (out.new.items ≡ out.old.items ++ concept.now ∷ []) }
-{
-    out.push(concept.share()?)?;
-    Ok(())
-}
-
-fn put_listed(
-    concepts: &[Json<'_>],
-    alloc: Global,
-    system: &RcStr,
-    kept: Option<&ConceptSet>,
-    out: &mut Vec<SharedConcept>,
-) -> Result<(), NoMemory>
-    ensures { OnOk result (Adds (rc_str_bytes system.now) (map (text_at (codes "code")) (trees_of concepts.now)) out.old.items out.new.items) }
-{
-    for json in concepts {
-        put_shared(json.text_at("code"), alloc, system, kept, out)?;
-    }
-    Ok(())
-}
-
-/// The concepts that an include lists, in the system of that url. Those that the kept set has share its texts.
+/// The concepts that an include lists, in the system of that url.
 pub(crate) fn concepts_listed(
     alloc: Global,
+    texts: &mut Texts,
     url: &str,
     concepts: &[Json<'_>],
-    kept: Option<&ConceptSet>,
 ) -> Result<ConceptSet, NoMemory>
     ensures { Gives (λ s. s) result (of_system url.now (map (text_at (codes "code")) (trees_of concepts.now))) }
 {
-    let system = RcStr::from_str(alloc, url)?;
-    let mut out = Vec::new(alloc);
-    put_listed(concepts, alloc, &system, kept, &mut out)?;
-    ConceptSet::of(out)
+    let mut codes = Vec::with_capacity(alloc, concepts.len())?;
+    put_listed(concepts, &mut codes)?;
+    table_of(alloc, texts, url, codes)
 }

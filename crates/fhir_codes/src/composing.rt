@@ -17,6 +17,7 @@ use crate::combining::without;
 use crate::concept_set::ConceptSet;
 use crate::included::{Included, distinct};
 use crate::sources::Sources;
+use crate::texts::Texts;
 use fhir_json::{Json, NoMemory};
 use std::alloc::Global;
 
@@ -157,6 +158,7 @@ impl<'p, 'a> Sources<'p, 'a> {
     fn of_system_within(
         &self,
         alloc: Global,
+        texts: &mut Texts,
         include: &Json<'_>,
         url: &str,
         mut numbers: Vec<usize>,
@@ -171,41 +173,56 @@ impl<'p, 'a> Sources<'p, 'a> {
                 Ok(Included::in_all(numbers))
             }
             None => {
-                let concepts = self.taken(alloc, include, url)?;
+                let concepts = self.taken(alloc, texts, include, url)?;
                 self.within(alloc, concepts, numbers)
             }
         }
     }
 
-    fn of_include(&self, alloc: Global, include: &Json<'_>) -> Result<Included, NoMemory>
+    fn of_include(
+        &self,
+        alloc: Global,
+        texts: &mut Texts,
+        include: &Json<'_>,
+    ) -> Result<Included, NoMemory>
         ensures { IfOk result (λ i. included self.now.tables i
             ≡ of_include self.now.definitions (known_in self.now) (tree_of include.now)) }
     {
         let numbers = self.numbers_named(alloc, include)?;
         match include.text_in("system") {
-            Some(url) => self.of_system_within(alloc, include, url, numbers),
+            Some(url) => self.of_system_within(alloc, texts, include, url, numbers),
             None => Ok(Included::in_all(numbers)),
         }
     }
 
-    fn of_includes(&self, alloc: Global, includes: &[Json<'_>]) -> Result<Vec<Included>, NoMemory>
+    fn of_includes(
+        &self,
+        alloc: Global,
+        texts: &mut Texts,
+        includes: &[Json<'_>],
+    ) -> Result<Vec<Included>, NoMemory>
         ensures { IfOk result (λ v. map (included self.now.tables) v.items
             ≡ map (λ j. of_include self.now.definitions (known_in self.now) (tree_of j)) includes.now) }
     {
         let mut all = Vec::new(alloc);
         for include in includes {
-            let part = self.of_include(alloc, include)?;
+            let part = self.of_include(alloc, texts, include)?;
             all.push(part)?;
         }
         Ok(all)
     }
 
     // Those of the same tables stand there once.
-    fn parts_of(&self, alloc: Global, includes: &[Json<'_>]) -> Result<Vec<Included>, NoMemory>
+    fn parts_of(
+        &self,
+        alloc: Global,
+        texts: &mut Texts,
+        includes: &[Json<'_>],
+    ) -> Result<Vec<Included>, NoMemory>
         ensures { IfOk result (λ v. united (map (included self.now.tables) v.items)
             ≡ united (map (λ j. of_include self.now.definitions (known_in self.now) (tree_of j)) includes.now)) }
     {
-        let all = self.of_includes(alloc, includes)?;
+        let all = self.of_includes(alloc, texts, includes)?;
         Ok(distinct(all))
     }
 
@@ -238,14 +255,19 @@ impl<'p, 'a> Sources<'p, 'a> {
     }
 
     /// The number of the table of a value set: of its includes, without its excludes.
-    pub(crate) fn composed(&mut self, alloc: Global, json: &Json<'_>) -> Result<usize, NoMemory>
+    pub(crate) fn composed(
+        &mut self,
+        alloc: Global,
+        texts: &mut Texts,
+        json: &Json<'_>,
+    ) -> Result<usize, NoMemory>
         ensures composed { IfOk result (λ n. slice_get self.new.tables n
             ≡ Some (composed self.old.definitions (known_in self.old) (tree_of json.now))) }
         ensures definitions { self.new.definitions ≡ self.old.definitions }
         ensures found { found self.new ≡ found self.old }
     {
-        let more = self.parts_of(alloc, includes(json))?;
-        let less = self.parts_of(alloc, excludes(json))?;
+        let more = self.parts_of(alloc, texts, includes(json))?;
+        let less = self.parts_of(alloc, texts, excludes(json))?;
         let less = self.united_of(alloc, &less)?;
         if let Some(number) = self.kept_number(&more, &less) {
             return Ok(number);

@@ -1,9 +1,8 @@
 //! Sets of concepts.
 
-ghost use Rattle.std.specs.Prelude.{◌≡◌, IsTrue, IfSome, Some, is_some};
+ghost use Rattle.std.specs.Prelude.{◌≡◌, IsTrue, is_some};
 ghost use Rattle.std.specs.List.Sorted.{IsSorted};
-ghost use Rattle.std.specs.Option.{option_copied};
-ghost use Rattle.std.specs.List.{list_all, list_any, slice_get};
+ghost use Rattle.std.specs.List.{list_all, list_any};
 ghost use Rattle.std.specs.Ordering.{eq_by_cmp};
 ghost use Rattle.std.specs.FinSet as set;
 ghost use Rattle.fhir_json.specs.Memory.{Gives};
@@ -46,16 +45,9 @@ fn all_in(concepts: &[SharedConcept], other: &ConceptSet) -> bool
 // The place of the concept of a code in a system, by a binary search.
 fn search(concepts: &[SharedConcept], system: &str, code: &str) -> Option<usize>
     requires { IsSorted concept_cmp concepts.now }
-    ensures has { is_some result ≡ list_any (eq_by_cmp concept_cmp (concept system.now code.now)) concepts.now }
-    ensures at { IfSome result (λ i. slice_get concepts.now i ≡ Some (concept system.now code.now)) }
+    ensures { is_some result ≡ list_any (eq_by_cmp concept_cmp (concept system.now code.now)) concepts.now }
 {
     concepts.binary_search_by(|c| c.cmp_to(system, code)).ok()
-}
-
-fn at_place(concepts: &[SharedConcept], place: usize) -> Option<&SharedConcept>
-    ensures { option_copied result ≡ slice_get concepts.now place }
-{
-    concepts.get(place)
 }
 
 impl ConceptSet {
@@ -82,17 +74,6 @@ impl ConceptSet {
         ensures { result ≡ set.contains self.now (concept system.now code.now) }
     {
         search(self.table.as_slice(), system, code).is_some()
-    }
-
-    /// The concept of a code in a system, if the set has it.
-    pub(crate) fn find(&self, system: &str, code: &str) -> Option<&SharedConcept>
-        ensures { IfSome result (λ c. c.now ≡ concept system.now code.now) }
-    {
-        let concepts = self.table.as_slice();
-        match search(concepts, system, code) {
-            Some(place) => at_place(concepts, place),
-            None => None,
-        }
     }
 
     /// Whether the set has a concept of that code in any system, by a binary search.

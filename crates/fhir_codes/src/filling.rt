@@ -8,6 +8,7 @@ ghost use Rattle.fhir_codes.specs.Filled.{is_ready, found_count, AreFilled, AreD
 
 use crate::order::order_of;
 use crate::sources::Sources;
+use crate::texts::Texts;
 use fhir_json::NoMemory;
 use std::alloc::Global;
 
@@ -22,7 +23,7 @@ impl<'p, 'a> Sources<'p, 'a> {
     }
 
     // Fills the answer at a place, if it is missing and can be told now.
-    fn fill(&mut self, alloc: Global, place: usize) -> Result<(), NoMemory>
+    fn fill(&mut self, alloc: Global, texts: &mut Texts, place: usize) -> Result<(), NoMemory>
         ensures definitions { self.new.definitions ≡ self.old.definitions }
         ensures keeps { AreFilled self.old.definitions (found self.old) → AreFilled self.old.definitions (found self.new) }
         ensures grows { OnOk result (IsTrue (is_ready self.old.definitions (found self.old) place)
@@ -35,7 +36,7 @@ impl<'p, 'a> Sources<'p, 'a> {
         let Some(json) = self.tree(place) else {
             return Ok(());
         };
-        let number = self.composed(alloc, json)?;
+        let number = self.composed(alloc, texts, json)?;
         self.set_number(place, number);
         Ok(())
     }
@@ -54,12 +55,17 @@ impl<'p, 'a> Sources<'p, 'a> {
         None
     }
 
-    fn fill_along(&mut self, alloc: Global, order: &[usize]) -> Result<(), NoMemory>
+    fn fill_along(
+        &mut self,
+        alloc: Global,
+        texts: &mut Texts,
+        order: &[usize],
+    ) -> Result<(), NoMemory>
         ensures definitions { self.new.definitions ≡ self.old.definitions }
         ensures keeps { AreFilled self.old.definitions (found self.old) → AreFilled self.old.definitions (found self.new) }
     {
         for place in order {
-            self.fill(alloc, *place)?;
+            self.fill(alloc, texts, *place)?;
         }
         Ok(())
     }
@@ -71,11 +77,12 @@ impl<'p, 'a> Sources<'p, 'a> {
         ensures done { OnOk result (AreDone self.old.definitions (found self.new)) }
         ensures definitions { self.new.definitions ≡ self.old.definitions }
     {
-        self.keep_wholes(alloc)?;
+        let mut texts = Texts::new(alloc);
+        self.keep_wholes(alloc, &mut texts)?;
         let order = order_of(alloc, self)?;
-        self.fill_along(alloc, &order)?;
+        self.fill_along(alloc, &mut texts, &order)?;
         while let Some(place) = self.first_ready() {
-            self.fill(alloc, place)?;
+            self.fill(alloc, &mut texts, place)?;
         }
         Ok(())
     }

@@ -17,6 +17,7 @@ use crate::code_systems::{concepts_listed, is_coded};
 use crate::composing::{excludes, includes};
 use crate::concept_set::ConceptSet;
 use crate::sources::Sources;
+use crate::texts::Texts;
 use fhir_json::{Json, NoMemory};
 use fhir_package::{Kind, has_version};
 use std::alloc::Global;
@@ -136,7 +137,12 @@ impl<'p, 'a> Sources<'p, 'a> {
     }
 
     // Keeps the code system that an include takes whole.
-    fn keep_taken(&mut self, alloc: Global, include: &Json<'_>) -> Result<(), NoMemory>
+    fn keep_taken(
+        &mut self,
+        alloc: Global,
+        texts: &mut Texts,
+        include: &Json<'_>,
+    ) -> Result<(), NoMemory>
         ensures definitions { self.new.definitions ≡ self.old.definitions }
         ensures found { found self.new ≡ found self.old }
     {
@@ -144,31 +150,35 @@ impl<'p, 'a> Sources<'p, 'a> {
             return Ok(());
         }
         match include.text_in("system") {
-            Some(url) if self.complete_at(url) => self.keep_whole(alloc, url),
+            Some(url) if self.complete_at(url) => self.keep_whole(alloc, texts, url),
             _ => Ok(()),
         }
     }
 
-    fn keep_all_taken(&mut self, alloc: Global, includes: &[Json<'_>]) -> Result<(), NoMemory>
+    fn keep_all_taken(
+        &mut self,
+        alloc: Global,
+        texts: &mut Texts,
+        includes: &[Json<'_>],
+    ) -> Result<(), NoMemory>
         ensures definitions { self.new.definitions ≡ self.old.definitions }
         ensures found { found self.new ≡ found self.old }
     {
         for include in includes {
-            self.keep_taken(alloc, include)?;
+            self.keep_taken(alloc, texts, include)?;
         }
         Ok(())
     }
 
-    /// Keeps all code systems that value sets take whole, so that each is read once, and those that list some of their
-    /// concepts share their texts.
-    pub(crate) fn keep_wholes(&mut self, alloc: Global) -> Result<(), NoMemory>
+    /// Keeps all code systems that value sets take whole, so that each is read once.
+    pub(crate) fn keep_wholes(&mut self, alloc: Global, texts: &mut Texts) -> Result<(), NoMemory>
         ensures definitions { self.new.definitions ≡ self.old.definitions }
         ensures found { found self.new ≡ found self.old }
     {
         for place in 0..self.len() {
             if let Some(json) = self.tree(place) {
-                self.keep_all_taken(alloc, includes(json))?;
-                self.keep_all_taken(alloc, excludes(json))?;
+                self.keep_all_taken(alloc, texts, includes(json))?;
+                self.keep_all_taken(alloc, texts, excludes(json))?;
             }
         }
         Ok(())
@@ -192,16 +202,17 @@ impl<'p, 'a> Sources<'p, 'a> {
     pub(crate) fn taken(
         &self,
         alloc: Global,
+        texts: &mut Texts,
         include: &Json<'_>,
         url: &str,
     ) -> Result<ConceptSet, NoMemory>
         ensures { Gives (λ s. s) result (of_system url.now (codes_taken self.now.definitions (tree_of include.now) url.now)) }
     {
         if !lists_no_concept(include) {
-            return concepts_listed(alloc, url, listed(include), self.kept_whole(url));
+            return concepts_listed(alloc, texts, url, listed(include));
         }
         match self.code_system(include, url) {
-            Some(_system) => self.whole(alloc, url),
+            Some(_system) => self.whole(alloc, texts, url),
             None => ConceptSet::of(Vec::new(alloc)),
         }
     }

@@ -34,6 +34,7 @@ mod laws;
 mod order;
 mod shared_concept;
 mod sources;
+mod texts;
 mod value_sets;
 mod worked;
 

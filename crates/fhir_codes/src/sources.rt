@@ -18,6 +18,7 @@ ghost use Rattle.fhir_codes.specs.Tables.{table_at, found, known_in};
 
 use crate::code_systems::{concepts_defined, is_complete};
 use crate::concept_set::ConceptSet;
+use crate::texts::Texts;
 use fhir_json::{Json, NoMemory};
 use fhir_names::{Canonical, Index};
 use fhir_package::{Kind, Package};
@@ -111,11 +112,16 @@ fn complete_of(alloc: Global, from: &Package<'_>) -> Result<Index, NoMemory>
     Ok(complete)
 }
 
-fn whole_of(alloc: Global, from: &Package<'_>, url: &str) -> Result<ConceptSet, NoMemory>
+fn whole_of(
+    alloc: Global,
+    texts: &mut Texts,
+    from: &Package<'_>,
+    url: &str,
+) -> Result<ConceptSet, NoMemory>
     ensures { Gives (λ s. s) result (whole_of from.now url.now) }
 {
     match from.at_url(Kind::CodeSystem, url) {
-        Some(system) => concepts_defined(alloc, url, system),
+        Some(system) => concepts_defined(alloc, texts, url, system),
         None => ConceptSet::of(Vec::new(alloc)),
     }
 }
@@ -293,12 +299,17 @@ impl<'p, 'a> Sources<'p, 'a> {
     }
 
     /// All that the code system under a url defines.
-    pub(crate) fn whole(&self, alloc: Global, url: &str) -> Result<ConceptSet, NoMemory>
+    pub(crate) fn whole(
+        &self,
+        alloc: Global,
+        texts: &mut Texts,
+        url: &str,
+    ) -> Result<ConceptSet, NoMemory>
         ensures { Gives (λ s. s) result (whole_of self.now.definitions url.now) }
     {
         match self.kept_whole(url) {
             Some(concepts) => concepts.share(),
-            None => whole_of(alloc, self.from, url),
+            None => whole_of(alloc, texts, self.from, url),
         }
     }
 
@@ -311,14 +322,19 @@ impl<'p, 'a> Sources<'p, 'a> {
     }
 
     /// Keeps all that the code system under a url defines, so that it is worked out once.
-    pub(crate) fn keep_whole(&mut self, alloc: Global, url: &str) -> Result<(), NoMemory>
+    pub(crate) fn keep_whole(
+        &mut self,
+        alloc: Global,
+        texts: &mut Texts,
+        url: &str,
+    ) -> Result<(), NoMemory>
         ensures definitions { self.new.definitions ≡ self.old.definitions }
         ensures found { found self.new ≡ found self.old }
     {
         if self.system_number(url).is_some() {
             return Ok(());
         }
-        let concepts = whole_of(alloc, self.from, url)?;
+        let concepts = whole_of(alloc, texts, self.from, url)?;
         let number = self.keep(concepts)?;
         self.put_system(alloc, url, number)?;
         Ok(())

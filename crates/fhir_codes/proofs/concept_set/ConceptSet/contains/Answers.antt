@@ -6,4 +6,4 @@ use Rattle.fhir_codes.proofs.concept_set.ConceptSet.contains.Goals as goal
 pub returns : goal.returns
 returns c =
     rw (← c.self.view_is, ← c.as_slice.ensures.value)
-    (c.is_some.ensures ∙ c.search.ensures.has ∙ sym (has-list c.as_slice.result.now (concept c.args.system.now c.args.code.now)))
+    (c.is_some.ensures ∙ c.search.ensures ∙ sym (has-list c.as_slice.result.now (concept c.args.system.now c.args.code.now)))
