@@ -1,5 +1,5 @@
 -- Which elements of a snapshot are the children of each, and which are its slices, by their places.
-use Rattle.std.specs.Prelude.{ℕ, zero, suc, List, [], ◌∷◌, map, length, get_or, Option, if◌then◌else◌}
+use Rattle.std.specs.Prelude.{ℕ, zero, suc, List, [], ◌∷◌, map, length, Option, if◌then◌else◌}
 use Rattle.fhir_elements.specs.Element.{Element}
 use Rattle.fhir_definition.specs.Snapshot.{is_at, child_place, slice_place}
 
@@ -21,7 +21,3 @@ children_of es = under_each (map (child_place es) es)
 
 abbrev pub slices_of : List Element → List (List ℕ)
 slices_of es = under_each (map (slice_place es) es)
-
--- the slices of the element at a place
-abbrev pub slices_at : List Element → ℕ → List ℕ
-slices_at es place = get_or (slices_of es) place []

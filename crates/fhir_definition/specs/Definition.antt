@@ -14,7 +14,6 @@ use Rattle.fhir_definition.specs.Kind.{is_primitive_kind}
 use Rattle.fhir_definition.specs.Head.{kind_in, is_type_definition, has_right_head}
 use Rattle.fhir_definition.specs.Snapshot.{ids_differ, is_root}
 use Rattle.fhir_definition.specs.Bounds.{has_lexical_bounds}
-use Rattle.fhir_definition.specs.Supported.{is_plain_element}
 
 pub record Definition : Type 0 where
   -- where it stands in the package's order
@@ -107,7 +106,3 @@ has_snapshot d = nat_lt 0 (length d.elements)
 
 abbrev pub is_primitive : Definition → Bool
 is_primitive d = option_map_or is_primitive_kind d.kind false
-
--- its elements are supported so far
-abbrev pub is_plain : Definition → Bool
-is_plain d = list_all is_plain_element d.elements

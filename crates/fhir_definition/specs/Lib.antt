@@ -1,7 +1,6 @@
 pub mod Kind
 pub mod Snapshot
 pub mod Children
-pub mod Supported
 pub mod Bounds
 pub mod Head
 pub mod Definition

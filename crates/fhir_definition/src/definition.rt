@@ -6,16 +6,15 @@ ghost use Rattle.fhir_json.specs.Fields.{field, text_in};
 ghost use Rattle.fhir_json.specs.Views.{tree_of, text_seen, tree_seen};
 ghost use Rattle.fhir_json.specs.Memory.{Gives};
 ghost use Rattle.fhir_definition.specs.Snapshot.{id_place, is_tree, root_place};
-ghost use Rattle.fhir_definition.specs.Children.{children_of, slices_at};
+ghost use Rattle.fhir_definition.specs.Children.{children_of, slices_of};
 ghost use Rattle.fhir_definition.specs.Views.{lists_in};
-ghost use Rattle.fhir_definition.specs.Definition.{has_snapshot, is_primitive, is_plain, definition_of};
+ghost use Rattle.fhir_definition.specs.Definition.{has_snapshot, is_primitive, definition_of};
 
 use crate::elements::{element_trees, elements_of};
 use crate::faults::own_fault;
 use crate::head::{is_abstract, is_type_definition, kind_in};
 use crate::kind::TypeKind;
 use crate::snapshot::Snapshot;
-use crate::supported::are_plain;
 use fhir_elements::{ElementDef, Reason};
 use fhir_json::{Json, NoMemory};
 use std::alloc::{AllocError, Global};
@@ -222,11 +221,11 @@ impl Definition {
         self.snapshot.children()
     }
 
-    /// The places of the slices of the element at a place.
-    pub fn slices(&self, place: usize) -> &[usize]
-        ensures { result.now ≡ slices_at self.now.elements place }
+    /// The places of the slices of each element.
+    pub fn slices(&self) -> &[Vec<usize>]
+        ensures { lists_in result.now ≡ slices_of self.now.elements }
     {
-        self.snapshot.slices(place)
+        self.snapshot.slices()
     }
 
     /// Whether it is of a primitive type.
@@ -234,12 +233,5 @@ impl Definition {
         ensures { result ≡ is_primitive self.now }
     {
         self.kind.is_some_and(|kind| kind.is_primitive())
-    }
-
-    /// Whether what its elements say is supported so far.
-    pub fn is_plain(&self) -> bool
-        ensures { result ≡ is_plain self.now }
-    {
-        are_plain(self.elements())
     }
 }

@@ -23,7 +23,6 @@ mod head;
 mod kind;
 mod laws;
 mod snapshot;
-mod supported;
 
 pub use bounds::bound_type;
 pub use by_id::is_root;

@@ -1,8 +1,8 @@
 //! The snapshot of a definition: its elements, and which of them stand under which.
 
-ghost use Rattle.std.specs.Prelude.{◌≡◌, [], get_or, IfOk};
+ghost use Rattle.std.specs.Prelude.{◌≡◌, IfOk};
 ghost use Rattle.fhir_definition.specs.Snapshot.{id_place, ids_differ, is_tree, root_place};
-ghost use Rattle.fhir_definition.specs.Children.{children_of, slices_at};
+ghost use Rattle.fhir_definition.specs.Children.{children_of, slices_of};
 ghost use Rattle.fhir_definition.specs.Views.{lists_in};
 
 use crate::by_id::ElementsById;
@@ -100,19 +100,10 @@ impl Snapshot {
         &self.children
     }
 
-    /// The places of the slices of the element at a place.
-    pub(crate) fn slices(&self, place: usize) -> &[usize]
-        ensures { result.now ≡ slices_at self.now place }
+    /// The places of the slices of each element.
+    pub(crate) fn slices(&self) -> &[Vec<usize>]
+        ensures { lists_in result.now ≡ slices_of self.now }
     {
-        list_at(&self.slices, place)
-    }
-}
-
-fn list_at(lists: &[Vec<usize>], place: usize) -> &[usize]
-    ensures { result.now ≡ get_or (lists_in lists.now) place [] }
-{
-    match lists.get(place) {
-        Some(list) => list,
-        None => Default::default(),
+        &self.slices
     }
 }

@@ -5,9 +5,6 @@ use thiserror::Error;
 /// Why a definition can't be used.
 #[derive(Clone, Copy, Debug, PartialEq, Eq, Error)]
 pub enum Reason {
-    /// It uses what isn't supported yet.
-    #[error("U0")]
-    NotYet,
     /// A field has a wrong JSON kind or a value outside its set, or an element of a snapshot lacks a field that it must
     /// have there.
     #[error("U1")]
