@@ -1,10 +1,10 @@
--- Which unread rules the bounds, the targets and the binding of an element are.
+-- Which unread rules the bounds, the targets, the profiles and the binding of an element are.
 use Rattle.std.specs.Prelude.{List, [], ◌∷◌, ◌++◌, if◌then◌else◌, is_some, is_none}
 use Rattle.std.specs.Option.{option_map_or}
 use Rattle.fhir_json.specs.Tree.{Text, Property}
 use Rattle.fhir_elements.specs.Element.{Element}
 use Rattle.fhir_schema.specs.Schemas.{SchemaValue, loaded}
-use Rattle.fhir_facets.specs.Unread.{Unread, range, target, binding}
+use Rattle.fhir_facets.specs.Unread.{Unread, range, target, profile, binding}
 use Rattle.fhir_facets.specs.Seen.{Seen}
 use Rattle.fhir_facets.specs.Bindings.{Binding, decided}
 use Rattle.fhir_facets.specs.Ranges.{kind_of_bound}
@@ -17,6 +17,9 @@ range_unread e = option_map_or bound_unread e.min_value [] ++ option_map_or boun
 
 abbrev pub target_unread : SchemaValue → Text → List Unread
 target_unread s canonical = if is_none (loaded s canonical) then target canonical ∷ [] else []
+
+abbrev pub profile_unread : SchemaValue → Text → List Unread
+profile_unread s canonical = if is_none (loaded s canonical) then profile canonical ∷ [] else []
 
 abbrev pub binding_unread : Binding → Seen → List Unread
 binding_unread b x = if is_some (decided b x) then [] else binding b.canonical ∷ []

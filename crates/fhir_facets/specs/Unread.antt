@@ -8,6 +8,8 @@ pub data Unread : Type 0 where
   range : (property : List ℕ) → Tree → Unread
   -- a target profile that isn't there, or can't be used
   target : (canonical : List ℕ) → Unread
+  -- a profile of a type that isn't there, or can't be used
+  profile : (canonical : List ℕ) → Unread
   -- a required binding to a value set that can't be read, or of an item that isn't looked up in one
   binding : (canonical : List ℕ) → Unread
   -- a constraint whose expression can't be read, by its text; and one without an expression, by its key
@@ -18,6 +20,7 @@ pub data Unread : Type 0 where
 abbrev pub unread_text : Unread → Text
 unread_text (range property value) = codes "range " ++ property ++ codes " " ++ compact value
 unread_text (target canonical) = codes "target " ++ canonical
+unread_text (profile canonical) = codes "profile " ++ canonical
 unread_text (binding canonical) = codes "binding " ++ canonical
 unread_text (expression text) = codes "expression " ++ text
 unread_text (constraint key) = codes "constraint " ++ key

@@ -8,7 +8,7 @@ use Rattle.fhir_json.specs.Views.{tree_seen, property_of, property_seen}
 use Rattle.fhir_elements.specs.TypeEntry.{TypeEntry}
 use Rattle.fhir_schema.specs.Schemas.{SchemaValue}
 use Rattle.fhir_facets.specs.declared.unread.Unread.{Unread as UnreadRule}
-use Rattle.fhir_facets.specs.declared.unread.Unread.TheVariants.{Range as UnreadRange, Target as UnreadTarget, Binding as UnreadBinding, Expression as UnreadExpression, Constraint as UnreadConstraint}
+use Rattle.fhir_facets.specs.declared.unread.Unread.TheVariants.{Range as UnreadRange, Target as UnreadTarget, Profile as UnreadProfile, Binding as UnreadBinding, Expression as UnreadExpression, Constraint as UnreadConstraint}
 use Rattle.fhir_facets.specs.declared.view.View.{View}
 use Rattle.fhir_facets.specs.declared.holding.Holding.{Holding}
 use Rattle.fhir_facets.specs.declared.holding.Holding.TheVariants.{Holds, Fails, Unread as Undecided}
@@ -16,7 +16,7 @@ use Rattle.fhir_facets.specs.declared.bounds.Side.{Side}
 use Rattle.fhir_facets.specs.declared.bounds.Side.TheVariants.{Least, Most}
 use Rattle.fhir_facets.specs.declared.ranges.Range.{Range as RangeOf}
 use Rattle.fhir_facets.specs.declared.bindings.Binding.{Binding as BindingOf}
-use Rattle.fhir_facets.specs.Unread.{Unread, range, target, binding, expression, constraint}
+use Rattle.fhir_facets.specs.Unread.{Unread, range, target, profile, binding, expression, constraint}
 use Rattle.fhir_facets.specs.Seen.{Seen}
 use Rattle.fhir_facets.specs.Ranges.{Range}
 use Rattle.fhir_facets.specs.Targets.{has_targets}
@@ -26,6 +26,7 @@ use Rattle.fhir_facets.specs.Carried.{bound_unread, target_unread}
 abbrev pub unread_seen : UnreadRule → Unread
 unread_seen (UnreadRange p) = range (property_of p.now).0 (property_of p.now).1
 unread_seen (UnreadTarget canonical) = target canonical.now
+unread_seen (UnreadProfile canonical) = profile canonical.now
 unread_seen (UnreadBinding canonical) = binding canonical.now
 unread_seen (UnreadExpression text) = expression text.now
 unread_seen (UnreadConstraint key) = constraint key.now

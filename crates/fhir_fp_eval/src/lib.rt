@@ -9,10 +9,17 @@
 //!     schema: &'e Schema,
 //!     resource: &'e Typed<'a, 'j>,
 //! ) -> Result<bool, NoMemory>
-//!     ensures { Gives (λ b. b) result (is_true (record { schema = schema.now; resource = item_of resource.now;
-//!         context = item_of resource.now }) (expression_of expr.now) (item_of resource.now)) }
+//!     ensures { Gives (λ b. b) result (is_true (record {
+//!       schema = schema.now;
+//!       resource = item_of resource.now;
+//!       context = item_of resource.now;
+//!     }) (expression_of expr.now) (item_of resource.now)) }
 //! {
-//!     let env = Env { schema, resource, context: resource };
+//!     let env = Env {
+//!         schema,
+//!         resource,
+//!         context: resource,
+//!     };
 //!     holds(alloc, expr, &env, resource)
 //! }
 //! ```
