@@ -1,5 +1,5 @@
 -- Lists of tests: which of them fail, and which still do where one is harder to meet.
-use Rattle.std.proofs.Common.{◌≡◌, List, [], ◌∷◌, ◌++◌, Bool, true, false, Some, None, refl, ap, sym, ◌∙◌, subst, inl, inr, IsTrue, arith}
+use Rattle.std.proofs.Common.{◌≡◌, List, [], ◌∷◌, ◌++◌, Bool, true, false, Option, Some, None, is_some, refl, ap, sym, ◌∙◌, subst, inl, inr, IsTrue, arith, append_assoc}
 use Rattle.std.proofs.Common.{if◌then◌else◌}
 use Rattle.std.specs.List.{Contains}
 use Rattle.std.proofs.lemmas.Bool.{and_parts, and_from, false≢true}
@@ -83,6 +83,28 @@ module _ {R : Type 0} where
           | inr behind ↦ Contains-append_right front ((b, u) ∷ rest) (false, r) (head_more r more behind)
         ]
 
+-- the same of two tests among others
+module _ {R : Type 0} (a b : Bool) (u : R) (c d : Bool) (w : R) (between rest front : List (Bool × R)) where
+  regroup : (x : Bool) (more : List (Bool × R)) → (front ++ ((x, u) ∷ (between ++ more))) ≡ ((front ++ ((x, u) ∷ between)) ++ more)
+  regroup x more = sym (append_assoc front ((x, u) ∷ between) more)
+
+  pub both_hold_more : (a ≡ true → b ≡ true) → (c ≡ true → d ≡ true)
+      → IsTrue (all_hold (front ++ ((a, u) ∷ (between ++ ((c, w) ∷ rest)))))
+      → IsTrue (all_hold (front ++ ((b, u) ∷ (between ++ ((d, w) ∷ rest)))))
+  both_hold_more first second h =
+      let one = hold_more a b u (between ++ ((c, w) ∷ rest)) front first h in
+      subst (λ ts. IsTrue (all_hold ts)) (sym (regroup b ((d, w) ∷ rest)))
+      (hold_more c d w rest (front ++ ((b, u) ∷ between)) second (subst (λ ts. IsTrue (all_hold ts)) (regroup b ((c, w) ∷ rest)) one))
+
+  pub both_fail_more : (r : R) → (b ≡ true → a ≡ true) → (d ≡ true → c ≡ true)
+      → Contains (front ++ ((a, u) ∷ (between ++ ((c, w) ∷ rest)))) (false, r)
+      → Contains (front ++ ((b, u) ∷ (between ++ ((d, w) ∷ rest)))) (false, r)
+  both_fail_more r first second h =
+      let one = fails_more a b u (between ++ ((c, w) ∷ rest)) front r first h in
+      subst (λ ts. Contains ts (false, r)) (sym (regroup b ((d, w) ∷ rest)))
+      (fails_more c d w rest (front ++ ((b, u) ∷ between)) r second
+      (subst (λ ts. Contains ts (false, r)) (regroup b ((c, w) ∷ rest)) one))
+
 module _ {R : Type 0} where
   -- where all hold, none fails
   none_fail : (ts : List (Bool × R)) (r : R) → IsTrue (all_hold ts) → Contains ts (false, r) → ⊥
@@ -97,25 +119,23 @@ module _ {R : Type 0} where
         | inr behind ↦ none_fail ts r parts.1 behind
       ]
 
-  module _ (a b : Bool) (u : R) (rest front : List (Bool × R)) (h : IsTrue (all_hold (front ++ (a, u) ∷ rest))) where
-    parts_hold : (all_hold front ≡ true) × (all_hold ((a, u) ∷ rest) ≡ true)
-    parts_hold =
-        and_parts (all_hold front) (all_hold ((a, u) ∷ rest))
-        (sym (list_all-append (λ (test : Bool × R). test.0) front ((a, u) ∷ rest)) ∙ h)
+  -- where one fails, an answer is given
+  pub fails_some : (ts : List (Bool × R)) (r : R) → Contains ts (false, r) → is_some (first_of ts) ≡ true
+  fails_some ts r c = go (first_of ts) refl
+    where
+      go : (o : Option R) → first_of ts ≡ o → is_some o ≡ true
+      go None e = absurd (none_fail ts r (none_fails ts e) c)
+      go (Some x) e = refl
 
-    pub it_holds : a ≡ true
-    it_holds = (and_parts a (all_hold rest) parts_hold.1).0
+  it_holds : (a : Bool) (u : R) (rest front : List (Bool × R)) → IsTrue (all_hold (front ++ ((a, u) ∷ rest))) → (a ≡ true) × (all_hold rest ≡ true)
+  it_holds a u rest front h =
+      let parts = and_parts (all_hold front) (all_hold ((a, u) ∷ rest)) (sym (list_all-append (λ (test : Bool × R). test.0) front ((a, u) ∷ rest)) ∙ h) in
+      and_parts a (all_hold rest) parts.1
 
-    -- what fails where all but one hold is that one
-    pub it_fails : (r : R) → Contains (front ++ (b, u) ∷ rest) (false, r) → r ≡ u
-    it_fails r c =
-        elim (Contains-append_cases front ((b, u) ∷ rest) (false, r) c) [
-          | inl there ↦ absurd (none_fail front r parts_hold.0 there)
-          | inr behind ↦ elim (Contains-append_cases ((b, u) ∷ []) rest (false, r) behind) [
-            | inl first ↦ elim (Contains-push_cases [] (b, u) (false, r) first) [
-              | inl nowhere ↦ absurd (omega (arith, nowhere.1))
-              | inr e ↦ sym (ap (λ (y : Bool × R). y.1) e)
-            ]
-            | inr last ↦ absurd (none_fail rest r (and_parts a (all_hold rest) parts_hold.1).1 last)
-          ]
-        ]
+  -- where all hold, so do two of them
+  pub both_hold : (a : Bool) (u : R) (c : Bool) (w : R) (between rest front : List (Bool × R))
+      → IsTrue (all_hold (front ++ ((a, u) ∷ (between ++ ((c, w) ∷ rest))))) → (a ≡ true) × (c ≡ true)
+  both_hold a u c w between rest front h =
+      let first = it_holds a u (between ++ ((c, w) ∷ rest)) front h in
+      let second = it_holds c w rest between first.1 in
+      (first.0, second.0)

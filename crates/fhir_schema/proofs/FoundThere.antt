@@ -6,7 +6,6 @@ use Rattle.std.proofs.lemmas.Option.{slice_get-map}
 use Rattle.fhir_elements.specs.Constraint.{Constraint}
 use Rattle.fhir_elements.specs.Element.{Element}
 use Rattle.fhir_definition.specs.Definition.{Definition}
-use Rattle.fhir_fp_syntax.specs.Expression.{Expression}
 use Rattle.fhir_schema.specs.Expressions.{expression_of, expressions_in, expressions_of, all_expressions}
 use Rattle.fhir_schema.specs.Readings.{shared_at, listed_at, found_at}
 

@@ -1,4 +1,5 @@
 pub mod Finding
+pub mod Cuts
 pub mod Rounds
 pub mod Settles
 pub mod Failing
@@ -15,5 +16,9 @@ pub mod Meaning
 pub mod OneMeaning
 pub mod Users
 pub mod Spreading
+pub mod Answering
 pub mod Right
 pub mod FoundThere
+pub mod Told
+pub mod ByName
+pub mod Utf8Names

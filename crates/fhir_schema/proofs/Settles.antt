@@ -1,5 +1,5 @@
 -- The rounds come to rest: what they find is closed, and nothing closed is smaller.
-use Rattle.std.proofs.Common.{◌≡◌, ℕ, zero, suc, ◌<◌, ◌≤◌, ◌+◌, List, [], ◌∷◌, map, length, get_or, true, false, Bool, ◌&&◌, ◌||◌, not, nat_le, refl, ap, sym}
+use Rattle.std.proofs.Common.{◌≡◌, ℕ, zero, suc, ◌<◌, ◌≤◌, ◌+◌, List, [], ◌∷◌, ◌++◌, map, length, get_or, true, false, Bool, ◌&&◌, ◌||◌, not, nat_le, refl, ap, sym}
 use Rattle.std.proofs.Common.{◌∙◌, Some, None, Option, is_some, is_none, IsTrue, arith}
 use Rattle.std.specs.List.{slice_get, list_all, Contains}
 use Rattle.std.specs.Option.{option_map_or}
@@ -8,19 +8,19 @@ use Rattle.std.proofs.lemmas.List.{length-map}
 use Rattle.std.proofs.lemmas.Option.{slice_get_within}
 use Rattle.fhir_json.specs.Tree.{Text, Tree}
 use Rattle.fhir_elements.specs.declared.reason.Reason.{Reason}
-use Rattle.fhir_elements.specs.declared.reason.Reason.TheVariants.{UnusableType}
+use Rattle.fhir_elements.specs.declared.reason.Reason.TheVariants.{UnusableType, NoTree, MissingContent}
 use Rattle.fhir_elements.specs.TypeEntry.{TypeEntry}
 use Rattle.fhir_elements.specs.Element.{Element}
 use Rattle.fhir_elements.specs.Tests.{first_of, all_hold}
 use Rattle.fhir_definition.specs.Snapshot.{is_root}
 use Rattle.fhir_definition.specs.Definition.{Definition, definition_of, definitions_from}
 use Rattle.fhir_schema.specs.Types.{type_place, is_system}
-use Rattle.fhir_schema.specs.Settling.{Reasons, reason_at, is_usable_type, entry_is_usable, element_is_usable, types_are_usable}
-use Rattle.fhir_schema.specs.Settling.{fault_of, lasting_tests, tests, reason_of, round, rounds, no_reasons, all_reasons}
+use Rattle.fhir_schema.specs.Settling.{Reasons, reason_at, is_usable_type, entry_is_usable, element_is_usable, types_are_usable, target_place, target_is_usable, targets_are_usable}
+use Rattle.fhir_schema.specs.Settling.{fault_of, has_tree, lasting_tests, tests, reason_of, round, rounds, no_reasons, found}
 use Rattle.fhir_schema.specs.Usability.{AllApply, IsClosed, IsWithin}
 use Rattle.fhir_schema.specs.Resting.{first_reasons}
 use Rattle.fhir_schema.proofs.Rounds.{rounds_fixed}
-use Rattle.fhir_schema.proofs.Failing.{first_fails, none_fails, hold_none, hold_more, fails_more}
+use Rattle.fhir_schema.proofs.Failing.{first_fails, none_fails, hold_none, both_hold_more, both_fail_more}
 
 -- ---- lists of reasons
 
@@ -91,7 +91,7 @@ placed es place d h = placed_from 0 es place d h ∙ omega arith
 
 -- ---- what fewer findings leave usable
 
-Fewer : Reasons → Reasons → Type 0
+pub Fewer : Reasons → Reasons → Type 0
 Fewer reasons next = (place : ℕ) → is_some (reason_at next place) ≡ false → is_some (reason_at reasons place) ≡ false
 
 and_parts : (a b : Bool) → (a && b) ≡ true → (a ≡ true) × (b ≡ true)
@@ -139,17 +139,52 @@ module _ (ds : List Definition) (reasons next : Reasons) (fewer : Fewer reasons 
       and_both (is_usable_type ds reasons d.type) (list_all (element_is_usable ds reasons) d.elements) (type_more d.type parts.0)
       (all_more (element_is_usable ds next) (element_is_usable ds reasons) element_more d.elements parts.1)
 
-  applies_more : (d : Definition) (r : Reason) → Contains (tests ds reasons d) (false, r) → Contains (tests ds next d) (false, r)
-  applies_more d r h =
-      fails_more (types_are_usable ds reasons d) (types_are_usable ds next d) UnusableType (lasting_tests ds d) (fault_of d) r (types_more d) h
+  target_more : (d : Definition) (x : Element) → target_is_usable ds next d x ≡ true → target_is_usable ds reasons d x ≡ true
+  target_more d x e =
+      or_more (is_none x.content_reference) (option_map_or (λ place. is_none (reason_at next place)) (target_place ds d x) false)
+      (option_map_or (λ place. is_none (reason_at reasons place)) (target_place ds d x) false) (place_more (target_place ds d x)) e
 
-  tests_less : (d : Definition) → IsTrue (all_hold (tests ds next d)) → IsTrue (all_hold (tests ds reasons d))
+  targets_more : (d : Definition) → targets_are_usable ds next d ≡ true → targets_are_usable ds reasons d ≡ true
+  targets_more d e = all_more (target_is_usable ds next d) (target_is_usable ds reasons d) (target_more d) d.elements e
+
+  pub applies_more : (d : Definition) (r : Reason) → Contains (tests ds reasons d) (false, r) → Contains (tests ds next d) (false, r)
+  applies_more d r h =
+      both_fail_more (types_are_usable ds reasons d) (types_are_usable ds next d) UnusableType
+      (targets_are_usable ds reasons d) (targets_are_usable ds next d) MissingContent
+      ((has_tree ds d, NoTree) ∷ []) (lasting_tests ds d) (fault_of d) r (types_more d) (targets_more d) h
+
+  pub tests_less : (d : Definition) → IsTrue (all_hold (tests ds next d)) → IsTrue (all_hold (tests ds reasons d))
   tests_less d h =
-      hold_more (types_are_usable ds next d) (types_are_usable ds reasons d) UnusableType (lasting_tests ds d) (fault_of d) (types_more d) h
+      both_hold_more (types_are_usable ds next d) (types_are_usable ds reasons d) UnusableType
+      (targets_are_usable ds next d) (targets_are_usable ds reasons d) MissingContent
+      ((has_tree ds d, NoTree) ∷ []) (lasting_tests ds d) (fault_of d) (types_more d) (targets_more d) h
+
+pub iff_same : (a b : Bool) → (a ≡ true → b ≡ true) → (b ≡ true → a ≡ true) → a ≡ b
+iff_same true b there back = sym (there refl)
+iff_same false true there back = back refl
+iff_same false false there back = refl
+
+-- the tests are the same where the same definitions can't be used
+module _ (ds : List Definition) (a b : Reasons) (same : (p : ℕ) → is_some (reason_at a p) ≡ is_some (reason_at b p)) where
+  fewer_there : Fewer a b
+  unfolding Fewer
+  fewer_there place none = same place ∙ none
+
+  fewer_back : Fewer b a
+  unfolding Fewer
+  fewer_back place none = sym (same place) ∙ none
+
+  pub tests_same : (d : Definition) → tests ds a d ≡ tests ds b d
+  tests_same d =
+      let types : types_are_usable ds a d ≡ types_are_usable ds b d =
+      iff_same (types_are_usable ds a d) (types_are_usable ds b d) (types_more ds b a fewer_back d) (types_more ds a b fewer_there d) in
+      let targets : targets_are_usable ds a d ≡ targets_are_usable ds b d =
+      iff_same (targets_are_usable ds a d) (targets_are_usable ds b d) (targets_more ds b a fewer_back d) (targets_more ds a b fewer_there d) in
+      λ i. fault_of d ++ (types i, UnusableType) ∷ (has_tree ds d, NoTree) ∷ (targets i, MissingContent) ∷ lasting_tests ds d
 
 module _ (ds : List Definition) (is_placed : (i : ℕ) (d : Definition) → slice_get ds i ≡ Some d → d.place ≡ i) where
   -- a round at a place
-  round_at_from : (f : Definition → Option Reason) (ds : List Definition) (i : ℕ) (d : Definition) → slice_get ds i ≡ Some d → get_or (map f ds) i None ≡ f d
+  pub round_at_from : (f : Definition → Option Reason) (ds : List Definition) (i : ℕ) (d : Definition) → slice_get ds i ≡ Some d → get_or (map f ds) i None ≡ f d
   round_at_from f [] i d h = cc
   round_at_from f (x ∷ xs) zero d h = let same : x ≡ d = cc in ap f same
   round_at_from f (x ∷ xs) (suc i) d h = round_at_from f xs i d h
@@ -205,6 +240,10 @@ module _ (ds : List Definition) (is_placed : (i : ℕ) (d : Definition) → slic
   none_at (x ∷ xs) zero = refl
   none_at (x ∷ xs) (suc i) = none_at xs i
 
+  pub none_fewer : Fewer (no_reasons ds) (found ds)
+  unfolding Fewer
+  none_fewer place h = ap is_some (none_at ds place)
+
   length_none : (xs : List Definition) → length (no_reasons xs) ≡ length xs
   length_none xs = length-map xs (λ d. None)
 
@@ -212,16 +251,16 @@ module _ (ds : List Definition) (is_placed : (i : ℕ) (d : Definition) → slic
   length_rounds zero reasons e = e
   length_rounds (suc n) reasons e = length_rounds n (round ds reasons) (length_round reasons)
 
-  at_rest : round ds (all_reasons ds) ≡ all_reasons ds
+  at_rest : round ds (found ds) ≡ found ds
   at_rest = rests (length ds) (no_reasons ds) (length_none ds) (omega arith)
 
-  pub closed : IsClosed ds (all_reasons ds)
+  pub closed : IsClosed ds (found ds)
   closed d at none =
-      let of : reason_of ds (all_reasons ds) d ≡ None =
-      sym (round_at (all_reasons ds) d at) ∙ ap (λ l. reason_at l d.place) at_rest ∙ none in
-      none_fails (tests ds (all_reasons ds) d) (rw none at of)
+      let of : reason_of ds (found ds) d ≡ None =
+      sym (round_at (found ds) d at) ∙ ap (λ l. reason_at l d.place) at_rest ∙ none in
+      none_fails (tests ds (found ds) d) (rw none at of)
 
-  pub length_all : length (all_reasons ds) ≡ length ds
+  pub length_all : length (found ds) ≡ length ds
   length_all = length_rounds (length ds) (no_reasons ds) (length_none ds)
 
   -- ---- the reasons of the first round last
@@ -247,7 +286,7 @@ module _ (ds : List Definition) (is_placed : (i : ℕ) (d : Definition) → slic
       let within : i < length ds = slice_get_within ds i s.0 s.1 in absurd (omega arith)
   round_lasts (suc n) e i r h = rounds_keep n (round ds (no_reasons ds)) (length_round (no_reasons ds)) i r h
 
-  pub first_lasts : (place : ℕ) (r : Reason) → reason_at (first_reasons ds) place ≡ Some r → reason_at (all_reasons ds) place ≡ Some r
+  pub first_lasts : (place : ℕ) (r : Reason) → reason_at (first_reasons ds) place ≡ Some r → reason_at (found ds) place ≡ Some r
   unfolding Extends
   first_lasts place r h = round_lasts (length ds) refl place r (sym (ap (λ l. reason_at l place) first_round) ∙ h)
 
@@ -281,7 +320,7 @@ module _ (ds : List Definition) (is_placed : (i : ℕ) (d : Definition) → slic
   apply_rounds zero reasons e all = all
   apply_rounds (suc n) reasons e all = apply_rounds n (round ds reasons) (length_round reasons) (apply_round reasons e all)
 
-  pub apply : AllApply ds (all_reasons ds)
+  pub apply : AllApply ds (found ds)
   apply = apply_rounds (length ds) (no_reasons ds) (length_none ds) (λ d r at h. (let no : None ≡ Some r = sym (none_at ds d.place) ∙ h in cc))
 
   -- ---- nothing closed is smaller
@@ -325,7 +364,7 @@ module _ (ds : List Definition) (is_placed : (i : ℕ) (d : Definition) → slic
   rounds_within (suc n) reasons other e shut h =
       rounds_within n (round ds reasons) other (length_round reasons) shut (round_within reasons other e shut h)
 
-  pub least : (other : Reasons) → IsClosed ds other → IsWithin (all_reasons ds) other
+  pub least : (other : Reasons) → IsClosed ds other → IsWithin (found ds) other
   least other shut =
       rounds_within (length ds) (no_reasons ds) other (length_none ds) shut
       (λ place some. (let no : is_some (reason_at (no_reasons ds) place) ≡ false = ap is_some (none_at ds place) in cc))

@@ -1,6 +1,7 @@
 -- A work list finds the reasons that rounds find.
-use Rattle.std.proofs.Common.{◌≡◌, ℕ, zero, suc, ◌<◌, ◌≤◌, ◌+◌, List, [], ◌∷◌, ◌++◌, length, get_or, set, refl, ap, subst, sym, ◌∙◌, IsTrue, arith}
-use Rattle.std.proofs.Common.{Bool, true, false, cond, nat_eq, nat_lt, Option, Some, None, is_some, is_none, ◌⊎◌, inl, inr}
+use Rattle.std.proofs.Common.{◌≡◌, ℕ, zero, suc, ◌<◌, ◌≤◌, ◌+◌, List, [], ◌∷◌, ◌++◌, map, length, get_or, set, refl, ap, subst, sym, ◌∙◌, IsTrue, arith}
+use Rattle.std.specs.Option.{option_or}
+use Rattle.std.proofs.Common.{Bool, true, false, ◌&&◌, cond, nat_eq, nat_lt, Option, Some, None, is_some, is_none, ◌⊎◌, inl, inr}
 use Rattle.std.specs.List.{Contains, All, list_all, list_any, slice_get}
 use Rattle.std.proofs.lemmas.Bool.{cases_eq, cases_lt, and_parts, and_from, and_cases, or_cases, or_left, or_right}
 use Rattle.std.proofs.lemmas.Bool.{eqb-true, eq-eqb, lt-ltb, ltb-true, false≢true}
@@ -9,18 +10,18 @@ use Rattle.std.proofs.lemmas.List.{length-set, length-map, length_push, get_or_a
 use Rattle.std.proofs.lemmas.List.Elements.{All-push, All-weaker, All-append, All-nil, All-cons, All-get_or}
 use Rattle.std.proofs.lemmas.List.Elements.{Contains-push, Contains-append_left, Contains-append_right}
 use Rattle.fhir_elements.specs.declared.reason.Reason.{Reason}
-use Rattle.fhir_elements.specs.declared.reason.Reason.TheVariants.{UnusableType}
-use Rattle.fhir_elements.specs.Tests.{first_of}
+use Rattle.fhir_elements.specs.declared.reason.Reason.TheVariants.{UnusableType, NoTree, MissingContent}
+use Rattle.fhir_elements.specs.Tests.{first_of, all_hold}
 use Rattle.fhir_definition.specs.Snapshot.{is_at}
 use Rattle.fhir_definition.specs.Definition.{Definition}
 use Rattle.fhir_schema.specs.Tables.{ArePlaced}
-use Rattle.fhir_schema.specs.Settling.{Reasons, reason_at, fault_of, lasting_tests, types_are_usable, tests, no_reasons, all_reasons}
+use Rattle.fhir_schema.specs.Settling.{Reasons, reason_at, fault_of, has_tree, lasting_tests, types_are_usable, targets_are_usable, tests, no_reasons, found, first_reason, all_reasons}
 use Rattle.fhir_schema.specs.Usability.{IsClosed, IsWithin}
 use Rattle.fhir_schema.specs.Resting.{rests_on, users_of, failing, first_reasons, unusable_at, unusable_from}
 use Rattle.fhir_schema.specs.Resting.{is_unmarked, marked, queued, marked_all, queued_all}
-use Rattle.fhir_schema.proofs.Failing.{none_fails, hold_more, it_holds, it_fails}
-use Rattle.fhir_schema.proofs.Settles.{closed, apply, least, first_at, first_lasts, length_all}
-use Rattle.fhir_schema.proofs.Users.{is_usable, types_ask, has, user, listed}
+use Rattle.fhir_schema.proofs.Failing.{none_fails, both_hold_more, both_hold}
+use Rattle.fhir_schema.proofs.Settles.{closed, least, first_at, first_lasts, iff_same, tests_same}
+use Rattle.fhir_schema.proofs.Users.{is_usable, others_ask, has, user, listed}
 
 -- a place has a reason
 abbrev pub HasReason : Reasons → ℕ → Type 0
@@ -37,7 +38,7 @@ some_within reasons place h = go (cases_lt place (length reasons))
     go (inl below) = below
     go (inr past) = let no : is_some (reason_at reasons place) ≡ false = ap is_some (get_or_past reasons place None past) in absurd (false≢true (sym no ∙ h))
 
-definition_at : (xs : List Definition) (p : ℕ) → p < length xs → (d : Definition) × (slice_get xs p ≡ Some d)
+pub definition_at : (xs : List Definition) (p : ℕ) → p < length xs → (d : Definition) × (slice_get xs p ≡ Some d)
 definition_at [] p h = absurd (omega arith)
 definition_at (x ∷ xs) zero h = (x, refl)
 definition_at (x ∷ xs) (suc p) h = let less : p < length xs = omega arith in definition_at xs p less
@@ -162,8 +163,7 @@ module _ (ds : List Definition) where
   pub record AreSound (reasons : Reasons) (queue : List ℕ) : Type 0 where
     pub counted : length reasons ≡ length ds
     pub keeps : (p : ℕ) (r : Reason) → reason_at (first_reasons ds) p ≡ Some r → reason_at reasons p ≡ Some r
-    pub within : IsWithin reasons (all_reasons ds)
-    pub unusable : (p : ℕ) (r : Reason) → reason_at (first_reasons ds) p ≡ None → reason_at reasons p ≡ Some r → r ≡ UnusableType
+    pub within : IsWithin reasons (found ds)
     pub waits : (p : ℕ) → HasReason reasons p → Contains queue p
     pub known : All (HasReason reasons) queue
 
@@ -174,18 +174,15 @@ module _ (ds : List Definition) where
     pub done : (k q : ℕ) → k < at → IsTrue (has (users_of ds) (get_or queue k 0) q) → HasReason reasons q
 
   set_sound : (reasons : Reasons) (queue : List ℕ) (place : ℕ) → place < length reasons → reason_at reasons place ≡ None
-      → HasReason (all_reasons ds) place → AreSound reasons queue → AreSound (set reasons place (Some UnusableType)) (queue ++ place ∷ [])
+      → HasReason (found ds) place → AreSound reasons queue → AreSound (set reasons place (Some UnusableType)) (queue ++ place ∷ [])
   set_sound reasons queue place h none just s = record {
     counted = length-set reasons place (Some UnusableType) ∙ s.counted;
     keeps = λ p r first. now_at reasons place h none p (λ o. o ≡ Some r)
         (λ e. absurd (none-some r (sym none ∙ ap (reason_at reasons) (sym e) ∙ s.keeps p r first)))
         (λ n. s.keeps p r first);
-    within = λ p. now_at reasons place h none p (λ o. IsTrue (is_some o) → HasReason (all_reasons ds) p)
-        (λ e some. subst (HasReason (all_reasons ds)) (sym e) just)
+    within = λ p. now_at reasons place h none p (λ o. IsTrue (is_some o) → HasReason (found ds) p)
+        (λ e some. subst (HasReason (found ds)) (sym e) just)
         (λ n some. s.within p some);
-    unusable = λ p r first. now_at reasons place h none p (λ o. o ≡ Some r → r ≡ UnusableType)
-        (λ e is. sym (same_Some UnusableType r is))
-        (λ n is. s.unusable p r first is);
     waits = λ p. now_at reasons place h none p (λ o. IsTrue (is_some o) → Contains (queue ++ place ∷ []) p)
         (λ e some. subst (λ k. Contains (queue ++ place ∷ []) k) (sym e) (Contains-push queue place))
         (λ n some. Contains-append_left queue (place ∷ []) p (s.waits p some));
@@ -195,7 +192,7 @@ module _ (ds : List Definition) where
         (ap is_some (get_or-set_same reasons place (Some UnusableType) None h));
   }
 
-  mark_sound : (reasons : Reasons) (queue : List ℕ) (place : ℕ) → HasReason (all_reasons ds) place → AreSound reasons queue
+  mark_sound : (reasons : Reasons) (queue : List ℕ) (place : ℕ) → HasReason (found ds) place → AreSound reasons queue
       → AreSound (marked place reasons) (queued place reasons queue)
   mark_sound reasons queue place just s = go (is_unmarked reasons place) refl
     where
@@ -204,7 +201,7 @@ module _ (ds : List Definition) where
       go false e = s
 
   all_sound : (places : List ℕ) (reasons : Reasons) (queue : List ℕ)
-      → ((q : ℕ) → list_any (nat_eq q) places ≡ true → HasReason (all_reasons ds) q) → AreSound reasons queue
+      → ((q : ℕ) → list_any (nat_eq q) places ≡ true → HasReason (found ds) q) → AreSound reasons queue
       → AreSound (marked_all places reasons) (queued_all places reasons queue)
   all_sound [] reasons queue just s = s
   all_sound (p ∷ ps) reasons queue just s =
@@ -248,15 +245,26 @@ usable_still before reasons (o ∷ os) none e =
     at (Some k) free usable = ap is_none (free k (eq-eqb k k refl))
 
 module _ (ds : List Definition) (is_placed : ArePlaced ds) where
+  both_held : (reasons : Reasons) (d : Definition) → IsTrue (all_hold (tests ds reasons d))
+      → (types_are_usable ds reasons d ≡ true) × (targets_are_usable ds reasons d ≡ true)
+  both_held reasons d h =
+      both_hold (types_are_usable ds reasons d) UnusableType (targets_are_usable ds reasons d) MissingContent
+      ((has_tree ds d, NoTree) ∷ []) (lasting_tests ds d) (fault_of d) h
+
+  others_hold : (reasons : Reasons) (d : Definition) → IsTrue (all_hold (tests ds reasons d))
+      → (types_are_usable ds reasons d && targets_are_usable ds reasons d) ≡ true
+  others_hold reasons d h =
+      let parts = both_held reasons d h in
+      and_from (types_are_usable ds reasons d) (targets_are_usable ds reasons d) parts.0 parts.1
+
   -- who rests on one that can't be used can't be used
-  user_unusable : (p q : ℕ) → p < length ds → HasReason (all_reasons ds) p → has (users_of ds) p q ≡ true → HasReason (all_reasons ds) q
+  user_unusable : (p q : ℕ) → p < length ds → HasReason (found ds) p → has (users_of ds) p q ≡ true → HasReason (found ds) q
   user_unusable p q h some is_user =
       let u = user ds is_placed p q h is_user in
       let d = u.0 in
-      subst (HasReason (all_reasons ds)) (sym u.2) (some_from (reason_at (all_reasons ds) d.place) (λ none. (
-      let types : types_are_usable ds (all_reasons ds) d ≡ true =
-      it_holds (types_are_usable ds (all_reasons ds) d) true UnusableType (lasting_tests ds d) (fault_of d) (closed ds is_placed d u.1 none) in
-      unusable_one (all_reasons ds) p some (rests_on ds d) u.3 (sym (types_ask ds (all_reasons ds) d) ∙ types))))
+      subst (HasReason (found ds)) (sym u.2) (some_from (reason_at (found ds) d.place) (λ none. (
+      let others = others_hold (found ds) d (closed ds is_placed d u.1 none) in
+      unusable_one (found ds) p some (rests_on ds d) u.3 (sym (others_ask ds (found ds) d) ∙ others))))
 
   user_within : (p q : ℕ) → p < length ds → has (users_of ds) p q ≡ true → q < length ds
   user_within p q h is_user =
@@ -273,7 +281,6 @@ module _ (ds : List Definition) (is_placed : ArePlaced ds) where
       counted = length-map ds (λ d. first_of (tests ds (no_reasons ds) d));
       keeps = λ p r h. h;
       within = λ p. go p (reason_at (first_reasons ds) p) refl;
-      unusable = λ p r none some. absurd (none-some r (sym none ∙ some));
       waits = λ p some. unusable_listed 0 p p (first_reasons ds) (omega arith) some;
       known = unusable_known (first_reasons ds) 0 (first_reasons ds) (λ p m e. (
           let same : m ≡ p = omega arith in ap (reason_at (first_reasons ds)) same));
@@ -282,7 +289,7 @@ module _ (ds : List Definition) (is_placed : ArePlaced ds) where
     done = λ k q h. absurd (omega arith);
   }
     where
-      go : (p : ℕ) (o : Option Reason) → reason_at (first_reasons ds) p ≡ o → HasReason (first_reasons ds) p → HasReason (all_reasons ds) p
+      go : (p : ℕ) (o : Option Reason) → reason_at (first_reasons ds) p ≡ o → HasReason (first_reasons ds) p → HasReason (found ds) p
       go p None is some = absurd (false≢true (sym (ap is_some is) ∙ some))
       go p (Some r) is some = ap is_some (first_lasts ds is_placed p r is)
 
@@ -322,10 +329,8 @@ module _ (ds : List Definition) (is_placed : ArePlaced ds) where
           (ap (list_any (nat_eq q)) places_are ∙ listed)
 
   -- the same, where a clause names what there is
-  pub started : (reasons none : Reasons) (queue : List ℕ) → reasons ≡ failing ds none → none ≡ no_reasons ds → queue ≡ unusable_from 0 reasons
-      → IsSpreading ds reasons queue 0
-  started reasons none queue reasons_are none_is queue_is =
-      let first : reasons ≡ first_reasons ds = reasons_are ∙ ap (failing ds) none_is in
+  pub started : (reasons : Reasons) (queue : List ℕ) → reasons ≡ first_reasons ds → queue ≡ unusable_from 0 reasons → IsSpreading ds reasons queue 0
+  started reasons queue first queue_is =
       let places : queue ≡ unusable_from 0 (first_reasons ds) = queue_is ∙ ap (unusable_from 0) first in
       subst (λ q. IsSpreading ds reasons q 0) (sym places) (subst (λ r. IsSpreading ds r (unusable_from 0 (first_reasons ds)) 0) (sym first) start)
 
@@ -375,45 +380,22 @@ module _ (ds : List Definition) (is_placed : ArePlaced ds) where
     all_closed : IsClosed ds reasons
     all_closed d at_place none =
         let first : first_of (tests ds (no_reasons ds) d) ≡ None = sym (first_at ds is_placed d at_place) ∙ first_none d.place none in
-        hold_more (types_are_usable ds (no_reasons ds) d) (types_are_usable ds reasons d) UnusableType (lasting_tests ds d) (fault_of d)
-        (λ e. types_ask ds reasons d ∙ usable_still (no_reasons ds) reasons (rests_on ds d) (free d at_place none) (sym (types_ask ds (no_reasons ds) d) ∙ e))
-        (none_fails (tests ds (no_reasons ds) d) first)
+        let held = none_fails (tests ds (no_reasons ds) d) first in
+        let others : (types_are_usable ds reasons d && targets_are_usable ds reasons d) ≡ true =
+        others_ask ds reasons d
+        ∙ usable_still (no_reasons ds) reasons (rests_on ds d) (free d at_place none)
+        (sym (others_ask ds (no_reasons ds) d) ∙ others_hold (no_reasons ds) d held) in
+        let parts = and_parts (types_are_usable ds reasons d) (targets_are_usable ds reasons d) others in
+        both_hold_more (types_are_usable ds (no_reasons ds) d) (types_are_usable ds reasons d) UnusableType
+        (targets_are_usable ds (no_reasons ds) d) (targets_are_usable ds reasons d) MissingContent
+        ((has_tree ds d, NoTree) ∷ []) (lasting_tests ds d) (fault_of d) (λ e. parts.0) (λ e. parts.1) held
 
-    least_within : IsWithin (all_reasons ds) reasons
+    least_within : IsWithin (found ds) reasons
     least_within = least ds is_placed reasons all_closed
 
-    -- what isn't of the first round is given for a type
-    type_alone : (p : ℕ) (t : Reason) → p < length ds → reason_at (first_reasons ds) p ≡ None → reason_at (all_reasons ds) p ≡ Some t → t ≡ UnusableType
-    type_alone p t h first some =
-        let found = definition_at ds p h in
-        let d = found.0 in
-        let place : d.place ≡ p = is_placed p d found.1 in
-        let at_place : slice_get ds d.place ≡ Some d = ap (slice_get ds) place ∙ found.1 in
-        let passed : first_of (tests ds (no_reasons ds) d) ≡ None =
-        sym (first_at ds is_placed d at_place) ∙ ap (reason_at (first_reasons ds)) place ∙ first in
-        it_fails (types_are_usable ds (no_reasons ds) d) (types_are_usable ds (all_reasons ds) d) UnusableType (lasting_tests ds d) (fault_of d)
-        (none_fails (tests ds (no_reasons ds) d) passed) t
-        (apply ds is_placed d t at_place (ap (reason_at (all_reasons ds)) place ∙ some))
+    same_some : (p : ℕ) → is_some (reason_at reasons p) ≡ is_some (reason_at (found ds) p)
+    same_some p = iff_same (is_some (reason_at reasons p)) (is_some (reason_at (found ds) p)) (s.sound.within p) (least_within p)
 
-    same_reason : (p : ℕ) (r t : Reason) → p < length ds → reason_at reasons p ≡ Some r → reason_at (all_reasons ds) p ≡ Some t → r ≡ t
-    same_reason p r t h mine theirs = go (reason_at (first_reasons ds) p) refl
-      where
-        go : (o : Option Reason) → reason_at (first_reasons ds) p ≡ o → r ≡ t
-        go None is = s.sound.unusable p r is mine ∙ sym (type_alone p t h is theirs)
-        go (Some f) is =
-            same_Some r t (sym mine ∙ s.sound.keeps p f is ∙ sym (first_lasts ds is_placed p f is) ∙ theirs)
-
-    same_at : (p : ℕ) → p < length ds → reason_at reasons p ≡ reason_at (all_reasons ds) p
-    same_at p h = go (reason_at reasons p) refl (reason_at (all_reasons ds) p) refl
-      where
-        go : (x : Option Reason) → reason_at reasons p ≡ x → (y : Option Reason) → reason_at (all_reasons ds) p ≡ y
-            → reason_at reasons p ≡ reason_at (all_reasons ds) p
-        go None mine None theirs = mine ∙ sym theirs
-        go None mine (Some t) theirs = absurd (false≢true (sym (ap is_some mine) ∙ least_within p (ap is_some theirs)))
-        go (Some r) mine None theirs = absurd (false≢true (sym (ap is_some theirs) ∙ s.sound.within p (ap is_some mine)))
-        go (Some r) mine (Some t) theirs = mine ∙ ap (λ k. Some k) (same_reason p r t h mine theirs) ∙ sym theirs
-
-    pub settled : reasons ≡ all_reasons ds
+    pub settled : map (first_reason ds reasons) ds ≡ all_reasons ds
     settled =
-        ext_get_or None reasons (all_reasons ds) (s.sound.counted ∙ sym (length_all ds is_placed))
-        (λ p h. same_at p (subst (λ n. p < n) s.sound.counted h))
+        λ i. map (λ d. option_or (first_of (tests ds (no_reasons ds) d)) (first_of (tests_same ds reasons (found ds) same_some d i))) ds

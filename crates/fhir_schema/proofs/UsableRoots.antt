@@ -14,8 +14,10 @@ use Rattle.fhir_definition.specs.Snapshot.{is_root, has_parent, is_tree, root_pl
 use Rattle.fhir_definition.specs.Definition.{Definition, has_snapshot}
 use Rattle.fhir_schema.specs.Tables.{ArePlaced}
 use Rattle.fhir_schema.specs.Usability.{IsClosed}
-use Rattle.fhir_schema.specs.Settling.{reason_at, url_place, types_are_usable, fault_of, is_well_formed, lasting_tests, tests, all_reasons}
+use Rattle.fhir_schema.specs.Settling.{reason_at, types_are_usable, targets_are_usable, fault_of, is_well_formed, has_tree, lasting_tests, tests, all_reasons}
+use Rattle.fhir_schema.specs.Urls.{url_place}
 use Rattle.fhir_schema.specs.Forms.{spells_apart}
+use Rattle.fhir_schema.specs.Criteria.{are_told_apart}
 use Rattle.fhir_codes.specs.Expanding.{Expansions}
 use Rattle.fhir_schema.specs.Schemas.{schema_with, is_loaded, unusable, root, root_in}
 
@@ -72,10 +74,12 @@ module _ (ds : List Definition) where
   tree_if_held : (d : Definition) → IsTrue (all_hold (tests ds (all_reasons ds) d)) → is_tree d.elements ≡ true
   tree_if_held d h =
       let rest = and_parts _ _ (sym (list_all-append (λ test. test.0) (fault_of d) _) ∙ h) in
-      let lasting = and_parts (types_are_usable ds (all_reasons ds) d) (all_hold (lasting_tests ds d)) rest.1 in
-      let formed = and_parts (not (has_snapshot d) || is_well_formed ds d) _ lasting.1 in
-      let ends = and_parts _ _ formed.1 in
-      let snapshot = and_parts (has_snapshot d) _ ends.1 in
+      let others = and_parts (types_are_usable ds (all_reasons ds) d) _ rest.1 in
+      let formed = and_parts (has_tree ds d) _ others.1 in
+      let lasting = and_parts (targets_are_usable ds (all_reasons ds) d) (all_hold (lasting_tests ds d)) formed.1 in
+      let ends = and_parts _ _ lasting.1 in
+      let told = and_parts (are_told_apart ds d) _ ends.1 in
+      let snapshot = and_parts (has_snapshot d) _ told.1 in
       let whole : is_well_formed ds d ≡ true = both (has_snapshot d) (is_well_formed ds d) formed.0 snapshot.0 in
       (and_parts (is_tree d.elements) (spells_apart ds d) whole).0
 

@@ -1,4 +1,4 @@
--- Who rests on a definition: what is asked of types, by their places, and the lists of those that ask.
+-- Who rests on a definition: what is asked of others, by their places, and the lists of those that ask.
 use Rattle.std.proofs.Common.{◌≡◌, ℕ, ◌<◌, List, [], ◌∷◌, ◌++◌, length, get_or, replicate, refl, ap, ap₂, sym, ◌∙◌, arith}
 use Rattle.std.proofs.Common.{Bool, true, false, ◌&&◌, ◌||◌, cond, nat_eq, Option, Some, None, is_none, ◌⊎◌, inl, inr}
 use Rattle.std.specs.Option.{option_map_or}
@@ -14,10 +14,10 @@ use Rattle.fhir_definition.specs.Definition.{Definition}
 use Rattle.fhir_definition.specs.Gathering.{put_at}
 use Rattle.fhir_schema.specs.Types.{type_place, is_system}
 use Rattle.fhir_schema.specs.Tables.{ArePlaced}
-use Rattle.fhir_schema.specs.Settling.{Reasons, reason_at, is_usable_type, entry_is_usable, element_is_usable, types_are_usable}
-use Rattle.fhir_schema.specs.Resting.{entry_rests_on, element_rests_on, rests_on, put_under, users_from, users_of}
+use Rattle.fhir_schema.specs.Settling.{Reasons, reason_at, is_usable_type, entry_is_usable, element_is_usable, types_are_usable, target_place, target_is_usable, targets_are_usable}
+use Rattle.fhir_schema.specs.Resting.{entry_rests_on, element_rests_on, target_rests_on, rests_on, put_under, users_from, users_of}
 
--- ---- the types of a definition can be used where those at their places can
+-- ---- what a definition asks of others it asks of those at their places
 
 module _ {A B : Type 0} where
   list_all-flat_map : (p : B → Bool) (f : A → List B) (xs : List A) → list_all p (flat_map f xs) ≡ list_all (λ x. list_all p (f x)) xs
@@ -57,11 +57,29 @@ module _ (ds : List Definition) (reasons : Reasons) where
   element_asks : (e : Element) → element_is_usable ds reasons e ≡ list_all (is_usable reasons) (element_rests_on ds e)
   element_asks e = element_cases (is_root e) e.types
 
-  pub types_ask : (d : Definition) → types_are_usable ds reasons d ≡ list_all (is_usable reasons) (rests_on ds d)
+  types_ask : (d : Definition)
+      → types_are_usable ds reasons d ≡ list_all (is_usable reasons) (type_place ds d.type ∷ flat_map (element_rests_on ds) d.elements)
   types_ask d =
       ap (λ (b : Bool). is_usable_type ds reasons d.type && b)
       (list_all-same (element_is_usable ds reasons) (λ e. list_all (is_usable reasons) (element_rests_on ds e)) element_asks d.elements
       ∙ sym (list_all-flat_map (is_usable reasons) (element_rests_on ds) d.elements))
+
+  target_asks : (d : Definition) (e : Element) → target_is_usable ds reasons d e ≡ list_all (is_usable reasons) (target_rests_on ds d e)
+  target_asks d e = entry_cases (is_none e.content_reference) (target_place ds d e)
+
+  targets_ask : (d : Definition)
+      → targets_are_usable ds reasons d ≡ list_all (is_usable reasons) (flat_map (target_rests_on ds d) d.elements)
+  targets_ask d =
+      list_all-same (target_is_usable ds reasons d) (λ e. list_all (is_usable reasons) (target_rests_on ds d e)) (target_asks d) d.elements
+      ∙ sym (list_all-flat_map (is_usable reasons) (target_rests_on ds d) d.elements)
+
+  -- what others have to be is asked of those on which the definition rests
+  pub others_ask : (d : Definition)
+      → (types_are_usable ds reasons d && targets_are_usable ds reasons d) ≡ list_all (is_usable reasons) (rests_on ds d)
+  others_ask d =
+      ap₂ (λ (a b : Bool). a && b) (types_ask d) (targets_ask d)
+      ∙ sym (list_all-append (is_usable reasons) (type_place ds d.type ∷ flat_map (element_rests_on ds) d.elements)
+      (flat_map (target_rests_on ds d) d.elements))
 
 -- ---- who is listed
 

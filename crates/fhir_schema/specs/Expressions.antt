@@ -1,5 +1,5 @@
 -- The expressions of constraints (FHIR R4, ElementDefinition, constraint.expression), where they can be read.
-use Rattle.std.specs.Prelude.{ℕ, List, [], map, get_or, Option, None}
+use Rattle.std.specs.Prelude.{ℕ, List, map, Option}
 use Rattle.std.specs.Option.{option_and_then}
 use Rattle.std.specs.List.{slice_get}
 use Rattle.fhir_elements.specs.Constraint.{Constraint}

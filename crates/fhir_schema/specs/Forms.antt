@@ -1,7 +1,7 @@
 -- The forms of elements in JSON (FHIR R4, JSON representation of resources): under which property an element stands, once
 -- for each of its types, and what that property holds. Type definitions alone say so, never a profile.
-use Rattle.std.specs.Prelude.{ℕ, suc, List, [], ◌∷◌, ◌++◌, ◌-◌, map, length, take, Bool, true, false, not, ◌&&◌, ◌||◌, nat_eq, nat_le, nat_lt, Option, Some, if◌then◌else◌, codes}
-use Rattle.std.specs.Option.{option_map_or}
+use Rattle.std.specs.Prelude.{ℕ, suc, List, [], ◌∷◌, ◌++◌, ◌-◌, map, length, take, Bool, true, false, not, ◌&&◌, ◌||◌, nat_eq, nat_le, Option, if◌then◌else◌, codes}
+use Rattle.std.specs.Option.{option_map_or, option_or}
 use Rattle.std.specs.List.{list_all, flat_map, slice_get, ends_with}
 use Rattle.std.specs.Map.{lookup}
 use Rattle.std.specs.Str.{bytes_eq}
@@ -15,7 +15,8 @@ use Rattle.fhir_schema.specs.declared.form.Content.{Content}
 use Rattle.fhir_schema.specs.declared.form.Content.TheVariants.{Primitive, System, Resource, Complex}
 use Rattle.fhir_schema.specs.declared.form.Property.{Property}
 use Rattle.fhir_schema.specs.Types.{names_resource, primitive_of, root_of_code, is_system}
-use Rattle.fhir_schema.specs.Slots.{Slot, slots_of, slots_in}
+use Rattle.fhir_schema.specs.Slots.{Slot, slots_of}
+use Rattle.fhir_schema.specs.Contents.{holder, typed_by}
 
 pub record Form : Type 0 where
   -- the element's name, as `value[x]`
@@ -48,17 +49,16 @@ property_name name code = if is_choice name then take (length name - 3) name ++ 
 
 -- ---- what a property holds
 
--- the node by whose slots the children of an item of the type are typed: the element itself, where it has any, and else
+-- the node by whose slots the children of an item of the type are typed: the one that has the element's children, and else
 -- the root of the type
-abbrev pub typing_node : List Definition → Definition → ℕ → Text → Option NodeRef
-typing_node ds d place code =
-    if nat_lt 0 (length (slots_in ds d place)) then Some (record { definition = d.place; element = place }) else root_of_code ds code
+abbrev pub typing_node : List Definition → NodeRef → Text → Option NodeRef
+typing_node ds n code = option_or (holder ds n) (root_of_code ds code)
 
-abbrev pub content_of : List Definition → Definition → ℕ → Text → Content
-content_of ds d place code =
+abbrev pub content_of : List Definition → NodeRef → Text → Content
+content_of ds n code =
     if is_system code then System
     else (if names_resource ds code then Resource
-    else option_map_or (λ prim. Primitive prim (typing_node ds d place code)) (primitive_of ds code) (Complex (typing_node ds d place code)))
+    else option_map_or (λ prim. Primitive prim (typing_node ds n code)) (primitive_of ds code) (Complex (typing_node ds n code)))
 
 -- an element is an array exactly where its type allows more than one
 abbrev pub repeats : Element → Bool
@@ -67,18 +67,21 @@ repeats e = option_map_or allows_several e.max false
 -- ---- the forms
 
 module _ (ds : List Definition) (d : Definition) where
+  abbrev pub slot_node : Slot → NodeRef
+  slot_node slot = record { definition = d.place; element = slot.entry }
+
   abbrev pub form_of : Slot → Element → Text → Form
   form_of slot e code = record {
     name = slot.name;
     property = property_name slot.name code;
     code = code;
     repeats = repeats e;
-    content = content_of ds d slot.entry code;
+    content = content_of ds (slot_node slot) code;
   }
 
-  -- one for each of its types
+  -- one for each of its types, which may be those of the element that it refers to for its content
   abbrev pub forms_with : Slot → Element → List Form
-  forms_with slot e = map (λ entry. form_of slot e entry.code) e.types
+  forms_with slot e = map (λ entry. form_of slot e entry.code) (typed_by ds (slot_node slot) e).types
 
   abbrev pub slot_forms : Slot → List Form
   slot_forms slot = option_map_or (forms_with slot) (slice_get d.elements slot.entry) []

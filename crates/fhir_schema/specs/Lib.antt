@@ -1,6 +1,10 @@
 pub mod Types
+pub mod Urls
 pub mod Slots
+pub mod Contents
 pub mod Forms
+pub mod Slicings
+pub mod Criteria
 pub mod FormTables
 pub mod Settling
 pub mod Usability
@@ -12,3 +16,4 @@ pub mod Covers
 pub mod Resting
 pub mod Expressions
 pub mod Readings
+pub mod CriteriaSeen

@@ -1,4 +1,4 @@
--- Which definitions rest on which by their types, and what follows where one can't be used (used by private contracts alone).
+-- Which definitions rest on which, by their types and by the elements that they refer to, and what follows where one can't be used (used by private contracts alone).
 use Rattle.std.specs.Prelude.{ℕ, suc, List, [], ◌∷◌, ◌++◌, map, length, replicate, set, Bool, ◌&&◌, nat_lt, Option, Some, is_some, is_none, if◌then◌else◌}
 use Rattle.std.specs.List.{flat_map}
 use Rattle.fhir_elements.specs.declared.reason.Reason.{Reason}
@@ -10,9 +10,9 @@ use Rattle.fhir_definition.specs.Snapshot.{is_root}
 use Rattle.fhir_definition.specs.Definition.{Definition}
 use Rattle.fhir_definition.specs.Gathering.{put_at}
 use Rattle.fhir_schema.specs.Types.{type_place, is_system}
-use Rattle.fhir_schema.specs.Settling.{Reasons, reason_at, tests, no_reasons}
+use Rattle.fhir_schema.specs.Settling.{Reasons, reason_at, target_place, tests, no_reasons}
 
--- ---- the places of the types that are asked for
+-- ---- the places of what is asked for
 
 abbrev pub entry_rests_on : List Definition → TypeEntry → List (Option ℕ)
 entry_rests_on ds entry = if is_system entry.code then [] else type_place ds entry.code ∷ []
@@ -21,8 +21,13 @@ entry_rests_on ds entry = if is_system entry.code then [] else type_place ds ent
 abbrev pub element_rests_on : List Definition → Element → List (Option ℕ)
 element_rests_on ds e = if is_root e then [] else flat_map (entry_rests_on ds) e.types
 
+-- that of the definition whose element is asked for
+abbrev pub target_rests_on : List Definition → Definition → Element → List (Option ℕ)
+target_rests_on ds d e = if is_none e.content_reference then [] else target_place ds d e ∷ []
+
 abbrev pub rests_on : List Definition → Definition → List (Option ℕ)
-rests_on ds d = type_place ds d.type ∷ flat_map (element_rests_on ds) d.elements
+rests_on ds d =
+    type_place ds d.type ∷ flat_map (element_rests_on ds) d.elements ++ flat_map (target_rests_on ds d) d.elements
 
 -- ---- the places of those that rest on each
 

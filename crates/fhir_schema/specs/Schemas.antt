@@ -1,5 +1,5 @@
 -- The schema of a package: its definitions, which of them can be used, the nodes of those, and the concepts of its value sets.
-use Rattle.std.specs.Prelude.{ℕ, List, [], length, get_or, map, Bool, false, not, ◌&&◌, nat_lt, nat_eq, Option, None, Some, is_some, is_none, if◌then◌else◌}
+use Rattle.std.specs.Prelude.{ℕ, List, [], length, get_or, map, Bool, false, not, ◌&&◌, nat_lt, Option, None, Some, is_some, is_none, if◌then◌else◌}
 use Rattle.std.specs.Option.{option_map, option_map_or, option_and_then}
 use Rattle.std.specs.List.{slice_get, find}
 use Rattle.std.specs.Str.{bytes_eq}
@@ -14,10 +14,15 @@ use Rattle.fhir_schema.specs.declared.node.NodeRef.{NodeRef}
 use Rattle.fhir_definition.specs.Snapshot.{id_place, is_at, root_place}
 use Rattle.fhir_definition.specs.Definition.{Definition, definitions_from}
 use Rattle.fhir_schema.specs.Types.{type_place, is_resource, type_of_code}
-use Rattle.fhir_schema.specs.Slots.{Slot, id_at, slots_of}
+use Rattle.fhir_schema.specs.Slots.{Slot, id_at, slices_of}
+use Rattle.fhir_schema.specs.Contents as contents
+use Rattle.fhir_schema.specs.Contents.{elements_in, element_of, slots_at}
+use Rattle.fhir_schema.specs.Slicings as slicings
+use Rattle.fhir_schema.specs.Criteria.{Criterion, all_criteria}
 use Rattle.fhir_schema.specs.Forms.{Form, forms_of, property_of}
 use Rattle.fhir_schema.specs.declared.form.Property.{Property}
-use Rattle.fhir_schema.specs.Settling.{Reasons, all_reasons, url_place, canonical_place, reason_at}
+use Rattle.fhir_schema.specs.Urls.{url_place, canonical_place}
+use Rattle.fhir_schema.specs.Settling.{Reasons, all_reasons, reason_at}
 
 pub record SchemaValue : Type 0 where
   pub definitions : List Definition
@@ -45,14 +50,14 @@ is_usable s place = is_none (reason_at s.reasons place)
 -- ---- nodes
 
 abbrev pub elements_at : SchemaValue → ℕ → List Element
-elements_at s place = option_map_or (λ d. d.elements) (slice_get s.definitions place) []
+elements_at s place = elements_in s.definitions place
 
 -- the node is an element of a definition that can be used
 abbrev pub has : SchemaValue → NodeRef → Bool
 has s n = is_usable s n.definition && nat_lt n.element (length (elements_at s n.definition))
 
 abbrev pub element_at : SchemaValue → NodeRef → Option Element
-element_at s n = slice_get (elements_at s n.definition) n.element
+element_at s n = element_of s.definitions n
 
 abbrev pub url_at : SchemaValue → ℕ → Text
 url_at s place = option_map_or (λ d. d.url) (slice_get s.definitions place) []
@@ -97,12 +102,8 @@ node s url id = option_and_then (node_with s id) (url_place s.definitions url)
 
 -- ---- what stands below a node, and its types
 
--- the slots of each element of each definition
-abbrev pub all_slots : List Definition → List (List (List Slot))
-all_slots ds = map (slots_of ds) ds
-
 abbrev pub slots : SchemaValue → NodeRef → List Slot
-slots s n = get_or (get_or (all_slots s.definitions) n.definition []) n.element []
+slots s n = slots_at s.definitions n
 
 -- the node of a slot's element
 abbrev pub entry_of : NodeRef → Slot → NodeRef
@@ -112,9 +113,34 @@ entry_of n slot = record { definition = n.definition; element = slot.entry }
 abbrev pub slot_named : SchemaValue → NodeRef → Text → Option Slot
 slot_named s n name = find (λ slot. bytes_eq name slot.name) (slots s n)
 
--- the node that has the node's children, which is the node itself, if it has any
+-- ---- the slices of a node's element
+
+abbrev pub all_slices : List Definition → List (List (List Slot))
+all_slices ds = map (λ d. slices_of d.elements) ds
+
+abbrev pub slices : SchemaValue → NodeRef → List Slot
+slices s n = get_or (get_or (all_slices s.definitions) n.definition []) n.element []
+
+abbrev pub slice_named : SchemaValue → NodeRef → Text → Option Slot
+slice_named s n name = find (λ slice. bytes_eq name slice.name) (slices s n)
+
+-- by what an item is told to belong to the slice that a node is; a node that is none has no criteria
+abbrev pub criteria : SchemaValue → NodeRef → List Criterion
+criteria s n = get_or (get_or (all_criteria s.definitions) n.definition []) n.element []
+
+-- each item of the node's element has to be in one of its slices
+abbrev pub is_closed : SchemaValue → NodeRef → Bool
+is_closed s n = option_map_or slicings.is_closed (element_at s n) false
+
+-- ---- what stands below a node, and its types
+
+-- the node that the node refers to for its content, if it refers to one
+abbrev pub target : SchemaValue → NodeRef → Option NodeRef
+target s n = contents.target s.definitions n
+
+-- the node that has the node's children: itself, if it has any, and else the one that it refers to, if that has any
 abbrev pub holder : SchemaValue → NodeRef → Option NodeRef
-holder s n = if nat_eq (length (slots s n)) 0 then None else Some n
+holder s n = contents.holder s.definitions n
 
 -- the node's type entries; a root has none, and those that are written there are passed over
 abbrev pub types : SchemaValue → NodeRef → List TypeEntry

@@ -1,42 +1,20 @@
 -- Which definitions can't be used, and why: judged in rounds, each against what the rounds before have found.
 use Rattle.std.specs.Prelude.{ℕ, zero, suc, List, [], ◌∷◌, ◌++◌, map, length, get_or, Bool, true, false, not, ◌&&◌, ◌||◌, Option, None, Some, is_none, if◌then◌else◌}
-use Rattle.std.specs.Option.{option_map_or, option_and_then, option_or}
+use Rattle.std.specs.Option.{option_map, option_map_or, option_and_then, option_or}
 use Rattle.std.specs.List.{list_all, slice_get}
-use Rattle.std.specs.Result.{result_ok}
-use Rattle.std.specs.Str.{bytes_eq}
 use Rattle.fhir_json.specs.Tree.{Text}
-use Rattle.fhir_names.specs.Canonicals.{CanonicalParts, read_canonical}
-use Rattle.fhir_package.specs.Canonical.{has_version}
 use Rattle.fhir_elements.specs.declared.reason.Reason.{Reason}
-use Rattle.fhir_elements.specs.declared.reason.Reason.TheVariants.{NotYet, UnusableType, NoTree, BaseCycle, NoSnapshot, SecondType}
+use Rattle.fhir_elements.specs.declared.reason.Reason.TheVariants.{UnusableType, NoTree, MissingContent, BaseCycle, UnsupportedSlicing, NoSnapshot, SecondType}
 use Rattle.fhir_elements.specs.TypeEntry.{TypeEntry}
 use Rattle.fhir_elements.specs.Element.{Element}
 use Rattle.fhir_elements.specs.Tests.{first_of}
 use Rattle.fhir_definition.specs.Snapshot.{is_root, is_at, is_tree}
-use Rattle.fhir_definition.specs.Definition.{Definition, has_snapshot, is_plain}
-use Rattle.fhir_schema.specs.Types.{type_place, names_resource, is_system}
+use Rattle.fhir_definition.specs.Definition.{Definition, has_snapshot}
+use Rattle.fhir_schema.specs.Types.{type_place, is_system}
+use Rattle.fhir_schema.specs.Urls.{canonical_place}
+use Rattle.fhir_schema.specs.Contents.{content_target}
 use Rattle.fhir_schema.specs.Forms.{spells_apart}
-
--- ---- which definition a url or a canonical names
-
-abbrev pub url_place : List Definition → Text → Option ℕ
-url_place [] url = None
-url_place (d ∷ ds) url = if bytes_eq url d.url then Some d.place else url_place ds url
-
-abbrev pub is_versioned : List Definition → Text → ℕ → Bool
-is_versioned ds version place = option_map_or (λ d. has_version version d.version) (slice_get ds place) false
-
--- the place of a definition, where no version is asked for, or it has none or that one
-abbrev pub where_versioned : List Definition → Option Text → ℕ → Option ℕ
-where_versioned ds version place =
-    if option_map_or (λ v. is_versioned ds v place) version true then Some place else None
-
-abbrev pub version_place : List Definition → CanonicalParts → Option ℕ
-version_place ds r = option_and_then (where_versioned ds r.1) (url_place ds r.0)
-
--- the place of the definition that a canonical names; a text that is no canonical names none
-abbrev pub canonical_place : List Definition → Text → Option ℕ
-canonical_place ds canonical = option_and_then (version_place ds) (result_ok (read_canonical canonical))
+use Rattle.fhir_schema.specs.Criteria.{are_told_apart}
 
 -- ---- why definitions can't be used, so far as is found, by their places
 
@@ -61,6 +39,18 @@ element_is_usable ds reasons e = is_root e || list_all (entry_is_usable ds reaso
 abbrev pub types_are_usable : List Definition → Reasons → Definition → Bool
 types_are_usable ds reasons d = is_usable_type ds reasons d.type && list_all (element_is_usable ds reasons) d.elements
 
+-- the place of the definition that has the element to which another refers for its content
+abbrev pub target_place : List Definition → Definition → Element → Option ℕ
+target_place ds d e = option_map (λ n. n.definition) (content_target ds d.place e)
+
+-- that element is there, and its definition can be used
+abbrev pub target_is_usable : List Definition → Reasons → Definition → Element → Bool
+target_is_usable ds reasons d e =
+    is_none e.content_reference || option_map_or (λ place. is_none (reason_at reasons place)) (target_place ds d e) false
+
+abbrev pub targets_are_usable : List Definition → Reasons → Definition → Bool
+targets_are_usable ds reasons d = list_all (target_is_usable ds reasons d) d.elements
+
 abbrev pub base_place : List Definition → Definition → Option ℕ
 base_place ds d = option_and_then (canonical_place ds) d.base
 
@@ -81,17 +71,6 @@ chain_ends ds d = ends_within ds (length ds) (base_place ds d)
 abbrev pub is_first_of_type : List Definition → Definition → Bool
 is_first_of_type ds d = not d.is_type || is_at d.place (type_place ds d.type)
 
--- no type entry is of a resource
-abbrev pub names_no_resource : List Definition → TypeEntry → Bool
-names_no_resource ds entry = not (names_resource ds entry.code)
-
-abbrev pub element_is_supported : List Definition → Element → Bool
-element_is_supported ds e = is_root e || list_all (names_no_resource ds) e.types
-
--- what it says is supported so far
-abbrev pub is_supported : List Definition → Definition → Bool
-is_supported ds d = is_plain d && list_all (element_is_supported ds) d.elements
-
 -- ---- which reason is answered
 
 -- the fault that it has by itself, if it has one
@@ -102,20 +81,28 @@ fault_of d = option_map_or (λ fault. (false, fault) ∷ []) d.fault []
 abbrev pub is_well_formed : List Definition → Definition → Bool
 is_well_formed ds d = is_tree d.elements && spells_apart ds d
 
--- what a definition has to meet whichever others can't be used, but for its own fault
+-- its elements are a tree, where it has any
+abbrev pub has_tree : List Definition → Definition → Bool
+has_tree ds d = not (has_snapshot d) || is_well_formed ds d
+
+-- what a definition has to meet last, whichever others can't be used
 abbrev pub lasting_tests : List Definition → Definition → List (Bool × Reason)
 lasting_tests ds d =
-    (not (has_snapshot d) || is_well_formed ds d, NoTree)
-    ∷ (chain_ends ds d, BaseCycle)
+    (chain_ends ds d, BaseCycle)
+    ∷ (are_told_apart ds d, UnsupportedSlicing)
     ∷ (has_snapshot d, NoSnapshot)
     ∷ (is_first_of_type ds d, SecondType)
-    ∷ (is_supported ds d, NotYet)
     ∷ []
 
 -- What a definition has to meet, each with the reason that applies where it doesn't. So far as `reasons` say which others
 -- can't be used.
 abbrev pub tests : List Definition → Reasons → Definition → List (Bool × Reason)
-tests ds reasons d = fault_of d ++ (types_are_usable ds reasons d, UnusableType) ∷ lasting_tests ds d
+tests ds reasons d =
+    fault_of d
+    ++ (types_are_usable ds reasons d, UnusableType)
+    ∷ (has_tree ds d, NoTree)
+    ∷ (targets_are_usable ds reasons d, MissingContent)
+    ∷ lasting_tests ds d
 
 -- ---- the rounds
 
@@ -133,6 +120,14 @@ rounds ds (suc n) reasons = rounds ds n (round ds reasons)
 abbrev pub no_reasons : List Definition → Reasons
 no_reasons ds = map (λ d. None) ds
 
--- as many rounds as there are definitions
+-- what is found in as many rounds as there are definitions
+abbrev pub found : List Definition → Reasons
+found ds = rounds ds (length ds) (no_reasons ds)
+
+-- Why a definition can't be used, where that is found: the first that applies whichever others can't be used, and else the
+-- first that applies since others can't.
+abbrev pub first_reason : List Definition → Reasons → Definition → Option Reason
+first_reason ds reasons d = option_or (first_of (tests ds (no_reasons ds) d)) (first_of (tests ds reasons d))
+
 abbrev pub all_reasons : List Definition → Reasons
-all_reasons ds = rounds ds (length ds) (no_reasons ds)
+all_reasons ds = map (first_reason ds (found ds)) ds

@@ -1,5 +1,5 @@
--- Slots: the names that the children of an item may have at a node (FHIR R4, ElementDefinition, slicing for the slices).
-use Rattle.std.specs.Prelude.{ℕ, List, [], map, filter, length, get_or, Bool, false, not, ◌&&◌, ◌==◌, Option, if◌then◌else◌, codes}
+-- Slots: the names that the children of an item may have at a node; and the slices of an element (FHIR R4, ElementDefinition, slicing).
+use Rattle.std.specs.Prelude.{ℕ, List, [], map, filter, length, Bool, false, not, ◌&&◌, ◌==◌, Option, if◌then◌else◌, codes}
 use Rattle.std.specs.Option.{option_map_or, option_and_then}
 use Rattle.std.specs.List.{slice_get, list_all}
 use Rattle.std.specs.Str.{bytes_eq}
@@ -8,35 +8,23 @@ use Rattle.fhir_names.specs.Parents.{front_of, name_of, slice_of}
 use Rattle.fhir_elements.specs.TypeEntry.{TypeEntry}
 use Rattle.fhir_elements.specs.Element.{Element}
 use Rattle.fhir_definition.specs.Snapshot.{id_place, is_root}
-use Rattle.fhir_definition.specs.Children.{children_of, slices_at}
+use Rattle.fhir_definition.specs.Children.{children_of, slices_of as slice_places}
 use Rattle.fhir_definition.specs.Definition.{Definition}
 use Rattle.fhir_schema.specs.Types.{names_primitive}
 
-pub record Slice : Type 0 where
-  pub name : Text
-  pub entry : ℕ
-
--- a name that children may have, the place of the element that says what they are, and its slices
+-- a name that children may have, or that of a slice, and the place of the element that says what its items are
 pub record Slot : Type 0 where
   pub name : Text
   pub entry : ℕ
-  pub slices : List Slice
 
 abbrev pub id_at : List Element → ℕ → Text
 id_at es place = option_map_or (λ e. e.id) (slice_get es place) []
 
-abbrev pub slice_at : List Element → ℕ → Slice
-slice_at es place = record {
-  name = option_map_or (λ s. s) (slice_of (id_at es place)) [];
-  entry = place;
-}
-
 abbrev pub slot_at : List Element → ℕ → Slot
-slot_at es place = record {
-  name = name_of (id_at es place);
-  entry = place;
-  slices = map (slice_at es) (slices_at es place);
-}
+slot_at es place = record { name = name_of (id_at es place); entry = place }
+
+abbrev pub slice_at : List Element → ℕ → Slot
+slice_at es place = record { name = option_map_or (λ s. s) (slice_of (id_at es place)) []; entry = place }
 
 -- ---- the value of a primitive, which is no child of it (FHIR R4, JSON: it stands in the element's own property)
 
@@ -68,6 +56,11 @@ slots_under ds d places = map (slot_at d.elements) (filter (is_slot ds d) places
 abbrev pub slots_of : List Definition → Definition → List (List Slot)
 slots_of ds d = map (slots_under ds d) (children_of d.elements)
 
--- those of the element at a place
-abbrev pub slots_in : List Definition → Definition → ℕ → List Slot
-slots_in ds d place = get_or (slots_of ds d) place []
+-- those of each element of each definition
+abbrev pub all_slots : List Definition → List (List (List Slot))
+all_slots ds = map (slots_of ds) ds
+
+-- ---- the slices of each element
+
+abbrev pub slices_of : List Element → List (List Slot)
+slices_of es = map (λ places. map (slice_at es) places) (slice_places es)

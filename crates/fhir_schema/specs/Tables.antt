@@ -5,7 +5,7 @@ use Rattle.fhir_json.specs.Tree.{Text}
 use Rattle.fhir_names.specs.Places.{Places, place_of}
 use Rattle.fhir_definition.specs.Definition.{Definition}
 use Rattle.fhir_schema.specs.Types.{type_place}
-use Rattle.fhir_schema.specs.Settling.{url_place}
+use Rattle.fhir_schema.specs.Urls.{url_place}
 
 abbrev pub FindsTypes : Places → List Definition → Type 0
 FindsTypes places ds = (code : Text) → place_of places code ≡ type_place ds code

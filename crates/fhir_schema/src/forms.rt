@@ -1,16 +1,17 @@
 //! The forms of elements.
 
-ghost use Rattle.std.specs.Prelude.{◌≡◌, ◌++◌, [], get_or, length, nat_lt, IfOk, OnOk};
+ghost use Rattle.std.specs.Prelude.{◌≡◌, ◌++◌, IfOk, OnOk};
 ghost use Rattle.std.specs.Option.{option_copied};
 ghost use Rattle.std.specs.List.{slice_get};
 ghost use Rattle.fhir_schema.specs.Forms.{repeats, typing_node, content_of, form_of, forms_with, slot_forms, forms_under};
-ghost use Rattle.fhir_schema.specs.Slots.{slots_of};
+ghost use Rattle.fhir_schema.specs.Slots.{all_slots};
 
+use crate::contents::{holder, typed_by};
 use crate::form::{Content, Form};
 use crate::kinds::{is_system, names_resource, primitive_of, root_of_code};
 use crate::node::NodeRef;
+use crate::nodes::Nodes;
 use crate::property_name::property_name;
-use crate::slot_list::SlotList;
 use crate::slots::Slot;
 use crate::table::Table;
 use fhir_definition::Definition;
@@ -23,45 +24,20 @@ fn repeats(element: &ElementDef) -> bool
     element.max().is_some_and(|most| most.allows_several())
 }
 
-// Whether the element at a place has slots.
-fn has_slots(slots: &[SlotList], place: usize) -> bool
-    ensures { result ≡ nat_lt 0 (length (get_or slots.now place [])) }
-{
-    match slots.get(place) {
-        Some(list) => !list.slots().is_empty(),
-        None => false,
-    }
-}
-
 // The node by whose slots the children of an item of the type are typed.
-fn typing_node(
-    table: &Table,
-    definition: &Definition,
-    slots: &[SlotList],
-    place: usize,
-    code: &str,
-) -> Option<NodeRef>
-    requires { slots.now ≡ slots_of table.now definition.now }
-    ensures { result ≡ typing_node table.now definition.now place code.now }
+fn typing_node(table: &Table, nodes: &Nodes, node: NodeRef, code: &str) -> Option<NodeRef>
+    requires { nodes.now ≡ all_slots table.now }
+    ensures { result ≡ typing_node table.now node code.now }
 {
-    if has_slots(slots, place) {
-        return Some(NodeRef {
-            definition: definition.place(),
-            element: place,
-        });
+    match holder(nodes, table, node) {
+        Some(holder) => Some(holder),
+        None => root_of_code(table, code),
     }
-    root_of_code(table, code)
 }
 
-fn content_of(
-    table: &Table,
-    definition: &Definition,
-    slots: &[SlotList],
-    place: usize,
-    code: &str,
-) -> Content
-    requires { slots.now ≡ slots_of table.now definition.now }
-    ensures { result ≡ content_of table.now definition.now place code.now }
+fn content_of(table: &Table, nodes: &Nodes, node: NodeRef, code: &str) -> Content
+    requires { nodes.now ≡ all_slots table.now }
+    ensures { result ≡ content_of table.now node code.now }
 {
     if is_system(code) {
         return Content::System;
@@ -69,10 +45,20 @@ fn content_of(
     if names_resource(table, code) {
         return Content::Resource;
     }
-    let below = typing_node(table, definition, slots, place, code);
+    let below = typing_node(table, nodes, node, code);
     match primitive_of(table, code) {
         Some(prim) => Content::Primitive(prim, below),
         None => Content::Complex(below),
+    }
+}
+
+// The node of a slot of a definition's element.
+fn slot_node(definition: &Definition, slot: &Slot) -> NodeRef
+    ensures { result ≡ record { definition = definition.now.place; element = slot.now.entry } }
+{
+    NodeRef {
+        definition: definition.place(),
+        element: slot.entry(),
     }
 }
 
@@ -80,12 +66,12 @@ fn form_of(
     alloc: Global,
     table: &Table,
     definition: &Definition,
-    slots: &[SlotList],
+    nodes: &Nodes,
     slot: &Slot,
     element: &ElementDef,
     code: &str,
 ) -> Result<Form, AllocError>
-    requires { slots.now ≡ slots_of table.now definition.now }
+    requires { nodes.now ≡ all_slots table.now }
     ensures { IfOk result (λ f. f ≡ form_of table.now definition.now slot.now element.now code.now) }
 {
     Ok(Form {
@@ -93,7 +79,7 @@ fn form_of(
         property: property_name(alloc, slot.name(), code)?,
         code: String::from_str(alloc, code)?,
         repeats: repeats(element),
-        content: content_of(table, definition, slots, slot.entry(), code),
+        content: content_of(table, nodes, slot_node(definition, slot), code),
     })
 }
 
@@ -102,17 +88,18 @@ fn push_forms_with(
     alloc: Global,
     table: &Table,
     definition: &Definition,
-    slots: &[SlotList],
+    nodes: &Nodes,
     slot: &Slot,
     element: &ElementDef,
     forms: &mut Vec<Form>,
 ) -> Result<(), AllocError>
-    requires { slots.now ≡ slots_of table.now definition.now }
+    requires { nodes.now ≡ all_slots table.now }
     ensures { OnOk result (forms.new.items ≡ forms.old.items ++ forms_with table.now definition.now slot.now element.now) }
 {
-    for entry in element.types() {
+    let typed = typed_by(nodes, table, slot_node(definition, slot), element);
+    for entry in typed.types() {
         let code = entry.code();
-        forms.push(form_of(alloc, table, definition, slots, slot, element, code)?)?;
+        forms.push(form_of(alloc, table, definition, nodes, slot, element, code)?)?;
     }
     Ok(())
 }
@@ -128,33 +115,33 @@ fn push_forms(
     alloc: Global,
     table: &Table,
     definition: &Definition,
-    slots: &[SlotList],
+    nodes: &Nodes,
     slot: &Slot,
     forms: &mut Vec<Form>,
 ) -> Result<(), AllocError>
-    requires { slots.now ≡ slots_of table.now definition.now }
+    requires { nodes.now ≡ all_slots table.now }
     ensures { OnOk result (forms.new.items ≡ forms.old.items ++ slot_forms table.now definition.now slot.now) }
 {
     match element_at(definition, slot.entry()) {
-        Some(element) => { push_forms_with(alloc, table, definition, slots, slot, element, forms) }
+        Some(element) => { push_forms_with(alloc, table, definition, nodes, slot, element, forms) }
         None => Ok(()),
     }
 }
 
-/// The forms of the children of an element of a definition, whose slots these are.
+/// The forms of the children of an element of a definition, of which these are the slots.
 pub(crate) fn forms_under(
     alloc: Global,
     table: &Table,
     definition: &Definition,
-    slots: &[SlotList],
+    nodes: &Nodes,
     under: &[Slot],
 ) -> Result<Vec<Form>, AllocError>
-    requires { slots.now ≡ slots_of table.now definition.now }
+    requires { nodes.now ≡ all_slots table.now }
     ensures { IfOk result (λ v. v.items ≡ forms_under table.now definition.now under.now) }
 {
     let mut forms = Vec::new(alloc);
     for slot in under {
-        push_forms(alloc, table, definition, slots, slot, &mut forms)?;
+        push_forms(alloc, table, definition, nodes, slot, &mut forms)?;
     }
     Ok(forms)
 }

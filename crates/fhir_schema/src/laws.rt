@@ -9,7 +9,7 @@ ghost use Rattle.fhir_schema.specs.Settling.{Reasons};
 ghost use Rattle.fhir_schema.specs.Usability.{AllApply, IsClosed, IsWithin};
 ghost use Rattle.fhir_json.specs.Tree.{Text};
 ghost use Rattle.fhir_schema.specs.declared.node.NodeRef.{NodeRef};
-ghost use Rattle.fhir_schema.specs.Schemas.{SchemaValue, schema_of, has, node, root, is_root_node, type_root, forms, concepts_at};
+ghost use Rattle.fhir_schema.specs.Schemas.{SchemaValue, schema_of, has, node, root, is_root_node, type_root, loaded, forms, concepts_at};
 ghost use Rattle.fhir_schema.specs.declared.form.Property.{Property};
 ghost use Rattle.fhir_schema.specs.Forms.{Form, are_apart, spells, spellings, property_of};
 ghost use Rattle.fhir_schema.specs.Types.{names_resource};
@@ -41,10 +41,11 @@ pub fn named_nodes()
     ensures { (s : SchemaValue) (url id : Text) (n : NodeRef) → node s url id ≡ Some n → IsTrue (has s n) }
 {}
 
-/// The root of a definition that is found by its url, or by the type that it defines, is a root.
+/// The root of a definition that is found by its url, by the type that it defines, or by a canonical, is a root.
 pub fn roots_are_roots()
     ensures of_url { (s : SchemaValue) (url : Text) (n : NodeRef) → root s url ≡ Some n → IsTrue (is_root_node s n) }
     ensures of_type { (s : SchemaValue) (code : Text) (n : NodeRef) → type_root s code ≡ Some n → IsTrue (is_root_node s n) }
+    ensures of_canonical { (s : SchemaValue) (canonical : Text) (n : NodeRef) → loaded s canonical ≡ Some n → IsTrue (is_root_node s n) }
 {}
 
 /// Each property has one name and each name one meaning: no two forms of a node's children spell one property; a name that

@@ -17,7 +17,11 @@
 #![tactic(auto)]
 
 mod chains;
+mod contents;
 mod covering;
+mod criteria;
+mod criterion;
+mod discriminating;
 mod expressions;
 mod form;
 mod form_table;
@@ -25,6 +29,7 @@ mod forms;
 mod kinds;
 mod laws;
 mod lineage;
+mod naming;
 mod node;
 mod node_forms;
 mod nodes;
@@ -34,17 +39,20 @@ mod resting;
 mod rooted;
 mod schema;
 mod settling;
+mod slicings;
 mod slot_list;
 mod slots;
 mod table;
 mod types;
 
+pub use criterion::{Criterion, Sought};
 pub use form::{Content, Form, Property};
 pub use kinds::is_system;
 pub use laws::{
     concepts_of_package, covering_codes, least_closed, named_nodes, one_meaning, roots_are_roots,
 };
+pub use naming::{names_are_utf8, nodes_by_name};
 pub use node::NodeRef;
 pub use rooted::usable_roots;
 pub use schema::Schema;
-pub use slots::{Slice, Slot};
+pub use slots::Slot;

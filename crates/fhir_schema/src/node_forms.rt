@@ -4,8 +4,8 @@ ghost use Rattle.std.specs.Prelude.{◌≡◌, [], get_or, map, IfOk, IsTrue};
 ghost use Rattle.std.specs.Option.{option_map_or};
 ghost use Rattle.std.specs.List.{list_all};
 ghost use Rattle.fhir_schema.specs.Forms.{are_apart, if_apart, forms_under, spells_apart, property_of, forms_of};
-ghost use Rattle.fhir_schema.specs.Slots.{slots_of};
-ghost use Rattle.fhir_schema.specs.Schemas.{all_slots, all_forms};
+ghost use Rattle.fhir_schema.specs.Slots.{slots_of, all_slots};
+ghost use Rattle.fhir_schema.specs.Schemas.{all_forms};
 
 use crate::form::{Form, Property};
 use crate::form_table::FormTable;
@@ -40,16 +40,17 @@ fn type_forms(
     alloc: Global,
     table: &Table,
     definition: &Definition,
+    nodes: &Nodes,
     slots: &[SlotList],
 ) -> Result<DefinitionForms, AllocError>
-    requires { slots.now ≡ slots_of table.now definition.now }
+    requires { nodes.now ≡ all_slots table.now }
     ensures forms { IfOk result (λ f. f.tables.items ≡ map (λ s. if_apart (forms_under table.now definition.now s)) slots.now) }
     ensures apart { IfOk result (λ f. f.are_apart ≡ list_all (λ s. are_apart (forms_under table.now definition.now s)) slots.now) }
 {
     let mut tables = Vec::new(alloc);
     let mut are_apart = true;
     for list in slots {
-        let forms = forms_under(alloc, table, definition, slots, list.slots())?;
+        let forms = forms_under(alloc, table, definition, nodes, list.slots())?;
         let (forms, is_apart) = table_of(alloc, forms)?;
         tables.push(forms)?;
         are_apart &= is_apart;
@@ -62,14 +63,16 @@ fn forms_of(
     alloc: Global,
     table: &Table,
     definition: &Definition,
+    nodes: &Nodes,
     slots: &[SlotList],
 ) -> Result<DefinitionForms, AllocError>
-    requires { slots.now ≡ slots_of table.now definition.now }
+    requires nodes { nodes.now ≡ all_slots table.now }
+    requires slots { slots.now ≡ slots_of table.now definition.now }
     ensures forms { IfOk result (λ f. f.tables.items ≡ forms_of table.now definition.now) }
     ensures apart { IfOk result (λ f. f.are_apart ≡ spells_apart table.now definition.now) }
 {
     if definition.is_type() {
-        type_forms(alloc, table, definition, slots)
+        type_forms(alloc, table, definition, nodes, slots)
     } else {
         Ok(DefinitionForms {
             tables: Vec::new(alloc),
@@ -105,7 +108,7 @@ impl NodeForms {
         let mut tables = Vec::new(alloc);
         let mut are_apart = Vec::new(alloc);
         for (place, definition) in table.definitions().iter().enumerate() {
-            let forms = forms_of(alloc, table, definition, nodes.lists(place))?;
+            let forms = forms_of(alloc, table, definition, nodes, nodes.lists(place))?;
             tables.push(forms.tables)?;
             are_apart.push(forms.are_apart)?;
         }

@@ -4,16 +4,17 @@ ghost use Rattle.std.specs.Prelude.{◌≡◌, [], get_or, IfOk};
 ghost use Rattle.std.specs.Option.{option_copied, option_map_or};
 ghost use Rattle.std.specs.List.{find};
 ghost use Rattle.std.specs.Str.{bytes_eq};
-ghost use Rattle.fhir_schema.specs.Schemas.{all_slots};
+ghost use Rattle.fhir_schema.specs.Slots.{all_slots};
+ghost use Rattle.fhir_schema.specs.Schemas.{all_slices};
 
 use crate::node::NodeRef;
 use crate::slot_list::SlotList;
-use crate::slots::{Slot, slots_of};
+use crate::slots::{Slot, slices_of, slots_of};
 use crate::table::Table;
 use std::alloc::{AllocError, Global};
 use std::marker::Model;
 
-/// The slots of each element of each definition.
+/// The slots of each element of each definition, or its slices.
 #[derive(Drop)]
 pub(crate) struct Nodes {
     slots: Vec<Vec<SlotList>>,
@@ -29,8 +30,8 @@ impl Model for Nodes {
 }
 
 impl Nodes {
-    /// Those of the definitions of a table.
-    pub(crate) fn of(alloc: Global, table: &Table) -> Result<Nodes, AllocError>
+    /// The slots of the definitions of a table.
+    pub(crate) fn slots_of(alloc: Global, table: &Table) -> Result<Nodes, AllocError>
         ensures { IfOk result (λ n. n ≡ all_slots table.now) }
     {
         let mut slots = Vec::new(alloc);
@@ -40,7 +41,18 @@ impl Nodes {
         Ok(Nodes { slots })
     }
 
-    /// The slots of each element of the definition at a place.
+    /// The slices of the definitions of a table.
+    pub(crate) fn slices_of(alloc: Global, table: &Table) -> Result<Nodes, AllocError>
+        ensures { IfOk result (λ n. n ≡ all_slices table.now) }
+    {
+        let mut slots = Vec::new(alloc);
+        for definition in table.definitions() {
+            slots.push(slices_of(alloc, definition)?)?;
+        }
+        Ok(Nodes { slots })
+    }
+
+    /// Those of each element of the definition at a place.
     pub(crate) fn lists(&self, place: usize) -> &[SlotList]
         ensures { result.now ≡ get_or self.now place [] }
     {
@@ -56,7 +68,7 @@ impl Nodes {
         self.slots.get(node.definition)?.get(node.element)
     }
 
-    /// The slots of a node.
+    /// The slots of a node, or its slices.
     pub(crate) fn slots(&self, node: NodeRef) -> &[Slot]
         ensures { result.now ≡ get_or (get_or self.now node.definition []) node.element [] }
     {

@@ -5,7 +5,8 @@ ghost use Rattle.fhir_schema.specs.Forms.{is_choice, capitalised, property_name}
 
 use std::alloc::{AllocError, Global};
 
-fn is_choice(name: &str) -> bool
+/// Whether a name is that of a choice of types, which ends in `[x]` (FHIR R4, Formats, choice of data types).
+pub(crate) fn is_choice(name: &str) -> bool
     ensures { result ≡ is_choice name.now }
 {
     name.as_bytes().ends_with(b"[x]")

@@ -1,12 +1,13 @@
-//! Which definitions rest on which by their types.
+//! Which definitions rest on which, by their types and by the elements that they refer to.
 
 ghost use Rattle.std.specs.Prelude.{◌≡◌, ◌++◌, IfOk, OnOk};
 ghost use Rattle.std.specs.List.{flat_map};
 ghost use Rattle.fhir_definition.specs.Views.{lists_in};
-ghost use Rattle.fhir_schema.specs.Resting.{entry_rests_on, element_rests_on, rests_on, put_under, users_of};
+ghost use Rattle.fhir_schema.specs.Resting.{entry_rests_on, element_rests_on, target_rests_on, rests_on, put_under, users_of};
 
 use crate::kinds::is_system;
 use crate::table::Table;
+use crate::types::target_place;
 use fhir_definition::{Definition, empty_lists, is_root, put_at};
 use fhir_elements::{ElementDef, TypeEntry};
 use std::alloc::{AllocError, Global};
@@ -52,7 +53,50 @@ fn push_element(
     push_entries(table, element.types(), places)
 }
 
-// The places of the types that a definition asks for.
+fn push_target(
+    table: &Table,
+    definition: &Definition,
+    element: &ElementDef,
+    places: &mut Vec<Option<usize>>,
+) -> Result<(), AllocError>
+    ensures { OnOk result (places.new.items ≡ places.old.items ++ target_rests_on table.now definition.now element.now) }
+{
+    if element.content_reference().is_none() {
+        return Ok(());
+    }
+    places.push(target_place(table, definition, element))?;
+    Ok(())
+}
+
+fn push_targets(
+    table: &Table,
+    definition: &Definition,
+    places: &mut Vec<Option<usize>>,
+) -> Result<(), AllocError>
+    ensures { OnOk result (places.new.items
+        ≡ places.old.items ++ flat_map (target_rests_on table.now definition.now) definition.now.elements) }
+{
+    for element in definition.elements() {
+        push_target(table, definition, element, places)?;
+    }
+    Ok(())
+}
+
+fn push_types(
+    table: &Table,
+    definition: &Definition,
+    places: &mut Vec<Option<usize>>,
+) -> Result<(), AllocError>
+    ensures { OnOk result (places.new.items
+        ≡ places.old.items ++ flat_map (element_rests_on table.now) definition.now.elements) }
+{
+    for element in definition.elements() {
+        push_element(table, element, places)?;
+    }
+    Ok(())
+}
+
+// The places of the types that a definition asks for, and of the definitions of the elements that it refers to.
 fn rests_on(
     alloc: Global,
     table: &Table,
@@ -62,9 +106,8 @@ fn rests_on(
 {
     let mut places = Vec::new(alloc);
     places.push(table.type_place(definition.type_code()))?;
-    for element in definition.elements() {
-        push_element(table, element, &mut places)?;
-    }
+    push_types(table, definition, &mut places)?;
+    push_targets(table, definition, &mut places)?;
     Ok(places)
 }
 

@@ -3,14 +3,18 @@
 ghost use Rattle.std.specs.Prelude.{◌≡◌, false, IsTrue};
 ghost use Rattle.std.specs.Option.{option_copied, option_map, option_map_or};
 ghost use Rattle.fhir_json.specs.Memory.{Gives};
-ghost use Rattle.fhir_schema.specs.Schemas.{schema_of, unusable, is_usable, elements_at, has, element_at, url_at, id_of_node, is_root_node, node_in, root_element, root, node_with, node, slots, slot_named, holder, types, forms, property, type_root, resource_root, is_concrete, is_loaded, loaded, concepts_at};
+ghost use Rattle.fhir_schema.specs.Schemas.{schema_of, unusable, is_usable, elements_at, has, element_at, url_at, id_of_node, is_root_node, node_in, root_element, root, node_with, node, slots, slot_named, slices, slice_named, criteria, is_closed, target, holder, types, forms, property, type_root, resource_root, is_concrete, is_loaded, loaded, concepts_at};
 ghost use Rattle.fhir_schema.specs.Types.{names_resource, type_of_code};
 ghost use Rattle.fhir_fp_syntax.specs.Expression.{expression_of as tree_of};
 ghost use Rattle.fhir_schema.specs.Expressions.{expression_at};
 ghost use Rattle.fhir_schema.specs.Forms.{are_apart};
+ghost use Rattle.fhir_schema.specs.CriteriaSeen.{criteria_seen};
 ghost use Rattle.fhir_schema.specs.Covers.{type_at, covers, derives};
 
+use crate::contents::{elements_in, holder, target};
 use crate::covering::{covers, derives};
+use crate::criteria::Criteria;
+use crate::criterion::Criterion;
 use crate::expressions::Expressions;
 use crate::form::{Form, Property};
 use crate::kinds::{is_resource, names_resource, type_of_code};
@@ -19,6 +23,7 @@ use crate::node::NodeRef;
 use crate::node_forms::NodeForms;
 use crate::nodes::Nodes;
 use crate::settling::all_reasons;
+use crate::slicings::is_closed;
 use crate::slots::Slot;
 use crate::table::Table;
 use crate::types::{canonical_place, reason_at};
@@ -37,6 +42,8 @@ pub struct Schema {
     lineage: Lineage,
     reasons: Vec<Option<Reason>>,
     nodes: Nodes,
+    slices: Nodes,
+    criteria: Criteria,
     forms: NodeForms,
     value_sets: ValueSets,
     expressions: Expressions,
@@ -54,14 +61,17 @@ impl Model for Schema {
     ghost coded = { Prim.hlevel (codes, tree_code, concepts_code) };
 
     ghost use Rattle.std.specs.Prelude.{◌≡◌};
-    ghost use Rattle.fhir_schema.specs.Schemas.{all_slots, all_forms};
+    ghost use Rattle.fhir_schema.specs.Slots.{all_slots};
+    ghost use Rattle.fhir_schema.specs.Schemas.{all_slices, all_forms};
+    ghost use Rattle.fhir_schema.specs.Criteria.{all_criteria};
+    ghost use Rattle.fhir_schema.specs.CriteriaSeen.{all_seen};
     ghost use Rattle.fhir_schema.specs.Expressions.{all_expressions};
     ghost use Rattle.fhir_schema.specs.Readings.{lists_seen};
     ghost use Rattle.fhir_schema.specs.Lineages.{IsLineage};
 
     ghost view = { λ s. record { definitions = s.table; reasons = s.reasons.items; value_sets = s.value_sets } };
 
-    ghost invariant = { λ s. (s.nodes ≡ all_slots s.table) × (s.forms.forms ≡ all_forms s.table) × (lists_seen s.expressions.lists.items ≡ all_expressions s.table) × IsLineage s.table s.lineage };
+    ghost invariant = { λ s. (s.nodes ≡ all_slots s.table) × (s.slices ≡ all_slices s.table) × (all_seen s.criteria.lists.items ≡ all_criteria s.table) × (s.forms.forms ≡ all_forms s.table) × (lists_seen s.expressions.lists.items ≡ all_expressions s.table) × IsLineage s.table s.lineage };
 }
 
 impl Schema {
@@ -71,9 +81,11 @@ impl Schema {
     {
         let table = Table::of(alloc, from)?;
         let lineage = Lineage::of(alloc, &table)?;
-        let nodes = Nodes::of(alloc, &table)?;
+        let nodes = Nodes::slots_of(alloc, &table)?;
+        let slices = Nodes::slices_of(alloc, &table)?;
+        let criteria = Criteria::of(alloc, &table, &nodes)?;
         let forms = NodeForms::of(alloc, &table, &nodes)?;
-        let reasons = all_reasons(alloc, &table, forms.are_apart())?;
+        let reasons = all_reasons(alloc, &table, forms.are_apart(), &criteria.are_told)?;
         let value_sets = ValueSets::of(alloc, from)?;
         let expressions = Expressions::of(alloc, &table)?;
         Ok(Schema {
@@ -81,6 +93,8 @@ impl Schema {
             lineage,
             reasons,
             nodes,
+            slices,
+            criteria,
             forms,
             value_sets,
             expressions,
@@ -106,10 +120,7 @@ impl Schema {
     fn elements_at(&self, place: usize) -> &[ElementDef]
         ensures { result.now ≡ elements_at self.now place }
     {
-        match self.table.definition(place) {
-            Some(definition) => definition.elements(),
-            None => Default::default(),
-        }
+        elements_in(&self.table, place)
     }
 
     /// Whether a node is one of the schema's: an element of a definition that can be used.
@@ -250,15 +261,52 @@ impl Schema {
         self.nodes.find(node, name)
     }
 
-    /// The node that has a node's children: the node itself, if it has any. A node without children has none.
+    /// The slices of a node's element, in the definition's order (FHIR R4, Profiling, slicing). A node that the schema doesn't
+    /// have has none.
+    pub fn slices(&self, node: NodeRef) -> &[Slot]
+        ensures { result.now ≡ slices self.now node }
+    {
+        self.slices.slots(node)
+    }
+
+    /// The slice of a name among those of a node's element.
+    pub fn slice(&self, node: NodeRef, name: &str) -> Option<&Slot>
+        ensures { option_copied result ≡ slice_named self.now node name.now }
+    {
+        self.slices.find(node, name)
+    }
+
+    /// By what an item is told to belong to the slice that a node is (FHIR R4, ElementDefinition, slicing.discriminator): one
+    /// criterion for each discriminator. A node that is no slice has none.
+    pub fn criteria(&self, node: NodeRef) -> &[Criterion]
+        ensures { criteria_seen result.now ≡ criteria self.now node }
+    {
+        self.criteria.at(node)
+    }
+
+    /// Whether each item of a node's element has to be in one of its slices (FHIR R4, ElementDefinition, slicing.rules).
+    pub fn is_closed(&self, node: NodeRef) -> bool
+        ensures { result ≡ is_closed self.now node }
+    {
+        match self.element(node) {
+            Some(element) => is_closed(element),
+            None => false,
+        }
+    }
+
+    /// The node that a node refers to for its content (FHIR R4, ElementDefinition, contentReference), if it refers to one.
+    pub fn target(&self, node: NodeRef) -> Option<NodeRef>
+        ensures { result ≡ target self.now node }
+    {
+        target(&self.table, node)
+    }
+
+    /// The node that has a node's children: the node itself, if it has any, and else the one that it refers to for its
+    /// content, if that has any.
     pub fn holder(&self, node: NodeRef) -> Option<NodeRef>
         ensures { result ≡ holder self.now node }
     {
-        if self.slots(node).is_empty() {
-            None
-        } else {
-            Some(node)
-        }
+        holder(&self.nodes, &self.table, node)
     }
 
     /// The type entries of a node. A root has none, whatever is written there.

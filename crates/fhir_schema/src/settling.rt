@@ -4,13 +4,14 @@ ghost use Rattle.std.specs.Prelude.{◌≡◌, ◌++◌, [], map, get_or, IfOk, 
 ghost use Rattle.fhir_elements.specs.Tests.{first_of};
 ghost use Rattle.fhir_definition.specs.Views.{lists_in};
 ghost use Rattle.fhir_schema.specs.Forms.{spells_apart};
-ghost use Rattle.fhir_schema.specs.Settling.{chain_ends, tests, no_reasons, all_reasons};
-ghost use Rattle.fhir_schema.specs.Resting.{failing, unusable_at, unusable_from, marked, queued, marked_all, queued_all};
+ghost use Rattle.fhir_schema.specs.Criteria.{are_told_apart};
+ghost use Rattle.fhir_schema.specs.Settling.{chain_ends, tests, no_reasons, first_reason, all_reasons};
+ghost use Rattle.fhir_schema.specs.Resting.{failing, first_reasons, unusable_at, unusable_from, marked, queued, marked_all, queued_all};
 
 use crate::chains::chains_end;
 use crate::resting::users_of;
 use crate::table::Table;
-use crate::types::{is_first_of_type, is_supported, types_are_usable};
+use crate::types::{is_first_of_type, targets_are_usable, types_are_usable};
 use fhir_definition::Definition;
 use fhir_elements::Reason;
 use std::alloc::{AllocError, Global};
@@ -22,9 +23,11 @@ fn first_failing(
     definition: &Definition,
     is_ending: bool,
     is_apart: bool,
+    is_told: bool,
 ) -> Option<Reason>
     requires ending { is_ending ≡ chain_ends table.now definition.now }
     requires apart { is_apart ≡ spells_apart table.now definition.now }
+    requires told { is_told ≡ are_told_apart table.now definition.now }
     ensures { result ≡ first_of (tests table.now reasons.now definition.now) }
 {
     if let Some(fault) = definition.fault() {
@@ -38,17 +41,20 @@ fn first_failing(
     if !is_tree {
         return Some(Reason::NoTree);
     }
+    if !targets_are_usable(table, reasons, definition) {
+        return Some(Reason::MissingContent);
+    }
     if !is_ending {
         return Some(Reason::BaseCycle);
+    }
+    if !is_told {
+        return Some(Reason::UnsupportedSlicing);
     }
     if !definition.has_snapshot() {
         return Some(Reason::NoSnapshot);
     }
     if !is_first_of_type(table, definition) {
         return Some(Reason::SecondType);
-    }
-    if !is_supported(table, definition) {
-        return Some(Reason::NotYet);
     }
     None
 }
@@ -70,16 +76,19 @@ fn failing(
     reasons: &[Option<Reason>],
     ends: &[bool],
     are_apart: &[bool],
+    are_told: &[bool],
 ) -> Result<Vec<Option<Reason>>, AllocError>
     requires ends { ends.now ≡ map (chain_ends table.now) table.now }
     requires apart { are_apart.now ≡ map (spells_apart table.now) table.now }
+    requires told { are_told.now ≡ map (are_told_apart table.now) table.now }
     ensures { IfOk result (λ v. v.items ≡ failing table.now reasons.now) }
 {
     let mut all = Vec::new(alloc);
     for (place, definition) in table.definitions().iter().enumerate() {
         let is_ending = ends[place];
         let is_apart = are_apart[place];
-        all.push(first_failing(table, reasons, definition, is_ending, is_apart))?;
+        let is_told = are_told[place];
+        all.push(first_failing(table, reasons, definition, is_ending, is_apart, is_told))?;
     }
     Ok(all)
 }
@@ -108,7 +117,7 @@ fn unusable_places(alloc: Global, reasons: &[Option<Reason>]) -> Result<Vec<usiz
     Ok(places)
 }
 
-// Marks a place that has no reason yet, since a type that it rests on can't be used, and puts it behind the queue.
+// Marks a place that has no reason yet, since what it rests on can't be used, and puts it behind the queue.
 fn mark(
     place: usize,
     reasons: &mut [Option<Reason>],
@@ -159,20 +168,19 @@ fn mark_users(
     }
 }
 
-/// Why each definition can't be used. Each that can't is in the queue once, so the time grows with how many types they name.
-pub(crate) fn all_reasons(
+// Which definitions can't be used, where these are the reasons of those that rest on no other which can't. Each that can't is
+// in the queue once, so the time grows with how much they name.
+fn spread(
     alloc: Global,
     table: &Table,
-    are_apart: &[bool],
+    first: &[Option<Reason>],
 ) -> Result<Vec<Option<Reason>>, AllocError>
-    requires { are_apart.now ≡ map (spells_apart table.now) table.now }
-    ensures { IfOk result (λ v. v.items ≡ all_reasons table.now) }
+    requires { first.now ≡ first_reasons table.now }
+    ensures { IfOk result (λ v. map (first_reason table.now v.items) table.now ≡ all_reasons table.now) }
 {
     table.are_placed();
     let users = users_of(alloc, table)?;
-    let none = no_reasons(alloc, table)?;
-    let ends = chains_end(alloc, table)?;
-    let mut reasons = failing(alloc, table, &none, &ends, are_apart)?;
+    let mut reasons = Vec::from_slice(alloc, first)?;
     let mut queue = unusable_places(alloc, &reasons)?;
     let mut at = 0;
     while at < queue.len() {
@@ -181,4 +189,72 @@ pub(crate) fn all_reasons(
         at += 1;
     }
     Ok(reasons)
+}
+
+// Why a definition can't be used, of which the first reason is known, and of the others whether they can.
+fn first_reason(
+    table: &Table,
+    first: Option<Reason>,
+    reasons: &[Option<Reason>],
+    definition: &Definition,
+    is_ending: bool,
+    is_apart: bool,
+    is_told: bool,
+) -> Option<Reason>
+    requires first { first ≡ first_of (tests table.now (no_reasons table.now) definition.now) }
+    requires ending { is_ending ≡ chain_ends table.now definition.now }
+    requires apart { is_apart ≡ spells_apart table.now definition.now }
+    requires told { is_told ≡ are_told_apart table.now definition.now }
+    ensures { result ≡ first_reason table.now reasons.now definition.now }
+{
+    match first {
+        Some(reason) => Some(reason),
+        None => first_failing(table, reasons, definition, is_ending, is_apart, is_told),
+    }
+}
+
+fn first_reasons(
+    alloc: Global,
+    table: &Table,
+    first: &[Option<Reason>],
+    reasons: &[Option<Reason>],
+    ends: &[bool],
+    are_apart: &[bool],
+    are_told: &[bool],
+) -> Result<Vec<Option<Reason>>, AllocError>
+    requires first { first.now ≡ first_reasons table.now }
+    requires ends { ends.now ≡ map (chain_ends table.now) table.now }
+    requires apart { are_apart.now ≡ map (spells_apart table.now) table.now }
+    requires told { are_told.now ≡ map (are_told_apart table.now) table.now }
+    ensures { IfOk result (λ v. v.items ≡ map (first_reason table.now reasons.now) table.now) }
+{
+    let mut all = Vec::new(alloc);
+    for (place, definition) in table.definitions().iter().enumerate() {
+        let is_ending = ends[place];
+        let is_apart = are_apart[place];
+        let is_told = are_told[place];
+        let reason = first[place];
+        all.push(first_reason(
+            table, reason, reasons, definition, is_ending, is_apart, is_told,
+        ))?;
+    }
+    Ok(all)
+}
+
+/// Why each definition can't be used.
+pub(crate) fn all_reasons(
+    alloc: Global,
+    table: &Table,
+    are_apart: &[bool],
+    are_told: &[bool],
+) -> Result<Vec<Option<Reason>>, AllocError>
+    requires apart { are_apart.now ≡ map (spells_apart table.now) table.now }
+    requires told { are_told.now ≡ map (are_told_apart table.now) table.now }
+    ensures { IfOk result (λ v. v.items ≡ all_reasons table.now) }
+{
+    let none = no_reasons(alloc, table)?;
+    let ends = chains_end(alloc, table)?;
+    let first = failing(alloc, table, &none, &ends, are_apart, are_told)?;
+    let reasons = spread(alloc, table, &first)?;
+    first_reasons(alloc, table, &first, &reasons, &ends, are_apart, are_told)
 }

@@ -1,7 +1,7 @@
-//! The slots of the elements.
+//! The slots and the slices of the elements.
 
 ghost use Rattle.std.specs.Prelude.{◌≡◌, map, IfOk};
-ghost use Rattle.fhir_schema.specs.Slots.{id_at, slice_at, slot_at, entry_is_primitive, is_primitive_element, parent_at, is_slot, slots_under, slots_of};
+ghost use Rattle.fhir_schema.specs.Slots.{id_at, slice_at, slot_at, entry_is_primitive, is_primitive_element, parent_at, is_slot, slots_under, slots_of, slices_of};
 ghost use Rattle.std.specs.Prelude.{false};
 ghost use Rattle.std.specs.Option.{option_copied, option_map_or};
 ghost use Rattle.std.specs.List.{list_all};
@@ -15,28 +15,12 @@ use fhir_names::{front_of, name_of, slice_of};
 use std::alloc::{AllocError, Global};
 use std::marker::Model;
 
-/// A slice of a slot: its name, and the place of the element that says what its items are.
-#[derive(Debug, Drop)]
-pub struct Slice {
-    name: String,
-    entry: usize,
-}
-
-impl Model for Slice {
-    ghost use Rattle.std.specs.Prelude.{string_bytes};
-    ghost use Rattle.fhir_schema.specs.Slots.{Slice as Shown};
-
-    ghost Value = { Shown };
-
-    ghost view = { λ s. record { name = string_bytes s.name; entry = s.entry } };
-}
-
-/// A name that the children of an item may have, the place of the element that says what they are, and its slices.
+/// A name that the children of an item may have, or that of a slice, and the place of the element that says what its items
+/// are.
 #[derive(Debug, Drop)]
 pub struct Slot {
     name: String,
     entry: usize,
-    slices: Vec<Slice>,
 }
 
 impl Model for Slot {
@@ -45,23 +29,7 @@ impl Model for Slot {
 
     ghost Value = { Shown };
 
-    ghost view = { λ s. record { name = string_bytes s.name; entry = s.entry; slices = s.slices.items } };
-}
-
-impl Slice {
-    /// Its name.
-    pub fn name(&self) -> &str
-        ensures { result.now ≡ self.now.name }
-    {
-        self.name.as_str()
-    }
-
-    /// The place of its element in the definition.
-    pub fn entry(&self) -> usize
-        ensures { result ≡ self.now.entry }
-    {
-        self.entry
-    }
+    ghost view = { λ s. record { name = string_bytes s.name; entry = s.entry } };
 }
 
 impl Slot {
@@ -78,13 +46,6 @@ impl Slot {
     {
         self.entry
     }
-
-    /// Its slices.
-    pub fn slices(&self) -> &[Slice]
-        ensures { result.now ≡ self.now.slices }
-    {
-        &self.slices
-    }
 }
 
 fn id_at(elements: &[ElementDef], place: usize) -> &str
@@ -96,39 +57,19 @@ fn id_at(elements: &[ElementDef], place: usize) -> &str
     }
 }
 
-fn slice_at(alloc: Global, elements: &[ElementDef], place: usize) -> Result<Slice, AllocError>
+fn slot_at(alloc: Global, elements: &[ElementDef], place: usize) -> Result<Slot, AllocError>
+    ensures { IfOk result (λ s. s ≡ slot_at elements.now place) }
+{
+    let name = String::from_str(alloc, name_of(id_at(elements, place)))?;
+    Ok(Slot { name, entry: place })
+}
+
+fn slice_at(alloc: Global, elements: &[ElementDef], place: usize) -> Result<Slot, AllocError>
     ensures { IfOk result (λ s. s ≡ slice_at elements.now place) }
 {
     let name = slice_of(id_at(elements, place)).unwrap_or("");
     let name = String::from_str(alloc, name)?;
-    Ok(Slice { name, entry: place })
-}
-
-fn slices_of(
-    alloc: Global,
-    elements: &[ElementDef],
-    places: &[usize],
-) -> Result<Vec<Slice>, AllocError>
-    ensures { IfOk result (λ v. v.items ≡ map (slice_at elements.now) places.now) }
-{
-    let mut slices = Vec::new(alloc);
-    for place in places {
-        slices.push(slice_at(alloc, elements, *place)?)?;
-    }
-    Ok(slices)
-}
-
-fn slot_at(alloc: Global, definition: &Definition, place: usize) -> Result<Slot, AllocError>
-    ensures { IfOk result (λ s. s ≡ slot_at definition.now.elements place) }
-{
-    let name = name_of(id_at(definition.elements(), place));
-    let name = String::from_str(alloc, name)?;
-    let slices = slices_of(alloc, definition.elements(), definition.slices(place))?;
-    Ok(Slot {
-        name,
-        entry: place,
-        slices,
-    })
+    Ok(Slot { name, entry: place })
 }
 
 fn entry_is_primitive(table: &Table, entry: &TypeEntry) -> bool
@@ -188,7 +129,7 @@ fn slots_under(
     let mut slots = Vec::new(alloc);
     for place in places {
         if is_slot(table, definition, *place) {
-            slots.push(slot_at(alloc, definition, *place)?)?;
+            slots.push(slot_at(alloc, definition.elements(), *place)?)?;
         }
     }
     SlotList::of(alloc, slots)
@@ -205,6 +146,32 @@ pub(crate) fn slots_of(
     let mut all = Vec::new(alloc);
     for places in definition.children() {
         all.push(slots_under(alloc, table, definition, places)?)?;
+    }
+    Ok(all)
+}
+
+// The slices of one element.
+fn slices_under(
+    alloc: Global,
+    elements: &[ElementDef],
+    places: &[usize],
+) -> Result<SlotList, AllocError>
+    ensures { IfOk result (λ l. l ≡ map (slice_at elements.now) places.now) }
+{
+    let mut slices = Vec::new(alloc);
+    for place in places {
+        slices.push(slice_at(alloc, elements, *place)?)?;
+    }
+    SlotList::of(alloc, slices)
+}
+
+/// The slices of each element of a definition.
+pub(crate) fn slices_of(alloc: Global, definition: &Definition) -> Result<Vec<SlotList>, AllocError>
+    ensures { IfOk result (λ v. v.items ≡ slices_of definition.now.elements) }
+{
+    let mut all = Vec::new(alloc);
+    for places in definition.slices() {
+        all.push(slices_under(alloc, definition.elements(), places)?)?;
     }
     Ok(all)
 }

@@ -6,7 +6,7 @@ ghost use Rattle.std.specs.List.{slice_get};
 ghost use Rattle.fhir_package.specs.Definitions.{ByUrl};
 ghost use Rattle.fhir_definition.specs.Definition.{Definition as Shown, definitions_from};
 ghost use Rattle.fhir_schema.specs.Types.{type_place};
-ghost use Rattle.fhir_schema.specs.Settling.{url_place};
+ghost use Rattle.fhir_schema.specs.Urls.{url_place};
 ghost use Rattle.fhir_schema.specs.Tables.{FindsTypes, FindsUrls, ArePlaced};
 
 use fhir_definition::Definition;

@@ -1,11 +1,13 @@
-//! What a definition says of others: its types, and the chain of its bases.
+//! What a definition says of others: its types, the elements that it refers to, and the chain of its bases.
 
 ghost use Rattle.std.specs.Prelude.{◌≡◌};
 ghost use Rattle.std.specs.Option.{option_map_or, option_and_then};
 ghost use Rattle.std.specs.List.{list_all, slice_get};
-ghost use Rattle.fhir_schema.specs.Settling.{is_versioned, where_versioned, version_place, canonical_place, reason_at, is_usable_type, entry_is_usable, element_is_usable, types_are_usable, base_place, is_first_of_type, names_no_resource, element_is_supported, is_supported};
+ghost use Rattle.fhir_schema.specs.Urls.{is_versioned, where_versioned, version_place, canonical_place};
+ghost use Rattle.fhir_schema.specs.Settling.{reason_at, is_usable_type, entry_is_usable, element_is_usable, types_are_usable, target_place, target_is_usable, targets_are_usable, base_place, is_first_of_type};
 
-use crate::kinds::{is_system, names_resource};
+use crate::contents::content_target;
+use crate::kinds::is_system;
 use crate::table::Table;
 use fhir_definition::{Definition, is_root};
 use fhir_elements::{ElementDef, Reason, TypeEntry};
@@ -108,6 +110,53 @@ pub(crate) fn types_are_usable(
         && elements_are_usable(table, reasons, definition.elements())
 }
 
+/// The place of the definition that has the element to which another refers for its content.
+pub(crate) fn target_place(
+    table: &Table,
+    definition: &Definition,
+    element: &ElementDef,
+) -> Option<usize>
+    ensures { result ≡ target_place table.now definition.now element.now }
+{
+    match content_target(table, definition.place(), element) {
+        Some(node) => Some(node.definition),
+        None => None,
+    }
+}
+
+fn target_is_usable(
+    table: &Table,
+    reasons: &[Option<Reason>],
+    definition: &Definition,
+    element: &ElementDef,
+) -> bool
+    ensures { result ≡ target_is_usable table.now reasons.now definition.now element.now }
+{
+    if element.content_reference().is_none() {
+        return true;
+    }
+    match target_place(table, definition, element) {
+        Some(place) => reason_at(reasons, place).is_none(),
+        None => false,
+    }
+}
+
+/// Whether the elements to which its elements refer for their contents are there, and can be used.
+pub(crate) fn targets_are_usable(
+    table: &Table,
+    reasons: &[Option<Reason>],
+    definition: &Definition,
+) -> bool
+    ensures { result ≡ targets_are_usable table.now reasons.now definition.now }
+{
+    for element in definition.elements() {
+        if !target_is_usable(table, reasons, definition, element) {
+            return false;
+        }
+    }
+    true
+}
+
 /// The place of its base.
 pub(crate) fn base_place(table: &Table, definition: &Definition) -> Option<usize>
     ensures { result ≡ base_place table.now definition.now }
@@ -129,45 +178,4 @@ pub(crate) fn is_first_of_type(table: &Table, definition: &Definition) -> bool
         Some(place) => definition.place() == place,
         None => false,
     }
-}
-
-fn names_no_resource(table: &Table, entry: &TypeEntry) -> bool
-    ensures { result ≡ names_no_resource table.now entry.now }
-{
-    !names_resource(table, entry.code())
-}
-
-fn name_no_resources(table: &Table, entries: &[TypeEntry]) -> bool
-    ensures { result ≡ list_all (names_no_resource table.now) entries.now }
-{
-    for entry in entries {
-        if !names_no_resource(table, entry) {
-            return false;
-        }
-    }
-    true
-}
-
-fn element_is_supported(table: &Table, element: &ElementDef) -> bool
-    ensures { result ≡ element_is_supported table.now element.now }
-{
-    is_root(element) || name_no_resources(table, element.types())
-}
-
-fn elements_are_supported(table: &Table, elements: &[ElementDef]) -> bool
-    ensures { result ≡ list_all (element_is_supported table.now) elements.now }
-{
-    for element in elements {
-        if !element_is_supported(table, element) {
-            return false;
-        }
-    }
-    true
-}
-
-/// Whether what it says is supported so far.
-pub(crate) fn is_supported(table: &Table, definition: &Definition) -> bool
-    ensures { result ≡ is_supported table.now definition.now }
-{
-    definition.is_plain() && elements_are_supported(table, definition.elements())
 }

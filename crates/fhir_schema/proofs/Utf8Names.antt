@@ -1,0 +1,233 @@
+-- The urls and ids of a package's definitions are UTF-8, since the trees that are read from its files are sound.
+use Rattle.std.proofs.Common.{◌≡◌, ℕ, zero, suc, List, [], ◌∷◌, ◌++◌, map, Bool, true, false, ◌&&◌, cond}
+use Rattle.std.proofs.Common.{Option, Some, None, is_some, refl, ap, sym, subst, All}
+use Rattle.std.specs.Prelude.{codes, IsUtf8, Contains, IsTrue}
+use Rattle.std.specs.Option.{option_and_then, option_map, option_map_or}
+use Rattle.std.specs.List.{slice_get, flat_map, AllByRecursion}
+use Rattle.std.specs.Map.{lookup}
+use Rattle.std.specs.Str.{bytes_eq, is_utf8}
+use Rattle.std.proofs.lemmas.Bool.{and_parts}
+use Rattle.std.proofs.lemmas.Str.{IsUtf8-nil, IsUtf8-from_is_utf8}
+use Rattle.std.proofs.lemmas.Option.{none-some, same_Some}
+use Rattle.std.proofs.lemmas.List.Elements.{All-from_recursion, All-contains, recursion_from_All}
+use Rattle.std.proofs.lemmas.Slice.Eq.{bytes_eq-Decides}
+use Rattle.fhir_json.specs.Tree.{Text, Tree, null, boolean, number, string, array, object, Items, no_items, item, Members, no_members, member, list_of, names}
+use Rattle.fhir_json.specs.Fields.{value_named, field, as_text, text_in, as_items, items_in}
+use Rattle.fhir_json.specs.Sound.{IsSound, sound, items_sound, members_sound, differ}
+use Rattle.fhir_package.specs.declared.kind.Kind.{Kind}
+use Rattle.fhir_package.specs.Packing as packing
+use Rattle.fhir_package.specs.Packing.{kind_named, resource_type, is_bundle, held_within, in_entry, definitions_in}
+use Rattle.fhir_codes.specs.Expanding.{Expansions}
+use Rattle.fhir_elements.specs.Element.{fields_of}
+use Rattle.fhir_definition.specs.Definition.{Definition, element_trees, definition_of, definitions_from}
+use Rattle.fhir_schema.specs.declared.node.NodeRef.{NodeRef}
+use Rattle.fhir_schema.specs.Slots.{id_at}
+use Rattle.fhir_schema.specs.Urls.{url_place}
+use Rattle.fhir_schema.specs.Schemas.{schema_with, root, root_in, url_at, id_of_node}
+
+-- ---- a sound tree's parts
+
+abbrev SoundIfAny : Option Tree → Type 0
+SoundIfAny None = Unit {0}
+SoundIfAny (Some t) = IsSound t
+
+abbrev AreSound : List Tree → Type 0
+AreSound ts = AllByRecursion IsSound ts
+
+named_sound : (name : Text) (ms : Members) → members_sound ms ≡ true → SoundIfAny (value_named name ms)
+named_sound name no_members h = tt
+named_sound name (member n t ms) h =
+    let front = and_parts (is_utf8 n && sound t) (members_sound ms) h in
+    let first = and_parts (is_utf8 n) (sound t) front.0 in
+    by (bytes_eq name n) first.1 (named_sound name ms front.1)
+  where
+    by : (b : Bool) → IsSound t → SoundIfAny (value_named name ms) → SoundIfAny (cond b (Some t) (value_named name ms))
+    by true first rest = first
+    by false first rest = rest
+
+field_sound : (name : Text) (t : Tree) → IsSound t → SoundIfAny (field name t)
+field_sound name null h = tt
+field_sound name (boolean b) h = tt
+field_sound name (number n) h = tt
+field_sound name (string s) h = tt
+field_sound name (array ts) h = tt
+field_sound name (object ms) h = named_sound name ms (and_parts (members_sound ms) (differ (names ms)) h).0
+
+list_sound : (ts : Items) → items_sound ts ≡ true → AreSound (list_of ts)
+list_sound no_items h = tt
+list_sound (item t ts) h = let both = and_parts (sound t) (items_sound ts) h in (both.0, list_sound ts both.1)
+
+as_items_sound : (t : Tree) → IsSound t → AreSound (list_of (as_items t))
+as_items_sound null h = tt
+as_items_sound (boolean b) h = tt
+as_items_sound (number n) h = tt
+as_items_sound (string s) h = tt
+as_items_sound (array ts) h = list_sound ts h
+as_items_sound (object ms) h = tt
+
+items_in_sound : (name : Text) (t : Tree) → IsSound t → AreSound (items_in name t)
+items_in_sound name t h = by (field name t) (field_sound name t h)
+  where
+    by : (r : Option Tree) → SoundIfAny r → AreSound (option_map_or (λ v. list_of (as_items v)) r [])
+    by None h = tt
+    by (Some v) h = as_items_sound v h
+
+elements_sound : (t : Tree) → IsSound t → AreSound (element_trees t)
+elements_sound t h = by (field (codes "snapshot") t) (field_sound (codes "snapshot") t h)
+  where
+    by : (r : Option Tree) → SoundIfAny r → AreSound (option_map_or (items_in (codes "element")) r [])
+    by None h = tt
+    by (Some v) h = items_in_sound (codes "element") v h
+
+-- a text, where there is one
+abbrev TextIfAny : Option Text → Type 0
+TextIfAny None = Unit {0}
+TextIfAny (Some s) = IsUtf8 s
+
+as_text_utf8 : (t : Tree) → IsSound t → TextIfAny (as_text t)
+as_text_utf8 null h = tt
+as_text_utf8 (boolean b) h = tt
+as_text_utf8 (number n) h = tt
+as_text_utf8 (string s) h = IsUtf8-from_is_utf8 s h
+as_text_utf8 (array ts) h = tt
+as_text_utf8 (object ms) h = tt
+
+text_in_utf8 : (name : Text) (t : Tree) → IsSound t → TextIfAny (text_in name t)
+text_in_utf8 name t h = by (field name t) (field_sound name t h)
+  where
+    by : (r : Option Tree) → SoundIfAny r → TextIfAny (option_and_then as_text r)
+    by None h = tt
+    by (Some v) h = as_text_utf8 v h
+
+text_or_nil : (o : Option Text) → TextIfAny o → IsUtf8 (option_map_or (λ s. s) o [])
+text_or_nil None h = IsUtf8-nil
+text_or_nil (Some s) h = h
+
+-- ---- the urls of what a tree holds
+
+abbrev AreUtf8 : List packing.Definition → Type 0
+AreUtf8 ds = AllByRecursion (λ d. IsUtf8 d.url) ds
+
+both_hold : (ds es : List packing.Definition) → AreUtf8 ds → AreUtf8 es → AreUtf8 (ds ++ es)
+both_hold [] es h k = k
+both_hold (d ∷ ds) es h k = (h.0, both_hold ds es h.1 k)
+
+each_holds : (f : Tree → List packing.Definition) (ts : List Tree) → ((t : Tree) → IsSound t → AreUtf8 (f t)) → AreSound ts → AreUtf8 (flat_map f ts)
+each_holds f [] holds h = tt
+each_holds f (t ∷ ts) holds h = both_hold (f t) (flat_map f ts) (holds t h.0) (each_holds f ts holds h.1)
+
+itself_holds : (t : Tree) → IsSound t → AreUtf8 (option_map_or (λ d. d ∷ []) (packing.definition_of t) [])
+itself_holds t h = by (kind_named (resource_type t))
+  where
+    with_url : (kind : Kind) (url : Option Text) → TextIfAny url
+        → AreUtf8 (option_map_or (λ d. d ∷ []) (option_map (λ url. let d : packing.Definition = record { kind = kind; url = url; tree = t } in d) url) [])
+    with_url kind None u = tt
+    with_url kind (Some url) u = (u, tt)
+
+    by : (kind : Option Kind) → AreUtf8 (option_map_or (λ d. d ∷ []) (option_and_then (packing.definition_with t) kind) [])
+    by None = tt
+    by (Some kind) = with_url kind (text_in (codes "url") t) (text_in_utf8 (codes "url") t h)
+
+entry_holds : (n : ℕ) → ((t : Tree) → IsSound t → AreUtf8 (held_within n t)) → (e : Tree) → IsSound e → AreUtf8 (in_entry n e)
+entry_holds n holds e h = by (field (codes "resource") e) (field_sound (codes "resource") e h)
+  where
+    by : (r : Option Tree) → SoundIfAny r → AreUtf8 (option_map_or (held_within n) r [])
+    by None h = tt
+    by (Some t) h = holds t h
+
+held_utf8 : (n : ℕ) (t : Tree) → IsSound t → AreUtf8 (held_within n t)
+unfolding held_within
+held_utf8 zero t h = tt
+held_utf8 (suc n) t h =
+    by (is_bundle t) (each_holds (in_entry n) (items_in (codes "entry") t) (entry_holds n (held_utf8 n)) (items_in_sound (codes "entry") t h))
+    (itself_holds t h)
+  where
+    by : (b : Bool) → AreUtf8 (flat_map (in_entry n) (items_in (codes "entry") t)) → AreUtf8 (option_map_or (λ d. d ∷ []) (packing.definition_of t) [])
+        → AreUtf8 (cond b (flat_map (in_entry n) (items_in (codes "entry") t)) (option_map_or (λ d. d ∷ []) (packing.definition_of t) []))
+    by true entries itself = entries
+    by false entries itself = itself
+
+all_held_utf8 : (t : Tree) → IsSound t → AreUtf8 (definitions_in t)
+unfolding definitions_in
+all_held_utf8 t h = held_utf8 128 t h
+
+pub held_url : (t : Tree) (d : packing.Definition) → IsSound t → Contains (definitions_in t) d → IsUtf8 d.url
+held_url t d h among =
+    All-contains (λ d. IsUtf8 d.url) (definitions_in t) d (All-from_recursion (λ d. IsUtf8 d.url) (definitions_in t) (all_held_utf8 t h)) among
+
+-- ---- what a schema names
+
+-- the definition that is found under an entry's url
+there_is : (es : List (Text × Tree)) (k : ℕ) (e : Text × Tree) → slice_get es k ≡ Some e → (t : Tree) × (lookup (bytes_eq e.0) es ≡ Some t)
+there_is [] k e at = absurd (none-some e at)
+there_is (x ∷ es) k e at = by (bytes_eq e.0 x.0) refl k at (λ k. there_is es k e)
+  where
+    by : (b : Bool) → bytes_eq e.0 x.0 ≡ b → (k : ℕ) → slice_get (x ∷ es) k ≡ Some e
+        → ((k : ℕ) → slice_get es k ≡ Some e → (t : Tree) × (lookup (bytes_eq e.0) es ≡ Some t))
+        → (t : Tree) × (cond b (Some x.1) (lookup (bytes_eq e.0) es) ≡ Some t)
+    by true is k at behind = (x.1, refl)
+    by false is zero at behind =
+        let same : x ≡ e = same_Some x e at in
+        let equal = (bytes_eq-Decides e.0 x.0).1 (ap (λ (e : Text × Tree). e.0) (sym same)) in
+        cc
+    by false is (suc k) at behind = behind k at
+
+entry_at : (n : ℕ) (es : List (Text × Tree)) (k : ℕ) (d : Definition) → slice_get (definitions_from n es) k ≡ Some d
+    → (place : ℕ) × (e : Text × Tree) × (slice_get es k ≡ Some e) × (definition_of place e.0 e.1 ≡ d)
+entry_at n [] k d at = absurd (none-some d at)
+entry_at n (x ∷ es) zero d at = (n, x, refl, same_Some _ d at)
+entry_at n (x ∷ es) (suc k) d at = entry_at (suc n) es k d at
+
+ids_utf8 : (ts : List Tree) (k : ℕ) → AreSound ts → IsUtf8 (id_at (map fields_of ts) k)
+ids_utf8 [] k h = IsUtf8-nil
+ids_utf8 (t ∷ ts) zero h = text_or_nil (text_in (codes "id") t) (text_in_utf8 (codes "id") t h.0)
+ids_utf8 (t ∷ ts) (suc k) h = ids_utf8 ts k h.1
+
+sound_at : (es : List (Text × Tree)) (k : ℕ) (e : Text × Tree) → AllByRecursion (λ e. IsSound e.1) es → slice_get es k ≡ Some e → IsSound e.1
+sound_at [] k e h at = absurd (none-some e at)
+sound_at (x ∷ es) zero e h at = subst (λ (e : Text × Tree). IsSound e.1) (same_Some x e at) h.0
+sound_at (x ∷ es) (suc k) e h at = sound_at es k e h.1 at
+
+module _ (es : List (Text × Tree)) (sets : Expansions) (utf8 : (url : Text) (t : Tree) → lookup (bytes_eq url) es ≡ Some t → IsUtf8 url)
+    (sounds : All (λ e. IsSound e.1) es) where
+  definition_utf8 : (k : ℕ) (d : Definition) → slice_get (definitions_from 0 es) k ≡ Some d → IsUtf8 d.url
+  definition_utf8 k d at =
+      let it = entry_at 0 es k d at in
+      let there = there_is es k it.1 it.2 in
+      subst (λ (d : Definition). IsUtf8 d.url) it.3 (utf8 it.1.0 there.0 there.1)
+
+  pub url_utf8 : (place : ℕ) → IsUtf8 (url_at (schema_with (definitions_from 0 es) sets) place)
+  url_utf8 place = by (slice_get (definitions_from 0 es) place) refl
+    where
+      by : (o : Option Definition) → slice_get (definitions_from 0 es) place ≡ o → IsUtf8 (option_map_or (λ d. d.url) o [])
+      by None is = IsUtf8-nil
+      by (Some d) is = definition_utf8 place d is
+
+  pub id_utf8 : (n : NodeRef) → IsUtf8 (id_of_node (schema_with (definitions_from 0 es) sets) n)
+  id_utf8 n = by (slice_get (definitions_from 0 es) n.definition) refl
+    where
+      by : (o : Option Definition) → slice_get (definitions_from 0 es) n.definition ≡ o
+          → IsUtf8 (id_at (option_map_or (λ d. d.elements) o []) n.element)
+      by None is = IsUtf8-nil
+      by (Some d) is =
+          let it = entry_at 0 es n.definition d is in
+          let whole = sound_at es n.definition it.1 (recursion_from_All (λ e. IsSound e.1) es sounds) it.2 in
+          subst (λ (d : Definition). IsUtf8 (id_at d.elements n.element)) it.3 (ids_utf8 (element_trees it.1.1) n.element (elements_sound it.1.1 whole))
+
+  url_found : (n : ℕ) (ds : List (Text × Tree)) (url : Text) (place : ℕ) → ((k : ℕ) (d : Definition) → slice_get (definitions_from n ds) k ≡ Some d → IsUtf8 d.url)
+      → url_place (definitions_from n ds) url ≡ Some place → IsUtf8 url
+  url_found n [] url place h e = absurd (none-some place e)
+  url_found n (x ∷ ds) url place h e = by (bytes_eq url x.0) refl e (url_found (suc n) ds url place (λ k. h (suc k)))
+    where
+      by : (b : Bool) → bytes_eq url x.0 ≡ b → cond b (Some n) (url_place (definitions_from (suc n) ds) url) ≡ Some place
+          → (url_place (definitions_from (suc n) ds) url ≡ Some place → IsUtf8 url) → IsUtf8 url
+      by true is e behind = subst IsUtf8 (sym ((bytes_eq-Decides url x.0).0 is)) (h 0 (definition_of n x.0 x.1) refl)
+      by false is e behind = behind e
+
+  pub root_utf8 : (url : Text) → IsTrue (is_some (root (schema_with (definitions_from 0 es) sets) url)) → IsUtf8 url
+  root_utf8 url some = by (url_place (definitions_from 0 es) url) refl some
+    where
+      by : (o : Option ℕ) → url_place (definitions_from 0 es) url ≡ o → is_some (option_and_then (root_in (schema_with (definitions_from 0 es) sets)) o) ≡ true
+          → IsUtf8 url
+      by None is some = cc
+      by (Some place) is some = url_found 0 es url place definition_utf8 is
