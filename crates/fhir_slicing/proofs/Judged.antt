@@ -1,10 +1,6 @@
 -- What facets see of items, and answers of judging.
-use Rattle.std.proofs.Common.{◌≡◌, ℕ, zero, suc, ◌==◌, Bool, true, false, not, List, [], ◌∷◌, ◌++◌, length, take, drop, get_or, ◌+◌, ◌<◌, ◌||◌, Option, Some, None, Result, Ok, Err, IfOk, refl, sym, ap, ◌∙◌, arith}
-use Rattle.std.specs.List.{list_any, flat_map, slice_get}
-use Rattle.std.proofs.lemmas.Bool.{or_left}
-use Rattle.std.proofs.lemmas.List.{append-nil, take_more, take-append-drop}
-use Rattle.std.proofs.lemmas.List.Concat.{flat_map-append}
-use Rattle.std.proofs.lemmas.List.Folds.{list_any-append}
+use Rattle.std.proofs.Common.{◌≡◌, ℕ, zero, suc, ◌==◌, Bool, not, List, [], ◌∷◌, ◌++◌, length, Option, Some, None, Result, Ok, Err, IfOk, refl, arith}
+use Rattle.std.specs.List.{flat_map, slice_get}
 use Rattle.std.proofs.lemmas.List.Elements.{Contains-append_left, Contains-append_right}
 use Rattle.std.specs.Option.{option_map_or, option_and_then}
 use Rattle.fhir_json.specs.Tree.{Text, Tree}
@@ -12,7 +8,7 @@ use Rattle.fhir_elements.specs.Constraint.{Constraint}
 use Rattle.fhir_elements.specs.Element.{Element}
 use Rattle.fhir_json.specs.declared.memory.NoMemory.{NoMemory}
 use Rattle.fhir_schema.specs.declared.node.NodeRef.{NodeRef}
-use Rattle.fhir_schema.specs.Schemas.{SchemaValue, types, element_at}
+use Rattle.fhir_schema.specs.Schemas.{SchemaValue, types, element_at, target}
 use Rattle.fhir_schema.specs.Expressions.{constraint_at}
 use Rattle.fhir_instance.specs.Items.{Item, item, no_kids, kid, kids_of, kids_in, has_kids}
 use Rattle.fhir_instance.specs.View.{named_in}
@@ -20,7 +16,7 @@ use Rattle.fhir_instance.specs.declared.typed.Kid.{Kid}
 use Rattle.fhir_facets.specs.Unread.{Unread}
 use Rattle.fhir_facets.specs.Seen.{Seen}
 use Rattle.fhir_facets.specs.Carried.{range_unread}
-use Rattle.fhir_slicing.specs.Meeting.{entry_unread, set_unread, constraint_unread, element_unread, unread_at}
+use Rattle.fhir_slicing.specs.Meeting.{entry_unread, set_unread, constraint_unread, constraints_unread, element_unread, unread_at}
 use Rattle.fhir_facets.specs.Views.{unread_seen, IsCarried}
 use Rattle.fhir_facets.specs.declared.holding.Holding.{Holding}
 use Rattle.fhir_facets.specs.declared.holding.Holding.TheVariants.{Holds, Fails, Unread as Undecided}
@@ -36,12 +32,6 @@ pub same_seen : (t t' : Text) (j j' : Option Tree) (b b' : Bool) → t ≡ t' �
     let seen' : Seen = record { type = t'; json = j'; has_kids = b' } in
     seen ≡ seen'
 same_seen t t' j j' b b' e f g = λ i. record { type = e i; json = f i; has_kids = g i }
-
--- an answer that no unread rule leaves open
-pub carried_by_none : (us : List Unread) (h : Holding) → IsCarried [] h → IsCarried us h
-carried_by_none us Holds is = tt
-carried_by_none us Fails is = tt
-carried_by_none us (Undecided u) is = absurd (omega arith)
 
 pub carried_in_front : (us vs : List Unread) (h : Holding) → IsCarried us h → IsCarried (us ++ vs) h
 carried_in_front us vs Holds is = tt
@@ -81,41 +71,15 @@ of_constraint s x (Some e) position h is =
     carried_behind (range_unread e) (set_unread s x e ++ flat_map constraint_unread e.constraints) h
     (carried_behind (set_unread s x e) (flat_map constraint_unread e.constraints) h (among_constraints e.constraints position h is))
 
--- ---- one element more
-
-with_item : {A : Type 0} (xs : List A) (i : ℕ) (x : A) → i < length xs → x ≡ get_or xs i x → take (i + 1) xs ≡ take i xs ++ x ∷ []
-with_item {A} xs i x lt is = take_more xs i x lt ∙ ap (λ (y : A). take i xs ++ y ∷ []) (sym is)
-
-any_one : {A : Type 0} (p : A → Bool) (x : A) (b : Bool) → (b || list_any p (x ∷ [])) ≡ (b || p x)
-any_one p x true = refl
-any_one p x false = or-false (p x)
-  where
-    or-false : (b : Bool) → (b || false) ≡ b
-    or-false true = refl
-    or-false false = refl
-
-pub any_more : {A : Type 0} (p : A → Bool) (xs : List A) (i : ℕ) (x : A) → i < length xs → x ≡ get_or xs i x
-    → list_any p (take (i + 1) xs) ≡ (list_any p (take i xs) || p x)
-any_more {A} p xs i x lt is =
-    ap (list_any p) (with_item xs i x lt is) ∙ list_any-append p (take i xs) (x ∷ []) ∙ any_one p x (list_any p (take i xs))
-
-pub rules_more : {A B : Type 0} (f : A → List B) (xs : List A) (i : ℕ) (x : A) → i < length xs → x ≡ get_or xs i x
-    → flat_map f (take (i + 1) xs) ≡ flat_map f (take i xs) ++ f x
-rules_more {A} {B} f xs i x lt is =
-    ap (flat_map f) (with_item xs i x lt is)
-    ∙ flat_map-append f (take i xs) (x ∷ [])
-    ∙ ap (λ (ys : List B). flat_map f (take i xs) ++ ys) (append-nil (f x))
-
--- one at the front passes
-pub any_within : {A : Type 0} (p : A → Bool) (xs : List A) (i : ℕ) → list_any p (take i xs) ≡ true → list_any p xs ≡ true
-any_within p xs i some =
-    sym (ap (list_any p) (take-append-drop i xs))
-    ∙ list_any-append p (take i xs) (drop i xs)
-    ∙ or_left (list_any p (take i xs)) (list_any p (drop i xs)) some
+-- what is carried by the node's element is by the node
+pub of_node : (s : SchemaValue) (x : Item) (n : NodeRef) (h : Holding) → IsCarried (option_map_or (element_unread s x) (element_at s n) []) h
+    → IsCarried (unread_at s x n) h
+of_node s x n h is =
+    let own = option_map_or (element_unread s x) (element_at s n) [] in
+    let taken_over = option_map_or (constraints_unread s) (target s n) [] in
+    carried_behind (flat_map (entry_unread s x) (types s n)) (own ++ taken_over) h (carried_in_front own taken_over h is)
 
 pub of_constraint_at : (s : SchemaValue) (x : Item) (n : NodeRef) (position : ℕ) (answer : Result Holding NoMemory)
     → IfOk answer (λ h. IsCarried (option_map_or constraint_unread (constraint_at s n position) []) h) → IfOk answer (λ h. IsCarried (unread_at s x n) h)
-of_constraint_at s x n position (Ok h) is =
-    carried_behind (flat_map (entry_unread s x) (types s n)) (option_map_or (element_unread s x) (element_at s n) []) h
-    (of_constraint s x (element_at s n) position h is)
+of_constraint_at s x n position (Ok h) is = of_node s x n h (of_constraint s x (element_at s n) position h is)
 of_constraint_at s x n position (Err e) is = tt

@@ -4,4 +4,8 @@ pub mod Asked
 pub mod Stepping
 pub mod Placing
 pub mod Judged
+pub mod Twos
+pub mod Called
+pub mod Same
+pub mod KidAt
 mod Refuted

@@ -4,33 +4,39 @@ use Rattle.std.specs.Prelude.{◌≡◌, ℕ, suc, List, [], ◌∷◌, ◌++◌
 use Rattle.std.specs.Option.{option_map_or}
 use Rattle.std.specs.List.{list_all, list_any}
 use Rattle.fhir_json.specs.Tree.{Text, Tree}
+use Rattle.fhir_json.specs.Bytes.{is_empty}
 use Rattle.fhir_elements.specs.TypeEntry.{TypeEntry}
 use Rattle.fhir_elements.specs.Constraint.{Constraint, must_hold}
 use Rattle.fhir_elements.specs.Element.{Element, required_value_set}
 use Rattle.fhir_schema.specs.declared.node.NodeRef.{NodeRef}
 use Rattle.fhir_schema.specs.Types.{names_resource}
-use Rattle.fhir_schema.specs.Schemas.{SchemaValue, element_at, is_root_node, root, types}
+use Rattle.fhir_schema.specs.Schemas.{SchemaValue, element_at, is_root_node, root, types, loaded}
 use Rattle.fhir_schema.specs.Covers.{covers, type_at}
 use Rattle.fhir_schema.specs.Expressions.{expression_of, constraint_at}
-use Rattle.fhir_instance.specs.Items.{Item, item, Kids, no_kids, kid, Place, type_of, json_of, has_kids}
+use Rattle.fhir_instance.specs.Items.{Item, item, Kids, no_kids, kid, Place, type_of, json_of, has_kids, kids_of}
 use Rattle.fhir_instance.specs.Typing.{Types}
 use Rattle.fhir_fp_eval.specs.Meaning.{is_true}
 use Rattle.fhir_facets.specs.Unread.{Unread, Meaning}
-use Rattle.fhir_facets.specs.Unread.{expression as unread_expression, constraint as unread_key}
+use Rattle.fhir_facets.specs.Unread.{expression as unread_expression, constraint as unread_key, profile as unread_profile}
 use Rattle.fhir_facets.specs.Seen.{Seen}
 use Rattle.fhir_facets.specs.Values.{fixed_holds, pattern_holds, length_holds}
 use Rattle.fhir_facets.specs.Ranges.{Range, range_holds}
 use Rattle.fhir_facets.specs.Targets.{targets_hold}
 use Rattle.fhir_facets.specs.Bindings.{binding_to, binding_holds, IsFair}
 use Rattle.fhir_facets.specs.Counts.{are_enough, are_within}
-use Rattle.fhir_slicing.specs.Asks.{RuleName, root_type, types as of_types, fixed, pattern, range, length_limit, binding, too_few, too_many, constraint}
-use Rattle.fhir_slicing.specs.Asks.{Ask, own, root as as_root, child, places_of, root_asks, inner_asks}
+use Rattle.fhir_slicing.specs.Asks.{RuleName, root_type, fixed, pattern, range, length_limit, binding, too_few, too_many, too_few_in, too_many_in, apart, sliced, constraint}
+use Rattle.fhir_slicing.specs.Asks.{Ask, own, types as of_types, profile as as_profile, root as as_root, child, places_of, root_asks, inner_asks}
+use Rattle.fhir_slicing.specs.Belonging.{is_apart, is_sliced, at_kid, members}
 
 abbrev pub seen : Item → Seen
 seen x = record { type = type_of x; json = json_of x; has_kids = has_kids x }
 
 abbrev pub count_of : Text → Item → ℕ
 count_of name x = length (places_of name x)
+
+-- how many of the children of a name belong to the slice that the node is
+abbrev pub count_in : SchemaValue → NodeRef → Text → Item → ℕ
+count_in s n name x = length (members s x n (places_of name x))
 
 -- ---- the rules of an element, where unread rules mean so
 
@@ -73,10 +79,22 @@ at_element s test n = option_map_or test (element_at s n) true
 abbrev pub is_untyped : SchemaValue → NodeRef → Bool
 is_untyped s n = nat_eq (length (types s n)) 0
 
-module _ (s : SchemaValue) (m : Meaning) (x : Item) where
-  -- a type entry's code covers the item's type, and its targets hold
+-- a type entry's code covers the item's type, and its targets hold
+abbrev pub entry_allows : SchemaValue → Meaning → Item → TypeEntry → Bool
+entry_allows s m x e = covers s e.code (type_of x) && targets_hold s m e (seen x)
+
+-- where these are the roots that the item conforms to
+module _ (s : SchemaValue) (m : Meaning) (roots : NodeRef → Bool) (x : Item) where
+  -- the item conforms to the profile; one that isn't there, or can't be used, is an unread rule
+  abbrev pub profile_holds : Text → Bool
+  profile_holds p = option_map_or roots (loaded s p) (m (unread_profile p))
+
+  -- to one of the profiles, where there are any
+  abbrev pub profiles_hold : List Text → Bool
+  profiles_hold profiles = is_empty profiles || list_any profile_holds profiles
+
   abbrev pub entry_holds : TypeEntry → Bool
-  entry_holds e = covers s e.code (type_of x) && targets_hold s m e (seen x)
+  entry_holds e = entry_allows s m x e && profiles_hold e.profiles
 
   -- the item is of one of the node's types, where it names any
   abbrev pub types_hold : NodeRef → Bool
@@ -86,7 +104,6 @@ module _ (s : SchemaValue) (m : Meaning) (x : Item) where
 module _ (s : SchemaValue) (m : Meaning) (resource x : Item) where
   abbrev pub rule_holds : RuleName → NodeRef → Bool
   rule_holds root_type n = covers s (type_at s n) (type_of x)
-  rule_holds of_types n = types_hold s m x n
   rule_holds fixed n = at_element s (fixed_at x) n
   rule_holds pattern n = at_element s (pattern_at x) n
   rule_holds range n = at_element s (range_at m x) n
@@ -94,6 +111,10 @@ module _ (s : SchemaValue) (m : Meaning) (resource x : Item) where
   rule_holds binding n = at_element s (binding_at s m x) n
   rule_holds (too_few name) n = at_element s (λ e. are_enough e (count_of name x)) n
   rule_holds (too_many name) n = at_element s (λ e. are_within e (count_of name x)) n
+  rule_holds (too_few_in name) n = at_element s (λ e. are_enough e (count_in s n name x)) n
+  rule_holds (too_many_in name) n = at_element s (λ e. are_within e (count_in s n name x)) n
+  rule_holds (apart position) n = at_kid true (is_apart s n) x position
+  rule_holds (sliced position) n = at_kid true (is_sliced s n) x position
   rule_holds (constraint position) n = option_map_or (constraint_passes s m resource x) (constraint_at s n position) true
 
   -- ---- all that a node asks, where these are the roots that the item conforms to, and these the tests of its children
@@ -101,6 +122,8 @@ module _ (s : SchemaValue) (m : Meaning) (resource x : Item) where
   module _ (kids : List (NodeRef → Bool)) where
     abbrev pub ask_holds : (NodeRef → Bool) → Ask → Bool
     ask_holds roots (own rule n) = rule_holds rule n
+    ask_holds roots (of_types n) = types_hold s m roots x n
+    ask_holds roots (as_profile r) = true
     ask_holds roots (as_root r) = roots r
     ask_holds roots (child i n) = get_or kids i (λ n. true) n
 
@@ -163,6 +186,15 @@ abbrev mutual
   kid_tests s meaning around position no_kids = []
   kid_tests s meaning around position (kid name x kids) =
       conforms s meaning (below around position) x ∷ kid_tests s meaning around (suc position) kids
+
+-- where an item stands, as far as its place and the nearest resource around it tell
+abbrev pub around_of : Item → Place → Item → Around
+around_of outermost place nearest = record { outermost = outermost; place = place; nearest = nearest }
+
+-- what is asked holds of the item, which stands there
+abbrev pub ask_conforms : SchemaValue → Interpretation → Around → Item → Ask → Bool
+ask_conforms s meaning around x ask =
+    ask_holds s (meaning_at meaning around) (resource_at s around x) x (kid_tests s meaning (inside s around x) 0 (kids_of x)) (conforms s meaning around x) ask
 
 -- an item that stands in no other
 abbrev pub outermost : Item → Around

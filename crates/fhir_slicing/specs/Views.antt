@@ -10,17 +10,16 @@ use Rattle.std.specs.Ordering.{nat_cmp}
 use Rattle.std.specs.Str.{bytes_eq}
 use Rattle.fhir_json.specs.Tree.{Text}
 use Rattle.fhir_instance.specs.Items.{Item}
-use Rattle.fhir_slicing.specs.Asks.{RuleName, root_type, types, fixed, pattern, range, length_limit, binding, too_few, too_many, constraint}
-use Rattle.fhir_slicing.specs.Asks.{own, root, child, places_of}
+use Rattle.fhir_slicing.specs.Asks.{RuleName, root_type, fixed, pattern, range, length_limit, binding, too_few, too_many, too_few_in, too_many_in, apart, sliced, constraint}
+use Rattle.fhir_slicing.specs.Asks.{own, types, profile, root, child, places_of}
 use Rattle.fhir_slicing.specs.Asks.{Ask as Asked}
 use Rattle.fhir_slicing.specs.declared.ask.Ask.{Ask}
-use Rattle.fhir_slicing.specs.declared.ask.Ask.TheVariants.{Own, Root, Child}
+use Rattle.fhir_slicing.specs.declared.ask.Ask.TheVariants.{Own, Types, Profile, Root, Child}
 use Rattle.fhir_slicing.specs.declared.ask.Rule.{Rule}
 use Rattle.fhir_slicing.specs.declared.ask.Rule.TheVariants as rules
 
 abbrev pub rule_name : Rule → RuleName
 rule_name rules.RootType = root_type
-rule_name rules.Types = types
 rule_name rules.Fixed = fixed
 rule_name rules.Pattern = pattern
 rule_name rules.Range = range
@@ -28,10 +27,16 @@ rule_name rules.Length = length_limit
 rule_name rules.Binding = binding
 rule_name (rules.TooFew name) = too_few name.now
 rule_name (rules.TooMany name) = too_many name.now
+rule_name (rules.TooFewIn name) = too_few_in name.now
+rule_name (rules.TooManyIn name) = too_many_in name.now
+rule_name (rules.Apart position) = apart position
+rule_name (rules.Sliced position) = sliced position
 rule_name (rules.Constraint position) = constraint position
 
 abbrev pub ask_seen : Ask → Asked
 ask_seen (Own rule n) = own (rule_name rule) n
+ask_seen (Types n) = types n
+ask_seen (Profile n) = profile n
 ask_seen (Root n) = root n
 ask_seen (Child i n) = child i n
 

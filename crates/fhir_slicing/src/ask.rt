@@ -7,8 +7,6 @@ use fhir_schema::NodeRef;
 pub enum Rule<'s> {
     /// The item is of the type that the root's definition defines or constrains.
     RootType,
-    /// The item is of one of the node's types, where it names any.
-    Types,
     /// The item's value is the fixed one.
     Fixed,
     /// The item's value fits the pattern.
@@ -23,6 +21,14 @@ pub enum Rule<'s> {
     TooFew(&'s str),
     /// The children of that name aren't too many.
     TooMany(&'s str),
+    /// The children of that name that belong to the slice are enough.
+    TooFewIn(&'s str),
+    /// The children of that name that belong to the slice aren't too many.
+    TooManyIn(&'s str),
+    /// The child at that position among all children is in no two of the element's slices.
+    Apart(usize),
+    /// The child at that position among all children is in one of the element's slices.
+    Sliced(usize),
     /// The constraint at that position among the element's is true.
     Constraint(usize),
 }
@@ -32,6 +38,12 @@ pub enum Rule<'s> {
 pub enum Ask<'s> {
     /// A rule of that node's element holds.
     Own(Rule<'s>, NodeRef),
+    /// The item is of one of the types of that node, where it names any, and conforms to one of the profiles that the
+    /// type names.
+    Types(NodeRef),
+    /// Whether the item conforms to that root is asked, since a type names it as a profile. The item needn't: one
+    /// profile of several is enough.
+    Profile(NodeRef),
     /// The item itself conforms to that root too.
     Root(NodeRef),
     /// The child at that position among all children conforms to the node.

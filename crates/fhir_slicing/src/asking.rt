@@ -1,17 +1,19 @@
 //! What a node asks of an item.
 
-ghost use Rattle.std.specs.Prelude.{◌≡◌, ◌++◌, ◌∷◌, [], List, ℕ, map, length, OnOk};
+ghost use Rattle.std.specs.Prelude.{◌≡◌, ◌++◌, ◌∷◌, [], length, OnOk};
 ghost use Rattle.std.specs.List.{flat_map};
 ghost use Rattle.std.specs.Option.{option_map_or};
 ghost use Rattle.fhir_json.specs.Memory.{Gives};
-ghost use Rattle.fhir_schema.specs.Schemas.{element_at, entry_of, type_root};
+ghost use Rattle.fhir_schema.specs.Schemas.{element_at, type_root};
 ghost use Rattle.fhir_instance.specs.Items.{type_of};
 ghost use Rattle.fhir_instance.specs.View.{item_of};
-ghost use Rattle.fhir_slicing.specs.Asks.{child_ask, facet_asks, constraint_ask, constraint_asks, slot_asks, own_root, kids_asks, root_asks, inner_asks, asks};
+ghost use Rattle.fhir_slicing.specs.Asks.{facet_asks, constraint_ask, own_constraint_asks, constraint_asks, slot_asks, kids_asks, own_root, root_asks, inner_asks, asks};
 ghost use Rattle.fhir_slicing.specs.Views.{asks_seen, IsIndexOf};
 
 use crate::ask::{Ask, Rule};
 use crate::children::Children;
+use crate::profiles::put_profiles;
+use crate::sliced::put_named;
 use fhir_instance::Typed;
 use fhir_json::NoMemory;
 use fhir_schema::{NodeRef, Schema, Slot};
@@ -45,8 +47,12 @@ fn put_constraint(asked: &mut Vec<Ask<'_>>, node: NodeRef, position: usize) -> R
     Ok(())
 }
 
-fn put_constraints(asked: &mut Vec<Ask<'_>>, schema: &Schema, node: NodeRef) -> Result<(), NoMemory>
-    ensures { OnOk result (asks_seen asked.new.items ≡ asks_seen asked.old.items ++ constraint_asks schema.now node) }
+fn put_own_constraints(
+    asked: &mut Vec<Ask<'_>>,
+    schema: &Schema,
+    node: NodeRef,
+) -> Result<(), NoMemory>
+    ensures { OnOk result (asks_seen asked.new.items ≡ asks_seen asked.old.items ++ own_constraint_asks schema.now node) }
 {
     for position in 0..constraints_of(schema, node) {
         put_constraint(asked, node, position)?;
@@ -54,17 +60,31 @@ fn put_constraints(asked: &mut Vec<Ask<'_>>, schema: &Schema, node: NodeRef) -> 
     Ok(())
 }
 
-fn put_places(asked: &mut Vec<Ask<'_>>, entry: NodeRef, places: &[usize]) -> Result<(), NoMemory>
-    ensures { OnOk result (asks_seen asked.new.items ≡ asks_seen asked.old.items ++ map (child_ask entry) places.now) }
+fn put_target_constraints(
+    asked: &mut Vec<Ask<'_>>,
+    schema: &Schema,
+    target: Option<NodeRef>,
+) -> Result<(), NoMemory>
+    ensures { OnOk result (asks_seen asked.new.items
+        ≡ asks_seen asked.old.items ++ option_map_or (own_constraint_asks schema.now) target []) }
 {
-    for place in places {
-        asked.push(Ask::Child(*place, entry))?;
+    match target {
+        Some(target) => put_own_constraints(asked, schema, target),
+        None => Ok(()),
     }
-    Ok(())
+}
+
+// A node's own constraints, and those of the node that it refers to for its content.
+fn put_constraints(asked: &mut Vec<Ask<'_>>, schema: &Schema, node: NodeRef) -> Result<(), NoMemory>
+    ensures { OnOk result (asks_seen asked.new.items ≡ asks_seen asked.old.items ++ constraint_asks schema.now node) }
+{
+    put_own_constraints(asked, schema, node)?;
+    put_target_constraints(asked, schema, schema.target(node))
 }
 
 fn put_slot<'s>(
     asked: &mut Vec<Ask<'s>>,
+    schema: &Schema,
     item: &Typed<'_, '_>,
     children: &Children<'_>,
     node: NodeRef,
@@ -72,19 +92,19 @@ fn put_slot<'s>(
 ) -> Result<(), NoMemory>
     requires { IsIndexOf (item_of item.now) children.now }
     ensures { OnOk result (asks_seen asked.new.items
-        ≡ asks_seen asked.old.items ++ slot_asks (item_of item.now) node slot.now) }
+        ≡ asks_seen asked.old.items ++ slot_asks schema.now (item_of item.now) node slot.now) }
 {
     let entry = NodeRef {
         definition: node.definition,
         element: slot.entry(),
     };
-    asked.push(Ask::Own(Rule::TooFew(slot.name()), entry))?;
-    asked.push(Ask::Own(Rule::TooMany(slot.name()), entry))?;
-    put_places(asked, entry, children.places(slot.name()))
+    let places = children.places(slot.name());
+    put_named(asked, schema, item, slot.name(), places, entry)
 }
 
 fn put_slots<'s>(
     asked: &mut Vec<Ask<'s>>,
+    schema: &Schema,
     item: &Typed<'_, '_>,
     children: &Children<'_>,
     node: NodeRef,
@@ -92,12 +112,30 @@ fn put_slots<'s>(
 ) -> Result<(), NoMemory>
     requires { IsIndexOf (item_of item.now) children.now }
     ensures { OnOk result (asks_seen asked.new.items
-        ≡ asks_seen asked.old.items ++ flat_map (slot_asks (item_of item.now) node) slots.now) }
+        ≡ asks_seen asked.old.items ++ flat_map (slot_asks schema.now (item_of item.now) node) slots.now) }
 {
     for slot in slots {
-        put_slot(asked, item, children, node, slot)?;
+        put_slot(asked, schema, item, children, node, slot)?;
     }
     Ok(())
+}
+
+// What is asked of the children, by the slots of the node that has a node's.
+fn put_kids<'s>(
+    asked: &mut Vec<Ask<'s>>,
+    schema: &'s Schema,
+    item: &Typed<'_, '_>,
+    children: &Children<'_>,
+    node: NodeRef,
+) -> Result<(), NoMemory>
+    requires { IsIndexOf (item_of item.now) children.now }
+    ensures { OnOk result (asks_seen asked.new.items
+        ≡ asks_seen asked.old.items ++ kids_asks schema.now (item_of item.now) node) }
+{
+    match schema.holder(node) {
+        Some(holder) => put_slots(asked, schema, item, children, holder, schema.slots(holder)),
+        None => Ok(()),
+    }
 }
 
 fn put_own_root(
@@ -128,7 +166,7 @@ fn put_root_asks<'s>(
     asked.push(Ask::Own(Rule::RootType, root))?;
     put_facets(asked, root)?;
     put_constraints(asked, schema, root)?;
-    put_slots(asked, item, children, root, schema.slots(root))
+    put_kids(asked, schema, item, children, root)
 }
 
 fn put_inner_asks<'s>(
@@ -142,11 +180,12 @@ fn put_inner_asks<'s>(
     ensures { OnOk result (asks_seen asked.new.items
         ≡ asks_seen asked.old.items ++ inner_asks schema.now (item_of item.now) node) }
 {
-    asked.push(Ask::Own(Rule::Types, node))?;
+    asked.push(Ask::Types(node))?;
     put_facets(asked, node)?;
     put_constraints(asked, schema, node)?;
     put_own_root(asked, schema, item)?;
-    put_slots(asked, item, children, node, schema.slots(node))
+    put_profiles(asked, schema, item, node)?;
+    put_kids(asked, schema, item, children, node)
 }
 
 fn put_asks<'s>(
@@ -167,9 +206,11 @@ fn put_asks<'s>(
     }
 }
 
-/// What a node asks of an item, of which these are the children: the rules of its element, then those of the slots and
-/// what each child is asked. A node that is no root also asks that the item conforms to the definition of its own type,
-/// where that has a root (FHIR R4, ElementDefinition and StructureDefinition). The one refusal is want of memory.
+/// What a node asks of an item, of which these are the children: the rules of its element, then those of the slots and of
+/// their slices, and what each child is asked. A node that is no root also asks that the item is of one of its types, and
+/// that it conforms to the definition of its own type, where that has a root; and it asks whether the item conforms to each
+/// profile that a type names (FHIR R4, ElementDefinition, Profiling and StructureDefinition). The one refusal is want of
+/// memory.
 pub fn asks<'s>(
     alloc: Global,
     schema: &'s Schema,

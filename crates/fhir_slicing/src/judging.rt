@@ -1,24 +1,23 @@
 //! Whether a rule holds of an item.
 
-ghost use Rattle.std.specs.Prelude.{◌≡◌, ◌++◌, ◌||◌, Bool, List, [], IfOk, IsTrue};
-ghost use Rattle.std.specs.List.{Contains, list_any, flat_map};
+ghost use Rattle.std.specs.Prelude.{◌≡◌, Bool, [], IfOk, IsTrue};
 ghost use Rattle.std.specs.Option.{option_copied, option_map, option_map_or};
 ghost use Rattle.fhir_elements.specs.Constraint.{must_hold};
 ghost use Rattle.fhir_fp_syntax.specs.Expression.{expression_of as tree_of};
 ghost use Rattle.fhir_schema.specs.Expressions.{expression_of, constraint_at};
-ghost use Rattle.fhir_schema.specs.Schemas.{types, element_at};
+ghost use Rattle.fhir_schema.specs.Schemas.{element_at};
 ghost use Rattle.fhir_instance.specs.View.{item_of};
-ghost use Rattle.fhir_facets.specs.Unread.{Unread as UnreadRule};
 ghost use Rattle.fhir_facets.specs.Carried.{range_unread};
 ghost use Rattle.fhir_facets.specs.Counts.{are_enough, are_within};
 ghost use Rattle.fhir_facets.specs.Views.{unread_seen, view_seen, holding_under, IsCarried};
-ghost use Rattle.fhir_slicing.specs.Conformance.{seen, unread_constraint, constraint_passes, constraint_holds, count_of, fixed_at, pattern_at, range_at, length_at, binding_at, at_element, entry_holds, types_hold, rule_holds};
+ghost use Rattle.fhir_slicing.specs.Conformance.{seen, unread_constraint, constraint_passes, constraint_holds, fixed_at, pattern_at, range_at, length_at, binding_at, at_element, entry_allows, count_in, rule_holds};
 ghost use Rattle.fhir_slicing.specs.Asks.{constraint as constraint_rule};
 ghost use Rattle.fhir_slicing.specs.Meeting.{entry_unread, set_unread, constraint_unread, unread_at};
 ghost use Rattle.fhir_slicing.specs.Views.{rule_name, IsIndexOf};
 
 use crate::ask::Rule;
 use crate::children::Children;
+use crate::members::{count_in, is_apart_at, is_sliced_at};
 use fhir_elements::{ConstraintDef, ElementDef, TypeEntry};
 use fhir_facets::{
     Binding, Facet, Fixed, Holding, Length, Pattern, Range, Targets, Unread, View, are_enough,
@@ -52,34 +51,16 @@ fn judged<'s>(holds: bool) -> Holding<'s>
     }
 }
 
-// This rule, unless an answer is that it holds.
-fn unless_holds<'s>(other: Holding<'s>, rule: Unread<'s>) -> Holding<'s>
-    ensures exact { (b : Bool) → holding_under b result ≡ (b || holding_under b other.entry) }
-    ensures carried { (us : List UnreadRule) → Contains us (unread_seen rule.entry) → IsCarried us result }
-{
-    match other {
-        Holding::Holds => Holding::Holds,
-        Holding::Fails | Holding::Unread(_) => Holding::Unread(rule),
-    }
-}
-
-// What two answers come to where one of them has to hold.
-fn either<'s>(one: Holding<'s>, other: Holding<'s>) -> Holding<'s>
+/// Whether an item is of the type of a type entry, and its reference's target one of the entry's (FHIR R4, ElementDefinition,
+/// type and type.targetProfile). The profiles that the entry names are no part of it. Where unread rules decide it, it answers
+/// one of the entry's.
+pub fn judge_entry<'s>(
+    schema: &'s Schema,
+    item: &Typed<'_, '_>,
+    entry: &'s TypeEntry,
+) -> Holding<'s>
     ensures exact { (b : Bool) → holding_under b result
-        ≡ (holding_under b one.entry || holding_under b other.entry) }
-    ensures carried { (us vs : List UnreadRule) → IsCarried us one.entry → IsCarried vs other.entry
-        → IsCarried (us ++ vs) result }
-{
-    match one {
-        Holding::Holds => Holding::Holds,
-        Holding::Fails => other,
-        Holding::Unread(rule) => unless_holds(other, rule),
-    }
-}
-
-fn judge_entry<'s>(schema: &'s Schema, item: &Typed<'_, '_>, entry: &'s TypeEntry) -> Holding<'s>
-    ensures exact { (b : Bool) → holding_under b result
-        ≡ entry_holds schema.now (λ unread. b) (item_of item.now) entry.now }
+        ≡ entry_allows schema.now (λ unread. b) (item_of item.now) entry.now }
     ensures carried { IsCarried (entry_unread schema.now (item_of item.now) entry.now) result }
 {
     if schema.covers(entry.code(), item.code()) {
@@ -87,37 +68,6 @@ fn judge_entry<'s>(schema: &'s Schema, item: &Typed<'_, '_>, entry: &'s TypeEntr
     } else {
         Holding::Fails
     }
-}
-
-fn judge_entries<'s>(
-    schema: &'s Schema,
-    item: &Typed<'_, '_>,
-    entries: &'s [TypeEntry],
-) -> Holding<'s>
-    ensures exact { (b : Bool) → holding_under b result
-        ≡ list_any (entry_holds schema.now (λ unread. b) (item_of item.now)) entries.now }
-    ensures carried { IsCarried (flat_map (entry_unread schema.now (item_of item.now)) entries.now) result }
-{
-    let mut found = Holding::Fails;
-    for entry in entries {
-        found = either(found, judge_entry(schema, item, entry));
-        if let Holding::Holds = found {
-            return Holding::Holds;
-        }
-    }
-    found
-}
-
-fn judge_types<'s>(schema: &'s Schema, item: &Typed<'_, '_>, node: NodeRef) -> Holding<'s>
-    ensures exact { (b : Bool) → holding_under b result
-        ≡ types_hold schema.now (λ unread. b) (item_of item.now) node }
-    ensures carried { IsCarried (flat_map (entry_unread schema.now (item_of item.now)) (types schema.now node)) result }
-{
-    let entries = schema.types(node);
-    if entries.is_empty() {
-        return Holding::Holds;
-    }
-    judge_entries(schema, item, entries)
 }
 
 fn judge_fixed<'s>(schema: &'s Schema, item: &Typed<'_, '_>, node: NodeRef) -> Holding<'s>
@@ -276,6 +226,32 @@ fn has_no_more(schema: &Schema, node: NodeRef, count: usize) -> bool
     }
 }
 
+fn has_enough_in(
+    schema: &Schema,
+    item: &Typed<'_, '_>,
+    children: &Children<'_>,
+    node: NodeRef,
+    name: &str,
+) -> bool
+    requires { IsIndexOf (item_of item.now) children.now }
+    ensures { result ≡ at_element schema.now (λ e. are_enough e (count_in schema.now node name.now (item_of item.now))) node }
+{
+    has_enough(schema, node, count_in(schema, item, children, node, name))
+}
+
+fn has_no_more_in(
+    schema: &Schema,
+    item: &Typed<'_, '_>,
+    children: &Children<'_>,
+    node: NodeRef,
+    name: &str,
+) -> bool
+    requires { IsIndexOf (item_of item.now) children.now }
+    ensures { result ≡ at_element schema.now (λ e. are_within e (count_in schema.now node name.now (item_of item.now))) node }
+{
+    has_no_more(schema, node, count_in(schema, item, children, node, name))
+}
+
 /// Whether a rule of a node's element holds of an item, of which these are the children, and that the nearest resource at
 /// or around it (FHIR R4, ElementDefinition). Where unread rules decide it, it answers one of the node's. The one refusal is
 /// want of memory.
@@ -295,7 +271,6 @@ pub fn judge<'s, 't, 'a, 'j>(
 {
     match rule {
         Rule::RootType => Ok(judged(schema.covers(schema.type_code(node), item.code()))),
-        Rule::Types => Ok(judge_types(schema, item, node)),
         Rule::Fixed => Ok(judge_fixed(schema, item, node)),
         Rule::Pattern => Ok(judge_pattern(schema, item, node)),
         Rule::Range => Ok(judge_range(schema, item, node)),
@@ -303,6 +278,10 @@ pub fn judge<'s, 't, 'a, 'j>(
         Rule::Binding => Ok(judge_binding(schema, item, node)),
         Rule::TooFew(name) => Ok(judged(has_enough(schema, node, children.places(name).len()))),
         Rule::TooMany(name) => Ok(judged(has_no_more(schema, node, children.places(name).len()))),
+        Rule::TooFewIn(name) => Ok(judged(has_enough_in(schema, item, children, node, name))),
+        Rule::TooManyIn(name) => Ok(judged(has_no_more_in(schema, item, children, node, name))),
+        Rule::Apart(position) => Ok(judged(is_apart_at(schema, item, node, position))),
+        Rule::Sliced(position) => Ok(judged(is_sliced_at(schema, item, node, position))),
         Rule::Constraint(position) => {
             judge_constraint(alloc, schema, resource, item, node, position)
         }

@@ -7,13 +7,26 @@ ghost use Rattle.fhir_schema.specs.declared.node.NodeRef.{NodeRef};
 ghost use Rattle.fhir_schema.specs.Schemas.{SchemaValue};
 ghost use Rattle.fhir_instance.specs.Items.{Item, Place};
 ghost use Rattle.fhir_facets.specs.Unread.{Unread, Meaning};
+ghost use Rattle.fhir_slicing.specs.Belonging.{belongs};
+ghost use Rattle.fhir_slicing.specs.SameCriteria.{same_criteria};
 ghost use Rattle.fhir_slicing.specs.Asks.{root_asks};
 ghost use Rattle.fhir_slicing.specs.Conformance.{Interpretation, constant, Around, outermost, ask_holds, conforms, IsFairEverywhere, Conforms};
 ghost use Rattle.fhir_slicing.specs.Meeting.{Met, unread_at};
 ghost use Rattle.fhir_slicing.specs.Example.{schema, bare, noted, unknown};
+ghost use Rattle.fhir_slicing.specs.Questions.{questions, identified, texted, nested, nested_resources};
 ghost use Rattle.fhir_slicing.specs.Letters.{letters, given, title, from, answering, coded, counted, memo, one_name, three_names};
+ghost use Rattle.fhir_slicing.specs.Parcels.{of_code, named, title as with_title, nameless, dated, undated, extension, is_of, is_in_a_slice};
 
+use fhir_matching::{equivalence, fitting};
 use fhir_schema::roots_are_roots;
+
+/// Criteria that are the same give the same belonging, for each item.
+pub fn equal_criteria()
+    ensures same { (s : SchemaValue) (n m : NodeRef) (x : Item) → IsTrue (same_criteria s n m) → belongs s n x ≡ belongs s m x }
+{
+    equivalence();
+    fitting();
+}
 
 /// Where unread rules mean more, no less conforms.
 pub fn positive()
@@ -43,7 +56,7 @@ pub fn decided()
     roots_are_roots();
 }
 
-/// A root asks for no root: whether all that it asks holds doesn't hang on which roots the item conforms to.
+/// A root asks for no root, no types and no profile: whether all that it asks holds doesn't hang on which roots the item conforms to.
 pub fn roots_ask_no_root()
     ensures { (s : SchemaValue) (meaning : Meaning) (resource x : Item) (kids : List (NodeRef → Bool))
         → (some others : NodeRef → Bool) (r : NodeRef)
@@ -98,4 +111,37 @@ pub fn values_example()
     ensures copies { (meaning : Interpretation) → Conforms letters meaning (codes "urn:Letter") (counted (codes "copies") (codes "9")) }
     ensures crowd { (meaning : Interpretation) → ¬ Conforms letters meaning (codes "urn:Letter") (counted (codes "copies") (codes "10")) }
     ensures memo { (meaning : Interpretation) → ¬ Conforms letters meaning (codes "urn:Letter") memo }
+{}
+
+/// The definitions at work on what is recursive: questionnaires whose items have items, as an item refers to the items of the
+/// questionnaire for its content, and which may contain questionnaires. Each item has to have an id, at any depth (`nested`,
+/// `nameless`), also in a questionnaire in a questionnaire in a questionnaire (`contained`, `nameless_within`).
+pub fn questions_example()
+    ensures nested { (meaning : Interpretation) → Conforms questions meaning (codes "urn:Questionnaire") (nested (identified no_members)) }
+    ensures nameless { (meaning : Interpretation) → ¬ Conforms questions meaning (codes "urn:Questionnaire") (nested texted) }
+    ensures contained { (meaning : Interpretation)
+        → Conforms questions meaning (codes "urn:Questionnaire") (nested_resources (identified no_members)) }
+    ensures nameless_within { (meaning : Interpretation)
+        → ¬ Conforms questions meaning (codes "urn:Questionnaire") (nested_resources texted) }
+{}
+
+/// Belonging at work on parcels, whose elements are sliced in one way each. A red label belongs to the slice of the red ones
+/// (`by_value`), a blue one doesn't (`other_value`), and to no slice at all (`no_slice`). A sender that has the pattern and more
+/// belongs to the slice of that pattern (`by_pattern`, `other_pattern`). A stamp with a date belongs to the slice of those with
+/// one (`by_presence`, `not_there`), and not to that of those without (`by_absence`, `is_there`). A content belongs to the slice
+/// of its type (`by_type`, `other_type`), and an extension to that whose profile has its url (`by_url`, `other_url`).
+pub fn belonging_examples()
+    ensures by_value { IsTrue (is_of (codes "Parcel.label:red") (of_code (codes "red"))) }
+    ensures other_value { is_of (codes "Parcel.label:red") (of_code (codes "blue")) ≡ false }
+    ensures no_slice { is_in_a_slice (codes "Parcel.label") (of_code (codes "blue")) ≡ false }
+    ensures by_pattern { IsTrue (is_of (codes "Parcel.sender:a") (named with_title)) }
+    ensures other_pattern { is_of (codes "Parcel.sender:a") nameless ≡ false }
+    ensures by_presence { IsTrue (is_of (codes "Parcel.stamp:dated") dated) }
+    ensures not_there { is_of (codes "Parcel.stamp:dated") undated ≡ false }
+    ensures by_absence { IsTrue (is_of (codes "Parcel.stamp:undated") undated) }
+    ensures is_there { is_of (codes "Parcel.stamp:undated") dated ≡ false }
+    ensures by_type { IsTrue (is_of (codes "Parcel.content[x]:contentCode") (of_code (codes "c"))) }
+    ensures other_type { is_of (codes "Parcel.content[x]:contentCode") (named no_members) ≡ false }
+    ensures by_url { IsTrue (is_of (codes "Parcel.extension:colour") (extension (codes "urn:colour"))) }
+    ensures other_url { is_of (codes "Parcel.extension:colour") (extension (codes "urn:size")) ≡ false }
 {}

@@ -7,4 +7,4 @@ use Rattle.fhir_slicing.proofs.asking.put_slots.Given as goal
 
 abbrev pub invariant-loop-slot : goal.invariant-loop-slot
 invariant-loop-slot l =
-    asks_seen l.asked.items ≡ asks_seen l.initial.asked.items ++ flat_map (slot_asks (item_of l.item) l.node) (take l.slot-index l.slots)
+    asks_seen l.asked.items ≡ asks_seen l.initial.asked.items ++ flat_map (slot_asks l.schema (item_of l.item) l.node) (take l.slot-index l.slots)

@@ -1,25 +1,19 @@
-use Rattle.std.proofs.Common.{[]}
-use Rattle.std.specs.List.{flat_map}
-use Rattle.std.specs.Option.{option_map_or}
-use Rattle.fhir_schema.specs.Schemas.{types, element_at}
+use Rattle.fhir_schema.specs.Schemas.{element_at}
 use Rattle.fhir_instance.specs.View.{item_of}
-use Rattle.fhir_slicing.specs.Meeting.{entry_unread, element_unread}
-use Rattle.fhir_slicing.proofs.Judged.{carried_behind, of_range, of_set, of_constraint_at}
+use Rattle.fhir_slicing.proofs.Judged.{of_node, of_range, of_set, of_constraint_at}
 use Rattle.fhir_slicing.proofs.judging.judge.Goals as goal
 
 pub returns-in-Range-clause-carried : goal.returns-in-Range-clause-carried
 returns-in-Range-clause-carried c =
     let s = c.args.schema.now in
     let x = item_of c.args.item.now in
-    carried_behind (flat_map (entry_unread s x) (types s c.args.node)) (option_map_or (element_unread s x) (element_at s c.args.node) [])
-    c.judge_range.result (of_range s x (element_at s c.args.node) c.judge_range.result c.judge_range.ensures.carried)
+    of_node s x c.args.node c.judge_range.result (of_range s x (element_at s c.args.node) c.judge_range.result c.judge_range.ensures.carried)
 
 pub returns-in-Binding-clause-carried : goal.returns-in-Binding-clause-carried
 returns-in-Binding-clause-carried c =
     let s = c.args.schema.now in
     let x = item_of c.args.item.now in
-    carried_behind (flat_map (entry_unread s x) (types s c.args.node)) (option_map_or (element_unread s x) (element_at s c.args.node) [])
-    c.judge_binding.result (of_set s x (element_at s c.args.node) c.judge_binding.result c.judge_binding.ensures.carried)
+    of_node s x c.args.node c.judge_binding.result (of_set s x (element_at s c.args.node) c.judge_binding.result c.judge_binding.ensures.carried)
 
 pub returns-in-Constraint-clause-carried : goal.returns-in-Constraint-clause-carried
 returns-in-Constraint-clause-carried c =

@@ -1,13 +1,10 @@
-use Rattle.std.proofs.Common.{◌≡◌, refl, sym, subst, ◌∙◌, true, false, Some, IsTrue}
+use Rattle.std.proofs.Common.{refl, false, Some}
 use Rattle.std.specs.Prelude.{codes}
-use Rattle.std.proofs.lemmas.Bool.{false≢true}
-use Rattle.fhir_json.specs.Tree.{Text, Tree, string, object, Members, no_members, member}
+use Rattle.fhir_json.specs.Tree.{Text, string, object, Members, no_members, member}
 use Rattle.fhir_schema.specs.declared.node.NodeRef.{NodeRef}
-use Rattle.fhir_schema.specs.Schemas.{root}
 use Rattle.fhir_instance.specs.Items.{Item, item, Kids, kid, no_kids}
-use Rattle.fhir_instance.specs.Typing.{resource}
-use Rattle.fhir_slicing.specs.Conformance.{Interpretation, constant, outermost, conforms, Conforms}
-use Rattle.fhir_slicing.specs.Letters.{letters, given, title, from, answering, coded, one_name, three_names}
+use Rattle.fhir_slicing.specs.Conformance.{constant}
+use Rattle.fhir_slicing.specs.Letters.{given, title, from, answering, coded, one_name, three_names}
 use Rattle.fhir_slicing.proofs.Refuted.{letter_root, refuted}
 use Rattle.fhir_slicing.proofs.laws.letters_example.Goals as goal
 

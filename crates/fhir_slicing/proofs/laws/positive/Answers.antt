@@ -8,8 +8,9 @@ use Rattle.fhir_slicing.proofs.laws.positive.Goals as goal
 
 pub returns-clause-items : goal.returns-clause-items
 returns-clause-items c s less more along a x n =
-    conforms_step s (c.roots_are_roots.ensures.of_type s) less more (λ a x n. Unit {0})
+    conforms_step s (c.roots_are_roots.ensures.of_type s) (c.roots_are_roots.ensures.of_canonical s) less more (λ a x n. Unit {0})
     (λ a x n reach. all_of_each (λ (u : Unread). IsTrue (meaning_at less a u) → IsTrue (meaning_at more a u)) (λ u. along u a.outermost a.place) (unread_at s x n))
+    (λ a x n r reach has. tt)
     (λ a x n r reach has. tt)
     (λ a x n k i y reach has is. tt)
     a x n tt

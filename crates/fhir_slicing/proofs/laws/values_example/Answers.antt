@@ -1,12 +1,11 @@
-use Rattle.std.proofs.Common.{◌≡◌, refl, Some}
+use Rattle.std.proofs.Common.{refl, Some}
 use Rattle.std.specs.Prelude.{codes}
 use Rattle.std.specs.Str.{chars}
 use Rattle.fhir_json.specs.Tree.{Text, Tree, number, string}
 use Rattle.fhir_decimal.specs.Reading.{parts}
 use Rattle.fhir_decimal.specs.Value.{value_of, value_order}
 use Rattle.fhir_instance.specs.Items.{Item, item, kid, no_kids}
-use Rattle.fhir_slicing.specs.Conformance.{Conforms}
-use Rattle.fhir_slicing.specs.Letters.{letters, saying, coded, counted, memo}
+use Rattle.fhir_slicing.specs.Letters.{saying, coded, counted, memo}
 use Rattle.fhir_slicing.proofs.Refuted.{letter_root, refuted}
 use Rattle.fhir_slicing.proofs.laws.values_example.Goals as goal
 

@@ -2,7 +2,7 @@ use Rattle.std.proofs.Common.{◌≡◌, ◌++◌, map}
 use Rattle.std.specs.List.{range_with_len}
 use Rattle.fhir_slicing.specs.Asks.{constraint_ask}
 use Rattle.fhir_slicing.specs.Views.{asks_seen}
-use Rattle.fhir_slicing.proofs.asking.put_constraints.Given as goal
+use Rattle.fhir_slicing.proofs.asking.put_own_constraints.Given as goal
 
 abbrev pub invariant-loop-position : goal.invariant-loop-position
 invariant-loop-position l =

@@ -4,7 +4,7 @@ use Rattle.std.proofs.lemmas.List.{append_assoc}
 use Rattle.fhir_slicing.specs.Asks.{Ask, constraint_ask}
 use Rattle.fhir_slicing.specs.Views.{asks_seen}
 use Rattle.fhir_slicing.proofs.Lists.{counted_more}
-use Rattle.fhir_slicing.proofs.asking.put_constraints.Goals as goal
+use Rattle.fhir_slicing.proofs.asking.put_own_constraints.Goals as goal
 
 pub loop-position-preserved : goal.loop-position-preserved
 loop-position-preserved c =

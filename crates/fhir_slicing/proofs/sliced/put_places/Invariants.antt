@@ -1,7 +1,7 @@
 use Rattle.std.proofs.Common.{◌≡◌, ◌++◌, map, take}
 use Rattle.fhir_slicing.specs.Asks.{child_ask}
 use Rattle.fhir_slicing.specs.Views.{asks_seen}
-use Rattle.fhir_slicing.proofs.asking.put_places.Given as goal
+use Rattle.fhir_slicing.proofs.sliced.put_places.Given as goal
 
 abbrev pub invariant-loop-place : goal.invariant-loop-place
 invariant-loop-place l =
