@@ -1,16 +1,18 @@
 -- Answers to what a pair asks, and to the pair.
-use Rattle.std.proofs.Common.{◌≡◌, ◌<◌, ◌≤◌, ◌+◌, ℕ, zero, suc, Bool, true, List, [], ◌∷◌, map, length, take, get_or, sym, ap, ◌∙◌, ◌&&◌, subst, arith, Option, Some, None}
+use Rattle.std.proofs.Common.{◌≡◌, ◌<◌, ◌≤◌, ◌+◌, ℕ, zero, suc, Bool, true, false, List, [], ◌∷◌, map, length, take, get_or, sym, ap, ◌∙◌, ◌&&◌, ◌||◌, refl, subst, arith, eqb, ne_eqb, Option, Some, None}
 use Rattle.std.specs.Prelude.{Result, Ok, Err, IfOk}
 use Rattle.std.specs.Option.{option_map_or}
-use Rattle.std.specs.List.{list_all, AllByRecursion}
+use Rattle.std.specs.List.{list_all, list_any, AllByRecursion}
 use Rattle.std.proofs.lemmas.List.{take_all}
-use Rattle.std.proofs.lemmas.List.Folds.{list_all_more, list_all-map}
+use Rattle.std.proofs.lemmas.List.Folds.{list_all_more, list_any_more, list_any_at, list_all-map}
+use Rattle.std.proofs.lemmas.Bool.{false≢true}
+use Rattle.fhir_json.specs.Bytes.{is_empty}
 use Rattle.fhir_schema.specs.declared.node.NodeRef.{NodeRef}
 use Rattle.fhir_schema.specs.Schemas.{SchemaValue}
-use Rattle.fhir_instance.specs.Items.{Item, kids_of}
+use Rattle.fhir_instance.specs.Items.{Item, Place, kids_of}
 use Rattle.fhir_slicing.specs.Asks.{asks, child}
-use Rattle.fhir_slicing.specs.Conformance.{Interpretation, Around, nearest_to, constant, inside, below, conforms, kid_tests}
-use Rattle.fhir_slicing.specs.Meeting.{kid_at}
+use Rattle.fhir_slicing.specs.Conformance.{Interpretation, Around, nearest_to, constant, inside, below, around_of, conforms, kid_tests, ask_conforms}
+use Rattle.fhir_slicing.specs.Belonging.{kid_at}
 use Rattle.fhir_slicing.specs.Views.{ask_seen, asks_seen}
 use Rattle.fhir_slicing.specs.declared.ask.Ask.{Ask}
 use Rattle.fhir_validator.specs.declared.answer.Answer.{Answer}
@@ -18,8 +20,8 @@ use Rattle.fhir_validator.specs.declared.layout.Layout.{Layout}
 use Rattle.fhir_validator.specs.declared.layout.Stand.{Stand}
 use Rattle.fhir_validator.specs.declared.pair.Pair.{Pair}
 use Rattle.fhir_validator.specs.Layouts.{spot_in, numbered, item_at, resource_of, AreStands, IsLayout}
-use Rattle.fhir_validator.specs.Judging.{IsThere, IsRight, IsRightOf, IsOrdered, ask_conforms}
-use Rattle.fhir_validator.proofs.Asking.{IsOfType, are_ordered, conforms_to}
+use Rattle.fhir_validator.specs.Judging.{IsThere, IsRight, IsRightOf, IsOrdered}
+use Rattle.fhir_validator.proofs.Asking.{IsOfType, IsOfCanonical, are_ordered, conforms_to}
 use Rattle.fhir_validator.proofs.Rows.{test_at}
 
 pub weaker : {A E : Type 0} (P Q : A → Type 0) → ((a : A) → P a → Q a) → (r : Result A E) → IfOk r P → IfOk r Q
@@ -31,25 +33,59 @@ all_at P f [] i d h each = absurd (omega arith)
 all_at P f (x ∷ xs) zero d h each = each.0
 all_at P f (x ∷ xs) (suc i) d h each = all_at P f xs i d (omega arith) each.1
 
-pub ordered_at : (s : SchemaValue) (roots : IsOfType s) (x : Item) (n : NodeRef) (xs : List Ask) (i : ℕ) (d : Ask) → asks_seen xs ≡ asks s x n → i < length xs
+pub ordered_at : (s : SchemaValue) (roots : IsOfType s) (others : IsOfCanonical s) (x : Item) (n : NodeRef) (xs : List Ask) (i : ℕ) (d : Ask) → asks_seen xs ≡ asks s x n → i < length xs
     → IsOrdered s n (ask_seen (get_or xs i d))
-ordered_at s roots x n xs i d e h =
-    all_at (IsOrdered s n) ask_seen xs i d h (subst (AllByRecursion (IsOrdered s n)) (sym e) (are_ordered s roots x n))
+ordered_at s roots others x n xs i d e h =
+    all_at (IsOrdered s n) ask_seen xs i d h (subst (AllByRecursion (IsOrdered s n)) (sym e) (are_ordered s roots others x n))
 
 -- one ask more is answered
 pub one_more : (p : Ask → Bool) (xs : List Ask) (i : ℕ) (d : Ask) (answer both one : Bool) → i < length xs
     → both ≡ (answer && one) → answer ≡ list_all p (take i xs) → one ≡ p (get_or xs i d) → both ≡ list_all p (take (i + 1) xs)
 one_more p xs i d answer both one h is so_far here = is ∙ (λ j. so_far j && here j) ∙ sym (list_all_more p xs i d h)
 
+-- one of several more, where one has to hold
+pub one_more_any : {A : Type 0} (p : A → Bool) (xs : List A) (i : ℕ) (d : A) (answer both one : Bool) → i < length xs
+    → both ≡ (answer || one) → answer ≡ list_any p (take i xs) → one ≡ p (get_or xs i d) → both ≡ list_any p (take (i + 1) xs)
+one_more_any p xs i d answer both one h is so_far here = is ∙ (λ j. so_far j || here j) ∙ sym (list_any_more p xs i d h)
+
+pub all_any : {A : Type 0} (p : A → Bool) (xs : List A) (i : ℕ) (b : Bool) → length xs ≤ i → b ≡ list_any p (take i xs) → b ≡ list_any p xs
+all_any p xs i b h is = is ∙ ap (list_any p) (take_all i xs h)
+
+or_true : (c t : Bool) → t ≡ true → true ≡ (c || t)
+or_true true t e = refl
+or_true false t e = sym e
+
+or_false : (c t u : Bool) → c ≡ false → t ≡ u → t ≡ (c || u)
+or_false true t u e same = absurd (false≢true (sym e))
+or_false false t u e same = same
+
+-- one holds
+pub some_holds : {A : Type 0} (p : A → Bool) (xs : List A) (i : ℕ) (x : A) (c : Bool) → i < length xs → x ≡ get_or xs i x → true ≡ p x
+    → true ≡ (c || list_any p xs)
+some_holds p xs i x c h is here = or_true c (list_any p xs) (list_any_at p xs i x h (ap p (sym is) ∙ sym here))
+
+-- none is left, where there are some
+pub none_left : {A : Type 0} (p : A → Bool) (xs : List A) (i : ℕ) (c b : Bool) → c ≡ false → length xs ≤ i → b ≡ list_any p (take i xs)
+    → b ≡ (c || list_any p xs)
+none_left p xs i c b e h is = or_false c b (list_any p xs) e (all_any p xs i b h is)
+
+pub empty_mapped : {A B : Type 0} (f : A → B) (xs : List A) → eqb (length xs) 0 ≡ is_empty (map f xs)
+empty_mapped f [] = refl
+empty_mapped f (x ∷ xs) = ne_eqb (suc (length xs)) 0 (λ e. omega arith)
+
+pub any_mapped : {A B : Type 0} (p : B → Bool) (f : A → B) (xs : List A) → list_any (λ x. p (f x)) xs ≡ list_any p (map f xs)
+any_mapped p f [] = refl
+any_mapped p f (x ∷ xs) = ap (λ b. p (f x) || b) (any_mapped p f xs)
+
 -- all asks are answered
-pub all_answered : (s : SchemaValue) (roots : IsOfType s) (meaning : Interpretation) (around : Around) (x : Item) (n : NodeRef) (xs : List Ask) (i : ℕ) (b : Bool)
+pub all_answered : (s : SchemaValue) (roots : IsOfType s) (others : IsOfCanonical s) (meaning : Interpretation) (around : Around) (x : Item) (n : NodeRef) (xs : List Ask) (i : ℕ) (b : Bool)
     → asks_seen xs ≡ asks s x n → length xs ≤ i → b ≡ list_all (λ ask. ask_conforms s meaning around x (ask_seen ask)) (take i xs)
     → b ≡ conforms s meaning around x n
-all_answered s roots meaning around x n xs i b e h is =
+all_answered s roots others meaning around x n xs i b e h is =
     is ∙ ap (list_all (λ ask. ask_conforms s meaning around x (ask_seen ask))) (take_all i xs h)
     ∙ sym (list_all-map (ask_conforms s meaning around x) ask_seen xs)
     ∙ ap (list_all (ask_conforms s meaning around x)) e
-    ∙ sym (conforms_to s roots meaning around x n)
+    ∙ sym (conforms_to s roots others meaning around x n)
 
 -- the answer of a child is the answer to what is asked of it
 module _ (layout : Layout) (p : Pair) (position : ℕ) (n : NodeRef) where
@@ -83,16 +119,21 @@ module _ (layout : Layout) (p : Pair) (position : ℕ) (n : NodeRef) where
       → true ≡ get_or (kid_tests s (constant b) (inside s around x) 0 (kids_of x)) position (λ n. true) n
   of_none e b around = sym (asked_of b around None e)
 
--- where the item of a number stands, as far as the nearest resource tells
-pub standing : Layout → ℕ → Around
-standing layout number = record { outermost = item_at layout number; place = []; nearest = resource_of layout number }
-
-pub stands_there : (layout : Layout) → IsLayout layout → (number : ℕ) → number < length layout.stands.items → IsThere layout number (standing layout number)
-unfolding standing
-stands_there layout laid number within = each_nearest layout.schema.now layout.stands.items number within laid.stands
+-- the item of a number stands wherever the nearest resource is its own
+pub met_there : (layout : Layout) → IsLayout layout → (number : ℕ) → number < length layout.stands.items → (outermost : Item) (place : Place)
+    → IsThere layout number (around_of outermost place (resource_of layout number))
+met_there layout laid number within outermost place = each_nearest layout.schema.now layout.stands.items number within laid.stands
   where
     each_nearest : (s : SchemaValue) (stands : List Stand) (i : ℕ) → i < length stands → AreStands s stands
         → nearest_to s (numbered (map spot_in stands) i).resource (numbered (map spot_in stands) i).itself ≡ (numbered (map spot_in stands) i).resource
     each_nearest s [] i h each = absurd (omega arith)
     each_nearest s (stand ∷ stands) zero h each = each.0.nearest
     each_nearest s (stand ∷ stands) (suc i) h each = each_nearest s stands i (omega arith) each.1
+
+-- where it stands, as far as the nearest resource tells
+pub standing : Layout → ℕ → Around
+standing layout number = around_of (item_at layout number) [] (resource_of layout number)
+
+pub stands_there : (layout : Layout) → IsLayout layout → (number : ℕ) → number < length layout.stands.items → IsThere layout number (standing layout number)
+unfolding standing
+stands_there layout laid number within = met_there layout laid number within (item_at layout number) []

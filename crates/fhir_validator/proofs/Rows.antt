@@ -11,7 +11,7 @@ use Rattle.fhir_schema.specs.declared.node.NodeRef.{NodeRef}
 use Rattle.fhir_instance.specs.Items.{Item, Kids, no_kids, kid, kids_of, kids_in}
 use Rattle.fhir_instance.specs.View.{named_of, named_in}
 use Rattle.fhir_instance.specs.declared.typed.Kid.{Kid as Child}
-use Rattle.fhir_slicing.specs.Meeting.{kid_at}
+use Rattle.fhir_slicing.specs.Belonging.{kid_at}
 use Rattle.fhir_slicing.specs.Conformance.{Interpretation, Around, nearest_to, is_resource_item, below, conforms, kid_tests}
 use Rattle.fhir_validator.specs.Layouts.{Spot, spot_of, spots_in, nowhere, numbered, kids_at, AreFrom, AreLaid}
 

@@ -1,5 +1,5 @@
 -- What is listed of a pair.
-use Rattle.std.proofs.Common.{◌≡◌, ◌<◌, ◌+◌, ◌++◌, ◌∷◌, [], ℕ, zero, suc, Bool, true, false, List, map, length, take, get_or, refl, sym, ap, ◌∙◌, ◌&&◌, subst, arith, IsTrue, ◌⊎◌, inl, inr}
+use Rattle.std.proofs.Common.{◌≡◌, ◌<◌, ◌+◌, ◌++◌, ◌∷◌, [], ℕ, zero, suc, Bool, true, false, List, map, length, take, get_or, refl, sym, ap, ◌∙◌, ◌&&◌, subst, arith, IsTrue, Some, ◌⊎◌, inl, inr}
 use Rattle.std.specs.Prelude.{Result, Ok, Err, OnOk}
 use Rattle.std.specs.List.{list_all, Contains}
 use Rattle.std.proofs.lemmas.Bool.{false≢true}
@@ -11,11 +11,12 @@ use Rattle.fhir_schema.specs.Schemas.{SchemaValue}
 use Rattle.fhir_instance.specs.Items.{Item, Place}
 use Rattle.fhir_facets.specs.Views.{unread_seen}
 use Rattle.fhir_facets.specs.declared.unread.Unread.{Unread}
-use Rattle.fhir_slicing.specs.Asks.{RuleName, own, asks}
-use Rattle.fhir_slicing.specs.Conformance.{Around, constant, rule_holds}
+use Rattle.fhir_facets.specs.Unread.{Unread as UnreadRule}
+use Rattle.fhir_slicing.specs.Asks.{RuleName, Ask, own, asks}
+use Rattle.fhir_slicing.specs.Conformance.{Around, around_of, rule_holds}
 use Rattle.fhir_slicing.specs.Meeting.{Met, unread_at}
 use Rattle.fhir_slicing.specs.Views.{ask_seen, asks_seen}
-use Rattle.fhir_slicing.specs.declared.ask.Ask.{Ask}
+use Rattle.fhir_slicing.specs.declared.ask.Ask.{Ask as AskValue}
 use Rattle.fhir_validator.specs.declared.answer.Answer.{Answer}
 use Rattle.fhir_validator.specs.declared.answer.Answer.TheVariants.{Holds, Open, Fails}
 use Rattle.fhir_validator.specs.declared.issue.Finding.{Finding}
@@ -24,10 +25,11 @@ use Rattle.fhir_validator.specs.declared.issue.Site.{Site}
 use Rattle.fhir_validator.specs.declared.layout.Layout.{Layout}
 use Rattle.fhir_validator.specs.declared.pair.Pair.{Pair}
 use Rattle.fhir_validator.specs.Answers.{under}
-use Rattle.fhir_validator.specs.Judging.{IsThere, ask_conforms}
-use Rattle.fhir_validator.specs.Layouts.{item_at, resource_of}
-use Rattle.fhir_validator.specs.Issues.{IsNamed, IsBroken, IsOpenAt, rule_said, says}
-use Rattle.fhir_validator.specs.Listing.{same_answer, side, is_filled, IsAllowed}
+use Rattle.fhir_validator.specs.Judging.{IsThere, IsRightOf}
+use Rattle.fhir_validator.specs.Layouts.{item_at, resource_of, IsLayout}
+use Rattle.fhir_validator.specs.Issues.{Said, told_of, IsNamed, IsBroken, IsOpenAt, rule_said}
+use Rattle.fhir_validator.specs.Listing.{same_answer, side, is_filled, IsAllowed, IsAskedBy, IsHanging}
+use Rattle.fhir_validator.proofs.Judged.{met_there}
 
 pub on_ok : {A E : Type 0} (P Q : Type 0) → (P → Q) → (r : Result A E) → OnOk r P → OnOk r Q
 on_ok P Q f (Ok a) h = f h
@@ -37,16 +39,22 @@ pub some_pushed : {A : Type 0} (xs ys : List A) (x : A) → ys ≡ xs ++ x ∷ [
 some_pushed xs ys x e = omega (arith, ap length e, length-append xs (x ∷ []))
 
 module _ (issues : List Issue) (sites : List Site) where
-  pub told_broken : (w : Answer) (h : Bool → Bool) → ((b : Bool) → h b ≡ false) → IsAllowed w (h true) → 0 < length issues
-      → IsTrue (h (side w)) ⊎ is_filled w issues sites
-  told_broken Holds h fails allowed some = inr tt
-  told_broken Open h fails allowed some = absurd (false≢true (sym (fails true) ∙ allowed))
-  told_broken Fails h fails allowed some = inr some
+  -- what fails, where `u` is what it comes to on the side that is wanted
+  pub told_broken : (w : Answer) (t u : Bool) → false ≡ t → IsAllowed w t → 0 < length issues → IsTrue u ⊎ is_filled w issues sites
+  told_broken Holds t u fails allowed some = inr tt
+  told_broken Open t u fails allowed some = absurd (false≢true (fails ∙ allowed))
+  told_broken Fails t u fails allowed some = inr some
 
-  pub told_other : (w : Answer) (h : Bool → Bool) → ((b : Bool) → h b ≡ b) → same_answer w Open ≡ false → IsTrue (h (side w)) ⊎ is_filled w issues sites
-  told_other Holds h hangs other = inr tt
-  told_other Open h hangs other = absurd (false≢true (sym other))
-  told_other Fails h hangs other = inl (hangs true)
+  -- what is open
+  pub told_other : (w : Answer) (u : Bool) → side w ≡ u → same_answer w Open ≡ false → IsTrue u ⊎ is_filled w issues sites
+  told_other Holds u hangs other = inr tt
+  told_other Open u hangs other = absurd (false≢true (sym other))
+  told_other Fails u hangs other = inl (sym hangs)
+
+  pub told_open : (w : Answer) (u : Bool) → same_answer w Open ≡ true → 0 < length sites → IsTrue u ⊎ is_filled w issues sites
+  told_open Holds u same some = absurd (false≢true same)
+  told_open Open u same some = inr some
+  told_open Fails u same some = absurd (false≢true same)
 
   pub told_same : (w a : Answer) (here there : Bool → Bool) → ((b : Bool) → under b a ≡ here b) → ((b : Bool) → under b a ≡ there b) → IsAllowed w (here true)
       → same_answer a w ≡ false → IsTrue (there (side w)) ⊎ is_filled w issues sites
@@ -85,57 +93,68 @@ contains_map f [] i d h = refl
 contains_map f (x ∷ xs) zero d h = refl
 contains_map f (x ∷ xs) (suc i) d h = contains_map f xs i d (omega arith)
 
-pub asked_at : (s : SchemaValue) (x : Item) (n : NodeRef) (xs : List Ask) (i : ℕ) (d : Ask) → asks_seen xs ≡ asks s x n → i < length xs → Contains (asks s x n) (ask_seen (get_or xs i d))
+pub asked_at : (s : SchemaValue) (x : Item) (n : NodeRef) (xs : List AskValue) (i : ℕ) (d : AskValue) → asks_seen xs ≡ asks s x n → i < length xs → Contains (asks s x n) (ask_seen (get_or xs i d))
 asked_at s x n xs i d e h =
     subst (λ all. Contains all (ask_seen (get_or xs i d))) e
     (subst (Contains (asks_seen xs)) (contains_map ask_seen xs i d h) (Contains-get_or (asks_seen xs) i (ask_seen d) (subst (λ k. i < k) (sym (long xs)) h)))
   where
-    long : (xs : List Ask) → length (asks_seen xs) ≡ length xs
+    long : (xs : List AskValue) → length (asks_seen xs) ≡ length xs
     long [] = refl
     long (x ∷ xs) = ap suc (long xs)
 
-module _ (s : SchemaValue) (outermost : Item) (profile : NodeRef) (place : Place) (resource x : Item) (n node : NodeRef) (met : Met s outermost profile place resource x n)
-    (rule : RuleName) (asked : Contains (asks s x n) (own rule node)) where
-  pub broken_at : (finding : Finding) → finding.node ≡ node → rule_holds s (λ unread. true) resource x rule node ≡ false → rule_said finding.rule ≡ says s x rule node
-      → IsNamed s node finding.url.now finding.id.now → IsBroken s outermost profile finding
-  broken_at finding e fails said named = record {
+pub is_open : (w : Answer) → same_answer w Open ≡ true → w ≡ Open
+is_open Holds e = absurd (false≢true e)
+is_open Open e = refl
+is_open Fails e = absurd (false≢true e)
+
+-- what is put into a listing, if the pair is met
+module _ (layout : Layout) (laid : IsLayout layout) (p : Pair) (within : p.item < length layout.stands.items) (node : NodeRef) (outermost : Item) (profile : NodeRef) (place : Place)
+    (met : Met layout.schema.now outermost profile place (resource_of layout p.item) (item_at layout p.item) p.node) where
+  abbrev here : Around
+  here = around_of outermost place (resource_of layout p.item)
+
+  abbrev there : IsThere layout p.item here
+  there = met_there layout laid p.item within outermost place
+
+  pub broken_at : (ask : Ask) (said : Said) → IsAskedBy layout p ask → told_of layout.schema.now (item_at layout p.item) ask ≡ Some (node, said)
+      → IsRightOf layout p ask Fails → (finding : Finding) → finding.node ≡ node → rule_said finding.rule ≡ said
+      → IsNamed layout.schema.now node finding.url.now finding.id.now → IsBroken layout.schema.now outermost profile finding
+  broken_at ask said asked told fails finding e f named = record {
     place = place;
-    resource = resource;
-    itself = x;
-    node = n;
-    rule = rule;
+    resource = resource_of layout p.item;
+    itself = item_at layout p.item;
+    node = p.node;
+    ask = ask;
     met = met;
-    asked = subst (λ m. Contains (asks s x n) (own rule m)) (sym e) asked;
-    fails = subst (λ m. rule_holds s (λ unread. true) resource x rule m ≡ false) (sym e) fails;
-    said = subst (λ m. rule_said finding.rule ≡ says s x rule m) (sym e) said;
-    named = subst (λ m. IsNamed s m finding.url.now finding.id.now) (sym e) named;
+    asked = asked;
+    fails = sym (fails true here there);
+    told = told ∙ (λ j. Some (sym e j, sym f j));
+    named = subst (λ m. IsNamed layout.schema.now m finding.url.now finding.id.now) (sym e) named;
   }
 
-  pub open_at : (site : Site) (unread : Unread) → site.node ≡ node → site.unread ≡ unread → Contains (unread_at s x node) (unread_seen unread)
-      → ((b : Bool) → rule_holds s (λ u. b) resource x rule node ≡ b) → IsNamed s node site.url.now site.id.now → IsOpenAt s outermost profile site
-  open_at site unread e f carried hangs named = record {
+  pub open_at : (rule : UnreadRule) → IsHanging layout p node rule → (site : Site) (unread : Unread) → site.node ≡ node → site.unread ≡ unread → unread_seen unread ≡ rule
+      → IsNamed layout.schema.now node site.url.now site.id.now → IsOpenAt layout.schema.now outermost profile site
+  open_at rule hanging site unread e f g named = record {
     place = place;
-    resource = resource;
-    itself = x;
-    node = n;
-    rule = rule;
+    resource = resource_of layout p.item;
+    itself = item_at layout p.item;
+    node = p.node;
+    ask = hanging.ask;
+    said = hanging.said;
     met = met;
-    asked = subst (λ m. Contains (asks s x n) (own rule m)) (sym e) asked;
-    carried = subst (λ m. Contains (unread_at s x m) (unread_seen site.unread)) (sym e) (subst (λ u. Contains (unread_at s x node) (unread_seen u)) (sym f) carried);
-    full = subst (λ m. IsTrue (rule_holds s (λ u. true) resource x rule m)) (sym e) (hangs true);
-    empty = subst (λ m. rule_holds s (λ u. false) resource x rule m ≡ false) (sym e) (hangs false);
-    named = subst (λ m. IsNamed s m site.url.now site.id.now) (sym e) named;
+    asked = hanging.asked;
+    told = hanging.told ∙ (λ j. Some (sym e j, hanging.said));
+    carried =
+        subst (λ m. Contains (unread_at layout.schema.now (item_at layout p.item) m) (unread_seen site.unread)) (sym e)
+        (subst (λ u. Contains (unread_at layout.schema.now (item_at layout p.item) node) u) (sym g ∙ ap unread_seen (sym f)) hanging.carried);
+    full = sym (hanging.hangs true here there);
+    empty = sym (hanging.hangs false here there);
+    named = subst (λ m. IsNamed layout.schema.now m site.url.now site.id.now) (sym e) named;
   }
 
--- a rule at the item of a number, by its own nearest resource, and where it stands
-module _ (layout : Layout) (p : Pair) (rule : RuleName) (node : NodeRef) where
-  abbrev pub holds_there : Bool → Bool
-  holds_there b = rule_holds layout.schema.now (λ u. b) (resource_of layout p.item) (item_at layout p.item) rule node
-
-  pub there_of : (P : Bool → Type 0) (b : Bool) (around : Around) → IsThere layout p.item around → P (holds_there b)
-      → P (ask_conforms layout.schema.now (constant b) around (item_at layout p.item) (own rule node))
-  there_of P b around there = subst (λ (r : Item). P (rule_holds layout.schema.now (λ u. b) r (item_at layout p.item) rule node)) (sym there)
-
-  pub of_there : (P : Bool → Type 0) (b : Bool) (around : Around) → IsThere layout p.item around
-      → P (ask_conforms layout.schema.now (constant b) around (item_at layout p.item) (own rule node)) → P (holds_there b)
-  of_there P b around there = subst (λ (r : Item). P (rule_holds layout.schema.now (λ u. b) r (item_at layout p.item) rule node)) there
+-- a rule by its item's own nearest resource, and where the item stands
+pub judged_there : (layout : Layout) (p : Pair) (rule : RuleName) (node : NodeRef) (a : Answer)
+    → ((b : Bool) → under b a ≡ rule_holds layout.schema.now (λ u. b) (resource_of layout p.item) (item_at layout p.item) rule node)
+    → IsRightOf layout p (own rule node) a
+judged_there layout p rule node a right b around there =
+    right b ∙ ap (λ (r : Item). rule_holds layout.schema.now (λ u. b) r (item_at layout p.item) rule node) (sym there)

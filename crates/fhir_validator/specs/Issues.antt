@@ -1,7 +1,7 @@
--- What an issue says, and when it is right: its rule fails at a pair of node and item that the resource meets, whatever unread
--- rules mean. And when a site is: an unread rule that such a pair's node carries, of a rule that hangs on it. Both name the
--- node by the url of its definition and by its id.
-use Rattle.std.specs.Prelude.{◌≡◌, ℕ, List, [], true, false, Option, Some, IsTrue}
+-- What an issue says, and when it is right: it fails at a pair of node and item that the resource meets, whatever unread rules
+-- mean. And when a site is: an unread rule that such a pair's node carries, where something hangs on it. Both name the node by
+-- the url of its definition and by its id.
+use Rattle.std.specs.Prelude.{◌≡◌, ℕ, List, [], true, false, Option, None, Some, IsTrue}
 use Rattle.std.specs.Option.{option_map_or, option_and_then}
 use Rattle.std.specs.List.{Contains}
 use Rattle.fhir_json.specs.Tree.{Text, Tree}
@@ -11,16 +11,17 @@ use Rattle.fhir_schema.specs.declared.node.NodeRef.{NodeRef}
 use Rattle.fhir_schema.specs.Schemas.{SchemaValue, element_at, root, url_at, id_of_node}
 use Rattle.fhir_schema.specs.Covers.{type_at}
 use Rattle.fhir_schema.specs.Expressions.{constraint_at}
-use Rattle.fhir_instance.specs.Items.{Item, Place}
+use Rattle.fhir_instance.specs.Items.{Item, Place, kids_of}
 use Rattle.fhir_instance.specs.Typing.{Types}
 use Rattle.fhir_facets.specs.Counts.{least_of}
 use Rattle.fhir_facets.specs.Views.{unread_seen}
 use Rattle.fhir_slicing.specs.Asks as asked
-use Rattle.fhir_slicing.specs.Asks.{RuleName, own, asks}
-use Rattle.fhir_slicing.specs.Conformance.{count_of, rule_holds}
+use Rattle.fhir_slicing.specs.Asks.{RuleName, Ask, own, asks}
+use Rattle.fhir_slicing.specs.Belonging.{two_slices, kid_at}
+use Rattle.fhir_slicing.specs.Conformance.{count_of, count_in, constant, around_of, ask_conforms}
 use Rattle.fhir_slicing.specs.Meeting.{Met, unread_at}
 use Rattle.fhir_validator.specs.declared.rule.Rule.{Rule}
-use Rattle.fhir_validator.specs.declared.rule.Rule.TheVariants.{RootType, Types as OfTypes, Fixed, Pattern, Range, Length, Binding, TooFew, TooMany, Constraint}
+use Rattle.fhir_validator.specs.declared.rule.Rule.TheVariants.{RootType, Types as OfTypes, Fixed, Pattern, Range, Length, Binding, TooFew, TooMany, InSlices, InNoSlice, Constraint}
 use Rattle.fhir_validator.specs.declared.issue.Finding.{Finding}
 use Rattle.fhir_validator.specs.declared.issue.Issue.{Issue}
 use Rattle.fhir_validator.specs.declared.issue.Issue.TheVariants.{Misfit, Broken}
@@ -37,6 +38,9 @@ pub data Said : Type 0 where
   -- how many are asked for, and how many there are
   too_few : (min found : ℕ) → Said
   too_many : (max : Option Max) (found : ℕ) → Said
+  -- two slices that an item is in, by their names; or that it is in none
+  in_slices : (one other : List ℕ) → Said
+  in_no_slice : Said
   -- the constraint's key
   constraint : (key : List ℕ) → Said
 
@@ -50,6 +54,8 @@ rule_said Length = length_limit
 rule_said (Binding canonical) = binding canonical.now
 rule_said (TooFew min found) = too_few min found
 rule_said (TooMany max found) = too_many max found
+rule_said (InSlices one other) = in_slices one.now other.now
+rule_said InNoSlice = in_no_slice
 rule_said (Constraint key) = constraint key.now
 
 -- the value set that a node asks for, or the empty text
@@ -60,10 +66,14 @@ set_at s n = option_map_or (λ canonical. canonical) (option_and_then required_v
 abbrev pub key_at : SchemaValue → NodeRef → ℕ → Text
 key_at s n position = option_map_or (λ c. c.key) (constraint_at s n position) []
 
+-- the names of the first two slices of a node's element that a child is in, or the empty texts
+abbrev pub slices_said : SchemaValue → NodeRef → Option Item → Said
+slices_said s n child =
+    option_map_or (λ two. in_slices two.0.name two.1.name) (option_and_then (two_slices s n) child) (in_slices [] [])
+
 -- what is to be said of a rule of a node, at an item
 abbrev pub says : SchemaValue → Item → RuleName → NodeRef → Said
 says s x asked.root_type n = root_type (type_at s n)
-says s x asked.types n = types
 says s x asked.fixed n = fixed
 says s x asked.pattern n = pattern
 says s x asked.range n = range
@@ -71,6 +81,10 @@ says s x asked.length_limit n = length_limit
 says s x asked.binding n = binding (set_at s n)
 says s x (asked.too_few name) n = too_few (option_map_or least_of (element_at s n) 0) (count_of name x)
 says s x (asked.too_many name) n = too_many (option_and_then (λ e. e.max) (element_at s n)) (count_of name x)
+says s x (asked.too_few_in name) n = too_few (option_map_or least_of (element_at s n) 0) (count_in s n name x)
+says s x (asked.too_many_in name) n = too_many (option_and_then (λ e. e.max) (element_at s n)) (count_in s n name x)
+says s x (asked.apart position) n = slices_said s n (kid_at (kids_of x) position)
+says s x (asked.sliced position) n = in_no_slice
 says s x (asked.constraint position) n = constraint (key_at s n position)
 
 -- ---- issues
@@ -79,18 +93,26 @@ says s x (asked.constraint position) n = constraint (key_at s n position)
 abbrev pub IsNamed : SchemaValue → NodeRef → Text → Text → Type 0
 IsNamed s n url id = (url ≡ url_at s n.definition) × (id ≡ id_of_node s n)
 
--- The rule is one that the node of a pair asks, and it fails there whatever unread rules mean. `outermost` is the item of the
+-- the node that an ask is about, with what is to be said of it; nothing is said of what another pair is asked
+abbrev pub told_of : SchemaValue → Item → Ask → Option (NodeRef × Said)
+told_of s x (own rule n) = Some (n, says s x rule n)
+told_of s x (asked.types n) = Some (n, types)
+told_of s x (asked.profile r) = None
+told_of s x (asked.root r) = None
+told_of s x (asked.child i n) = None
+
+-- It is one that the node of a pair asks, and it fails there where each unread rule holds. `outermost` is the item of the
 -- resource, and `profile` the root that it was judged against.
 pub record IsBroken (s : SchemaValue) (outermost : Item) (profile : NodeRef) (finding : Finding) : Type 0 where
   pub place : Place
   pub resource : Item
   pub itself : Item
   pub node : NodeRef
-  pub rule : RuleName
+  pub ask : Ask
   pub met : Met s outermost profile place resource itself node
-  pub asked : Contains (asks s itself node) (own rule finding.node)
-  pub fails : rule_holds s (λ unread. true) resource itself rule finding.node ≡ false
-  pub said : rule_said finding.rule ≡ says s itself rule finding.node
+  pub asked : Contains (asks s itself node) ask
+  pub fails : ask_conforms s (constant true) (around_of outermost place resource) itself ask ≡ false
+  pub told : told_of s itself ask ≡ Some (finding.node, rule_said finding.rule)
   pub named : IsNamed s finding.node finding.url.now finding.id.now
 
 -- a misfit says that the tree has no item
@@ -101,18 +123,21 @@ IsIssue s profile t (Broken finding) =
 
 -- ---- sites
 
--- A node of a pair carries the unread rule, and a rule that the node asks there hangs on what unread rules mean.
+-- A node carries the unread rule to the item of a pair, and what the pair's node asks of it there hangs on what unread rules
+-- mean.
 pub record IsOpenAt (s : SchemaValue) (outermost : Item) (profile : NodeRef) (site : Site) : Type 0 where
   pub place : Place
   pub resource : Item
   pub itself : Item
   pub node : NodeRef
-  pub rule : RuleName
+  pub ask : Ask
+  pub said : Said
   pub met : Met s outermost profile place resource itself node
-  pub asked : Contains (asks s itself node) (own rule site.node)
+  pub asked : Contains (asks s itself node) ask
+  pub told : told_of s itself ask ≡ Some (site.node, said)
   pub carried : Contains (unread_at s itself site.node) (unread_seen site.unread)
-  pub full : IsTrue (rule_holds s (λ unread. true) resource itself rule site.node)
-  pub empty : rule_holds s (λ unread. false) resource itself rule site.node ≡ false
+  pub full : IsTrue (ask_conforms s (constant true) (around_of outermost place resource) itself ask)
+  pub empty : ask_conforms s (constant false) (around_of outermost place resource) itself ask ≡ false
   pub named : IsNamed s site.node site.url.now site.id.now
 
 abbrev pub IsSite : SchemaValue → Text → Tree → Site → Type 0

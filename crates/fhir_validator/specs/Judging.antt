@@ -3,9 +3,9 @@ use Rattle.std.specs.Prelude.{◌≡◌, ℕ, Bool, false, Some, Option, IsTrue}
 use Rattle.std.specs.BTreeMap.{get}
 use Rattle.fhir_schema.specs.declared.node.NodeRef.{NodeRef}
 use Rattle.fhir_schema.specs.Schemas.{SchemaValue, is_root_node}
-use Rattle.fhir_instance.specs.Items.{Item, kids_of}
-use Rattle.fhir_slicing.specs.Asks.{Ask, own, root, child}
-use Rattle.fhir_slicing.specs.Conformance.{Interpretation, Around, meaning_at, resource_at, inside, constant, ask_holds, conforms, kid_tests}
+use Rattle.fhir_facets.specs.Unread.{Meaning}
+use Rattle.fhir_slicing.specs.Asks.{Ask, own, types, profile, root, child}
+use Rattle.fhir_slicing.specs.Conformance.{Around, resource_at, constant, ask_conforms, conforms}
 use Rattle.fhir_validator.specs.declared.answer.Answer.{Answer}
 use Rattle.fhir_validator.specs.declared.known.Known.{Known}
 use Rattle.fhir_validator.specs.declared.layout.Layout.{Layout}
@@ -13,11 +13,6 @@ use Rattle.fhir_validator.specs.declared.pair.Pair.{Pair}
 use Rattle.fhir_validator.specs.contracts.pair.PairOrd.TheImpl.{cmp-value}
 use Rattle.fhir_validator.specs.Answers.{under}
 use Rattle.fhir_validator.specs.Layouts.{item_at, resource_of}
-
--- what is asked holds of an item there
-abbrev pub ask_conforms : SchemaValue → Interpretation → Around → Item → Ask → Bool
-ask_conforms s meaning around x ask =
-    ask_holds s (meaning_at meaning around) (resource_at s around x) x (kid_tests s meaning (inside s around x) 0 (kids_of x)) (conforms s meaning around x) ask
 
 -- the item of a number stands there, as far as the nearest resource tells
 abbrev pub IsThere : Layout → ℕ → Around → Type 0
@@ -28,6 +23,12 @@ abbrev pub IsRightOf : Layout → Pair → Ask → Answer → Type 0
 IsRightOf layout p ask a =
     (b : Bool) (around : Around) → IsThere layout p.item around
     → under b a ≡ ask_conforms layout.schema.now (constant b) around (item_at layout p.item) ask
+
+-- an answer to a test by what unread rules mean, and by the roots that the item of a number conforms to
+abbrev pub IsRightOn : Layout → ℕ → (Meaning → (NodeRef → Bool) → Bool) → Answer → Type 0
+IsRightOn layout number test a =
+    (b : Bool) (around : Around) → IsThere layout number around
+    → under b a ≡ test (λ unread. b) (conforms layout.schema.now (constant b) around (item_at layout number))
 
 -- an answer to a pair
 abbrev pub IsRight : Layout → Pair → Answer → Type 0
@@ -42,8 +43,11 @@ known_in known p = get cmp-value.it known.answers p
 abbrev pub AreRight : Layout → Known → Type 0
 AreRight layout known = (p : Pair) (a : Answer) → known_in known p ≡ Some a → IsRight layout p a
 
--- where a node asks for a root, that is one, and the node is none
+-- where a node asks for a root, or names it as a profile, that is one, and the node is none; nor is one that asks for types,
+-- which are its own
 abbrev pub IsOrdered : SchemaValue → NodeRef → Ask → Type 0
 IsOrdered s n (own rule m) = Unit {0}
+IsOrdered s n (types m) = (is_root_node s n ≡ false) × (m ≡ n)
+IsOrdered s n (profile r) = (is_root_node s n ≡ false) × IsTrue (is_root_node s r)
 IsOrdered s n (root r) = (is_root_node s n ≡ false) × IsTrue (is_root_node s r)
 IsOrdered s n (child i m) = Unit {0}

@@ -1,5 +1,5 @@
 -- What is listed of the pairs that fail, or of those that are open (used by private contracts alone).
-use Rattle.std.specs.Prelude.{◌≡◌, ◌<◌, Bool, true, false, List, length, IsTrue, ◌⊎◌}
+use Rattle.std.specs.Prelude.{◌≡◌, ◌<◌, ◌+◌, ℕ, Bool, true, false, List, length, Some, IsTrue, ◌⊎◌}
 use Rattle.std.specs.List.{AllByRecursion, Contains}
 use Rattle.fhir_json.specs.Tree.{Text, Tree}
 use Rattle.fhir_json.specs.Grammar.{Reads}
@@ -7,9 +7,10 @@ use Rattle.fhir_schema.specs.declared.node.NodeRef.{NodeRef}
 use Rattle.fhir_schema.specs.Schemas.{SchemaValue}
 use Rattle.fhir_instance.specs.Items.{Item, Place}
 use Rattle.fhir_instance.specs.Typing.{Types}
-use Rattle.fhir_slicing.specs.Asks.{Ask, asks}
-use Rattle.fhir_slicing.specs.Conformance.{Around, outermost, constant, conforms}
-use Rattle.fhir_slicing.specs.Meeting.{Met}
+use Rattle.fhir_facets.specs.Unread.{Unread, Meaning}
+use Rattle.fhir_slicing.specs.Asks.{Ask, profile as as_profile, asks}
+use Rattle.fhir_slicing.specs.Conformance.{Around, outermost, constant, ask_conforms, conforms}
+use Rattle.fhir_slicing.specs.Meeting.{Met, unread_at}
 use Rattle.fhir_validator.specs.declared.answer.Answer.{Answer}
 use Rattle.fhir_validator.specs.declared.answer.Answer.TheVariants as answers
 use Rattle.fhir_validator.specs.declared.issue.Issue.{Issue}
@@ -25,8 +26,8 @@ use Rattle.fhir_validator.specs.declared.fault.Fault.TheVariants.{Missing, Unusa
 use Rattle.fhir_validator.specs.Answers.{under}
 use Rattle.fhir_validator.specs.Verdicts.{AreSome}
 use Rattle.fhir_validator.specs.Layouts.{item_at, resource_of}
-use Rattle.fhir_validator.specs.Judging.{IsThere, ask_conforms}
-use Rattle.fhir_validator.specs.Issues.{IsBroken, IsOpenAt}
+use Rattle.fhir_validator.specs.Judging.{IsThere, IsRight, IsRightOf}
+use Rattle.fhir_validator.specs.Issues.{Said, told_of, IsBroken, IsOpenAt}
 
 abbrev pub same_answer : Answer → Answer → Bool
 same_answer answers.Holds answers.Holds = true
@@ -104,6 +105,47 @@ KeepsFound layout p old new =
     (outermost : Item) (profile : NodeRef) (place : Place)
     → Met layout.schema.now outermost profile place (resource_of layout p.item) (item_at layout p.item) p.node
     → AreFound layout.schema.now outermost profile old → AreFound layout.schema.now outermost profile new
+
+-- ---- what is put into a listing
+
+-- what the pair asks fails, and this is to be said of it
+pub record IsToTell (layout : Layout) (p : Pair) (node : NodeRef) (said : Said) : Type 0 where
+  pub ask : Ask
+  pub asked : IsAskedBy layout p ask
+  pub fails : IsRightOf layout p ask answers.Fails
+  pub told : told_of layout.schema.now (item_at layout p.item) ask ≡ Some (node, said)
+
+-- what the pair asks is open, and the node carries the unread rule to its item
+pub record IsHanging (layout : Layout) (p : Pair) (node : NodeRef) (rule : Unread) : Type 0 where
+  pub ask : Ask
+  pub said : Said
+  pub asked : IsAskedBy layout p ask
+  pub hangs : IsRightOf layout p ask answers.Open
+  pub told : told_of layout.schema.now (item_at layout p.item) ask ≡ Some (node, said)
+  pub carried : Contains (unread_at layout.schema.now (item_at layout p.item) node) rule
+
+-- the pair names the root as a profile, and whether its item conforms to it is open
+abbrev pub IsOpenRoot : Layout → Pair → NodeRef → Type 0
+IsOpenRoot layout p r = IsAskedBy layout p (as_profile r) × IsRight layout (record { item = p.item; node = r }) answers.Open
+
+-- a site is listed, or there is a root of which more is to be listed
+abbrev pub IsLed : Listing → List NodeRef → Type 0
+IsLed listing roots = 0 < length listing.sites.items + length roots
+
+-- What is listed and to be listed grows: what is right of the old is right of the new, if the pair is met.
+pub record Grows (layout : Layout) (p : Pair) (old new : Listing) (roots more : List NodeRef) : Type 0 where
+  pub marked : IsMarked answers.Open old → IsMarked answers.Open new
+  pub led : IsLed old roots → IsLed new more
+  pub found : KeepsFound layout p old new
+  pub hanging : AllByRecursion (IsOpenRoot layout p) roots → AllByRecursion (IsOpenRoot layout p) more
+
+-- a test doesn't hang on what unread rules mean, or something is listed, or is to be
+abbrev pub IsSettled : Layout → ℕ → (Meaning → (NodeRef → Bool) → Bool) → Listing → List NodeRef → Type 0
+IsSettled layout number test listing roots =
+    (around : Around) → IsThere layout number around
+    → (test (λ unread. true) (conforms layout.schema.now (constant true) around (item_at layout number))
+    ≡ test (λ unread. false) (conforms layout.schema.now (constant false) around (item_at layout number)))
+    ⊎ IsLed listing roots
 
 -- ---- what a verdict lists
 

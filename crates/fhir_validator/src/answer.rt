@@ -1,6 +1,6 @@
 //! Answers.
 
-ghost use Rattle.std.specs.Prelude.{◌≡◌, ◌&&◌, Bool};
+ghost use Rattle.std.specs.Prelude.{◌≡◌, ◌&&◌, ◌||◌, Bool};
 ghost use Rattle.fhir_facets.specs.Views.{holding_under};
 ghost use Rattle.fhir_validator.specs.Answers.{under};
 ghost use Rattle.fhir_validator.specs.Listing.{same_answer};
@@ -48,6 +48,27 @@ impl Answer {
             Answer::Holds => Answer::Open,
             Answer::Open => Answer::Open,
             Answer::Fails => Answer::Fails,
+        }
+    }
+
+    /// What two come to, where one of them has to hold.
+    pub(crate) fn or(self, other: Answer) -> Answer
+        ensures { (b : Bool) → under b result ≡ (under b self || under b other) }
+    {
+        match self {
+            Answer::Holds => Answer::Holds,
+            Answer::Open => other.at_least_open(),
+            Answer::Fails => other,
+        }
+    }
+
+    fn at_least_open(self) -> Answer
+        ensures { (b : Bool) → under b result ≡ (b || under b self) }
+    {
+        match self {
+            Answer::Holds => Answer::Holds,
+            Answer::Open => Answer::Open,
+            Answer::Fails => Answer::Open,
         }
     }
 

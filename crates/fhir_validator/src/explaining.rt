@@ -1,120 +1,63 @@
 //! Explaining a verdict: what fails, or what is open, from the outermost pair on.
 
-ghost use Rattle.std.specs.Prelude.{◌≡◌, ◌<◌, Bool, false, length, OnOk};
-ghost use Rattle.fhir_facets.specs.Views.{unread_seen};
-ghost use Rattle.std.specs.List.{Contains};
-ghost use Rattle.fhir_slicing.specs.Asks.{own, child};
-ghost use Rattle.fhir_slicing.specs.Conformance.{rule_holds};
-ghost use Rattle.fhir_slicing.specs.Meeting.{unread_at};
-ghost use Rattle.fhir_slicing.specs.Views.{ask_seen, rule_name};
-ghost use Rattle.fhir_validator.specs.Layouts.{IsLayout, item_at, resource_of};
-ghost use Rattle.fhir_validator.specs.Judging.{IsRight, AreRight, IsOrdered};
+ghost use Rattle.std.specs.Prelude.{◌≡◌, ◌<◌, Bool, false, length, OnOk, IfOk, IsTrue};
+ghost use Rattle.fhir_schema.specs.Schemas.{is_root_node};
+ghost use Rattle.fhir_slicing.specs.Asks.{types, profile, child};
+ghost use Rattle.fhir_slicing.specs.Views.{ask_seen};
+ghost use Rattle.fhir_validator.specs.Layouts.{IsLayout};
+ghost use Rattle.fhir_validator.specs.Judging.{IsRight, IsRightOf, AreRight, IsOrdered};
 ghost use Rattle.fhir_validator.specs.Listing.{IsFilled, IsMarked, AskIsAllowed, PairIsAllowed, AskIsTold, PairIsTold, IsAskedBy, KeepsFound};
 
 use crate::answer::Answer;
-use crate::issue::Issue;
-use crate::judging::answer_of;
+use crate::hanging::open_roots;
+use crate::judging::{answer_of, types_answer};
 use crate::known::Known;
 use crate::layout::Layout;
 use crate::listing::Listing;
 use crate::pair::Pair;
-use crate::telling::{finding_of, site_of};
-use fhir_facets::{Holding, Unread};
+use crate::rules::{list_misfit, list_rule};
 use fhir_json::NoMemory;
 use fhir_schema::{NodeRef, roots_are_roots};
-use fhir_slicing::{Ask, Rule, asks, judge};
+use fhir_slicing::{Ask, asks};
 use std::alloc::Global;
 
-// Lists a rule that the pair asks for and that fails.
-fn list_broken<'s>(
+fn types_fail(
     alloc: Global,
-    layout: &Layout<'s, '_, '_, '_>,
-    wanted: Answer,
-    listing: &mut Listing<'s>,
+    layout: &Layout<'_, '_, '_, '_>,
+    known: &mut Known,
     pair: Pair,
-    rule: Rule<'s>,
-    node: NodeRef,
-) -> Result<(), NoMemory>
+) -> Result<bool, NoMemory>
     requires laid { IsLayout layout.now }
     requires within { pair.item < length layout.now.stands.items }
-    requires marked { IsMarked wanted listing.old }
-    requires asked { IsAskedBy layout.now pair (own (rule_name rule) node) }
-    requires allowed { AskIsAllowed layout.now wanted pair (own (rule_name rule) node) }
-    requires fails { (b : Bool) → rule_holds layout.now.schema.now (λ unread. b) (resource_of layout.now pair.item) (item_at layout.now pair.item) (rule_name rule) node ≡ false }
-    ensures marked { OnOk result (IsMarked wanted listing.new) }
-    ensures kept { IsFilled wanted listing.old → OnOk result (IsFilled wanted listing.new) }
-    ensures told { OnOk result (AskIsTold layout.now wanted pair (own (rule_name rule.entry) node) listing.new) }
-    ensures found { OnOk result (KeepsFound layout.now pair listing.old listing.new) }
+    requires right { AreRight layout.now known.old }
+    ensures right { OnOk result (AreRight layout.now known.new) }
 {
-    let finding = finding_of(alloc, layout, pair.item, rule, node)?;
-    listing.issues.push(Issue::Broken(finding))?;
-    Ok(())
-}
-
-// Lists an unread rule that a rule of the pair hangs on, where sites are wanted.
-fn list_open<'s>(
-    alloc: Global,
-    layout: &Layout<'s, '_, '_, '_>,
-    wanted: Answer,
-    listing: &mut Listing<'s>,
-    pair: Pair,
-    rule: Rule<'s>,
-    node: NodeRef,
-    unread: Unread<'s>,
-) -> Result<(), NoMemory>
-    requires laid { IsLayout layout.now }
-    requires within { pair.item < length layout.now.stands.items }
-    requires marked { IsMarked wanted listing.old }
-    requires asked { IsAskedBy layout.now pair (own (rule_name rule) node) }
-    requires allowed { AskIsAllowed layout.now wanted pair (own (rule_name rule) node) }
-    requires open { (b : Bool) → rule_holds layout.now.schema.now (λ unread. b) (resource_of layout.now pair.item) (item_at layout.now pair.item) (rule_name rule) node ≡ b }
-    requires carried { Contains (unread_at layout.now.schema.now (item_at layout.now pair.item) node) (unread_seen unread) }
-    ensures marked { OnOk result (IsMarked wanted listing.new) }
-    ensures kept { IsFilled wanted listing.old → OnOk result (IsFilled wanted listing.new) }
-    ensures told { OnOk result (AskIsTold layout.now wanted pair (own (rule_name rule.entry) node) listing.new) }
-    ensures found { OnOk result (KeepsFound layout.now pair listing.old listing.new) }
-{
-    if wanted.is(Answer::Open) {
-        let site = site_of(alloc, layout, pair.item, unread, node)?;
-        listing.sites.push(site)?;
+    if layout.schema.is_root(pair.node) {
+        return Ok(false);
     }
-    Ok(())
+    let answer = types_answer(alloc, layout, known, pair)?;
+    Ok(answer.is(Answer::Fails))
 }
 
-fn list_rule<'s>(
+// Whether the profiles of a pair's types are to be explained: what fails is wanted, and the types do. A profile that fails
+// beside one that holds is no issue.
+fn explains_profiles(
     alloc: Global,
-    layout: &Layout<'s, '_, '_, '_>,
+    layout: &Layout<'_, '_, '_, '_>,
+    known: &mut Known,
     wanted: Answer,
-    listing: &mut Listing<'s>,
     pair: Pair,
-    rule: Rule<'s>,
-    node: NodeRef,
-) -> Result<(), NoMemory>
+) -> Result<bool, NoMemory>
     requires laid { IsLayout layout.now }
     requires within { pair.item < length layout.now.stands.items }
-    requires marked { IsMarked wanted listing.old }
-    requires asked { IsAskedBy layout.now pair (own (rule_name rule) node) }
-    requires allowed { AskIsAllowed layout.now wanted pair (own (rule_name rule) node) }
-    ensures marked { OnOk result (IsMarked wanted listing.new) }
-    ensures kept { IsFilled wanted listing.old → OnOk result (IsFilled wanted listing.new) }
-    ensures told { OnOk result (AskIsTold layout.now wanted pair (own (rule_name rule.entry) node) listing.new) }
-    ensures found { OnOk result (KeepsFound layout.now pair listing.old listing.new) }
+    requires right { AreRight layout.now known.old }
+    ensures right { OnOk result (AreRight layout.now known.new) }
+    ensures failing { IfOk result (λ explains. IsTrue explains → wanted ≡ Answer.Fails) }
 {
-    let holding = judge(
-        alloc,
-        layout.schema,
-        layout.resource(pair.item),
-        layout.item(pair.item),
-        layout.children(pair.item),
-        rule,
-        node,
-    )?;
-    match holding {
-        Holding::Holds => Ok(()),
-        Holding::Fails => list_broken(alloc, layout, wanted, listing, pair, rule, node),
-        Holding::Unread(unread) => {
-            list_open(alloc, layout, wanted, listing, pair, rule, node, unread)
-        }
+    match wanted {
+        Answer::Fails => types_fail(alloc, layout, known, pair),
+        Answer::Holds => Ok(false),
+        Answer::Open => Ok(false),
     }
 }
 
@@ -175,8 +118,9 @@ fn list_asks<'s>(
         layout.children(pair.item),
         pair.node,
     )?;
+    let explains = explains_profiles(alloc, layout, known, wanted, pair)?;
     for ask in &asked {
-        list_ask(alloc, layout, known, wanted, listing, pair, *ask)?;
+        list_ask(alloc, layout, known, wanted, listing, pair, explains, *ask)?;
     }
     Ok(())
 }
@@ -189,6 +133,7 @@ fn list_ask<'s>(
     wanted: Answer,
     listing: &mut Listing<'s>,
     pair: Pair,
+    explains: bool,
     ask: Ask<'s>,
 ) -> Result<(), NoMemory>
     requires laid { IsLayout layout.now }
@@ -198,6 +143,7 @@ fn list_ask<'s>(
     requires asked { IsAskedBy layout.now pair (ask_seen ask) }
     requires allowed { AskIsAllowed layout.now wanted pair (ask_seen ask) }
     requires ordered { IsOrdered layout.now.schema.now pair.node (ask_seen ask) }
+    requires failing { IsTrue explains → wanted ≡ Answer.Fails }
     ensures right { OnOk result (AreRight layout.now known.new) }
     ensures marked { OnOk result (IsMarked wanted listing.new) }
     ensures kept { IsFilled wanted listing.old → OnOk result (IsFilled wanted listing.new) }
@@ -206,6 +152,10 @@ fn list_ask<'s>(
 {
     match ask {
         Ask::Own(rule, node) => { list_rule(alloc, layout, wanted, listing, pair, rule, node) }
+        Ask::Types(_node) => list_types(alloc, layout, known, wanted, listing, pair),
+        Ask::Profile(root) => {
+            list_profile(alloc, layout, known, wanted, listing, pair, explains, root)
+        }
         Ask::Root(node) => {
             let item = pair.item;
             list_same(alloc, layout, known, wanted, listing, Pair { item, node })
@@ -213,6 +163,134 @@ fn list_ask<'s>(
         Ask::Child(position, node) => {
             list_kid(alloc, layout, known, wanted, listing, pair, position, node)
         }
+    }
+}
+
+// Lists that the types of a pair's node fail, or what they hang on.
+#[cycle(explaining)]
+fn list_types<'s>(
+    alloc: Global,
+    layout: &Layout<'s, '_, '_, '_>,
+    known: &mut Known,
+    wanted: Answer,
+    listing: &mut Listing<'s>,
+    pair: Pair,
+) -> Result<(), NoMemory>
+    requires laid { IsLayout layout.now }
+    requires within { pair.item < length layout.now.stands.items }
+    requires right { AreRight layout.now known.old }
+    requires marked { IsMarked wanted listing.old }
+    requires asked { IsAskedBy layout.now pair (types pair.node) }
+    requires allowed { AskIsAllowed layout.now wanted pair (types pair.node) }
+    requires inner { is_root_node layout.now.schema.now pair.node ≡ false }
+    ensures right { OnOk result (AreRight layout.now known.new) }
+    ensures marked { OnOk result (IsMarked wanted listing.new) }
+    ensures kept { IsFilled wanted listing.old → OnOk result (IsFilled wanted listing.new) }
+    ensures told { OnOk result (AskIsTold layout.now wanted pair (types pair.node) listing.new) }
+    ensures found { OnOk result (KeepsFound layout.now pair listing.old listing.new) }
+{
+    match types_answer(alloc, layout, known, pair)? {
+        Answer::Holds => Ok(()),
+        Answer::Fails => list_misfit(alloc, layout, wanted, listing, pair),
+        Answer::Open => list_hanging(alloc, layout, known, wanted, listing, pair),
+    }
+}
+
+// Lists what the types of a pair's node hang on, where sites are wanted: unread rules, and what open profiles rest on.
+#[cycle(explaining)]
+fn list_hanging<'s>(
+    alloc: Global,
+    layout: &Layout<'s, '_, '_, '_>,
+    known: &mut Known,
+    wanted: Answer,
+    listing: &mut Listing<'s>,
+    pair: Pair,
+) -> Result<(), NoMemory>
+    requires laid { IsLayout layout.now }
+    requires within { pair.item < length layout.now.stands.items }
+    requires right { AreRight layout.now known.old }
+    requires marked { IsMarked wanted listing.old }
+    requires asked { IsAskedBy layout.now pair (types pair.node) }
+    requires hangs { IsRightOf layout.now pair (types pair.node) Answer.Open }
+    requires inner { is_root_node layout.now.schema.now pair.node ≡ false }
+    ensures right { OnOk result (AreRight layout.now known.new) }
+    ensures marked { OnOk result (IsMarked wanted listing.new) }
+    ensures kept { IsFilled wanted listing.old → OnOk result (IsFilled wanted listing.new) }
+    ensures told { OnOk result (AskIsTold layout.now wanted pair (types pair.node) listing.new) }
+    ensures found { OnOk result (KeepsFound layout.now pair listing.old listing.new) }
+{
+    if !wanted.is(Answer::Open) {
+        return Ok(());
+    }
+    let roots = open_roots(alloc, layout, known, listing, pair)?;
+    for root in &roots {
+        list_root(alloc, layout, known, wanted, listing, pair, *root)?;
+    }
+    Ok(())
+}
+
+// Lists what a profile rests on that has the wanted answer.
+#[cycle(explaining)]
+fn list_root<'s>(
+    alloc: Global,
+    layout: &Layout<'s, '_, '_, '_>,
+    known: &mut Known,
+    wanted: Answer,
+    listing: &mut Listing<'s>,
+    pair: Pair,
+    root: NodeRef,
+) -> Result<(), NoMemory>
+    requires laid { IsLayout layout.now }
+    requires within { pair.item < length layout.now.stands.items }
+    requires right { AreRight layout.now known.old }
+    requires marked { IsMarked wanted listing.old }
+    requires asked { IsAskedBy layout.now pair (profile root) }
+    requires wanted { IsRight layout.now (record { item = pair.item; node = root }) wanted }
+    ensures right { OnOk result (AreRight layout.now known.new) }
+    ensures marked { OnOk result (IsMarked wanted listing.new) }
+    ensures filled { OnOk result (IsFilled wanted listing.new) }
+    ensures found { OnOk result (KeepsFound layout.now pair listing.old listing.new) }
+{
+    roots_are_roots();
+    let same = Pair {
+        item: pair.item,
+        node: root,
+    };
+    list_pair(alloc, layout, known, wanted, listing, same)
+}
+
+// Lists what a profile rests on that fails, where that is to be explained.
+#[cycle(explaining)]
+fn list_profile<'s>(
+    alloc: Global,
+    layout: &Layout<'s, '_, '_, '_>,
+    known: &mut Known,
+    wanted: Answer,
+    listing: &mut Listing<'s>,
+    pair: Pair,
+    explains: bool,
+    root: NodeRef,
+) -> Result<(), NoMemory>
+    requires laid { IsLayout layout.now }
+    requires within { pair.item < length layout.now.stands.items }
+    requires right { AreRight layout.now known.old }
+    requires marked { IsMarked wanted listing.old }
+    requires asked { IsAskedBy layout.now pair (profile root) }
+    requires ordered { IsOrdered layout.now.schema.now pair.node (profile root) }
+    requires failing { IsTrue explains → wanted ≡ Answer.Fails }
+    ensures right { OnOk result (AreRight layout.now known.new) }
+    ensures marked { OnOk result (IsMarked wanted listing.new) }
+    ensures kept { IsFilled wanted listing.old → OnOk result (IsFilled wanted listing.new) }
+    ensures found { OnOk result (KeepsFound layout.now pair listing.old listing.new) }
+{
+    if explains {
+        let same = Pair {
+            item: pair.item,
+            node: root,
+        };
+        list_same(alloc, layout, known, wanted, listing, same)
+    } else {
+        Ok(())
     }
 }
 

@@ -6,7 +6,7 @@ ghost use Rattle.std.specs.List.{slice_get};
 ghost use Rattle.fhir_instance.specs.View.{item_of};
 ghost use Rattle.fhir_instance.specs.Items.{kids_of};
 ghost use Rattle.fhir_slicing.specs.Conformance.{nearest_to};
-ghost use Rattle.fhir_slicing.specs.Meeting.{kid_at};
+ghost use Rattle.fhir_slicing.specs.Belonging.{kid_at};
 ghost use Rattle.fhir_slicing.specs.Views.{IsIndexOf};
 ghost use Rattle.fhir_validator.specs.Layouts.{spot_in, spot_of, spots_in, spot_at, item_at, resource_of, number_of, IsStand, AreStands, IsLayout};
 

@@ -21,6 +21,7 @@
 mod answer;
 mod explaining;
 mod fault;
+mod hanging;
 mod issue;
 mod judging;
 mod known;
@@ -29,6 +30,7 @@ mod listing;
 mod pair;
 mod place;
 mod rule;
+mod rules;
 mod telling;
 mod validation;
 mod verdict;

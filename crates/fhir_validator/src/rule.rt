@@ -9,7 +9,7 @@ use std::fmt;
 pub enum Rule<'s> {
     /// The item is of that type, or of one that rests on it.
     RootType(&'s str),
-    /// The item is of one of the element's types, and refers to one of that type's targets.
+    /// The item is of one of the element's types, refers to one of that type's targets, and conforms to one of its profiles.
     Types,
     /// The item is the fixed value.
     Fixed,
@@ -35,6 +35,10 @@ pub enum Rule<'s> {
         /// How many there are.
         found: usize,
     },
+    /// No item is in two slices of those names.
+    InSlices(&'s str, &'s str),
+    /// Each item is in one of the slices.
+    InNoSlice,
     /// The expression of the constraint with that key is true.
     Constraint(&'s str),
 }
@@ -62,6 +66,8 @@ impl fmt::Display for Rule<'_> {
             Rule::Binding(canonical) => write!(f, "binding {canonical}"),
             Rule::TooFew { min, found } => write!(f, "min {min}, found {found}"),
             Rule::TooMany { max, found } => write_most(f, max, found),
+            Rule::InSlices(one, other) => write!(f, "in slices {one} and {other}"),
+            Rule::InNoSlice => f.write_str("in no slice"),
             Rule::Constraint(key) => write!(f, "invariant {key}"),
         }
     }

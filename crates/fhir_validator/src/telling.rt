@@ -1,12 +1,14 @@
 //! Findings and sites: what is said of a rule.
 
-ghost use Rattle.std.specs.Prelude.{◌≡◌, ◌<◌, length, IfOk};
-ghost use Rattle.std.specs.Option.{option_map_or, option_and_then};
+ghost use Rattle.std.specs.Prelude.{◌≡◌, ◌<◌, false, length, Some, IfOk};
+ghost use Rattle.std.specs.Option.{option_map, option_map_or, option_and_then};
 ghost use Rattle.fhir_schema.specs.Schemas.{element_at};
 ghost use Rattle.fhir_facets.specs.Counts.{least_of};
+ghost use Rattle.fhir_slicing.specs.Belonging.{belongs, kid_at, at_kid, members};
 ghost use Rattle.fhir_slicing.specs.Views.{rule_name, IsIndexOf};
-ghost use Rattle.fhir_instance.specs.Items.{Item};
-ghost use Rattle.fhir_validator.specs.Issues.{rule_said, says, set_at, key_at, IsNamed};
+ghost use Rattle.fhir_instance.specs.Items.{Item, kids_of};
+ghost use Rattle.fhir_instance.specs.View.{item_of};
+ghost use Rattle.fhir_validator.specs.Issues.{rule_said, types, too_few, too_many, says, slices_said, set_at, key_at, IsNamed};
 ghost use Rattle.fhir_validator.specs.Layouts.{IsLayout, item_at};
 
 use crate::issue::{Finding, Site};
@@ -15,9 +17,10 @@ use crate::place::Place;
 use crate::rule::Rule;
 use fhir_elements::Max;
 use fhir_facets::Unread;
+use fhir_instance::Typed;
 use fhir_json::NoMemory;
 use fhir_schema::{NodeRef, Schema};
-use fhir_slicing::{Children, Rule as Asked};
+use fhir_slicing::{Children, Rule as Asked, belongs, two_slices};
 use std::alloc::Global;
 
 // How many items of a node there must be.
@@ -35,6 +38,24 @@ fn most_of(schema: &Schema, node: NodeRef) -> Option<Max>
     ensures { result ≡ option_and_then (λ e. e.max) (element_at schema.now node) }
 {
     schema.element(node)?.max()
+}
+
+fn too_few<'s>(schema: &'s Schema, node: NodeRef, found: usize) -> Rule<'s>
+    ensures { rule_said result ≡ too_few (option_map_or least_of (element_at schema.now node) 0) found }
+{
+    Rule::TooFew {
+        min: least_of(schema, node),
+        found,
+    }
+}
+
+fn too_many<'s>(schema: &'s Schema, node: NodeRef, found: usize) -> Rule<'s>
+    ensures { rule_said result ≡ too_many (option_and_then (λ e. e.max) (element_at schema.now node)) found }
+{
+    Rule::TooMany {
+        max: most_of(schema, node),
+        found,
+    }
 }
 
 // The value set that a node asks for, or the empty text.
@@ -60,28 +81,119 @@ fn key_of(schema: &Schema, node: NodeRef, position: usize) -> &str
     }
 }
 
+// The child of an item at a position, if it has one.
+fn kid_at<'t, 'a, 'j>(item: &'t Typed<'a, 'j>, position: usize) -> Option<&'t Typed<'a, 'j>>
+    ensures { option_map (λ kid. item_of kid.now) result ≡ kid_at (kids_of (item_of item.now)) position }
+{
+    let kids = item.kids();
+    if position < kids.len() {
+        Some(kids[position].item())
+    } else {
+        None
+    }
+}
+
+// Whether the child at a position belongs to the slice that a node is.
+fn is_member(schema: &Schema, item: &Typed<'_, '_>, node: NodeRef, position: usize) -> bool
+    ensures { result ≡ at_kid false (belongs schema.now node) (item_of item.now) position }
+{
+    match kid_at(item, position) {
+        Some(kid) => belongs(schema, node, kid),
+        None => false,
+    }
+}
+
+// How many of the children at these positions belong to the slice that a node is.
+fn count_in(schema: &Schema, item: &Typed<'_, '_>, places: &[usize], node: NodeRef) -> usize
+    ensures { result ≡ length (members schema.now (item_of item.now) node places.now) }
+{
+    let mut count = 0;
+    for place in places {
+        if is_member(schema, item, node, *place) {
+            count += 1;
+        }
+    }
+    count
+}
+
+// Two slices of a node's element that an item is in.
+fn said_of_item<'s>(schema: &'s Schema, item: &Typed<'_, '_>, node: NodeRef) -> Rule<'s>
+    ensures { rule_said result ≡ slices_said schema.now node (Some (item_of item.now)) }
+{
+    match two_slices(schema, node, item) {
+        Some((one, other)) => Rule::InSlices(one.name(), other.name()),
+        None => Rule::InSlices("", ""),
+    }
+}
+
+// Two slices of a node's element that the child at a position is in.
+fn said_of_kid<'s>(
+    schema: &'s Schema,
+    item: &Typed<'_, '_>,
+    position: usize,
+    node: NodeRef,
+) -> Rule<'s>
+    ensures { rule_said result ≡ slices_said schema.now node (kid_at (kids_of (item_of item.now)) position) }
+{
+    match kid_at(item, position) {
+        Some(kid) => said_of_item(schema, kid, node),
+        None => Rule::InSlices("", ""),
+    }
+}
+
 // What is to be said of a rule of a node, at the item that has these children.
-fn said<'s>(schema: &'s Schema, children: &Children<'_>, rule: Asked<'s>, node: NodeRef) -> Rule<'s>
-    ensures { (x : Item) → IsIndexOf x children.now
-        → rule_said result ≡ says schema.now x (rule_name rule.entry) node }
+fn said<'s>(
+    schema: &'s Schema,
+    item: &Typed<'_, '_>,
+    children: &Children<'_>,
+    rule: Asked<'s>,
+    node: NodeRef,
+) -> Rule<'s>
+    requires { IsIndexOf (item_of item.now) children.now }
+    ensures { rule_said result ≡ says schema.now (item_of item.now) (rule_name rule.entry) node }
 {
     match rule {
         Asked::RootType => Rule::RootType(schema.type_code(node)),
-        Asked::Types => Rule::Types,
         Asked::Fixed => Rule::Fixed,
         Asked::Pattern => Rule::Pattern,
         Asked::Range => Rule::Range,
         Asked::Length => Rule::Length,
         Asked::Binding => Rule::Binding(set_of(schema, node)),
-        Asked::TooFew(name) => Rule::TooFew {
-            min: least_of(schema, node),
-            found: children.places(name).len(),
-        },
-        Asked::TooMany(name) => Rule::TooMany {
-            max: most_of(schema, node),
-            found: children.places(name).len(),
-        },
+        Asked::TooFew(name) => too_few(schema, node, children.places(name).len()),
+        Asked::TooMany(name) => too_many(schema, node, children.places(name).len()),
+        Asked::TooFewIn(name) => {
+            too_few(
+                schema,
+                node,
+                count_in(schema, item, children.places(name), node),
+            )
+        }
+        Asked::TooManyIn(name) => {
+            too_many(
+                schema,
+                node,
+                count_in(schema, item, children.places(name), node),
+            )
+        }
+        Asked::Apart(position) => said_of_kid(schema, item, position, node),
+        Asked::Sliced(_position) => Rule::InNoSlice,
         Asked::Constraint(position) => Rule::Constraint(key_of(schema, node, position)),
+    }
+}
+
+// The place of the child at a position of an item, or of the item itself.
+fn place_of_kid(
+    alloc: Global,
+    layout: &Layout<'_, '_, '_, '_>,
+    number: usize,
+    position: usize,
+) -> Result<Place, NoMemory>
+    requires laid { IsLayout layout.now }
+    requires within { number < length layout.now.stands.items }
+{
+    match layout.kid(number, position) {
+        Some(kid) => Place::of(alloc, layout, kid),
+        None => Place::of(alloc, layout, number),
     }
 }
 
@@ -92,11 +204,16 @@ fn place_of(
     number: usize,
     rule: Asked<'_>,
 ) -> Result<Place, NoMemory>
-    requires { number < length layout.now.stands.items }
+    requires laid { IsLayout layout.now }
+    requires within { number < length layout.now.stands.items }
 {
     match rule {
         Asked::TooFew(name) => Place::below(alloc, layout, number, name),
         Asked::TooMany(name) => Place::below(alloc, layout, number, name),
+        Asked::TooFewIn(name) => Place::below(alloc, layout, number, name),
+        Asked::TooManyIn(name) => Place::below(alloc, layout, number, name),
+        Asked::Apart(position) => place_of_kid(alloc, layout, number, position),
+        Asked::Sliced(position) => place_of_kid(alloc, layout, number, position),
         _ => Place::of(alloc, layout, number),
     }
 }
@@ -118,11 +235,39 @@ pub(crate) fn finding_of<'s>(
 {
     let (url, id) = layout.schema.name(node);
     Ok(Finding {
-        rule: said(layout.schema, layout.children(number), rule, node),
+        rule: said(
+            layout.schema,
+            layout.item(number),
+            layout.children(number),
+            rule,
+            node,
+        ),
         node,
         url,
         id,
         place: place_of(alloc, layout, number, rule)?,
+    })
+}
+
+/// The finding that the item of a number is of none of the types of a node.
+pub(crate) fn misfit_of<'s>(
+    alloc: Global,
+    layout: &Layout<'s, '_, '_, '_>,
+    number: usize,
+    node: NodeRef,
+) -> Result<Finding<'s>, NoMemory>
+    requires { number < length layout.now.stands.items }
+    ensures node { IfOk result (λ finding. finding.node ≡ node) }
+    ensures said { IfOk result (λ finding. rule_said finding.rule ≡ types) }
+    ensures named { IfOk result (λ finding. IsNamed layout.now.schema.now node finding.url.now finding.id.now) }
+{
+    let (url, id) = layout.schema.name(node);
+    Ok(Finding {
+        rule: Rule::Types,
+        node,
+        url,
+        id,
+        place: Place::of(alloc, layout, number)?,
     })
 }
 

@@ -1,21 +1,32 @@
-use Rattle.std.proofs.Common.{◌≡◌, ◌<◌, ◌+◌, true, arith, refl, sym, ap, ◌∙◌, subst, IsTrue, Some, ◌⊎◌, inl}
+use Rattle.std.proofs.Common.{◌≡◌, ◌<◌, ◌+◌, ℕ, List, [], ◌∷◌, zero, suc, length, get_or, true, arith, refl, sym, ap, ◌∙◌, subst, IsTrue, Some, ◌⊎◌, inl}
 use Rattle.std.specs.Prelude.{OnOk}
-use Rattle.std.specs.List.{list_all}
+use Rattle.std.specs.List.{list_all, AllByRecursion}
 use Rattle.std.proofs.lemmas.List.Folds.{list_all-map}
-use Rattle.fhir_slicing.specs.Asks.{asks, child}
-use Rattle.fhir_slicing.specs.Conformance.{constant, conforms, inside, below}
-use Rattle.fhir_slicing.specs.Meeting.{at_item, at_child}
+use Rattle.std.specs.Prelude.{Result, Ok, Err}
+use Rattle.fhir_slicing.specs.Asks.{asks, types, profile, child}
+use Rattle.fhir_slicing.specs.Conformance.{constant, conforms, inside, below, ask_conforms}
+use Rattle.fhir_slicing.specs.Meeting.{at_item, at_profile, at_child}
 use Rattle.fhir_slicing.specs.Views.{ask_seen, asks_seen}
+use Rattle.fhir_validator.specs.declared.answer.Answer.TheVariants.{Open}
 use Rattle.fhir_validator.specs.declared.pair.Pair.{Pair}
 use Rattle.fhir_validator.specs.Answers.{under}
 use Rattle.fhir_validator.specs.Layouts.{item_at}
-use Rattle.fhir_validator.specs.Judging.{IsOrdered, ask_conforms}
-use Rattle.fhir_validator.specs.Listing.{side, IsAllowed, IsFilled, AskIsAllowed, AskIsTold, PairIsTold, IsAskedBy, KeepsFound}
-use Rattle.fhir_validator.proofs.Asking.{conforms_to}
+use Rattle.fhir_validator.specs.Judging.{IsRight, IsRightOf, IsOrdered}
+use Rattle.fhir_validator.specs.Listing.{side, IsAllowed, IsFilled, IsOpenRoot, AskIsAllowed, AskIsTold, PairIsTold, IsAskedBy, KeepsFound}
+use Rattle.fhir_validator.proofs.Asking.{conforms_to, ordered_in}
 use Rattle.fhir_validator.proofs.Judged.{ordered_at, all_answered, asked_of, of_none, kid_there, standing, stands_there}
 use Rattle.fhir_validator.proofs.Measures.{weight, lighter_root, lighter_kid}
-use Rattle.fhir_validator.proofs.Told.{on_ok, told_same, told_last, more_told, allowed_at, asked_at}
+use Rattle.fhir_validator.proofs.Told.{on_ok, is_open, told_same, told_last, more_told, allowed_at, asked_at}
 use Rattle.fhir_validator.proofs.explaining.+explaining.Goals as goal
+
+always : {A E : Type 0} (P : Type 0) → P → (r : Result A E) → OnOk r P
+always P h (Ok a) = h
+always P h (Err e) = tt
+
+each_at : {A : Type 0} (P : A → Type 0) (xs : List A) (i : ℕ) (d : A) → i < length xs → AllByRecursion P xs → P (get_or xs i d)
+each_at P [] i d h each = absurd (omega arith)
+each_at P (x ∷ xs) zero d h each = each.0
+each_at P (x ∷ xs) (suc i) d h each = each_at P xs i d (omega arith) each.1
 
 pub list_ask-list_rule-requires-clause-allowed : goal.list_ask-list_rule-requires-clause-allowed
 list_ask-list_rule-requires-clause-allowed t c =
@@ -56,11 +67,12 @@ list_asks-list_ask-requires t c =
     let n = c.args.pair.node in
     let xs = c.deref-ask-items.result.now in
     let roots = c.roots_are_roots.ensures.of_type s in
+    let others = c.roots_are_roots.ensures.of_canonical s in
     let e : asks_seen xs ≡ asks s x n = ap asks_seen c.deref-ask-items.ensures.value ∙ c.in_ok-asked.ensures ∙ ap (λ y. asks s y n) c.item-item.ensures in
     let here = standing c.args.layout.now c.args.pair.item in
     let there = stands_there c.args.layout.now c.requires.laid c.args.pair.item c.requires.within in
     let all : under true c.args.wanted ≡ list_all (λ ask. ask_conforms s (constant true) here x (ask_seen ask)) xs =
-    c.requires.wanted true here there ∙ conforms_to s roots (constant true) here x n
+    c.requires.wanted true here there ∙ conforms_to s roots others (constant true) here x n
     ∙ ap (list_all (ask_conforms s (constant true) here x)) (sym e) ∙ list_all-map (ask_conforms s (constant true) here x) ask_seen xs in (
       omega (arith, c.decreases),
       (
@@ -75,7 +87,7 @@ list_asks-list_ask-requires t c =
                 asked_at s x n xs c.loop-ask.ask-index _ e c.loop-ask-test.true,
                 (
                   (here, there, allowed_at c.args.wanted (λ ask. ask_conforms s (constant true) here x (ask_seen ask)) xs c.loop-ask.ask-index _ c.loop-ask-test.true all),
-                  ordered_at s roots x n xs c.loop-ask.ask-index _ e c.loop-ask-test.true,
+                  (ordered_at s roots others x n xs c.loop-ask.ask-index _ e c.loop-ask-test.true, c.in_ok-explains.ensures.failing),
                 ),
               ),
             ),
@@ -109,7 +121,7 @@ list_asks-returns-clause-filled t c =
     let e : asks_seen xs ≡ asks s x n = ap asks_seen c.deref-ask-items.ensures.value ∙ c.in_ok-asked.ensures ∙ ap (λ y. asks s y n) c.item-item.ensures in
     told_last c.loop-ask.listing.issues.items c.loop-ask.listing.sites.items c.args.wanted _
     (c.requires.wanted (side c.args.wanted) around there
-    ∙ sym (all_answered s (c.roots_are_roots.ensures.of_type s) (constant (side c.args.wanted)) around x n xs c.loop-ask.ask-index _ e c.loop-ask-test.false refl))
+    ∙ sym (all_answered s (c.roots_are_roots.ensures.of_type s) (c.roots_are_roots.ensures.of_canonical s) (constant (side c.args.wanted)) around x n xs c.loop-ask.ask-index _ e c.loop-ask-test.false refl))
     (c.loop-ask.invariant.told around there)
 
 pub list_kid-list_same-requires : goal.list_kid-list_same-requires
@@ -155,3 +167,104 @@ list_same-returns-else-is-clause-told t c = λ around there.
     told_same c.args.listing.now.issues.items c.args.listing.now.sites.items c.args.wanted c.in_ok-answer.answer
     (λ b. conforms s (constant b) c.requires.allowed.0 x c.args.pair.node) (λ b. conforms s (constant b) around x c.args.pair.node)
     (λ b. c.in_ok-answer.ensures.exact b c.requires.allowed.0 c.requires.allowed.1) (λ b. c.in_ok-answer.ensures.exact b around there) c.requires.allowed.2 (sym c.is.ensures ∙ c.if-is.false)
+
+pub list_ask-list_types-requires : goal.list_ask-list_types-requires
+list_ask-list_types-requires t c =
+    let layout = c.args.layout.now in
+    let p = c.args.pair in
+    let ordered = subst (λ a. IsOrdered layout.schema.now p.node (ask_seen a)) c.in-Types.is c.requires.ordered in
+    let asked = subst (λ m. IsAskedBy layout p (types m)) ordered.1 (subst (λ a. IsAskedBy layout p (ask_seen a)) c.in-Types.is c.requires.asked) in
+    let allowed = subst (λ m. AskIsAllowed layout c.args.wanted p (types m)) ordered.1 (subst (λ a. AskIsAllowed layout c.args.wanted p (ask_seen a)) c.in-Types.is c.requires.allowed) in
+    (omega (arith, c.decreases), (c.requires.laid, (c.requires.within, (c.requires.right, (c.requires.marked, (asked, (allowed, ordered.0)))))))
+
+pub list_ask-list_profile-requires : goal.list_ask-list_profile-requires
+list_ask-list_profile-requires t c =
+    let layout = c.args.layout.now in
+    let p = c.args.pair in
+    let ordered = subst (λ a. IsOrdered layout.schema.now p.node (ask_seen a)) c.in-Profile.is c.requires.ordered in
+    let asked = subst (λ a. IsAskedBy layout p (ask_seen a)) c.in-Profile.is c.requires.asked in
+    (omega (arith, c.decreases), (c.requires.laid, (c.requires.within, (c.requires.right, (c.requires.marked, (asked, (ordered, c.requires.failing)))))))
+
+pub list_ask-returns-in-Types-clause-told : goal.list_ask-returns-in-Types-clause-told
+list_ask-returns-in-Types-clause-told t c =
+    let layout = c.args.layout.now in
+    let p = c.args.pair in
+    let ordered = subst (λ a. IsOrdered layout.schema.now p.node (ask_seen a)) c.in-Types.is c.requires.ordered in
+    subst (λ a. OnOk c.list_types.result (AskIsTold layout c.args.wanted p (ask_seen a) c.list_types.new.listing)) (sym c.in-Types.is)
+    (subst (λ m. OnOk c.list_types.result (AskIsTold layout c.args.wanted p (types m) c.list_types.new.listing)) (sym ordered.1) c.list_types.ensures.told)
+
+pub list_ask-returns-in-Profile-clause-told : goal.list_ask-returns-in-Profile-clause-told
+list_ask-returns-in-Profile-clause-told t c =
+    let layout = c.args.layout.now in
+    let p = c.args.pair in
+    subst (λ a. OnOk c.list_profile.result (AskIsTold layout c.args.wanted p (ask_seen a) c.list_profile.new.listing)) (sym c.in-Profile.is)
+    (always (AskIsTold layout c.args.wanted p (profile c.in-Profile.root) c.list_profile.new.listing) (λ around there. inl refl) c.list_profile.result)
+
+pub list_types-list_hanging-requires : goal.list_types-list_hanging-requires
+list_types-list_hanging-requires t c =
+    let layout = c.args.layout.now in
+    let p = c.args.pair in
+    let hangs = subst (IsRightOf layout p (types p.node)) c.in-Open.is c.in_ok-types_answer.ensures.exact in
+    (omega (arith, c.decreases), (c.requires.laid, (c.requires.within, (c.in_ok-types_answer.ensures.right, (c.requires.marked, (c.requires.asked, (hangs, c.requires.inner)))))))
+
+pub list_hanging-list_root-requires : goal.list_hanging-list_root-requires
+list_hanging-list_root-requires t c =
+    let layout = c.args.layout.now in
+    let xs = c.deref-root-items.result.now in
+    let wanted : c.args.wanted ≡ Open = is_open c.args.wanted (sym c.is.ensures ∙ c.if-not-is.false) in
+    let all : AllByRecursion (IsOpenRoot layout c.args.pair) xs =
+    subst (AllByRecursion (IsOpenRoot layout c.args.pair)) (sym c.deref-root-items.ensures.value) c.in_ok-roots.ensures.roots in (
+      omega (arith, c.decreases),
+      (
+        c.requires.laid,
+        (
+          c.requires.within,
+          (
+            c.loop-root.invariant.right,
+            (
+              c.loop-root.invariant.marked,
+              (
+                (each_at (IsOpenRoot layout c.args.pair) xs c.loop-root.root-index _ c.loop-root-test.true all).0,
+                subst (IsRight layout _) (sym wanted) (each_at (IsOpenRoot layout c.args.pair) xs c.loop-root.root-index _ c.loop-root-test.true all).1,
+              ),
+            ),
+          ),
+        ),
+      ),
+    )
+
+pub list_root-list_pair-requires : goal.list_root-list_pair-requires
+list_root-list_pair-requires t c =
+    let layout = c.args.layout.now in
+    let s = layout.schema.now in
+    let p = c.args.pair in
+    let q : Pair = record { item = p.item; node = c.args.root } in
+    let ordered = ordered_in s (c.roots_are_roots.ensures.of_type s) (c.roots_are_roots.ensures.of_canonical s) (item_at layout p.item) p.node (profile c.args.root) c.requires.asked in
+    let h : weight s layout q < weight s layout p = lighter_root s layout p q refl ordered.0 ordered.1 in
+    (omega (arith, h, c.decreases), (c.requires.laid, (c.requires.within, (c.requires.right, (c.requires.marked, c.requires.wanted)))))
+
+pub list_root-returns-clause-found : goal.list_root-returns-clause-found
+list_root-returns-clause-found t c =
+    let layout = c.args.layout.now in
+    let q : Pair = record { item = c.args.pair.item; node = c.args.root } in
+    on_ok (KeepsFound layout q c.args.listing.now c.list_pair.new.listing) (KeepsFound layout c.args.pair c.args.listing.now c.list_pair.new.listing)
+    (λ keeps o profile place met before. keeps o profile place (at_profile met c.requires.asked) before) c.list_pair.result c.list_pair.ensures.found
+
+pub list_profile-list_same-requires : goal.list_profile-list_same-requires
+list_profile-list_same-requires t c =
+    let layout = c.args.layout.now in
+    let s = layout.schema.now in
+    let p = c.args.pair in
+    let q : Pair = record { item = p.item; node = c.args.root } in
+    let h : weight s layout q < weight s layout p = lighter_root s layout p q refl c.requires.ordered.0 c.requires.ordered.1 in
+    let here = standing layout p.item in
+    let there = stands_there layout c.requires.laid p.item c.requires.within in
+    let allowed = subst (λ w. IsAllowed w (conforms s (constant true) here (item_at layout p.item) c.args.root)) (sym (c.requires.failing c.if-explains.true)) tt in
+    (omega (arith, h, c.decreases), (c.requires.laid, (c.requires.within, (c.requires.right, (c.requires.marked, (here, there, allowed))))))
+
+pub list_profile-returns-then-explains-clause-found : goal.list_profile-returns-then-explains-clause-found
+list_profile-returns-then-explains-clause-found t c =
+    let layout = c.args.layout.now in
+    let q : Pair = record { item = c.args.pair.item; node = c.args.root } in
+    on_ok (KeepsFound layout q c.args.listing.now c.list_same.new.listing) (KeepsFound layout c.args.pair c.args.listing.now c.list_same.new.listing)
+    (λ keeps o profile place met before. keeps o profile place (at_profile met c.requires.asked) before) c.list_same.result c.list_same.ensures.found

@@ -1,27 +1,39 @@
-use Rattle.std.proofs.Common.{◌+◌, ◌*◌, take, IsTrue, ◌⊎◌}
+use Rattle.std.proofs.Common.{◌+◌, ◌*◌, ◌<◌, length, take, IsTrue, ◌⊎◌}
 use Rattle.std.specs.List.{list_all}
 use Rattle.fhir_slicing.specs.Views.{ask_seen}
-use Rattle.fhir_slicing.specs.Conformance.{Around, constant}
+use Rattle.fhir_slicing.specs.Conformance.{Around, constant, ask_conforms}
 use Rattle.fhir_validator.specs.Layouts.{item_at}
-use Rattle.fhir_validator.specs.Judging.{IsThere, AreRight, ask_conforms}
+use Rattle.fhir_validator.specs.Judging.{IsThere, AreRight}
 use Rattle.fhir_validator.specs.Listing.{side, IsFilled, IsMarked, KeepsFound}
 use Rattle.fhir_validator.proofs.Measures.{weight}
 use Rattle.fhir_validator.proofs.explaining.+explaining.Given as goal
 
 abbrev pub decreases-list_same : goal.decreases-list_same
-decreases-list_same l = 5 * weight l.layout.now.schema.now l.layout.now l.pair + 4
+decreases-list_same l = 9 * weight l.layout.now.schema.now l.layout.now l.pair + 8
 
 abbrev pub decreases-list_pair : goal.decreases-list_pair
-decreases-list_pair l = 5 * weight l.layout.now.schema.now l.layout.now l.pair + 3
+decreases-list_pair l = 9 * weight l.layout.now.schema.now l.layout.now l.pair + 7
 
 abbrev pub decreases-list_asks : goal.decreases-list_asks
-decreases-list_asks l = 5 * weight l.layout.now.schema.now l.layout.now l.pair + 2
+decreases-list_asks l = 9 * weight l.layout.now.schema.now l.layout.now l.pair + 6
 
 abbrev pub decreases-list_ask : goal.decreases-list_ask
-decreases-list_ask l = 5 * weight l.layout.now.schema.now l.layout.now l.pair + 1
+decreases-list_ask l = 9 * weight l.layout.now.schema.now l.layout.now l.pair + 5
+
+abbrev pub decreases-list_types : goal.decreases-list_types
+decreases-list_types l = 9 * weight l.layout.now.schema.now l.layout.now l.pair + 4
+
+abbrev pub decreases-list_hanging : goal.decreases-list_hanging
+decreases-list_hanging l = 9 * weight l.layout.now.schema.now l.layout.now l.pair + 3
+
+abbrev pub decreases-list_root : goal.decreases-list_root
+decreases-list_root l = 9 * weight l.layout.now.schema.now l.layout.now l.pair + 2
+
+abbrev pub decreases-list_profile : goal.decreases-list_profile
+decreases-list_profile l = 9 * weight l.layout.now.schema.now l.layout.now l.pair + 1
 
 abbrev pub decreases-list_kid : goal.decreases-list_kid
-decreases-list_kid l = 5 * weight l.layout.now.schema.now l.layout.now l.pair
+decreases-list_kid l = 9 * weight l.layout.now.schema.now l.layout.now l.pair
 
 abbrev pub invariant-list_asks-loop-ask : goal.invariant-list_asks-loop-ask
 invariant-list_asks-loop-ask l = record {
@@ -30,5 +42,13 @@ invariant-list_asks-loop-ask l = record {
   told : (around : Around) → IsThere l.layout l.pair.item around
       → IsTrue (list_all (λ ask. ask_conforms l.layout.schema.now (constant (side l.wanted)) around (item_at l.layout l.pair.item) (ask_seen ask)) (take l.ask-index l.ask-items))
       ⊎ IsFilled l.wanted l.listing;
+  found : KeepsFound l.layout l.pair l.fn.listing l.listing;
+}
+
+abbrev pub invariant-list_hanging-loop-root : goal.invariant-list_hanging-loop-root
+invariant-list_hanging-loop-root l = record {
+  right : AreRight l.layout l.known;
+  marked : IsMarked l.wanted l.listing;
+  filled : 0 < length l.initial.listing.sites.items + l.root-index → IsFilled l.wanted l.listing;
   found : KeepsFound l.layout l.pair l.fn.listing l.listing;
 }

@@ -1,12 +1,16 @@
-use Rattle.std.proofs.Common.{◌≡◌, ◌<◌, arith, refl, ap, ◌∙◌, subst}
+use Rattle.std.proofs.Common.{◌≡◌, ◌<◌, ◌||◌, false, List, eqb, length, map, string_bytes, arith, refl, sym, ap, ◌∙◌, subst}
+use Rattle.std.specs.List.{list_any}
+use Rattle.fhir_json.specs.Bytes.{is_empty}
+use Rattle.fhir_elements.specs.TypeEntry.{TypeEntry}
+use Rattle.fhir_schema.specs.Schemas.{is_root_node}
 use Rattle.fhir_slicing.specs.Asks.{asks, child}
-use Rattle.fhir_slicing.specs.Conformance.{constant}
+use Rattle.fhir_slicing.specs.Conformance.{constant, conforms, entry_holds, profile_holds, ask_conforms}
 use Rattle.fhir_slicing.specs.Views.{ask_seen, asks_seen}
 use Rattle.fhir_validator.specs.declared.pair.Pair.{Pair}
 use Rattle.fhir_validator.specs.Answers.{under}
-use Rattle.fhir_validator.specs.Layouts.{item_at}
-use Rattle.fhir_validator.specs.Judging.{IsRight, IsRightOf, IsOrdered, ask_conforms}
-use Rattle.fhir_validator.proofs.Judged.{weaker, ordered_at, one_more, all_answered, of_kid, of_none}
+use Rattle.fhir_validator.specs.Layouts.{IsLayout, item_at}
+use Rattle.fhir_validator.specs.Judging.{IsRight, IsRightOf, AreRight, IsOrdered}
+use Rattle.fhir_validator.proofs.Judged.{weaker, ordered_at, one_more, one_more_any, some_holds, none_left, empty_mapped, any_mapped, all_answered, of_kid, of_none}
 use Rattle.fhir_validator.proofs.Measures.{weight, lighter_root, lighter_kid}
 use Rattle.fhir_validator.proofs.judging.+judging.Goals as goal
 
@@ -24,7 +28,7 @@ judged-ask_answer-requires t c =
     let x = item_at c.args.layout.now c.args.pair.item in
     let e : asks_seen c.deref-ask-items.result.now ≡ asks s x c.args.pair.node =
     ap asks_seen c.deref-ask-items.ensures.value ∙ c.in_ok-asked.ensures ∙ ap (λ y. asks s y c.args.pair.node) c.item-item.ensures in
-    let ordered = ordered_at s (c.roots_are_roots.ensures.of_type s) x c.args.pair.node c.deref-ask-items.result.now c.loop-ask.ask-index _ e c.loop-ask-test.true in
+    let ordered = ordered_at s (c.roots_are_roots.ensures.of_type s) (c.roots_are_roots.ensures.of_canonical s) x c.args.pair.node c.deref-ask-items.result.now c.loop-ask.ask-index _ e c.loop-ask-test.true in
     (omega (arith, c.decreases), (c.requires.laid, (c.requires.within, (c.loop-ask.invariant.right, ordered))))
 
 pub judged-loop-ask-preserved : goal.judged-loop-ask-preserved
@@ -42,7 +46,7 @@ judged-returns-clause-exact t c = λ b around there.
     let x = item_at c.args.layout.now c.args.pair.item in
     let e : asks_seen c.deref-ask-items.result.now ≡ asks s x c.args.pair.node =
     ap asks_seen c.deref-ask-items.ensures.value ∙ c.in_ok-asked.ensures ∙ ap (λ y. asks s y c.args.pair.node) c.item-item.ensures in
-    all_answered s (c.roots_are_roots.ensures.of_type s) (constant b) around x c.args.pair.node c.deref-ask-items.result.now c.loop-ask.ask-index (under b c.loop-ask.answer)
+    all_answered s (c.roots_are_roots.ensures.of_type s) (c.roots_are_roots.ensures.of_canonical s) (constant b) around x c.args.pair.node c.deref-ask-items.result.now c.loop-ask.ask-index (under b c.loop-ask.answer)
     e c.loop-ask-test.false (c.loop-ask.invariant.answer b around there)
 
 pub kid_answer-answer_of-requires : goal.kid_answer-answer_of-requires
@@ -61,3 +65,69 @@ kid_answer-returns-in-Some-clause-exact t c =
 pub kid_answer-returns-in-None-clause-exact : goal.kid_answer-returns-in-None-clause-exact
 kid_answer-returns-in-None-clause-exact t c =
     λ b around there. of_none c.args.layout.now c.args.pair c.args.position c.args.node c.in-None.ensures.kid b around
+
+pub profile_answer-answer_of-requires : goal.profile_answer-answer_of-requires
+profile_answer-answer_of-requires t c =
+    let s = c.args.layout.now.schema.now in
+    let q : Pair = record { item = c.args.pair.item; node = c.in-Some.node } in
+    let inner : is_root_node s c.args.pair.node ≡ false = assumption c.requires in
+    let laid : IsLayout c.args.layout.now = assumption c.requires in
+    let within : c.args.pair.item < length c.args.layout.now.stands.items = assumption c.requires in
+    let right : AreRight c.args.layout.now c.args.known.now = assumption c.requires in
+    let h : weight s c.args.layout.now q < weight s c.args.layout.now c.args.pair =
+    lighter_root s c.args.layout.now c.args.pair q refl inner (c.roots_are_roots.ensures.of_canonical s c.args.profile.now c.in-Some.node (sym c.in-Some.ensures)) in
+    (omega (arith, h), (laid, (within, right)))
+
+pub profiles_answer-returns-in-Holds-clause-exact : goal.profiles_answer-returns-in-Holds-clause-exact
+profiles_answer-returns-in-Holds-clause-exact t c = λ b around there.
+    let s = c.args.layout.now.schema.now in
+    let x = item_at c.args.layout.now c.args.pair.item in
+    let p = profile_holds s (λ unread. b) (conforms s (constant b) around x) x in
+    let xs = c.args.profiles.now in
+    some_holds (λ profile. p (string_bytes profile)) xs c.loop-profile.profile-index c.profile-item.result (is_empty (map string_bytes xs)) c.loop-profile-test.true c.profile-item.is
+    (ap (under b) (sym c.in-Holds.is) ∙ c.in_ok-one.ensures.exact b around there ∙ ap p c.as_str.ensures.value)
+    ∙ ap (λ t. is_empty (map string_bytes xs) || t) (any_mapped p string_bytes xs)
+
+pub profiles_answer-loop-profile-preserved : goal.profiles_answer-loop-profile-preserved
+profiles_answer-loop-profile-preserved t c =
+    let s = c.args.layout.now.schema.now in
+    let x = item_at c.args.layout.now c.args.pair.item in
+    record {
+      answer = λ b around there.
+          let p = profile_holds s (λ unread. b) (conforms s (constant b) around x) x in
+          one_more_any (λ profile. p (string_bytes profile)) c.args.profiles.now c.loop-profile.profile-index c.profile-item.result
+          (under b c.loop-profile.answer) (under b c.or-answer.result) (under b c.in_ok-one.one) c.loop-profile-test.true (c.or-answer.ensures b)
+          (c.loop-profile.invariant.answer b around there)
+          (c.in_ok-one.ensures.exact b around there ∙ ap p c.as_str.ensures.value ∙ ap (λ profile. p (string_bytes profile)) c.profile-item.is);
+      right = c.in_ok-one.ensures.right;
+    }
+
+pub profiles_answer-returns-clause-exact : goal.profiles_answer-returns-clause-exact
+profiles_answer-returns-clause-exact t c = λ b around there.
+    let s = c.args.layout.now.schema.now in
+    let x = item_at c.args.layout.now c.args.pair.item in
+    let p = profile_holds s (λ unread. b) (conforms s (constant b) around x) x in
+    let xs = c.args.profiles.now in
+    none_left (λ profile. p (string_bytes profile)) xs c.loop-profile.profile-index (is_empty (map string_bytes xs)) (under b c.loop-profile.answer)
+    (sym (empty_mapped string_bytes xs) ∙ sym c.is_empty.ensures ∙ c.if-is_empty.false) c.loop-profile-test.false (c.loop-profile.invariant.answer b around there)
+    ∙ ap (λ t. is_empty (map string_bytes xs) || t) (any_mapped p string_bytes xs)
+
+pub types_answer-returns-in-Holds-clause-exact : goal.types_answer-returns-in-Holds-clause-exact
+types_answer-returns-in-Holds-clause-exact t c = λ b around there.
+    let s = c.args.layout.now.schema.now in
+    let x = item_at c.args.layout.now c.args.pair.item in
+    let p = entry_holds s (λ unread. b) (conforms s (constant b) around x) x in
+    let xs = c.types-entries.result.now in
+    some_holds p xs c.loop-entry.entry-index c.entry-item.result (eqb (length xs) 0) c.loop-entry-test.true c.entry-item.is
+    (ap (under b) (sym c.in-Holds.is) ∙ c.in_ok-one.ensures.exact b around there)
+    ∙ ap (λ (es : List TypeEntry). eqb (length es) 0 || list_any p es) c.types-entries.ensures
+
+pub types_answer-returns-clause-exact : goal.types_answer-returns-clause-exact
+types_answer-returns-clause-exact t c = λ b around there.
+    let s = c.args.layout.now.schema.now in
+    let x = item_at c.args.layout.now c.args.pair.item in
+    let p = entry_holds s (λ unread. b) (conforms s (constant b) around x) x in
+    let xs = c.types-entries.result.now in
+    none_left p xs c.loop-entry.entry-index (eqb (length xs) 0) (under b c.loop-entry.answer) (sym c.is_empty.ensures ∙ c.if-is_empty.false) c.loop-entry-test.false
+    (c.loop-entry.invariant.answer b around there)
+    ∙ ap (λ (es : List TypeEntry). eqb (length es) 0 || list_any p es) c.types-entries.ensures

@@ -1,28 +1,54 @@
-use Rattle.std.proofs.Common.{◌≡◌, ◌+◌, ◌*◌, Bool, take}
-use Rattle.std.specs.List.{list_all}
+use Rattle.std.proofs.Common.{◌≡◌, ◌+◌, ◌*◌, Bool, take, string_bytes}
+use Rattle.std.specs.List.{list_all, list_any}
 use Rattle.fhir_slicing.specs.Views.{ask_seen}
-use Rattle.fhir_slicing.specs.Conformance.{Around, constant}
+use Rattle.fhir_slicing.specs.Conformance.{Around, constant, conforms, entry_holds, profile_holds, ask_conforms}
 use Rattle.fhir_validator.specs.Answers.{under}
 use Rattle.fhir_validator.specs.Layouts.{item_at}
-use Rattle.fhir_validator.specs.Judging.{IsThere, AreRight, ask_conforms}
+use Rattle.fhir_validator.specs.Judging.{IsThere, AreRight}
 use Rattle.fhir_validator.proofs.Measures.{weight}
 use Rattle.fhir_validator.proofs.judging.+judging.Given as goal
 
 abbrev pub decreases-answer_of : goal.decreases-answer_of
-decreases-answer_of l = 4 * weight l.layout.now.schema.now l.layout.now l.pair + 3
+decreases-answer_of l = 8 * weight l.layout.now.schema.now l.layout.now l.pair + 7
 
 abbrev pub decreases-judged : goal.decreases-judged
-decreases-judged l = 4 * weight l.layout.now.schema.now l.layout.now l.pair + 2
+decreases-judged l = 8 * weight l.layout.now.schema.now l.layout.now l.pair + 6
 
 abbrev pub decreases-ask_answer : goal.decreases-ask_answer
-decreases-ask_answer l = 4 * weight l.layout.now.schema.now l.layout.now l.pair + 1
+decreases-ask_answer l = 8 * weight l.layout.now.schema.now l.layout.now l.pair + 5
+
+abbrev pub decreases-types_answer : goal.decreases-types_answer
+decreases-types_answer l = 8 * weight l.layout.now.schema.now l.layout.now l.pair + 4
+
+abbrev pub decreases-entry_answer : goal.decreases-entry_answer
+decreases-entry_answer l = 8 * weight l.layout.now.schema.now l.layout.now l.pair + 3
+
+abbrev pub decreases-profiles_answer : goal.decreases-profiles_answer
+decreases-profiles_answer l = 8 * weight l.layout.now.schema.now l.layout.now l.pair + 2
+
+abbrev pub decreases-profile_answer : goal.decreases-profile_answer
+decreases-profile_answer l = 8 * weight l.layout.now.schema.now l.layout.now l.pair + 1
 
 abbrev pub decreases-kid_answer : goal.decreases-kid_answer
-decreases-kid_answer l = 4 * weight l.layout.now.schema.now l.layout.now l.pair
+decreases-kid_answer l = 8 * weight l.layout.now.schema.now l.layout.now l.pair
 
 abbrev pub invariant-judged-loop-ask : goal.invariant-judged-loop-ask
 invariant-judged-loop-ask l = record {
   answer : (b : Bool) (around : Around) → IsThere l.layout l.pair.item around
       → under b l.answer ≡ list_all (λ ask. ask_conforms l.layout.schema.now (constant b) around (item_at l.layout l.pair.item) (ask_seen ask)) (take l.ask-index l.ask-items);
+  right : AreRight l.layout l.known;
+}
+
+abbrev pub invariant-types_answer-loop-entry : goal.invariant-types_answer-loop-entry
+invariant-types_answer-loop-entry l = record {
+  answer : (b : Bool) (around : Around) → IsThere l.layout l.pair.item around
+      → under b l.answer ≡ list_any (entry_holds l.layout.schema.now (λ unread. b) (conforms l.layout.schema.now (constant b) around (item_at l.layout l.pair.item)) (item_at l.layout l.pair.item)) (take l.entry-index l.entries);
+  right : AreRight l.layout l.known;
+}
+
+abbrev pub invariant-profiles_answer-loop-profile : goal.invariant-profiles_answer-loop-profile
+invariant-profiles_answer-loop-profile l = record {
+  answer : (b : Bool) (around : Around) → IsThere l.layout l.pair.item around
+      → under b l.answer ≡ list_any (λ profile. profile_holds l.layout.schema.now (λ unread. b) (conforms l.layout.schema.now (constant b) around (item_at l.layout l.pair.item)) (item_at l.layout l.pair.item) (string_bytes profile)) (take l.profile-index l.profiles);
   right : AreRight l.layout l.known;
 }

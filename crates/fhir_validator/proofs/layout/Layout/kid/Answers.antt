@@ -1,7 +1,7 @@
-use Rattle.std.proofs.Common.{◌≡◌, ◌<◌, ℕ, List, length, map, get_or, arith, sym, ap, ◌∙◌, subst}
+use Rattle.std.proofs.Common.{◌≡◌, ◌<◌, length, map, arith, sym, ap, ◌∙◌, subst}
 use Rattle.std.proofs.lemmas.List.{length-map}
 use Rattle.fhir_instance.specs.Items.{kids_of}
-use Rattle.fhir_validator.specs.Layouts.{spot_in, item_at, resource_of, kids_at, AreFrom, AreLaid}
+use Rattle.fhir_validator.specs.Layouts.{spot_in, item_at, resource_of, kids_at, AreFrom}
 use Rattle.fhir_validator.proofs.Rows.{found, missed, count_of, first_read}
 use Rattle.fhir_validator.proofs.layout.Layout.kid.Goals as goal
 
