@@ -94,7 +94,7 @@ has_certificate s w = sym (ap is_some (certificate_is s w) ∙ test_of (are_usab
 pub certificate_built : (s : SchemaValue) (w : Written) → is_some (certificate_of s w) ≡ true → certificate_of s w ≡ Some (built s w)
 certificate_built s w is = certificate_is s w ∙ cond-true _ _ _ (has_certificate s w ∙ is)
 
-room : (n : ℕ) → n ≤ limit → nat_le n limit ≡ true
+pub room : (n : ℕ) → n ≤ limit → nat_le n limit ≡ true
 room n le = grind (arith, nat_tests)
 
 pub built_or_fault : (s : SchemaValue) (w : Written) (r : Result CertificateValue CertFault) → is_some (certificate_of s w) ≡ true → length w.lines ≤ limit

@@ -3,3 +3,6 @@ pub mod Pairs
 pub mod Taken
 pub mod Again
 pub mod Judging
+pub mod WrittenBack
+pub mod Utf8Written
+pub mod PackagesBack

@@ -5,3 +5,4 @@ pub mod Faults
 pub mod Reading
 pub mod Views
 pub mod Lines
+pub mod Writing

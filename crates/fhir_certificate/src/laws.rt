@@ -1,9 +1,19 @@
 //! Laws: what the definitions say of one another.
 
-ghost use Rattle.std.specs.Prelude.{◌≡◌, Some, IsUtf8};
+ghost use Rattle.std.specs.Prelude.{◌≡◌, ◌≤◌, ◌+◌, length, Some, Ok, IsTrue, IsUtf8};
 ghost use Rattle.fhir_json.specs.Tree.{Text};
-ghost use Rattle.fhir_certificate.specs.Format.{Written, Spells};
-ghost use Rattle.fhir_certificate.specs.Reading.{written_of};
+ghost use Rattle.fhir_package.specs.Definitions.{Definitions};
+ghost use Rattle.fhir_package.specs.Folder.{Files};
+ghost use Rattle.fhir_package.specs.Packing.{pack};
+ghost use Rattle.fhir_schema.specs.Schemas.{SchemaValue, schema_of};
+ghost use Rattle.fhir_certificate.specs.Certificate.{CertificateValue, fits};
+ghost use Rattle.fhir_certificate.specs.Format.{Written, Spells, text_of};
+ghost use Rattle.fhir_certificate.specs.Judging.{limit, Stands};
+ghost use Rattle.fhir_certificate.specs.Reading.{written_of, reading};
+ghost use Rattle.fhir_certificate.specs.Writing.{written_by, AreNamed, IsWritable};
+
+use fhir_package::packages;
+use fhir_schema::{names_are_utf8, nodes_by_name};
 
 /// Reading from left to right gives what the bytes spell, and nothing where they spell nothing. What they spell is one.
 pub fn format_agrees()
@@ -11,3 +21,26 @@ pub fn format_agrees()
     ensures only { (bytes : Text) (w : Written) → Spells bytes w → written_of bytes ≡ Some w }
     ensures one { (bytes : Text) (v w : Written) → Spells bytes v → Spells bytes w → v ≡ w }
 {}
+
+/// What is written for a certificate is read as that certificate: where it fits, its nodes are found by their names, its
+/// text is UTF-8 with a field for each url and id, and its pairs are within the limit.
+pub fn written_back()
+    ensures stands { (s : SchemaValue) (c : CertificateValue) → IsTrue (fits s c) → AreNamed s c → IsWritable (written_by s c)
+        → length c.items + length c.kids ≤ limit → Stands s (text_of (written_by s c)) c }
+    ensures read { (s : SchemaValue) (c : CertificateValue) → IsTrue (fits s c) → AreNamed s c → IsWritable (written_by s c)
+        → length c.items + length c.kids ≤ limit → reading s (text_of (written_by s c)) ≡ Ok c }
+{}
+
+/// In the schema of a folder's package what is written for a certificate that fits is read as it, within the limit.
+pub fn written_back_in_packages()
+    ensures stands { (files : Files) (p : Definitions) (c : CertificateValue) → pack files ≡ Ok p → IsTrue (fits (schema_of p) c)
+        → length c.items + length c.kids ≤ limit
+        → Stands (schema_of p) (text_of (written_by (schema_of p) c)) c }
+    ensures read { (files : Files) (p : Definitions) (c : CertificateValue) → pack files ≡ Ok p → IsTrue (fits (schema_of p) c)
+        → length c.items + length c.kids ≤ limit
+        → reading (schema_of p) (text_of (written_by (schema_of p) c)) ≡ Ok c }
+{
+    packages();
+    nodes_by_name();
+    names_are_utf8();
+}

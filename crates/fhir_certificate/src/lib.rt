@@ -24,10 +24,12 @@ mod laws;
 mod lines;
 mod pair;
 mod reading;
+mod writing;
 
 pub use certificate::{Certificate, fits};
 pub use fault::CertFault;
-pub use laws::format_agrees;
+pub use laws::{format_agrees, written_back, written_back_in_packages};
 pub use lines::MAX_PAIRS;
 pub use pair::{NodePair, Pair};
 pub use reading::read;
+pub use writing::write;
