@@ -1,16 +1,11 @@
 -- Tests over lists.
 use Rattle.std.proofs.Common.{◌≡◌, ℕ, zero, suc, Bool, true, false, List, [], ◌∷◌, ◌++◌, map, get_or, Option, Some, None, refl, inl, inr, ◌⊎◌, arith, IsTrue, cond, nat_eq, length}
-use Rattle.std.specs.Prelude.{if◌then◌else◌}
 use Rattle.std.specs.List.{list_all, list_any, find, flat_map, slice_get, AllByRecursion}
 use Rattle.std.specs.Option.{option_map_or}
 use Rattle.std.proofs.lemmas.Bool.{and_parts, and_from, or_cases, eqb-true, or_left, or_right, false≢true}
 use Rattle.std.proofs.lemmas.Option.{none-some, same_Some}
 use Rattle.fhir_cert_check.specs.Lists.{each_answers}
 use Rattle.fhir_cert_check.specs.Rules.{is_answered}
-
-pub cases_if : (b x y : Bool) → IsTrue (if b then x else y) → ((b ≡ true) × IsTrue x) ⊎ ((b ≡ false) × IsTrue y)
-cases_if true x y h = inl (refl, h)
-cases_if false x y h = inr (refl, h)
 
 -- one element that passes r, where all pass p
 pub any_with_all : {A : Type 0} (r p : A → Bool) (Q : Type 0) → ((x : A) → IsTrue (r x) → IsTrue (p x) → Q) → (xs : List A) → IsTrue (list_any r xs)
@@ -75,13 +70,6 @@ all_joined p [] ys each more = more
 all_joined p (x ∷ xs) ys each more =
     let parts = and_parts (p x) (list_all p xs) each in
     and_from (p x) (list_all p (xs ++ ys)) parts.0 (all_joined p xs ys parts.1 more)
-
--- the same behind the same
-pub all_behind : {A : Type 0} (p : A → Bool) (xs ys zs : List A) → (IsTrue (list_all p ys) → IsTrue (list_all p zs)) → IsTrue (list_all p (xs ++ ys))
-    → IsTrue (list_all p (xs ++ zs))
-all_behind p xs ys zs step each =
-    let parts = all_append p xs ys each in
-    all_joined p xs zs parts.0 (step parts.1)
 
 -- two parts, each in its place
 pub all_both : {A : Type 0} (p : A → Bool) (xs ys zs ws : List A) → (IsTrue (list_all p xs) → IsTrue (list_all p zs))

@@ -6,19 +6,20 @@ use Rattle.std.specs.Option.{option_map_or, option_and_then}
 use Rattle.std.specs.Str.{bytes_eq}
 use Rattle.std.specs.Cmp.Lexicographic.{bytes_decides}
 use Rattle.std.proofs.lemmas.Bool.{and_parts, false≢true}
+use Rattle.std.proofs.lemmas.List.Folds.{list_all-append}
 use Rattle.fhir_json.specs.Tree.{Text}
 use Rattle.fhir_elements.specs.Constraint.{Constraint, must_hold}
 use Rattle.fhir_elements.specs.Element.{Element}
 use Rattle.fhir_elements.specs.Tests.{all_hold}
 use Rattle.fhir_schema.specs.declared.node.NodeRef.{NodeRef}
-use Rattle.fhir_schema.specs.Schemas.{SchemaValue, element_at}
+use Rattle.fhir_schema.specs.Schemas.{SchemaValue, element_at, target}
 use Rattle.fhir_schema.specs.Expressions.{constraint_at}
 use Rattle.fhir_instance.specs.Items.{Item}
 use Rattle.fhir_facets.specs.Unread.{Meaning}
-use Rattle.fhir_slicing.specs.Asks.{Ask, constraint_ask, constraint_asks}
+use Rattle.fhir_slicing.specs.Asks.{Ask, constraint_ask, own_constraint_asks, constraint_asks}
 use Rattle.fhir_slicing.specs.Conformance.{constraint_holds, constraint_passes}
 use Rattle.fhir_cert_check.specs.Rule.{constraint}
-use Rattle.fhir_cert_check.specs.Rules.{says_same, constraint_answers, constraint_rule, constraints_at, constraint_rules}
+use Rattle.fhir_cert_check.specs.Rules.{says_same, constraint_answers, constraint_rule, own_constraints, constraints_at, constraint_rules}
 use Rattle.fhir_cert_check.proofs.Answered.{any_with_all, all_map, all_given}
 
 -- of each position in turn what the element there gives
@@ -91,8 +92,19 @@ module _ (s : SchemaValue) (m : Meaning) (resource x : Item) where
   asked (Some element) h g e = counted passes h g element.constraints 0 (λ k. ap (λ j. h (g j)) (zero-add k) ∙ e k)
 
   module _ (test : Ask → Bool) (tests : (n : NodeRef) (k : ℕ) → test (constraint_ask n k) ≡ option_map_or passes (constraint_at s n k) true) where
+    own_asked : (n : NodeRef) → list_all test (own_constraint_asks s n) ≡ list_all passes (own_constraints s n)
+    own_asked n = asked (element_at s n) test (constraint_ask n) (tests n)
+
+    -- a node's own, and those of the node that it refers to
     asked_of : (n : NodeRef) → list_all test (constraint_asks s n) ≡ list_all passes (constraints_at s n)
-    asked_of n = asked (element_at s n) test (constraint_ask n) (tests n)
+    asked_of n =
+        list_all-append test (own_constraint_asks s n) (option_map_or (own_constraint_asks s) (target s n) [])
+        ∙ (λ i. own_asked n i && taken_over (target s n) i)
+        ∙ sym (list_all-append passes (own_constraints s n) (option_map_or (own_constraints s) (target s n) []))
+      where
+        taken_over : (o : Option NodeRef) → list_all test (option_map_or (own_constraint_asks s) o []) ≡ list_all passes (option_map_or (own_constraints s) o [])
+        taken_over None = refl
+        taken_over (Some t) = own_asked t
 
     pub constraints_step : (n k : NodeRef) → IsTrue (all_hold (constraint_rules s n k)) → IsTrue (list_all test (constraint_asks s n))
         → IsTrue (list_all test (constraint_asks s k))

@@ -1,9 +1,10 @@
 -- The first rule that fails, in parts of a list.
 use Rattle.std.proofs.Common.{◌≡◌, Bool, true, false, List, [], ◌∷◌, ◌++◌, Option, Some, None, refl, cond, ◌&&◌}
-use Rattle.std.proofs.Common.{ℕ, ◌+◌, ◌<◌, length, get_or, drop, drop-cons, add-one, suc, option_map, sym, ap, ◌∙◌}
+use Rattle.std.proofs.Common.{ℕ, ◌+◌, ◌<◌, length, map, get_or, drop, drop-cons, add-one, suc, option_map, sym, ap, ◌∙◌}
 use Rattle.std.specs.List.{list_all, flat_map}
 use Rattle.std.specs.Option.{option_or, is_none, is_some}
 use Rattle.std.proofs.lemmas.Bool.{false≢true, true≢false}
+use Rattle.std.proofs.lemmas.Grind.{flat_map-append}
 use Rattle.fhir_elements.specs.Tests.{first_of}
 
 pub first_of-append : {R : Type 0} (xs ys : List (Bool × R)) → first_of (xs ++ ys) ≡ option_or (first_of xs) (first_of ys)
@@ -76,3 +77,30 @@ module _ {A Q R : Type 0} (w : Q → R) (o : Option Q) (f : A → List (Bool × 
 pub is_none-option_map : {A B : Type 0} (w : A → B) (o : Option A) → is_none (option_map w o) ≡ is_none o
 is_none-option_map w None = refl
 is_none-option_map w (Some x) = refl
+
+-- lists of one element each, joined
+pub singles : {A B : Type 0} (f : A → B) (xs : List A) → flat_map (λ x. f x ∷ []) xs ≡ map f xs
+singles f [] = refl
+singles f (x ∷ xs) = ap (λ ys. f x ∷ ys) (singles f xs)
+
+-- of two lists of elements, where one of the first's rules fails
+pub first_in_front : {A R X : Type 0} (f : A → List (Bool × R)) (w : X → R) (xs ys : List A) (o : Option X) → option_map w o ≡ first_of (flat_map f xs)
+    → is_some o ≡ true → option_map w o ≡ first_of (flat_map f (xs ++ ys))
+first_in_front f w xs ys o e some =
+    let there : is_some (first_of (flat_map f xs)) ≡ true = sym (ap is_some e) ∙ is_some-option_map w o ∙ some in
+    e
+    ∙ first_stays (first_of (flat_map f xs)) (first_of (flat_map f ys)) there
+    ∙ sym (first_of-append (flat_map f xs) (flat_map f ys))
+    ∙ ap first_of (sym (flat_map-append f xs ys))
+
+-- and where none of them does
+pub first_in_back : {A R X : Type 0} (f : A → List (Bool × R)) (w : X → R) (xs ys : List A) (o p : Option X) → option_map w o ≡ first_of (flat_map f xs)
+    → is_some o ≡ false → option_map w p ≡ first_of (flat_map f ys) → option_map w p ≡ first_of (flat_map f (xs ++ ys))
+first_in_back f w xs ys o p e none behind =
+    behind
+    ∙ sym (first_behind (flat_map f xs) (flat_map f ys) (nothing (first_of (flat_map f xs)) (sym (ap is_some e) ∙ is_some-option_map w o ∙ none)))
+    ∙ ap first_of (sym (flat_map-append f xs ys))
+  where
+    nothing : {R : Type 0} (o : Option R) → is_some o ≡ false → o ≡ None
+    nothing None h = refl
+    nothing (Some x) h = absurd (false≢true (sym h))

@@ -1,51 +1,50 @@
 -- What the pairs of a right certificate say holds at each item.
-use Rattle.std.proofs.Common.{◌≡◌, ℕ, suc, ℤ, Bool, true, false, List, [], ◌∷◌, ◌++◌, map, Option, Some, None, refl, sym}
-use Rattle.std.proofs.Common.{subst, ◌∙◌, inl, inr, arith, ◌&&◌, ◌||◌, IsTrue, not, nat_eq, length, cond}
+use Rattle.std.proofs.Common.{◌≡◌, ℕ, suc, ℤ, Bool, true, false, List, [], ◌∷◌, ◌++◌, Option, Some, None, refl, sym}
+use Rattle.std.proofs.Common.{subst, ◌∙◌, inl, inr, ◌&&◌, ◌||◌, IsTrue, not, nat_eq, length, cond}
 use Rattle.std.specs.Prelude.{if◌then◌else◌}
-use Rattle.std.specs.List.{list_all, list_any, AllByRecursion}
-use Rattle.std.specs.Option.{option_map_or}
+use Rattle.std.specs.List.{list_all, list_any, flat_map, AllByRecursion}
+use Rattle.std.specs.Option.{option_map_or, option_or, option_and_then}
 use Rattle.std.specs.Str.{bytes_eq}
-use Rattle.std.specs.Cmp.Lexicographic.{bytes_decides}
-use Rattle.std.proofs.lemmas.Bool.{and_parts, and_from, or_cases, or_left, or_right, not-true, leb-true, eqb-true, false≢true, true≢false}
+use Rattle.std.proofs.lemmas.Bool.{and_parts, and_from, or_cases, not-true, false≢true, true≢false}
 use Rattle.fhir_json.specs.Tree.{Text, Tree}
-use Rattle.fhir_elements.specs.declared.max.Max.{Max}
-use Rattle.fhir_elements.specs.declared.max.Max.TheVariants.{Unbounded, UpTo}
-use Rattle.fhir_elements.specs.Max.{is_within}
+use Rattle.fhir_json.specs.Bytes.{is_empty}
 use Rattle.fhir_elements.specs.TypeEntry.{TypeEntry}
 use Rattle.fhir_elements.specs.Element.{Element, required_value_set}
 use Rattle.fhir_elements.specs.Tests.{all_hold}
 use Rattle.fhir_schema.specs.declared.node.NodeRef.{NodeRef}
 use Rattle.fhir_schema.specs.Slots.{Slot}
-use Rattle.fhir_schema.specs.Schemas.{SchemaValue, element_at, is_root_node, slots, slot_named, entry_of, types, type_root}
+use Rattle.fhir_schema.specs.Schemas.{SchemaValue, element_at, is_root_node, target, holder, slots, slot_named, entry_of, types, type_root, loaded}
+use Rattle.fhir_schema.specs.Contents.{with_children}
 use Rattle.fhir_schema.specs.Types.{names_resource}
 use Rattle.fhir_schema.specs.Covers.{covers, type_at}
 use Rattle.fhir_instance.specs.Items.{Item, item, Kids, no_kids, kid, type_of}
 use Rattle.fhir_facets.specs.Unread.{Meaning}
+use Rattle.fhir_facets.specs.Unread.{profile as unread_profile}
 use Rattle.fhir_facets.specs.Seen.{Seen}
 use Rattle.fhir_facets.specs.Values.{fixed_holds, fixed_narrower, pattern_holds, pattern_narrower, fixed_fits, length_holds, length_narrower}
 use Rattle.fhir_facets.specs.Ranges.{Range, range_holds, range_narrower}
-use Rattle.fhir_facets.specs.Targets.{targets_hold, targets_narrower}
+use Rattle.fhir_facets.specs.Targets.{targets_hold}
 use Rattle.fhir_facets.specs.Bindings.{binding_to, binding_holds, binding_narrower, IsFair}
-use Rattle.fhir_facets.specs.Counts.{are_enough, are_within, count_holds, count_narrower, allows_none, is_forbidden}
-use Rattle.fhir_slicing.specs.Asks.{root_type, types as of_types, fixed, pattern, range, length_limit, binding, too_few, too_many}
-use Rattle.fhir_slicing.specs.Asks.{Ask, own, places_of, child_ask, facet_asks, constraint_asks, slot_asks, own_root, kids_asks, root_asks}
-use Rattle.fhir_slicing.specs.Conformance.{Interpretation, Around, seen, count_of, fixed_at, pattern_at, range_at, length_at, binding_at, is_untyped, entry_holds}
-use Rattle.fhir_slicing.specs.Conformance.{rule_holds, ask_holds, root_holds, inner_holds, item_holds, meaning_at, resource_at, inside, below}
-use Rattle.fhir_slicing.specs.Conformance.{conforms, kid_tests, IsFairEverywhere}
+use Rattle.fhir_slicing.specs.Asks.{root_type, fixed, pattern, range, length_limit, binding}
+use Rattle.fhir_slicing.specs.Asks.{Ask, profile as as_profile, places_of, facet_asks, constraint_asks, named_asks, slot_asks, entry_roots, profile_asks, own_root, slots_ask, kids_asks, root_asks}
+use Rattle.fhir_slicing.specs.Conformance.{Interpretation, Around, seen, fixed_at, pattern_at, range_at, length_at, binding_at, is_untyped, entry_allows, entry_holds}
+use Rattle.fhir_slicing.specs.Conformance.{profile_holds, profiles_hold, types_hold, rule_holds, ask_holds, root_holds, inner_holds, item_holds, meaning_at, resource_at}
+use Rattle.fhir_slicing.specs.Conformance.{inside, below, conforms, kid_tests, IsFairEverywhere}
 use Rattle.fhir_certificate.specs.declared.pair.Pair.{Pair}
 use Rattle.fhir_certificate.specs.declared.pair.Pair.TheVariants.{Item as ItemPair, Kids as KidsPair}
-use Rattle.fhir_cert_check.specs.Rule.{entry, children}
-use Rattle.fhir_cert_check.specs.Rules.{entry_answers, types_answer, roots_answer, type_answers, is_answered, fixed_answers, pattern_answers}
-use Rattle.fhir_cert_check.specs.Rules.{range_answers, length_answers, binding_answers, elements_answer, is_forbidden_at, has_item_pair, has_kids_pair}
-use Rattle.fhir_cert_check.specs.Rules.{own_children_answer, entry_children_answer, type_children_answer, children_answer, constraint_rules, entry_rules, own_slot_rules, slot_rules}
+use Rattle.fhir_cert_check.specs.Rule.{children}
+use Rattle.fhir_cert_check.specs.Rules.{types_answer, roots_answer, type_answers, is_answered, fixed_answers, pattern_answers}
+use Rattle.fhir_cert_check.specs.Rules.{range_answers, length_answers, binding_answers, elements_answer, has_item_pair, has_kids_pair}
+use Rattle.fhir_cert_check.specs.Rules.{own_children_answer, code_children_answer, profiles_children_answer, entry_children_answer, type_children_answer, children_answer}
+use Rattle.fhir_cert_check.specs.Rules.{constraint_rules, own_slot_rules, slot_rules}
 use Rattle.fhir_cert_check.specs.Facets.{facet_rules}
 use Rattle.fhir_cert_check.specs.Checking.{IsRight}
 use Rattle.fhir_cert_check.specs.Inclusion.{IncludesItems}
-use Rattle.fhir_cert_check.proofs.Answered.{cases_if, any_with_all, answers_any, all_map, all_append, all_joined, all_both, all_given, all_taken, all_moved, found_passes, none_of_length, each_at, answered, answered_by_both}
+use Rattle.fhir_cert_check.proofs.Answered.{any_with_all, all_map, all_append, all_joined, all_both, all_given, all_taken, found_passes, none_of_length, each_at, answered, answered_by_both}
+use Rattle.fhir_cert_check.proofs.Within.{given_all}
+use Rattle.fhir_cert_check.proofs.Sliced.{same_text, CountsHold, BelongAlike, ChildrenKeep, named_step}
+use Rattle.fhir_cert_check.proofs.Typed.{CoversOn, TargetsHold, ProfilesKeep, types_step}
 use Rattle.fhir_cert_check.proofs.Constrained.{constraints_step}
-
-same_text : (a b : Text) → IsTrue (bytes_eq a b) → a ≡ b
-same_text a b h = (bytes_decides a b).0 h
 
 -- ---- the one of two that is asked
 
@@ -65,21 +64,6 @@ of_false : (b r i : Bool) → b ≡ false → IsTrue (cond b r i) → IsTrue i
 of_false true r i e h = absurd (true≢false e)
 of_false false r i e h = h
 
--- ---- none where none may be
-
-none_there : {A : Type 0} (o : Option Max) (xs : List A) → IsTrue (option_map_or allows_none o false) → IsTrue (option_map_or (is_within (length xs)) o true)
-    → xs ≡ []
-none_there o [] forbidden holds = refl
-none_there None (x ∷ xs) forbidden holds = absurd (false≢true forbidden)
-none_there (Some Unbounded) (x ∷ xs) forbidden holds = absurd (false≢true forbidden)
-none_there (Some (UpTo k)) (x ∷ xs) forbidden holds =
-    absurd (omega (arith, eqb-true k 0 forbidden, leb-true (length (x ∷ xs)) k holds))
-
-none_at : {A : Type 0} (o : Option Element) (xs : List A) → IsTrue (option_map_or is_forbidden o false)
-    → IsTrue (option_map_or (λ e. are_within e (length xs)) o true) → xs ≡ []
-none_at None xs forbidden holds = absurd (false≢true forbidden)
-none_at (Some e) xs forbidden holds = none_there e.max xs forbidden holds
-
 -- ---- what is narrower holds of less
 
 -- of each facet: where the derived element's is as narrow as the base's and holds, the base's holds
@@ -91,10 +75,9 @@ pub record AreNarrow (s : SchemaValue) : Type 0 where
   pub length_is : (p q : ℤ) (x : Seen) → IsTrue (length_narrower p q) → IsTrue (length_holds p x) → IsTrue (length_holds q x)
   pub binding_is : (m : Meaning) (own base : Text) (x : Seen) → IsFair s m → IsTrue (binding_narrower (binding_to s own) (binding_to s base))
       → IsTrue (binding_holds m (binding_to s own) x) → IsTrue (binding_holds m (binding_to s base) x)
-  pub count_is : (e f : Element) (n : ℕ) → IsTrue (count_narrower e f) → IsTrue (count_holds e n) → IsTrue (count_holds f n)
-  pub targets_are : (m : Meaning) (e f : TypeEntry) (x : Seen) → IsTrue (targets_narrower s e f) → IsTrue (targets_hold s m e x)
-      → IsTrue (targets_hold s m f x)
-  pub covers_on : (a b c : Text) → IsTrue (covers s a b) → IsTrue (covers s b c) → IsTrue (covers s a c)
+  pub count_is : CountsHold
+  pub targets_are : TargetsHold s
+  pub covers_on : CoversOn s
 
 -- a code that isn't of resources covers itself alone
 abbrev pub CoversAlone : SchemaValue → Type 0
@@ -105,7 +88,11 @@ abbrev pub AsksNoRoot : SchemaValue → Type 0
 AsksNoRoot s = (m : Meaning) (resource x : Item) (kids : List (NodeRef → Bool)) (some others : NodeRef → Bool) (r : NodeRef)
     → list_all (ask_holds s m resource x kids some) (root_asks s x r) ≡ list_all (ask_holds s m resource x kids others) (root_asks s x r)
 
-module _ (s : SchemaValue) (narrow : AreNarrow s) (alone : CoversAlone s) (asks_no_root : AsksNoRoot s) where
+-- what a canonical names is a root
+abbrev pub NamesRoots : SchemaValue → Type 0
+NamesRoots s = (canonical : Text) (n : NodeRef) → loaded s canonical ≡ Some n → IsTrue (is_root_node s n)
+
+module _ (s : SchemaValue) (narrow : AreNarrow s) (alone : CoversAlone s) (asks_no_root : AsksNoRoot s) (names_roots : NamesRoots s) (alike : BelongAlike s) where
   -- ---- what is asked of an item itself
 
   module _ (m : Meaning) (resource x : Item) where
@@ -160,44 +147,6 @@ module _ (s : SchemaValue) (narrow : AreNarrow s) (alone : CoversAlone s) (asks_
     root_type_step : (n k : NodeRef) → IsTrue (covers s (type_at s k) (type_at s n)) → IsTrue (rule_holds s m resource x root_type n) → IsTrue (rule_holds s m resource x root_type k)
     root_type_step n k covered holds = narrow.covers_on (type_at s k) (type_at s n) (type_of x) covered holds
 
-    entry_step : (e f : TypeEntry) → IsTrue (entry_answers s e f) → IsTrue (entry_holds s m x e) → IsTrue (entry_holds s m x f)
-    entry_step e f answers holds =
-        let a = and_parts (covers s f.code e.code) (targets_narrower s e f) answers in
-        let h = and_parts (covers s e.code (type_of x)) (targets_hold s m e (seen x)) holds in
-        and_from (covers s f.code (type_of x)) (targets_hold s m f (seen x))
-        (narrow.covers_on f.code e.code (type_of x) a.0 h.0)
-        (narrow.targets_are m e f (seen x) a.1 h.1)
-
-    types_step : (n k : NodeRef) → IsTrue (types_answer s n k) → IsTrue (rule_holds s m resource x of_types n) → IsTrue (rule_holds s m resource x of_types k)
-    types_step n k answers holds =
-        elim (or_cases (is_untyped s k) _ answers) [
-          | inl untyped ↦ or_left (is_untyped s k) (list_any (entry_holds s m x) (types s k)) untyped
-          | inr typed ↦
-              let p = and_parts (not (is_untyped s n)) _ typed in
-              elim (or_cases (is_untyped s n) (list_any (entry_holds s m x) (types s n)) holds) [
-                | inl untyped ↦ absurd (true≢false (sym untyped ∙ not-true (is_untyped s n) p.0))
-                | inr some ↦
-                    or_right (is_untyped s k) (list_any (entry_holds s m x) (types s k))
-                    (answers_any (entry_answers s) (entry_holds s m x) (entry_holds s m x) entry_step (types s n) (types s k) p.1 some)
-              ]
-        ]
-
-    -- ---- how many
-
-    count_step : (name : Text) (n k : NodeRef) → IsTrue (elements_answer count_narrower s n k)
-        → IsTrue (rule_holds s m resource x (too_few name) n) → IsTrue (rule_holds s m resource x (too_many name) n)
-        → IsTrue (rule_holds s m resource x (too_few name) k) × IsTrue (rule_holds s m resource x (too_many name) k)
-    count_step name n k = both_answered (element_at s n) (element_at s k)
-      where
-        both_answered : (o p : Option Element) → IsTrue (is_answered count_narrower o p)
-            → IsTrue (option_map_or (λ e. are_enough e (count_of name x)) o true) → IsTrue (option_map_or (λ e. are_within e (count_of name x)) o true)
-            → IsTrue (option_map_or (λ e. are_enough e (count_of name x)) p true) × IsTrue (option_map_or (λ e. are_within e (count_of name x)) p true)
-        both_answered o None answers few many = (refl, refl)
-        both_answered None (Some f) answers few many = absurd (false≢true answers)
-        both_answered (Some e) (Some f) answers few many =
-            and_parts (are_enough f (count_of name x)) (are_within f (count_of name x))
-            (narrow.count_is e f (count_of name x) answers (and_from (are_enough e (count_of name x)) (are_within e (count_of name x)) few many))
-
   -- ---- a right certificate's pairs
 
   module _ (pairs : Pair → Bool) (right : IsRight s pairs) where
@@ -213,80 +162,65 @@ module _ (s : SchemaValue) (narrow : AreNarrow s) (alone : CoversAlone s) (asks_
         abbrev holds : Ask → Bool
         holds ask = ask_holds s m resource x kids roots ask
 
-        -- each child of the name, where all are asked
-        each_child_step : (name : Text) (n k : NodeRef) → IsTrue (all_hold (entry_rules pairs s name n k)) → IsTrue (rule_holds s m resource x (too_many name) n)
-            → IsTrue (list_all holds (map (child_ask n) (places_of name x))) → IsTrue (list_all holds (map (child_ask k) (places_of name x)))
-        each_child_step name n k rules few each = go (is_forbidden_at s n) refl rules
-          where
-            go : (b : Bool) → is_forbidden_at s n ≡ b → IsTrue (all_hold (if b then [] else (has_item_pair pairs n k, entry name) ∷ []))
-                → IsTrue (list_all holds (map (child_ask k) (places_of name x)))
-            go true forbidden rules = rw (none_at (element_at s n) (places_of name x) forbidden few) refl
-            go false allowed rules =
-                let pair = (and_parts (has_item_pair pairs n k) true rules).0 in
-                all_moved (child_ask n) (child_ask k) holds
-                (λ i. each_at Keeps (λ n. true) (λ n k pair h. refl) kids keeps i n k pair)
-                (places_of name x) each
+        -- each child keeps to the pairs
+        children_keep : ChildrenKeep s narrow.count_is alike pairs m resource x kids roots
+        children_keep n k pair i = each_at Keeps (λ n. true) (λ n k pair h. refl) kids keeps i n k pair
 
-        -- what a slot of that name asks, where its items are as the node says
-        abbrev named_asks : Text → NodeRef → List Ask
-        named_asks name n = own (too_few name) n ∷ own (too_many name) n ∷ map (child_ask n) (places_of name x)
-
-        named_step : (name : Text) (n k : NodeRef) → IsTrue (elements_answer count_narrower s n k && all_hold (entry_rules pairs s name n k))
-            → IsTrue (list_all holds (named_asks name n)) → IsTrue (list_all holds (named_asks name k))
-        named_step name n k rules each =
-            let r = and_parts (elements_answer count_narrower s n k) (all_hold (entry_rules pairs s name n k)) rules in
-            let few = and_parts (rule_holds s m resource x (too_few name) n) _ each in
-            let many = and_parts (rule_holds s m resource x (too_many name) n) _ few.1 in
-            let counts = count_step m resource x name n k r.0 few.0 many.0 in
-            and_from (rule_holds s m resource x (too_few name) k) _ counts.0
-            (and_from (rule_holds s m resource x (too_many name) k) _ counts.1 (each_child_step name n k r.1 many.0 many.1))
-
-        slot_step : (n k : NodeRef) (b : Slot) → IsTrue (list_all holds (kids_asks s x n)) → IsTrue (all_hold (slot_rules pairs s n k b))
-            → IsTrue (list_all holds (slot_asks x k b))
+        slot_step : (n k : NodeRef) (b : Slot) → IsTrue (list_all holds (slots_ask s x n)) → IsTrue (all_hold (slot_rules pairs s n k b))
+            → IsTrue (list_all holds (slot_asks s x k b))
         slot_step n k b each = go (slot_named s n b.name) refl
           where
-            go : (o : Option Slot) → slot_named s n b.name ≡ o → IsTrue (all_hold (own_slot_rules pairs s n k b o)) → IsTrue (list_all holds (slot_asks x k b))
+            go : (o : Option Slot) → slot_named s n b.name ≡ o → IsTrue (all_hold (own_slot_rules pairs s n k b o)) → IsTrue (list_all holds (slot_asks s x k b))
             go None e rules = absurd (false≢true rules)
             go (Some a) e rules =
-                let found = found_passes (λ slot. bytes_eq b.name slot.name) (λ slot. list_all holds (slot_asks x n slot)) (slots s n) a e
-                (all_given holds (slot_asks x n) (slots s n) each) in
-                named_step b.name (entry_of n a) (entry_of k b) rules
-                (subst (λ name. IsTrue (list_all holds (named_asks name (entry_of n a)))) (sym (same_text b.name a.name found.0)) found.1)
+                let found = found_passes (λ slot. bytes_eq b.name slot.name) (λ slot. list_all holds (slot_asks s x n slot)) (slots s n) a e
+                (all_given holds (slot_asks s x n) (slots s n) each) in
+                named_step s narrow.count_is alike pairs m resource x kids roots b.name (entry_of n a) (entry_of k b) children_keep rules
+                (subst (λ name. IsTrue (list_all holds (named_asks s x name (places_of name x) (entry_of n a)))) (sym (same_text b.name a.name found.0)) found.1)
 
-        kids_step : (n k : NodeRef) → IsTrue (has_kids_pair pairs n k) → IsTrue (list_all holds (kids_asks s x n)) → IsTrue (list_all holds (kids_asks s x k))
+        kids_step : (n k : NodeRef) → IsTrue (has_kids_pair pairs n k) → IsTrue (list_all holds (slots_ask s x n)) → IsTrue (list_all holds (slots_ask s x k))
         kids_step n k pair each =
-            all_taken holds (slot_asks x k) (slots s k)
-            (all_map (λ b. all_hold (slot_rules pairs s n k b)) (λ b. list_all holds (slot_asks x k b))
+            all_taken holds (slot_asks s x k) (slots s k)
+            (all_map (λ b. all_hold (slot_rules pairs s n k b)) (λ b. list_all holds (slot_asks s x k b))
             (λ b rules. slot_step n k b each rules) (slots s k)
             (all_given (λ rule. rule.0) (slot_rules pairs s n k) (slots s k) (right (KidsPair (record { derived = n; base = k })) pair)))
 
         children_step : (n k : NodeRef) → IsTrue (children_answer pairs s n k)
-            → (IsTrue (type_children_answer pairs s n k) → IsTrue (list_all holds (kids_asks s x k)))
+            → ((base : NodeRef) → IsTrue (type_children_answer pairs s n base) → IsTrue (list_all holds (slots_ask s x base)))
             → IsTrue (list_all holds (kids_asks s x n)) → IsTrue (list_all holds (kids_asks s x k))
-        children_step n k answers from_types each =
-            go (nat_eq (length (slots s k)) 0) refl answers
+        children_step n k answers from_types each = go (holder s k) answers
           where
-            own : (a : Bool) → IsTrue (option_map_or (λ derived. has_kids_pair pairs derived k) (cond a None (Some n)) false)
-                → IsTrue (list_all holds (kids_asks s x k))
-            own true h = absurd (false≢true h)
-            own false h = kids_step n k h each
+            own : (base : NodeRef) (o : Option NodeRef) → IsTrue (option_map_or (λ derived. has_kids_pair pairs derived base) o false)
+                → IsTrue (list_all holds (option_map_or (slots_ask s x) o [])) → IsTrue (list_all holds (slots_ask s x base))
+            own base None h each = absurd (false≢true h)
+            own base (Some derived) h each = kids_step derived base h each
 
-            go : (b : Bool) → nat_eq (length (slots s k)) 0 ≡ b
-                → IsTrue (option_map_or (λ base. own_children_answer pairs s n base || type_children_answer pairs s n base) (cond b None (Some k)) true)
-                → IsTrue (list_all holds (kids_asks s x k))
-            go true leaf h = rw (none_of_length (slots s k) leaf) refl
-            go false is h =
-                elim (or_cases (own_children_answer pairs s n k) (type_children_answer pairs s n k) h) [
-                  | inl by_own ↦ own (nat_eq (length (slots s n)) 0) by_own
-                  | inr by_types ↦ from_types by_types
+            go : (o : Option NodeRef)
+                → IsTrue (option_map_or (λ base. own_children_answer pairs s n base || type_children_answer pairs s n base) o true)
+                → IsTrue (list_all holds (option_map_or (slots_ask s x) o []))
+            go None h = refl
+            go (Some base) h =
+                elim (or_cases (own_children_answer pairs s n base) (type_children_answer pairs s n base) h) [
+                  | inl by_own ↦ own base (holder s n) by_own each
+                  | inr by_types ↦ from_types base by_types
                 ]
 
+        -- where all is held that the node's children are asked, so is what its own slots ask
+        own_slots : (n : NodeRef) → IsTrue (list_all holds (kids_asks s x n)) → IsTrue (list_all holds (slots_ask s x n))
+        own_slots n = go (nat_eq (length (slots s n)) 0) refl
+          where
+            go : (b : Bool) → nat_eq (length (slots s n)) 0 ≡ b
+                → IsTrue (list_all holds (option_map_or (slots_ask s x) (option_or (cond b None (Some n)) (option_and_then (with_children s.definitions) (target s n))) []))
+                → IsTrue (list_all holds (slots_ask s x n))
+            go true leaf each = rw (none_of_length (slots s n) leaf) refl
+            go false is each = each
+
         -- the children of an item that conforms to the definition of its type
-        root_children : (r : NodeRef) → IsTrue (root_holds s m resource x kids r) → IsTrue (list_all holds (kids_asks s x r))
+        root_children : (r : NodeRef) → IsTrue (root_holds s m resource x kids r) → IsTrue (list_all holds (slots_ask s x r))
         root_children r each =
             let asked : IsTrue (list_all holds (root_asks s x r)) = sym (asks_no_root m resource x kids (λ r. true) roots r) ∙ each in
             let after = (all_append holds (facet_asks r) (constraint_asks s r ++ kids_asks s x r) (and_parts (rule_holds s m resource x root_type r) _ asked).1).1 in
-            (all_append holds (constraint_asks s r) (kids_asks s x r) after).1
+            own_slots r (all_append holds (constraint_asks s r) (kids_asks s x r) after).1
 
         constrained_step : (n k : NodeRef) → IsTrue (all_hold (constraint_rules s n k)) → IsTrue (list_all holds (constraint_asks s n))
             → IsTrue (list_all holds (constraint_asks s k))
@@ -312,36 +246,66 @@ module _ (s : SchemaValue) (narrow : AreNarrow s) (alone : CoversAlone s) (asks_
             (and_from (rule_holds s m resource x length_limit k) _ (length_step m resource x n k length_answer.0 by_length.0)
             (and_from (rule_holds s m resource x binding k) (list_all holds more) (binding_step m resource x fair n k binding_answer.0 by_binding.0) (rest by_binding.1)))))
 
-      -- of a node that names types, each entry of which has its definition's children answered
-      entry_children : (k : NodeRef) (e : TypeEntry) → IsTrue (list_all (ask_holds s m resource x kids (root_holds s m resource x kids)) (own_root (type_root s (type_of x))))
-          → IsTrue (entry_holds s m x e) → IsTrue (entry_children_answer pairs s k e)
-          → IsTrue (list_all (ask_holds s m resource x kids (root_holds s m resource x kids)) (kids_asks s x k))
-      entry_children k e own_type holds answers =
-          let covered = (and_parts (covers s e.code (type_of x)) (targets_hold s m e (seen x)) holds).0 in
+      -- ---- children by the definitions of the types
+
+      abbrev conforming : NodeRef → Bool
+      conforming r = root_holds s m resource x kids r
+
+      abbrev asked_holds : Ask → Bool
+      asked_holds ask = ask_holds s m resource x kids conforming ask
+
+      abbrev ChildrenHold : NodeRef → Type 0
+      ChildrenHold k = IsTrue (list_all asked_holds (slots_ask s x k))
+
+      code_children : (k : NodeRef) (e : TypeEntry) → IsTrue (list_all asked_holds (own_root (type_root s (type_of x)))) → IsTrue (covers s e.code (type_of x))
+          → IsTrue (code_children_answer pairs s k e) → ChildrenHold k
+      code_children k e own_type covered answers =
           let parts = and_parts (not (names_resource s.definitions e.code)) _ answers in
           let same : e.code ≡ type_of x = alone e.code (type_of x) (not-true (names_resource s.definitions e.code) parts.0) covered in
           go (type_root s (type_of x))
           (subst (λ code. IsTrue (option_map_or (λ r. has_kids_pair pairs r k) (type_root s code) false)) same parts.1) own_type
         where
-          go : (o : Option NodeRef) → IsTrue (option_map_or (λ r. has_kids_pair pairs r k) o false)
-              → IsTrue (list_all (ask_holds s m resource x kids (root_holds s m resource x kids)) (own_root o))
-              → IsTrue (list_all (ask_holds s m resource x kids (root_holds s m resource x kids)) (kids_asks s x k))
+          go : (o : Option NodeRef) → IsTrue (option_map_or (λ r. has_kids_pair pairs r k) o false) → IsTrue (list_all asked_holds (own_root o)) → ChildrenHold k
           go None pair own_type = absurd (false≢true pair)
-          go (Some r) pair own_type =
-              kids_step (root_holds s m resource x kids) r k pair
-              (root_children (root_holds s m resource x kids) r (and_parts (root_holds s m resource x kids r) true own_type).0)
+          go (Some r) pair own_type = kids_step conforming r k pair (root_children conforming r (and_parts (conforming r) true own_type).0)
 
-      type_children : (n k : NodeRef) → IsTrue (rule_holds s m resource x of_types n)
-          → IsTrue (list_all (ask_holds s m resource x kids (root_holds s m resource x kids)) (own_root (type_root s (type_of x))))
-          → IsTrue (type_children_answer pairs s n k) → IsTrue (list_all (ask_holds s m resource x kids (root_holds s m resource x kids)) (kids_asks s x k))
+      profile_children : (k : NodeRef) (p : Text) → IsTrue (profile_holds s m conforming x p)
+          → IsTrue (option_map_or (λ r. has_kids_pair pairs r k) (loaded s p) false) → ChildrenHold k
+      profile_children k p = go (loaded s p)
+        where
+          go : (o : Option NodeRef) → IsTrue (option_map_or conforming o (m (unread_profile p))) → IsTrue (option_map_or (λ r. has_kids_pair pairs r k) o false)
+              → ChildrenHold k
+          go None holds pair = absurd (false≢true pair)
+          go (Some r) holds pair = kids_step conforming r k pair (root_children conforming r holds)
+
+      profiles_children : (k : NodeRef) (e : TypeEntry) → IsTrue (profiles_hold s m conforming x e.profiles) → IsTrue (profiles_children_answer pairs s k e)
+          → ChildrenHold k
+      profiles_children k e holds answers =
+          let parts = and_parts (not (is_empty e.profiles)) (list_all (λ p. option_map_or (λ r. has_kids_pair pairs r k) (loaded s p) false) e.profiles) answers in
+          elim (or_cases (is_empty e.profiles) (list_any (profile_holds s m conforming x) e.profiles) holds) [
+            | inl none ↦ absurd (true≢false (sym none ∙ not-true (is_empty e.profiles) parts.0))
+            | inr some ↦
+                any_with_all (profile_holds s m conforming x) (λ p. option_map_or (λ r. has_kids_pair pairs r k) (loaded s p) false) (ChildrenHold k)
+                (profile_children k) e.profiles some parts.1
+          ]
+
+      -- of an entry whose definitions' children are answered: those of its profiles, or its own
+      entry_children : (k : NodeRef) → IsTrue (list_all asked_holds (own_root (type_root s (type_of x)))) → (e : TypeEntry)
+          → IsTrue (entry_holds s m conforming x e) → IsTrue (entry_children_answer pairs s k e) → ChildrenHold k
+      entry_children k own_type e holds answers =
+          let parts = and_parts (entry_allows s m x e) (profiles_hold s m conforming x e.profiles) holds in
+          elim (or_cases (profiles_children_answer pairs s k e) (code_children_answer pairs s k e) answers) [
+            | inl by_profiles ↦ profiles_children k e parts.1 by_profiles
+            | inr by_code ↦ code_children k e own_type (and_parts (covers s e.code (type_of x)) (targets_hold s m e (seen x)) parts.0).0 by_code
+          ]
+
+      type_children : (n k : NodeRef) → IsTrue (types_hold s m conforming x n) → IsTrue (list_all asked_holds (own_root (type_root s (type_of x))))
+          → IsTrue (type_children_answer pairs s n k) → ChildrenHold k
       type_children n k typed own_type answers =
           let parts = and_parts (not (is_untyped s n)) (list_all (entry_children_answer pairs s k) (types s n)) answers in
-          elim (or_cases (is_untyped s n) (list_any (entry_holds s m x) (types s n)) typed) [
+          elim (or_cases (is_untyped s n) (list_any (entry_holds s m conforming x) (types s n)) typed) [
             | inl untyped ↦ absurd (true≢false (sym untyped ∙ not-true (is_untyped s n) parts.0))
-            | inr some ↦
-                any_with_all (entry_holds s m x) (entry_children_answer pairs s k)
-                (IsTrue (list_all (ask_holds s m resource x kids (root_holds s m resource x kids)) (kids_asks s x k)))
-                (λ e. entry_children k e own_type) (types s n) some parts.1
+            | inr some ↦ any_with_all (entry_holds s m conforming x) (entry_children_answer pairs s k) (ChildrenHold k) (entry_children k own_type) (types s n) some parts.1
           ]
 
       -- a root names no types
@@ -361,22 +325,7 @@ module _ (s : SchemaValue) (narrow : AreNarrow s) (alone : CoversAlone s) (asks_
           (facets_step (λ r. true) n k (constraint_asks s n ++ kids_asks s x n) (constraint_asks s k ++ kids_asks s x k) facets
           (all_both (ask_holds s m resource x kids (λ r. true)) (constraint_asks s n) (kids_asks s x n) (constraint_asks s k) (kids_asks s x k)
           (constrained_step (λ r. true) n k constraints)
-          (children_step (λ r. true) n k answers (λ by_types. absurd (root_types n k is by_types)))) type.1)
-
-      inner_step : (n k : NodeRef) → IsTrue (types_answer s n k) → IsTrue (all_hold (facet_rules s n k)) → IsTrue (all_hold (constraint_rules s n k))
-          → IsTrue (children_answer pairs s n k) → IsTrue (inner_holds s m resource x kids n) → IsTrue (inner_holds s m resource x kids k)
-      inner_step n k typed facets constraints answers each =
-          let roots = root_holds s m resource x kids in
-          let own_type = own_root (type_root s (type_of x)) in
-          let type = and_parts (rule_holds s m resource x of_types n) _ each in
-          and_from (rule_holds s m resource x of_types k) _ (types_step m resource x n k typed type.0)
-          (facets_step roots n k (constraint_asks s n ++ (own_type ++ kids_asks s x n)) (constraint_asks s k ++ (own_type ++ kids_asks s x k)) facets
-          (all_both (ask_holds s m resource x kids roots) (constraint_asks s n) (own_type ++ kids_asks s x n) (constraint_asks s k) (own_type ++ kids_asks s x k)
-          (constrained_step roots n k constraints)
-          (λ each.
-          let both = all_append (ask_holds s m resource x kids roots) own_type (kids_asks s x n) each in
-          all_joined (ask_holds s m resource x kids roots) own_type (kids_asks s x k) both.0
-          (children_step roots n k answers (type_children n k type.0 both.0) both.1))) type.1)
+          (children_step (λ r. true) n k answers (λ base by_types. absurd (root_types n base is by_types)))) type.1)
 
       rules_in_parts : (n k : NodeRef) → IsTrue (all_hold (facet_rules s n k ++ (constraint_rules s n k ++ (children_answer pairs s n k, children) ∷ [])))
           → IsTrue (all_hold (facet_rules s n k)) × IsTrue (all_hold (constraint_rules s n k)) × IsTrue (children_answer pairs s n k)
@@ -386,21 +335,66 @@ module _ (s : SchemaValue) (narrow : AreNarrow s) (alone : CoversAlone s) (asks_
           let constraints = all_append (λ rule. rule.0) (constraint_rules s n k) below facets.1 in
           (facets.0, constraints.0, (and_parts (children_answer pairs s n k) true constraints.1).0)
 
-      item_step : Keeps (item_holds s m resource x kids)
-      item_step n k pair each =
-          let rules = right (ItemPair (record { derived = n; base = k })) pair in
-          let typed = and_parts (type_answers s n k) _ rules in
+      -- ---- pairs of roots
+
+      root_pair_step : (n k : NodeRef) → is_root_node s n ≡ true → IsTrue (has_item_pair pairs n k) → IsTrue (conforming n) → IsTrue (is_root_node s k) × IsTrue (conforming k)
+      root_pair_step n k is pair each =
+          let typed = and_parts (type_answers pairs s n k) _ (right (ItemPair (record { derived = n; base = k })) pair) in
+          let answers = of_true (is_root_node s n) (roots_answer s n k) (not (is_root_node s k) && types_answer pairs s n k) is typed.0 in
+          let r = and_parts (is_root_node s k) (covers s (type_at s k) (type_at s n)) answers in
           let parts = rules_in_parts n k typed.1 in
-          elim (cases_if (is_root_node s n) (roots_answer s n k) (not (is_root_node s k) && types_answer s n k) typed.0) [
-            | inl root ↦
-                let r = and_parts (is_root_node s k) (covers s (type_at s k) (type_at s n)) root.1 in
-                as_true (is_root_node s k) (root_holds s m resource x kids k) (inner_holds s m resource x kids k) r.0
-                (root_step n k root.0 r.1 parts.0 parts.1 parts.2 (of_true (is_root_node s n) (root_holds s m resource x kids n) (inner_holds s m resource x kids n) root.0 each))
-            | inr inner ↦
-                let r = and_parts (not (is_root_node s k)) (types_answer s n k) inner.1 in
-                as_false (is_root_node s k) (root_holds s m resource x kids k) (inner_holds s m resource x kids k) (not-true (is_root_node s k) r.0)
-                (inner_step n k r.1 parts.0 parts.1 parts.2 (of_false (is_root_node s n) (root_holds s m resource x kids n) (inner_holds s m resource x kids n) inner.0 each))
-          ]
+          (r.0, root_step n k is r.1 parts.0 parts.1 parts.2 each)
+
+      profiles_keep : ProfilesKeep s pairs conforming
+      profiles_keep own base n k is_own is_base pair each = (root_pair_step n k (names_roots own n is_own) pair each).1
+
+      -- ---- pairs of inner nodes
+
+      -- what is asked of an item's types and of its children
+      below_step : (n k : NodeRef) → IsTrue (children_answer pairs s n k) → IsTrue (types_hold s m conforming x n)
+          → IsTrue (list_all asked_holds (own_root (type_root s (type_of x)) ++ (profile_asks s x n ++ kids_asks s x n)))
+          → IsTrue (list_all asked_holds (own_root (type_root s (type_of x)) ++ (profile_asks s x k ++ kids_asks s x k)))
+      below_step n k answers typed each =
+          let own_type = own_root (type_root s (type_of x)) in
+          let both = all_append asked_holds own_type (profile_asks s x n ++ kids_asks s x n) each in
+          let more = all_append asked_holds (profile_asks s x n) (kids_asks s x n) both.1 in
+          all_joined asked_holds own_type (profile_asks s x k ++ kids_asks s x k) both.0
+          (all_joined asked_holds (profile_asks s x k) (kids_asks s x k)
+          (given_all asked_holds as_profile (flat_map (entry_roots s x) (types s k)) (λ r there. refl))
+          (children_step conforming n k answers (λ base. type_children n base typed both.0) more.1))
+
+      inner_step : (n k : NodeRef) → IsTrue (types_answer pairs s n k) → IsTrue (all_hold (facet_rules s n k)) → IsTrue (all_hold (constraint_rules s n k))
+          → IsTrue (children_answer pairs s n k) → IsTrue (inner_holds s m resource x kids n) → IsTrue (inner_holds s m resource x kids k)
+      inner_step n k typed facets constraints answers each =
+          let own_type = own_root (type_root s (type_of x)) in
+          let type = and_parts (types_hold s m conforming x n) _ each in
+          and_from (types_hold s m conforming x k) _ (types_step s narrow.covers_on narrow.targets_are pairs m conforming x profiles_keep n k typed type.0)
+          (facets_step conforming n k (constraint_asks s n ++ (own_type ++ (profile_asks s x n ++ kids_asks s x n)))
+          (constraint_asks s k ++ (own_type ++ (profile_asks s x k ++ kids_asks s x k))) facets
+          (all_both asked_holds (constraint_asks s n) (own_type ++ (profile_asks s x n ++ kids_asks s x n)) (constraint_asks s k)
+          (own_type ++ (profile_asks s x k ++ kids_asks s x k)) (constrained_step conforming n k constraints) (below_step n k answers type.0)) type.1)
+
+      inner_pair_step : (n k : NodeRef) → is_root_node s n ≡ false → IsTrue (has_item_pair pairs n k) → IsTrue (inner_holds s m resource x kids n)
+          → (is_root_node s k ≡ false) × IsTrue (inner_holds s m resource x kids k)
+      inner_pair_step n k isnt pair each =
+          let typed = and_parts (type_answers pairs s n k) _ (right (ItemPair (record { derived = n; base = k })) pair) in
+          let answers = of_false (is_root_node s n) (roots_answer s n k) (not (is_root_node s k) && types_answer pairs s n k) isnt typed.0 in
+          let r = and_parts (not (is_root_node s k)) (types_answer pairs s n k) answers in
+          let parts = rules_in_parts n k typed.1 in
+          (not-true (is_root_node s k) r.0, inner_step n k r.1 parts.0 parts.1 parts.2 each)
+
+      -- ---- each pair
+
+      item_step : Keeps (item_holds s m resource x kids)
+      item_step n k pair = go (is_root_node s n) refl
+        where
+          go : (b : Bool) → is_root_node s n ≡ b → IsTrue (if b then conforming n else inner_holds s m resource x kids n) → IsTrue (item_holds s m resource x kids k)
+          go true is each =
+              let step = root_pair_step n k is pair each in
+              as_true (is_root_node s k) (conforming k) (inner_holds s m resource x kids k) step.0 step.1
+          go false isnt each =
+              let step = inner_pair_step n k isnt pair each in
+              as_false (is_root_node s k) (conforming k) (inner_holds s m resource x kids k) step.0 step.1
 
     mutual
       keeps : (meaning : Interpretation) → IsFairEverywhere s meaning → (around : Around) (x : Item) → Keeps (conforms s meaning around x)

@@ -1,7 +1,10 @@
 pub mod Orders
 pub mod First
 pub mod Answered
+pub mod Within
 pub mod Constrained
+pub mod Sliced
+pub mod Typed
 pub mod Keeping
 pub mod Certified
 pub mod Promised

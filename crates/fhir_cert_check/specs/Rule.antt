@@ -3,10 +3,11 @@ use Rattle.std.specs.Prelude.{ℕ, List, ◌++◌, Option, None, Some, codes}
 use Rattle.std.specs.Option.{option_map_or}
 use Rattle.fhir_json.specs.Tree.{Text}
 
--- a rule, with the name of the slot, or the key of the constraint, that it is about
+-- a rule, with the name of the slot, or the key of the constraint, that it is about; and behind it that of a slice
 pub data RuleName : Type 0 where
   root type fixed pattern range length_limit binding children : RuleName
-  constraint slot cardinality entry : List ℕ → RuleName
+  constraint slot cardinality entry closed : List ℕ → RuleName
+  slice criteria bounds : (name of_slice : List ℕ) → RuleName
 
 abbrev pub word_of : RuleName → Text
 word_of root = codes "root"
@@ -21,6 +22,10 @@ word_of children = codes "children"
 word_of (slot name) = codes "slot"
 word_of (cardinality name) = codes "cardinality"
 word_of (entry name) = codes "entry"
+word_of (closed name) = codes "closed"
+word_of (slice name of_slice) = codes "slice"
+word_of (criteria name of_slice) = codes "criteria"
+word_of (bounds name of_slice) = codes "bounds"
 
 -- the key of the constraint, or the name of the slot, that the rule is about
 abbrev pub about : RuleName → Option Text
@@ -28,8 +33,23 @@ about (constraint key) = Some key
 about (slot name) = Some name
 about (cardinality name) = Some name
 about (entry name) = Some name
+about (closed name) = Some name
+about (slice name of_slice) = Some name
+about (criteria name of_slice) = Some name
+about (bounds name of_slice) = Some name
 about _ = None
 
--- the rule's word, and behind a blank the key or the name, where it is about one
+-- the name of the slice that the rule is about
+abbrev pub slice_of : RuleName → Option Text
+slice_of (slice name of_slice) = Some of_slice
+slice_of (criteria name of_slice) = Some of_slice
+slice_of (bounds name of_slice) = Some of_slice
+slice_of _ = None
+
+-- the name, and behind a colon that of the slice
+abbrev pub subject : RuleName → Text → Text
+subject rule name = option_map_or (λ of_slice. name ++ codes ":" ++ of_slice) (slice_of rule) name
+
+-- the rule's word, and behind a blank what it is about, if anything
 abbrev pub rule_text : RuleName → Text
-rule_text rule = option_map_or (λ name. word_of rule ++ codes " " ++ name) (about rule) (word_of rule)
+rule_text rule = option_map_or (λ name. word_of rule ++ codes " " ++ subject rule name) (about rule) (word_of rule)

@@ -1,17 +1,18 @@
 //! The rules of a pair of items.
 
-ghost use Rattle.std.specs.Prelude.{◌≡◌, false, option_map};
+ghost use Rattle.std.specs.Prelude.{◌≡◌, ◌&&◌, false, map, option_map, string_bytes};
 ghost use Rattle.std.specs.List.{list_all, list_any};
 ghost use Rattle.std.specs.Option.{option_map_or};
 ghost use Rattle.fhir_elements.specs.Tests.{first_of};
-ghost use Rattle.fhir_schema.specs.Schemas.{type_root};
+ghost use Rattle.fhir_schema.specs.Covers.{covers};
+ghost use Rattle.fhir_schema.specs.Schemas.{type_root, loaded};
 ghost use Rattle.fhir_facets.specs.Bindings.{binding_to, binding_narrower};
 ghost use Rattle.fhir_facets.specs.Targets.{targets_narrower};
 ghost use Rattle.fhir_facets.specs.Values.{fixed_fits, pattern_narrower};
 ghost use Rattle.fhir_slicing.specs.Conformance.{is_untyped};
 ghost use Rattle.fhir_cert_check.specs.Lists.{each_answers};
-ghost use Rattle.fhir_cert_check.specs.Rules.{entry_answers, types_answer, roots_answer, type_answers, item_rules};
-ghost use Rattle.fhir_cert_check.specs.Rules.{has_kids_pair, own_children_answer, entry_children_answer, type_children_answer, children_answer};
+ghost use Rattle.fhir_cert_check.specs.Rules.{has_item_pair, profile_answers, profiles_answer, entry_answers, types_answer, roots_answer, type_answers, item_rules};
+ghost use Rattle.fhir_cert_check.specs.Rules.{has_kids_pair, own_children_answer, code_children_answer, profiles_children_answer, entry_children_answer, type_children_answer, children_answer};
 ghost use Rattle.fhir_cert_check.specs.Rules.{is_answered, fixed_answers, pattern_answers, range_answers, length_answers, binding_answers};
 ghost use Rattle.fhir_cert_check.specs.Facets.{element_rules, facet_rules};
 ghost use Rattle.fhir_cert_check.specs.Views.{rule_name};
@@ -35,24 +36,84 @@ fn targets_answer(schema: &Schema, entry: &TypeEntry, base: &TypeEntry) -> bool
     })
 }
 
-fn entry_answers(schema: &Schema, entry: &TypeEntry, base: &TypeEntry) -> bool
-    ensures { result ≡ entry_answers schema.now entry.now base.now }
+fn are_paired(schema: &Schema, pairs: &PairSet, own: &str, base: &str) -> bool
+    ensures { result ≡ option_map_or (λ n. option_map_or (has_item_pair (has_in pairs.now) n) (loaded schema.now base.now) false)
+        (loaded schema.now own.now) false }
+{
+    match (schema.loaded(own), schema.loaded(base)) {
+        (Some(derived), Some(base)) => pairs.has(Pair::Item(NodePair { derived, base })),
+        _ => false,
+    }
+}
+
+fn profile_answers(schema: &Schema, pairs: &PairSet, own: &str, base: &str) -> bool
+    ensures { result ≡ profile_answers (has_in pairs.now) schema.now own.now base.now }
+{
+    own == base || are_paired(schema, pairs, own, base)
+}
+
+fn answers_one_profile(schema: &Schema, pairs: &PairSet, own: &str, bases: &[String]) -> bool
+    ensures { result ≡ list_any (λ base. profile_answers (has_in pairs.now) schema.now own.now base)
+        (map string_bytes bases.now) }
+{
+    for base in bases {
+        if profile_answers(schema, pairs, own, base.as_str()) {
+            return true;
+        }
+    }
+    false
+}
+
+fn each_profile_answers(schema: &Schema, pairs: &PairSet, owns: &[String], bases: &[String]) -> bool
+    ensures { result ≡ each_answers (profile_answers (has_in pairs.now) schema.now) (map string_bytes owns.now)
+        (map string_bytes bases.now) }
+{
+    for own in owns {
+        if !answers_one_profile(schema, pairs, own.as_str(), bases) {
+            return false;
+        }
+    }
+    true
+}
+
+fn profiles_answer(schema: &Schema, pairs: &PairSet, own: &[String], bases: &[String]) -> bool
+    ensures { result ≡ profiles_answer (has_in pairs.now) schema.now (map string_bytes own.now) (map string_bytes bases.now) }
+{
+    bases.is_empty() || (!own.is_empty() && each_profile_answers(schema, pairs, own, bases))
+}
+
+fn code_answers(schema: &Schema, entry: &TypeEntry, base: &TypeEntry) -> bool
+    ensures { result ≡ (covers schema.now base.now.code entry.now.code && targets_narrower schema.now entry.now base.now) }
 {
     schema.covers(base.code(), entry.code()) && targets_answer(schema, entry, base)
 }
 
-fn answers_one(schema: &Schema, entry: &TypeEntry, bases: &[TypeEntry]) -> bool
-    ensures { result ≡ list_any (λ base. entry_answers schema.now entry.now base) bases.now }
+fn entry_answers(schema: &Schema, pairs: &PairSet, entry: &TypeEntry, base: &TypeEntry) -> bool
+    ensures { result ≡ entry_answers (has_in pairs.now) schema.now entry.now base.now }
 {
-    bases.iter().any(|base| entry_answers(schema, entry, base))
+    code_answers(schema, entry, base)
+        && profiles_answer(schema, pairs, entry.profiles(), base.profiles())
 }
 
-fn each_answers(schema: &Schema, entries: &[TypeEntry], bases: &[TypeEntry]) -> bool
-    ensures { result ≡ each_answers (entry_answers schema.now) entries.now bases.now }
+fn answers_one(schema: &Schema, pairs: &PairSet, entry: &TypeEntry, bases: &[TypeEntry]) -> bool
+    ensures { result ≡ list_any (λ base. entry_answers (has_in pairs.now) schema.now entry.now base) bases.now }
+{
+    bases
+        .iter()
+        .any(|base| entry_answers(schema, pairs, entry, base))
+}
+
+fn each_answers(
+    schema: &Schema,
+    pairs: &PairSet,
+    entries: &[TypeEntry],
+    bases: &[TypeEntry],
+) -> bool
+    ensures { result ≡ each_answers (entry_answers (has_in pairs.now) schema.now) entries.now bases.now }
 {
     entries
         .iter()
-        .all(|entry| answers_one(schema, entry, bases))
+        .all(|entry| answers_one(schema, pairs, entry, bases))
 }
 
 fn is_untyped(schema: &Schema, node: NodeRef) -> bool
@@ -61,11 +122,11 @@ fn is_untyped(schema: &Schema, node: NodeRef) -> bool
     schema.types(node).is_empty()
 }
 
-fn types_answer(schema: &Schema, n: NodeRef, m: NodeRef) -> bool
-    ensures { result ≡ types_answer schema.now n m }
+fn types_answer(schema: &Schema, pairs: &PairSet, n: NodeRef, m: NodeRef) -> bool
+    ensures { result ≡ types_answer (has_in pairs.now) schema.now n m }
 {
     is_untyped(schema, m)
-        || (!is_untyped(schema, n) && each_answers(schema, schema.types(n), schema.types(m)))
+        || (!is_untyped(schema, n) && each_answers(schema, pairs, schema.types(n), schema.types(m)))
 }
 
 fn roots_answer(schema: &Schema, n: NodeRef, m: NodeRef) -> bool
@@ -74,13 +135,13 @@ fn roots_answer(schema: &Schema, n: NodeRef, m: NodeRef) -> bool
     schema.is_root(m) && schema.covers(schema.type_code(m), schema.type_code(n))
 }
 
-fn type_answers(schema: &Schema, n: NodeRef, m: NodeRef) -> bool
-    ensures { result ≡ type_answers schema.now n m }
+fn type_answers(schema: &Schema, pairs: &PairSet, n: NodeRef, m: NodeRef) -> bool
+    ensures { result ≡ type_answers (has_in pairs.now) schema.now n m }
 {
     if schema.is_root(n) {
         roots_answer(schema, n, m)
     } else {
-        !schema.is_root(m) && types_answer(schema, n, m)
+        !schema.is_root(m) && types_answer(schema, pairs, n, m)
     }
 }
 
@@ -214,10 +275,56 @@ fn has_root_pair(schema: &Schema, pairs: &PairSet, code: &str, base: NodeRef) ->
     }
 }
 
+fn code_children_answer(schema: &Schema, pairs: &PairSet, base: NodeRef, entry: &TypeEntry) -> bool
+    ensures { result ≡ code_children_answer (has_in pairs.now) schema.now base entry.now }
+{
+    !schema.is_resource(entry.code()) && has_root_pair(schema, pairs, entry.code(), base)
+}
+
+fn profile_children_answer(schema: &Schema, pairs: &PairSet, base: NodeRef, profile: &str) -> bool
+    ensures { result ≡ option_map_or (λ root. has_kids_pair (has_in pairs.now) root base)
+        (loaded schema.now profile.now) false }
+{
+    match schema.loaded(profile) {
+        Some(derived) => pairs.has(Pair::Kids(NodePair { derived, base })),
+        None => false,
+    }
+}
+
+fn each_profile_has_pair(
+    schema: &Schema,
+    pairs: &PairSet,
+    base: NodeRef,
+    profiles: &[String],
+) -> bool
+    ensures { result ≡ list_all
+        (λ p. option_map_or (λ root. has_kids_pair (has_in pairs.now) root base) (loaded schema.now p) false)
+        (map string_bytes profiles.now) }
+{
+    for profile in profiles {
+        if !profile_children_answer(schema, pairs, base, profile.as_str()) {
+            return false;
+        }
+    }
+    true
+}
+
+fn profiles_children_answer(
+    schema: &Schema,
+    pairs: &PairSet,
+    base: NodeRef,
+    entry: &TypeEntry,
+) -> bool
+    ensures { result ≡ profiles_children_answer (has_in pairs.now) schema.now base entry.now }
+{
+    !entry.profiles().is_empty() && each_profile_has_pair(schema, pairs, base, entry.profiles())
+}
+
 fn entry_children_answer(schema: &Schema, pairs: &PairSet, base: NodeRef, entry: &TypeEntry) -> bool
     ensures { result ≡ entry_children_answer (has_in pairs.now) schema.now base entry.now }
 {
-    !schema.is_resource(entry.code()) && has_root_pair(schema, pairs, entry.code(), base)
+    profiles_children_answer(schema, pairs, base, entry)
+        || code_children_answer(schema, pairs, base, entry)
 }
 
 fn each_entry_answers(
@@ -260,7 +367,7 @@ pub(crate) fn item_failing<'s>(
 ) -> Option<Rule<'s>>
     ensures { option_map rule_name result ≡ first_of (item_rules (has_in pairs.now) schema.now n m) }
 {
-    if !type_answers(schema, n, m) {
+    if !type_answers(schema, pairs, n, m) {
         return Some(Rule::TypeCode);
     }
     if let Some(rule) = facet_failing(schema, n, m) {

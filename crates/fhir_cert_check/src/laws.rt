@@ -5,12 +5,13 @@ ghost use Rattle.fhir_schema.specs.declared.node.NodeRef.{NodeRef};
 ghost use Rattle.fhir_schema.specs.Schemas.{SchemaValue};
 ghost use Rattle.fhir_certificate.specs.declared.pair.Pair.{Pair};
 ghost use Rattle.fhir_cert_check.specs.Rules.{has_item_pair};
-ghost use Rattle.fhir_cert_check.specs.Checking.{IsRight};
-ghost use Rattle.fhir_cert_check.specs.Inclusion.{IncludesItems};
+ghost use Rattle.fhir_certificate.specs.Certificate.{CertificateValue};
+ghost use Rattle.fhir_cert_check.specs.Checking.{IsRight, IsCertificate};
+ghost use Rattle.fhir_cert_check.specs.Inclusion.{IncludesItems, Includes};
 
 use fhir_facets::narrower_holds;
-use fhir_schema::covering_codes;
-use fhir_slicing::roots_ask_no_root;
+use fhir_schema::{covering_codes, roots_are_roots};
+use fhir_slicing::{equal_criteria, roots_ask_no_root};
 
 /// Where each pair of a set is right by the set, an item that conforms to the derived node of one of its pairs conforms
 /// to the base node, wherever it stands and whatever unread rules mean that is fair.
@@ -20,5 +21,15 @@ pub fn inclusion()
 {
     covering_codes();
     narrower_holds();
+    roots_are_roots();
     roots_ask_no_root();
+    equal_criteria();
+}
+
+/// Each resource that conforms to the derived profile of a right certificate conforms to its base, whatever unread rules mean
+/// that is fair.
+pub fn certificates_include()
+    ensures { (s : SchemaValue) (c : CertificateValue) → IsCertificate s c → Includes s c.derived c.base }
+{
+    inclusion();
 }

@@ -22,11 +22,13 @@ mod constraints;
 mod items;
 mod kids;
 mod laws;
+mod nodes;
 mod pair_set;
 mod rule;
 mod rules;
+mod slices;
 
 pub use answer::Answer;
 pub use checking::{check, check_bytes, first_failing};
-pub use laws::inclusion;
+pub use laws::{certificates_include, inclusion};
 pub use rule::Rule;

@@ -2,20 +2,21 @@
 
 ghost use Rattle.std.specs.Prelude.{◌≡◌};
 ghost use Rattle.fhir_json.specs.Views.{text_seen};
-ghost use Rattle.fhir_cert_check.specs.Rule.{word_of, about};
+ghost use Rattle.fhir_cert_check.specs.Rule.{word_of, about, slice_of};
 ghost use Rattle.fhir_cert_check.specs.Views.{rule_name};
 
 use std::fmt;
 
-/// A rule of a pair, with the key of the constraint, or the name of the slot, that it is about. `Display` prints its word, and
-/// the key or the name behind a blank.
+/// A rule of a pair, with the key of the constraint, or the name of the slot, that it is about, and perhaps that of a slice.
+/// `Display` prints its word, behind a blank the key or the name, and behind a colon that of the slice.
 #[derive(Clone, Copy, Debug, PartialEq, Eq, Drop)]
 pub enum Rule<'s> {
     /// `root`: the certificate has the pair of the two roots.
     Root,
     /// `type`: both nodes are roots, and the base's type covers the derived one's; or neither is one, and each type that the
-    /// derived node allows is one that the base node allows, with targets that the base node allows (FHIR R4,
-    /// ElementDefinition, type and type.targetProfile).
+    /// derived node allows is one that the base node allows, with targets that the base node allows, and with profiles, if the
+    /// base node names some: each is one of the base node's, or is paired with one (FHIR R4, ElementDefinition, type,
+    /// type.profile and type.targetProfile).
     TypeCode,
     /// `fixed`: the derived node fixes the value that the base node fixes (ElementDefinition, fixed[x]).
     Fixed,
@@ -34,7 +35,7 @@ pub enum Rule<'s> {
     /// same: the same expression, or, where neither has one, the same key (ElementDefinition, constraint).
     Constraint(&'s str),
     /// `children`: the base node has no children, or there is a pair for them, with the children of the derived node or with
-    /// those of each type that it names.
+    /// those of each type that it names: of each profile that the type names, or of its own definition.
     Children,
     /// `slot`: the derived node has a slot of the base node's name.
     Slot(&'s str),
@@ -43,6 +44,17 @@ pub enum Rule<'s> {
     Cardinality(&'s str),
     /// `entry`: there is a pair for the elements of the slot.
     Entry(&'s str),
+    /// `closed`: where each item of the base node's slot has to be in a slice, so it is at the derived node's, and in a slice
+    /// that the base node's lacks no item may be (ElementDefinition, slicing.rules).
+    Closed(&'s str),
+    /// `slice`: the derived node's slot has a slice of the base node's name, and there is a pair for the two, unless no item may
+    /// be in it (FHIR R4, Profiling, slicing).
+    Slice { name: &'s str, slice: &'s str },
+    /// `criteria`: the two slices are told apart by the same (ElementDefinition, slicing.discriminator).
+    Criteria { name: &'s str, slice: &'s str },
+    /// `bounds`: the bounds of the derived node's slice lie within those of the base node's; of a slot where no item may be, that
+    /// the base node's slice asks for none (ElementDefinition, min and max).
+    Bounds { name: &'s str, slice: &'s str },
 }
 
 impl<'s> Rule<'s> {
@@ -63,6 +75,10 @@ impl<'s> Rule<'s> {
             Rule::Slot(_) => "slot",
             Rule::Cardinality(_) => "cardinality",
             Rule::Entry(_) => "entry",
+            Rule::Closed(_) => "closed",
+            Rule::Slice { .. } => "slice",
+            Rule::Criteria { .. } => "criteria",
+            Rule::Bounds { .. } => "bounds",
         }
     }
 
@@ -74,7 +90,11 @@ impl<'s> Rule<'s> {
             Rule::Constraint(name)
             | Rule::Slot(name)
             | Rule::Cardinality(name)
-            | Rule::Entry(name) => Some(*name),
+            | Rule::Entry(name)
+            | Rule::Closed(name)
+            | Rule::Slice { name, .. }
+            | Rule::Criteria { name, .. }
+            | Rule::Bounds { name, .. } => Some(*name),
             Rule::Root
             | Rule::TypeCode
             | Rule::Fixed
@@ -85,13 +105,37 @@ impl<'s> Rule<'s> {
             | Rule::Children => None,
         }
     }
+
+    /// The name of the slice that the rule is about.
+    pub fn slice(&self) -> Option<&'s str>
+        ensures { text_seen result ≡ slice_of (rule_name self.now) }
+    {
+        match self {
+            Rule::Slice { slice, .. } | Rule::Criteria { slice, .. } | Rule::Bounds { slice, .. } =>
+                Some(*slice),
+            Rule::Root
+            | Rule::TypeCode
+            | Rule::Fixed
+            | Rule::Pattern
+            | Rule::Range
+            | Rule::Length
+            | Rule::Binding
+            | Rule::Constraint(_)
+            | Rule::Children
+            | Rule::Slot(_)
+            | Rule::Cardinality(_)
+            | Rule::Entry(_)
+            | Rule::Closed(_) => None,
+        }
+    }
 }
 
 impl fmt::Display for Rule<'_> {
     fn fmt<W: fmt::Write>(&self, f: &mut fmt::Formatter<W>) -> fmt::Result {
-        match self.about() {
-            Some(name) => write!(f, "{} {name}", self.word()),
-            None => write!(f, "{}", self.word()),
+        match (self.about(), self.slice()) {
+            (Some(name), Some(slice)) => write!(f, "{} {name}:{slice}", self.word()),
+            (Some(name), None) => write!(f, "{} {name}", self.word()),
+            (None, _) => write!(f, "{}", self.word()),
         }
     }
 }

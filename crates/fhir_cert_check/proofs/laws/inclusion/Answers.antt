@@ -14,4 +14,5 @@ returns c s pairs right n m pair =
       binding_is = narrow.binding s;
       targets_are = narrow.targets s;
       count_is = narrow.count;
-    }) (c.covering_codes.ensures.alone s) (c.roots_ask_no_root.ensures s) pairs right n m pair
+    }) (c.covering_codes.ensures.alone s) (c.roots_ask_no_root.ensures s) (c.roots_are_roots.ensures.of_canonical s)
+    (c.equal_criteria.ensures.same s) pairs right n m pair

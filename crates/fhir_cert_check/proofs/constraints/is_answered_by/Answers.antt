@@ -1,7 +1,7 @@
 use Rattle.std.proofs.Common.{sym, ◌∙◌}
 use Rattle.fhir_cert_check.specs.Rules.{constraint_answers}
 use Rattle.fhir_cert_check.proofs.Answered.{any_placed}
-use Rattle.fhir_cert_check.proofs.constraints.is_answered.Goals as goal
+use Rattle.fhir_cert_check.proofs.constraints.is_answered_by.Goals as goal
 
 pub returns-then-answers_at : goal.returns-then-answers_at
 returns-then-answers_at c =
