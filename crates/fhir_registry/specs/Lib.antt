@@ -6,3 +6,4 @@ pub mod Replying
 pub mod Words
 pub mod Views
 pub mod Ending
+pub mod Agreeing

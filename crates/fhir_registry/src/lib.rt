@@ -29,6 +29,7 @@
 mod answering;
 mod directory;
 mod engine;
+mod laws;
 mod outcomes;
 mod reply;
 mod request;
@@ -37,6 +38,7 @@ mod telling;
 pub use answering::answer;
 pub use directory::{bytes_at, files_at};
 pub use engine::{refuse, respond};
+pub use laws::verdicts_agree;
 pub use outcomes::outcome;
 pub use reply::{Reply, Status};
 pub use request::{Request, WordsFault, request_of};

@@ -106,7 +106,11 @@ fn misfit_said(alloc: Global, misfit: &Misfit) -> Result<Said, AllocError> {
 
 fn rule_code(rule: &Rule<'_>) -> &'static str {
     match rule {
-        Rule::RootType(_) | Rule::Types | Rule::TooMany { .. } => "structure",
+        Rule::RootType(_)
+        | Rule::Types
+        | Rule::TooMany { .. }
+        | Rule::InSlices(_, _)
+        | Rule::InNoSlice => "structure",
         Rule::Fixed | Rule::Pattern | Rule::Range | Rule::Length => "value",
         Rule::Binding(_) => "code-invalid",
         Rule::TooFew { .. } => "required",

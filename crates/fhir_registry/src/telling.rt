@@ -2,7 +2,7 @@
 
 ghost use Rattle.std.specs.Prelude.{◌≡◌, ◌++◌, IfOk, Some, codes, string_bytes};
 ghost use Rattle.fhir_cert_check.specs.Views.{rule_name, wrong_in};
-ghost use Rattle.fhir_cert_check.specs.Rule.{rule_text};
+ghost use Rattle.fhir_cert_check.specs.Rule.{subject, rule_text};
 ghost use Rattle.fhir_registry.specs.Telling.{node_text, pair_word, derived_of, base_of, no_text};
 ghost use Rattle.fhir_registry.specs.Replying.{yes_reply, wrong_reply};
 
@@ -22,13 +22,34 @@ fn word_and_name(alloc: Global, word: &str, name: &str) -> Result<String, AllocE
     Ok(text)
 }
 
+fn joined(alloc: Global, name: &str, slice: &str) -> Result<String, AllocError>
+    ensures { IfOk result (λ text. string_bytes text ≡ name.now ++ codes ":" ++ slice.now) }
+{
+    let mut text = String::new(alloc);
+    text.push_str(name)?;
+    text.push_str(":")?;
+    text.push_str(slice)?;
+    Ok(text)
+}
+
+// What a rule is about, by the name: the slot or the key, and behind a colon the slice.
+fn subject(alloc: Global, rule: Rule<'_>, name: &str) -> Result<String, AllocError>
+    ensures { IfOk result (λ text. string_bytes text ≡ subject (rule_name rule.entry) name.now) }
+{
+    match rule.slice() {
+        Some(slice) => joined(alloc, name, slice),
+        None => String::from_str(alloc, name),
+    }
+}
+
 fn rule_text(alloc: Global, rule: Rule<'_>) -> Result<String, AllocError>
     ensures { IfOk result (λ text. string_bytes text ≡ rule_text (rule_name rule.entry)) }
 {
-    match rule.about() {
-        Some(name) => word_and_name(alloc, rule.word(), name),
-        None => String::from_str(alloc, rule.word()),
-    }
+    let Some(name) = rule.about() else {
+        return String::from_str(alloc, rule.word());
+    };
+    let subject = subject(alloc, rule, name)?;
+    word_and_name(alloc, rule.word(), subject.as_str())
 }
 
 fn node_text(alloc: Global, schema: &Schema, node: NodeRef) -> Result<String, AllocError>
