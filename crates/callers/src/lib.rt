@@ -2,7 +2,7 @@
 //! against each other.
 #![tactic(auto)]
 
-ghost use Rattle.std.specs.Prelude.{◌≡◌, ◌↔◌, ◌||◌, [], length, false, None, Ok, is_ok, Option, Result, if◌then◌else◌, IsTrue, IfOk, codes, string_bytes, option_map};
+ghost use Rattle.std.specs.Prelude.{◌≡◌, ◌↔◌, ◌||◌, [], length, false, None, Ok, is_ok, is_some, Option, Result, if◌then◌else◌, IsTrue, IfOk, codes, string_bytes, option_map};
 ghost use Rattle.std.specs.FinSet as set;
 ghost use Rattle.std.specs.Option.{option_map_or};
 ghost use Rattle.fhir_json.specs.Tree.{Text, Tree};
@@ -32,6 +32,9 @@ ghost use Rattle.std.specs.Str.{bytes_eq};
 ghost use Rattle.fhir_instance.specs.Items.{Item, type_of};
 ghost use Rattle.fhir_instance.specs.Typing.{Types};
 ghost use Rattle.fhir_instance.specs.View.{item_of};
+ghost use Rattle.fhir_fp_syntax.specs.Expression.{expression_of};
+ghost use Rattle.fhir_fp_syntax.specs.Reading.{expression_in};
+ghost use Rattle.fhir_fp_eval.specs.Meaning.{is_true};
 ghost use Rattle.fhir_facets.specs.Seen.{Seen};
 ghost use Rattle.fhir_facets.specs.Values.{pattern_holds};
 ghost use Rattle.fhir_slicing.specs.Asks.{asks};
@@ -48,6 +51,8 @@ use fhir_decimal::Decimal;
 use fhir_definition::Definition;
 use fhir_elements::{ElementDef, ElementFault};
 use fhir_facets::{Facet, Pattern, narrower_holds};
+use fhir_fp_eval::{Env, holds};
+use fhir_fp_syntax::{Expr, Parsed, parse};
 use fhir_instance::{Misfit, Typed, type_resource};
 use fhir_json::{Json, JsonFault, NoMemory};
 use fhir_matching::{json_eq, matches};
@@ -154,6 +159,16 @@ pub fn root_of(alloc: Global, url: &str, tree: &Json<'_>) -> Result<Option<usize
     Ok(definition.root())
 }
 
+/// Whether a text is an expression that is read here.
+pub fn is_expression(alloc: Global, text: &str) -> Result<bool, NoMemory>
+    ensures { Gives (λ b. b) result (is_some (expression_in text.now)) }
+{
+    match parse(alloc, text)? {
+        Parsed::Read(_) => Ok(true),
+        Parsed::Unread => Ok(false),
+    }
+}
+
 /// The slots of a profile's root, where the profile can be used.
 pub fn root_slots<'s>(schema: &'s Schema, profile: &str) -> &'s [Slot]
     ensures { result.now ≡ option_map_or (slots schema.now) (root schema.now profile.now) [] }
@@ -171,6 +186,27 @@ pub fn is_patient(alloc: Global, schema: &Schema, json: &Json<'_>) -> Result<boo
 {
     let item = type_resource(alloc, schema, json)?;
     Ok(item.code() == "Patient")
+}
+
+/// Whether an expression is true of a resource as a whole.
+pub fn is_true_of<'e, 'a, 'j>(
+    alloc: Global,
+    expr: &Expr,
+    schema: &'e Schema,
+    resource: &'e Typed<'a, 'j>,
+) -> Result<bool, NoMemory>
+    ensures { Gives (λ b. b) result (is_true (record {
+      schema = schema.now;
+      resource = item_of resource.now;
+      context = item_of resource.now;
+    }) (expression_of expr.now) (item_of resource.now)) }
+{
+    let env = Env {
+        schema,
+        resource,
+        context: resource,
+    };
+    holds(alloc, expr, &env, resource)
 }
 
 /// Whether one pattern asks for all that another does; then what has the first has the other too.

@@ -2,7 +2,7 @@
 
 use crate::packages::package_of;
 use fhir_cert_check::{Answer, Rule, check, check_bytes, first_failing};
-use fhir_certificate::{Certificate, NodePair, Pair, fits, read};
+use fhir_certificate::{Certificate, NodePair, Pair, fits, read, write};
 use fhir_package::{MemoryFile, Package};
 use fhir_schema::{NodeRef, Schema};
 use std::alloc::{AllocError, Global};
@@ -16,6 +16,7 @@ enum Call {
     Check,
     Failing,
     Without,
+    Write,
 }
 
 fn call_of(name: &str) -> Option<Call> {
@@ -27,6 +28,7 @@ fn call_of(name: &str) -> Option<Call> {
         "check" => Some(Call::Check),
         "failing" => Some(Call::Failing),
         "without" => Some(Call::Without),
+        "write" => Some(Call::Write),
         _ => None,
     }
 }
@@ -91,6 +93,7 @@ fn answer_of_certificate(
         Call::Check => check_told(alloc, schema, certificate),
         Call::Failing => failing_told(alloc, schema, certificate),
         Call::Without => without_told(alloc, schema, certificate, pair),
+        Call::Write => written_told(alloc, schema, certificate),
         _ => certificate_told(alloc, certificate),
     }
 }
@@ -238,6 +241,21 @@ fn without_told(
         _ => return String::from_str(alloc, "no such pair"),
     };
     check_told(alloc, schema, &other)
+}
+
+// The text that is written for a certificate.
+fn written_told(
+    alloc: Global,
+    schema: &Schema,
+    certificate: &Certificate,
+) -> Result<String, AllocError> {
+    match write(alloc, schema, certificate) {
+        Ok(bytes) => match String::from_utf8(bytes) {
+            Ok(text) => Ok(text),
+            Err(_) => String::from_str(alloc, "not UTF-8"),
+        },
+        Err(fault) => format!(in alloc; "{fault}"),
+    }
 }
 
 fn pairs_told(alloc: Global, pairs: &[NodePair]) -> Result<String, AllocError> {

@@ -45,7 +45,6 @@ fn put_reasons(alloc: Global, text: &mut String, reasons: &[Reason]) -> Result<(
 // The texts of the first reasons.
 fn reasons_told(alloc: Global) -> Result<String, AllocError> {
     let reasons = [
-        Reason::NotYet,
         Reason::WrongField,
         Reason::MinOverMax,
         Reason::RepeatedType,

@@ -1,10 +1,12 @@
-//! Questions on the schema of the case's package: `usable URL`, `loaded CANONICAL`, `forms URL ID`, `property URL ID NAME`,
-//! `covers CODE OTHER`, `type_root CODE`; and of the definition `http://example.org/flat/one` `node ID`, `name ID`, `slot NAME`.
+//! Questions on the schema of the case's package: `usable URL`, `loaded CANONICAL`, `content URL ID`, `forms URL ID`,
+//! `property URL ID NAME`, `slices URL ID`, `slice URL ID NAME`, `covers CODE OTHER`, `type_root CODE`; and of the definition
+//! `http://example.org/flat/one` `node ID`, `name ID`, `slot NAME`.
 
+use crate::json::written;
 use crate::packages::package_of;
 use fhir_elements::TypeEntry;
 use fhir_package::{MemoryFile, Package};
-use fhir_schema::{Form, NodeRef, Property, Schema, Slot};
+use fhir_schema::{Criterion, Form, NodeRef, Property, Schema, Slot, Sought};
 use std::alloc::{AllocError, Global};
 
 // The definition that nodes are asked of.
@@ -46,6 +48,9 @@ fn answer_of_schema(
         "loaded" => name_told(alloc, schema, schema.loaded(argument))?,
         "forms" => forms_at(alloc, schema, argument)?,
         "property" => property_at(alloc, schema, argument)?,
+        "content" => content_at(alloc, schema, argument)?,
+        "slices" => slices_at(alloc, schema, argument)?,
+        "slice" => slice_at(alloc, schema, argument)?,
         "node" => node_told(alloc, schema, schema.node(PROFILE, argument))?,
         "name" => name_told(alloc, schema, schema.node(PROFILE, argument))?,
         "slot" => kid_told(alloc, schema, schema.root(PROFILE), argument)?,
@@ -100,8 +105,7 @@ fn slots_told(alloc: Global, slots: &[Slot]) -> Result<String, AllocError> {
 }
 
 fn slot_told(alloc: Global, slot: &Slot) -> Result<String, AllocError> {
-    let (name, entry, slices) = (slot.name(), slot.entry(), slot.slices().len());
-    format!(in alloc; " {name}@{entry}/{slices}")
+    format!(in alloc; " {}@{}", slot.name(), slot.entry())
 }
 
 // The slot of a name below a node.
@@ -121,6 +125,94 @@ fn kid_told(
         Some(slot) => slot_told(alloc, slot),
         None => String::from_str(alloc, "none"),
     }
+}
+
+// The id of a node.
+fn id_of(schema: &Schema, node: Option<NodeRef>) -> &str {
+    match node {
+        Some(node) => schema.name(node).1,
+        None => "none",
+    }
+}
+
+// The element that a node refers to for its content, and the one that has its children.
+fn content_at(alloc: Global, schema: &Schema, named: &str) -> Result<String, AllocError> {
+    let Some(node) = node_at(schema, named) else {
+        return String::from_str(alloc, "none");
+    };
+    let target = id_of(schema, schema.target(node));
+    let holder = id_of(schema, schema.holder(node));
+    format!(in alloc; "{target}, children {holder}")
+}
+
+// The slices of a node's element, with what tells their items from others, and `closed` where each item has to be in one.
+fn slices_at(alloc: Global, schema: &Schema, named: &str) -> Result<String, AllocError> {
+    let Some(node) = node_at(schema, named) else {
+        return String::from_str(alloc, "none");
+    };
+    let mut text = String::new(alloc);
+    if schema.is_closed(node) {
+        text.push_str(" closed")?;
+    }
+    for slice in schema.slices(node) {
+        text.push_str(slot_told(alloc, slice)?.as_str())?;
+        let criteria = schema.criteria(entry_of(node, slice));
+        text.push_str(criteria_told(alloc, criteria)?.as_str())?;
+    }
+    Ok(text)
+}
+
+fn entry_of(node: NodeRef, slice: &Slot) -> NodeRef {
+    NodeRef {
+        definition: node.definition,
+        element: slice.entry(),
+    }
+}
+
+// The slice of a name, which stands behind the last blank.
+fn slice_at(alloc: Global, schema: &Schema, asked: &str) -> Result<String, AllocError> {
+    let (named, name) = asked.rsplit_once(' ').unwrap_or((asked, ""));
+    let Some(node) = node_at(schema, named) else {
+        return String::from_str(alloc, "none");
+    };
+    match schema.slice(node, name) {
+        Some(slice) => slot_told(alloc, slice),
+        None => String::from_str(alloc, "none"),
+    }
+}
+
+fn criteria_told(alloc: Global, criteria: &[Criterion]) -> Result<String, AllocError> {
+    let mut text = String::new(alloc);
+    for criterion in criteria {
+        let Criterion {
+            by,
+            path,
+            names,
+            sought,
+        } = criterion;
+        let sought = sought_told(alloc, sought)?;
+        text.push_str(format!(in alloc; " ({by:?} {path} {} {sought})", names.len())?.as_str())?;
+    }
+    Ok(text)
+}
+
+fn sought_told(alloc: Global, sought: &Sought) -> Result<String, AllocError> {
+    match sought {
+        Sought::Fixed(json) => format!(in alloc; "fixed {}", written(alloc, json)?),
+        Sought::Pattern(json) => format!(in alloc; "pattern {}", written(alloc, json)?),
+        Sought::Present => String::from_str(alloc, "present"),
+        Sought::Absent => String::from_str(alloc, "absent"),
+        Sought::Typed(codes) => codes_told(alloc, codes),
+    }
+}
+
+fn codes_told(alloc: Global, codes: &[String]) -> Result<String, AllocError> {
+    let mut text = String::from_str(alloc, "typed")?;
+    for code in codes {
+        text.push(' ')?;
+        text.push_str(code.as_str())?;
+    }
+    Ok(text)
 }
 
 // A node's place, its name, the id of its element and the code of its definition's type.
