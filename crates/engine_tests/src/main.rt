@@ -102,7 +102,7 @@ fn judged<'l, R: Files + AllocGlobal + Clone + Drop>(
     }
     let question = line
         .strip_prefix("?")
-        .and_then(|line| line.rsplit_once(" = "));
+        .and_then(|line| line.split_once(" = "));
     let Some((command, expected)) = question else {
         return Ok(Outcome::Unknown);
     };
