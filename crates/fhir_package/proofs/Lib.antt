@@ -14,3 +14,4 @@ pub mod Holding
 pub mod ByName
 pub mod Once
 pub mod Lists
+pub mod Surveyings

@@ -1,7 +1,8 @@
 -- A package without where it lies in memory: for each kind of definition (FHIR R4, StructureDefinition, ValueSet,
 -- CodeSystem) the trees under their urls, in the order in which they were put in.
-use Rattle.std.specs.Prelude.{List, [], Option}
-use Rattle.std.specs.Map.{lookup}
+use Rattle.std.specs.Prelude.{ℕ, List, [], Option}
+use Rattle.std.specs.List.{position_from}
+use Rattle.std.specs.Map.{lookup, keys_of}
 use Rattle.std.specs.Str.{bytes_eq}
 use Rattle.fhir_json.specs.Tree.{Text, Tree}
 use Rattle.fhir_package.specs.declared.kind.Kind.{Kind}
@@ -32,3 +33,7 @@ with_kind CodeSystem es p = record p { code_systems = es }
 -- the tree of a kind under a url
 abbrev pub at_url : Kind → Text → Definitions → Option Tree
 at_url kind url p = lookup (bytes_eq url) (of_kind kind p)
+
+-- its place among the trees of the kind
+abbrev pub place_in : Kind → Text → Definitions → Option ℕ
+place_in kind url p = position_from (bytes_eq url) 0 (keys_of (of_kind kind p))

@@ -6,4 +6,6 @@ pub mod Memory
 pub mod FilesView
 pub mod Packing
 pub mod Found
+pub mod Surveying
+pub mod SurveyView
 pub mod Faults

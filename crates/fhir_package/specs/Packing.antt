@@ -63,9 +63,13 @@ definitions_in t = held_within max_depth t
 
 -- ---- what is put into a package
 
--- a definition goes behind the others of its kind, unless an equal one is there; another one there is a clash
+-- a definition behind the others of its kind
+abbrev pub with_definition : Definition → Definitions → Definitions
+with_definition d p = with_kind d.kind (of_kind d.kind p ++ (d.url, d.tree) ∷ []) p
+
+-- it goes there unless an equal one is there; another one there is a clash
 abbrev pub joined : Option Tree → Definition → Definitions → Result Definitions Text
-joined None d p = Ok (with_kind d.kind (of_kind d.kind p ++ (d.url, d.tree) ∷ []) p)
+joined None d p = Ok (with_definition d p)
 joined (Some t) d p = if equal t d.tree then Ok p else Err d.url
 
 abbrev pub join : Definition → Definitions → Result Definitions Text

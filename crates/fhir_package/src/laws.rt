@@ -15,7 +15,8 @@ ghost use Rattle.fhir_matching.specs.Equality.{equal};
 ghost use Rattle.fhir_package.specs.declared.kind.Kind.{Kind};
 ghost use Rattle.fhir_package.specs.Definitions.{Definitions, of_kind, at_url};
 ghost use Rattle.fhir_package.specs.Folder.{Files};
-ghost use Rattle.fhir_package.specs.Packing.{Definition, not_json, clash, is_bundle, definitions_in, is_json_name, json_names, bytes_at, pack};
+ghost use Rattle.fhir_package.specs.Packing.{Definition, not_json, clash, is_bundle, definitions_in, is_json_name, json_names, bytes_at, pack_files, pack};
+ghost use Rattle.fhir_package.specs.Surveying.{survey, packed_by};
 ghost use Rattle.fhir_package.specs.Found.{IsInFolder, Clashes, itself, in_resource};
 
 use fhir_json::reading_agrees;
@@ -54,6 +55,11 @@ pub fn packages()
     reading_agrees();
     equivalence();
 }
+
+/// Files of which a survey finds nothing wrong are the package that it has, and all others are refused for its first fault.
+pub fn surveys()
+    ensures { (files : Files) → pack_files files ≡ packed_by (survey files) }
+{}
 
 /// The names of the files that are read rise by their bytes, and they are those of the folder that end in `.json`.
 pub fn ordered_names()

@@ -16,6 +16,7 @@
 #![tactic(auto)]
 
 mod canonical;
+mod definitions;
 mod fault;
 mod folder;
 mod folder_files;
@@ -25,6 +26,7 @@ mod loading;
 mod memory;
 mod package;
 mod parts;
+mod survey;
 mod url_map;
 
 pub use canonical::has_version;
@@ -32,7 +34,8 @@ pub use fault::LoadFault;
 pub use folder::{Folder, FolderFault};
 pub use folder_files::{FolderFile, FolderFiles, is_json_name};
 pub use kind::Kind;
-pub use laws::{bundles, ordered_names, packages, packing};
+pub use laws::{bundles, ordered_names, packages, packing, surveys};
 pub use loading::{load, pack};
 pub use memory::{MemoryFile, MemoryFolder};
 pub use package::{Names, Package};
+pub use survey::{Clash, FileFault, Survey};

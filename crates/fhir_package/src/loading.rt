@@ -1,131 +1,40 @@
 //! From files to a package.
 
-ghost use Rattle.std.specs.Prelude.{◌≡◌, ◌+◌, Err, string_bytes, [], ◌∷◌};
-ghost use Rattle.std.specs.List.{flat_map};
-ghost use Rattle.std.specs.Option.{option_map_or};
-ghost use Rattle.fhir_json.specs.Views.{tree_of, trees_of};
-ghost use Rattle.fhir_package.specs.Packing.{not_json, kind_named, definition_with, definition_of, is_bundle, held_within, definitions_in, in_entry, put_all, take_file, take_files, pack_files, pack};
+ghost use Rattle.std.specs.Prelude.{◌≡◌, ◌+◌, Err, string_bytes};
+ghost use Rattle.fhir_json.specs.Views.{tree_of};
+ghost use Rattle.fhir_package.specs.Packing.{not_json, definitions_in, put_all, take_file, take_files, pack_files, pack};
 ghost use Rattle.fhir_package.specs.FilesView.{folder_files};
 ghost use Rattle.fhir_package.specs.Faults.{IsRefused, IsPacked, IsTaken, failures_told, failed_loading};
 
+use crate::definitions::{Held, definitions_in};
 use crate::fault::LoadFault;
 use crate::folder::Folder;
 use crate::folder_files::{FolderFile, FolderFiles};
-use crate::kind::Kind;
 use crate::package::Package;
-use crate::parts::{take_field, take_items};
-use fhir_json::{Json, JsonFault, MAX_DEPTH, read};
+use fhir_json::{Json, JsonFault, read};
 use std::alloc::Global;
 
-fn kind_named(name: &str) -> Option<Kind>
-    ensures { result ≡ kind_named name.now }
-{
-    match name {
-        "StructureDefinition" => Some(Kind::StructureDefinition),
-        "ValueSet" => Some(Kind::ValueSet),
-        "CodeSystem" => Some(Kind::CodeSystem),
-        _ => None,
-    }
-}
-
-// Puts in a tree that is a definition of that kind, if it has a url.
-fn take_of_kind<'a>(
+// Puts in definitions, one after the other.
+fn take_all<'a>(
     alloc: Global,
-    kind: Kind,
-    json: Json<'a>,
+    definitions: Vec<Held<'a>>,
     into: &mut Package<'a>,
 ) -> Result<(), LoadFault>
-    ensures taken { IsTaken result into.new
-        (put_all (option_map_or (λ d. d ∷ []) (definition_with (tree_of json.entry) kind) []) into.old) }
+    ensures taken { IsTaken result into.new (put_all definitions.entry.items into.old) }
     ensures blameless { failed_loading result ≡ 0 }
 {
-    let Some(url) = json.text_in("url") else {
-        return Ok(());
-    };
-    let url = String::from_str(alloc, url)?;
-    into.join(alloc, kind, url.as_str(), json)
-}
-
-// Puts in the definition that a tree is, if it is one.
-fn take_definition<'a>(
-    alloc: Global,
-    json: Json<'a>,
-    into: &mut Package<'a>,
-) -> Result<(), LoadFault>
-    ensures taken { IsTaken result into.new
-        (put_all (option_map_or (λ d. d ∷ []) (definition_of (tree_of json.entry)) []) into.old) }
-    ensures blameless { failed_loading result ≡ 0 }
-{
-    match kind_named(json.text_at("resourceType")) {
-        Some(kind) => take_of_kind(alloc, kind, json, into),
-        None => Ok(()),
-    }
-}
-
-fn is_bundle(json: &Json<'_>) -> bool
-    ensures { result ≡ is_bundle (tree_of json.now) }
-{
-    json.text_at("resourceType") == "Bundle"
-}
-
-// Puts in the definitions that a tree holds within so many levels.
-#[cycle(held)]
-fn take_held<'a>(
-    alloc: Global,
-    json: Json<'a>,
-    levels: usize,
-    into: &mut Package<'a>,
-) -> Result<(), LoadFault>
-    ensures taken { IsTaken result into.new (put_all (held_within levels (tree_of json.entry)) into.old) }
-    ensures blameless { failed_loading result ≡ 0 }
-{
-    if levels == 0 {
-        return Ok(());
-    }
-    if is_bundle(&json) {
-        return take_entries(alloc, take_items(alloc, json, "entry"), levels - 1, into);
-    }
-    take_definition(alloc, json, into)
-}
-
-#[cycle(held)]
-fn take_entries<'a>(
-    alloc: Global,
-    entries: Vec<Json<'a>>,
-    levels: usize,
-    into: &mut Package<'a>,
-) -> Result<(), LoadFault>
-    ensures taken { IsTaken result into.new
-        (put_all (flat_map (in_entry levels) (trees_of entries.entry.items)) into.old) }
-    ensures blameless { failed_loading result ≡ 0 }
-{
-    for entry in entries {
-        take_entry(alloc, entry, levels, into)?;
+    for definition in definitions {
+        into.join(alloc, definition)?;
     }
     Ok(())
-}
-
-#[cycle(held)]
-fn take_entry<'a>(
-    alloc: Global,
-    entry: Json<'a>,
-    levels: usize,
-    into: &mut Package<'a>,
-) -> Result<(), LoadFault>
-    ensures taken { IsTaken result into.new (put_all (in_entry levels (tree_of entry.entry)) into.old) }
-    ensures blameless { failed_loading result ≡ 0 }
-{
-    match take_field(entry, "resource") {
-        Some(resource) => take_held(alloc, resource, levels, into),
-        None => Ok(()),
-    }
 }
 
 fn take_tree<'a>(alloc: Global, json: Json<'a>, into: &mut Package<'a>) -> Result<(), LoadFault>
     ensures taken { IsTaken result into.new (put_all (definitions_in (tree_of json.entry)) into.old) }
     ensures blameless { failed_loading result ≡ 0 }
 {
-    take_held(alloc, json, MAX_DEPTH, into)
+    let definitions = definitions_in(alloc, json)?;
+    take_all(alloc, definitions, into)
 }
 
 fn not_json(alloc: Global, name: &str) -> LoadFault

@@ -6,12 +6,13 @@ ghost use Rattle.std.specs.Option.{option_map};
 ghost use Rattle.std.specs.Str.{bytes_eq};
 ghost use Rattle.fhir_json.specs.Views.{tree_of, tree_seen};
 ghost use Rattle.fhir_json.specs.Memory.{Gives};
-ghost use Rattle.fhir_package.specs.Definitions.{no_definitions, of_kind, with_kind, at_url};
+ghost use Rattle.fhir_package.specs.Definitions.{no_definitions, of_kind, at_url, place_in};
 ghost use Rattle.fhir_package.specs.Canonical.{at_version, named_by};
-ghost use Rattle.fhir_package.specs.Packing.{join, or_clash};
+ghost use Rattle.fhir_package.specs.Packing.{with_definition, join, or_clash};
 ghost use Rattle.fhir_package.specs.Faults.{IsRefused, IsTaken, failures_told, failed_loading};
 
 use crate::canonical::is_of_version;
+use crate::definitions::Held;
 use crate::fault::LoadFault;
 use crate::kind::Kind;
 use crate::url_map::{UrlEntry, UrlMap};
@@ -45,16 +46,6 @@ impl<'a> Model for Package<'a> {
       value_sets = p.value_sets;
       code_systems = p.code_systems;
     } };
-}
-
-fn clash(alloc: Global, url: &str) -> LoadFault
-    ensures refusal { IsRefused result (or_clash (Err url.now)) }
-    ensures blameless { failures_told result ≡ 0 }
-{
-    match String::from_str(alloc, url) {
-        Ok(url) => LoadFault::Clash(url),
-        Err(_) => LoadFault::NoMemory,
-    }
 }
 
 impl<'a> Package<'a> {
@@ -107,6 +98,13 @@ impl<'a> Package<'a> {
         self.of_kind(kind).get(url)
     }
 
+    /// The place of the definition at a url among those of its kind.
+    pub fn place(&self, kind: Kind, url: &str) -> Option<usize>
+        ensures { result ≡ place_in kind url.now self.now }
+    {
+        self.of_kind(kind).place(url)
+    }
+
     /// How many definitions of a kind there are.
     pub fn len(&self, kind: Kind) -> usize
         ensures { result ≡ length (of_kind kind self.now) }
@@ -131,52 +129,38 @@ impl<'a> Package<'a> {
         }
     }
 
-    // Puts a tree behind the others of its kind.
-    fn push(&mut self, alloc: Global, kind: Kind, url: &str, tree: Json<'a>) -> Result<(), NoMemory>
-        ensures { OnOk result (self.new ≡ with_kind kind
-            (of_kind kind self.old ++ (url.now, tree_of tree.entry) ∷ []) self.old) }
+    // Puts a definition behind the others of its kind.
+    pub(crate) fn push(&mut self, alloc: Global, definition: Held<'a>) -> Result<(), NoMemory>
+        ensures { OnOk result (self.new ≡ with_definition definition.entry self.old) }
     {
+        let Held { kind, url, tree } = definition;
         match kind {
-            Kind::StructureDefinition => self.structure_definitions.push(alloc, url, tree),
-            Kind::ValueSet => self.value_sets.push(alloc, url, tree),
-            Kind::CodeSystem => self.code_systems.push(alloc, url, tree),
+            Kind::StructureDefinition => self.structure_definitions.push(alloc, url.as_str(), tree),
+            Kind::ValueSet => self.value_sets.push(alloc, url.as_str(), tree),
+            Kind::CodeSystem => self.code_systems.push(alloc, url.as_str(), tree),
         }
     }
 
     // The same, as a definition that was not there.
-    fn push_definition(
-        &mut self,
-        alloc: Global,
-        kind: Kind,
-        url: &str,
-        tree: Json<'a>,
-    ) -> Result<(), LoadFault>
-        ensures taken { IsTaken result self.new (Ok (with_kind kind
-            (of_kind kind self.old ++ (url.now, tree_of tree.entry) ∷ []) self.old)) }
+    fn push_definition(&mut self, alloc: Global, definition: Held<'a>) -> Result<(), LoadFault>
+        ensures taken { IsTaken result self.new (Ok (with_definition definition.entry self.old)) }
         ensures blameless { failed_loading result ≡ 0 }
     {
-        Ok(self.push(alloc, kind, url, tree)?)
+        Ok(self.push(alloc, definition)?)
     }
 
     /// Puts a definition behind the others of its kind, unless an equal one is there. Another one there is a clash.
-    pub(crate) fn join(
-        &mut self,
-        alloc: Global,
-        kind: Kind,
-        url: &str,
-        tree: Json<'a>,
-    ) -> Result<(), LoadFault>
-        ensures taken { IsTaken result self.new
-            (or_clash (join (record { kind = kind; url = url.now; tree = tree_of tree.entry }) self.old)) }
+    pub(crate) fn join(&mut self, alloc: Global, definition: Held<'a>) -> Result<(), LoadFault>
+        ensures taken { IsTaken result self.new (or_clash (join definition.entry self.old)) }
         ensures blameless { failed_loading result ≡ 0 }
     {
-        match self.at_url(kind, url) {
-            None => self.push_definition(alloc, kind, url, tree),
+        match self.at_url(definition.kind, definition.url.as_str()) {
+            None => self.push_definition(alloc, definition),
             Some(there) => {
-                if json_eq_in(alloc, there, &tree)? {
+                if json_eq_in(alloc, there, &definition.tree)? {
                     Ok(())
                 } else {
-                    Err(clash(alloc, url))
+                    Err(LoadFault::Clash(definition.url))
                 }
             }
         }

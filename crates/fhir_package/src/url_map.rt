@@ -1,6 +1,7 @@
 //! Trees under urls.
 
 ghost use Rattle.std.specs.Prelude.{◌≡◌, [], ◌∷◌, ◌++◌, length, slice_get, OnOk};
+ghost use Rattle.std.specs.List.{position_from};
 ghost use Rattle.std.specs.Option.{option_map, option_copied};
 ghost use Rattle.std.specs.Map.{keys_of, lookup};
 ghost use Rattle.std.specs.Str.{bytes_eq};
@@ -100,6 +101,13 @@ impl<'a> UrlMap<'a> {
     {
         let entry = entry_at(&self.entries, place)?;
         Some((entry.url.as_str(), &entry.tree))
+    }
+
+    /// The place under a url.
+    pub(crate) fn place(&self, url: &str) -> Option<usize>
+        ensures { result ≡ position_from (bytes_eq url.now) 0 (keys_of self.now) }
+    {
+        self.urls.get(url)
     }
 
     /// How many there are.

@@ -1,6 +1,3 @@
-use Rattle.fhir_package.specs.Packing.{definitions_in}
+use Rattle.std.proofs.Common.{ap, subst}
+use Rattle.fhir_package.specs.Packing.{definitions_in, put_all}
 use Rattle.fhir_package.proofs.loading.take_tree.Goals as goal
-
-pub returns-clause-taken : goal.returns-clause-taken
-unfolding definitions_in
-returns-clause-taken c = c.take_held.ensures.taken

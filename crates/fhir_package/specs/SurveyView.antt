@@ -1,0 +1,13 @@
+-- What contracts see of a survey's faults.
+use Rattle.std.specs.Prelude.{List, map, string_bytes}
+use Rattle.fhir_package.specs.declared.survey.Clash.{Clash}
+use Rattle.fhir_package.specs.declared.survey.FileFault.{FileFault}
+use Rattle.fhir_package.specs.declared.survey.FileFault.TheVariants.{NotJson as NotJsonFile, Clash as ClashOf}
+use Rattle.fhir_package.specs.Surveying.{FileFault as Fault, not_json, clash}
+
+abbrev pub fault_seen : FileFault → Fault
+fault_seen (NotJsonFile file fault) = not_json file.now fault
+fault_seen (ClashOf c) = clash c.kind (string_bytes c.url) c.file.now c.first.now
+
+abbrev pub faults_seen : List FileFault → List Fault
+faults_seen fs = map fault_seen fs

@@ -1,0 +1,100 @@
+-- What is wrong with the files of a folder, in their order, and the package of all that is right: the reading goes on behind each
+-- fault. Of two different definitions of one kind and url the first is kept.
+use Rattle.std.specs.Prelude.{ℕ, List, [], ◌∷◌, ◌++◌, Option, None, Some, Result, Ok, Err, if◌then◌else◌, get_or}
+use Rattle.fhir_json.specs.Tree.{Text, Tree}
+use Rattle.fhir_json.specs.declared.fault.JsonFault.{JsonFault}
+use Rattle.fhir_json.specs.Reading.{reading}
+use Rattle.fhir_matching.specs.Equality.{equal}
+use Rattle.fhir_package.specs.declared.kind.Kind.{Kind}
+use Rattle.fhir_package.specs.declared.kind.Kind.TheVariants.{StructureDefinition, ValueSet, CodeSystem}
+use Rattle.fhir_package.specs.Definitions.{Definitions, no_definitions, at_url, place_in}
+use Rattle.fhir_package.specs.Folder.{Files}
+use Rattle.fhir_package.specs.Packing.{Refusal, not_json as not_text, clash as two_of, Definition, definitions_in, with_definition}
+
+-- what is wrong with a file
+pub data FileFault : Type 0 where
+  -- the file of that name is no text of JSON
+  not_json : Text → JsonFault → FileFault
+  -- of that kind and url are two different definitions, in the file of the first name and, before it, in that of the second
+  clash : Kind → Text → Text → Text → FileFault
+
+-- of each kind the file of each definition, in the order of the definitions
+pub record Sources : Type 0 where
+  pub structure_definitions : List Text
+  pub value_sets : List Text
+  pub code_systems : List Text
+
+abbrev pub no_sources : Sources
+no_sources = record { structure_definitions = []; value_sets = []; code_systems = [] }
+
+abbrev pub sources_of : Kind → Sources → List Text
+sources_of StructureDefinition s = s.structure_definitions
+sources_of ValueSet s = s.value_sets
+sources_of CodeSystem s = s.code_systems
+
+abbrev pub with_sources : Kind → List Text → Sources → Sources
+with_sources StructureDefinition files s = record s { structure_definitions = files }
+with_sources ValueSet files s = record s { value_sets = files }
+with_sources CodeSystem files s = record s { code_systems = files }
+
+pub record Surveyed : Type 0 where
+  pub definitions : Definitions
+  pub sources : Sources
+  pub faults : List FileFault
+
+abbrev pub nothing_surveyed : Surveyed
+nothing_surveyed = record { definitions = no_definitions; sources = no_sources; faults = [] }
+
+abbrev pub file_at : List Text → Option ℕ → Text
+file_at files None = []
+file_at files (Some place) = get_or files place []
+
+-- the file of the definition of a kind at a url
+abbrev pub source_of : Kind → Text → Surveyed → Text
+source_of kind url s = file_at (sources_of kind s.sources) (place_in kind url s.definitions)
+
+abbrev pub with_fault : FileFault → Surveyed → Surveyed
+with_fault fault s = record s { faults = s.faults ++ fault ∷ [] }
+
+-- a definition that is new, in a file
+abbrev pub with_new : Text → Definition → Surveyed → Surveyed
+with_new file d s =
+    record s { definitions = with_definition d s.definitions; sources = with_sources d.kind (sources_of d.kind s.sources ++ file ∷ []) s.sources }
+
+-- a definition of a file, where this one is at its kind and url
+abbrev pub compared : Option Tree → Text → Definition → Surveyed → Surveyed
+compared None file d s = with_new file d s
+compared (Some t) file d s = if equal t d.tree then s else with_fault (clash d.kind d.url file (source_of d.kind d.url s)) s
+
+abbrev pub put : Text → Definition → Surveyed → Surveyed
+put file d s = compared (at_url d.kind d.url s.definitions) file d s
+
+abbrev pub put_each : Text → List Definition → Surveyed → Surveyed
+put_each file [] s = s
+put_each file (d ∷ ds) s = put_each file ds (put file d s)
+
+-- the definitions of a file, or why it has none
+abbrev pub survey_tree : Text → Result Tree JsonFault → Surveyed → Surveyed
+survey_tree file (Ok t) s = put_each file (definitions_in t) s
+survey_tree file (Err fault) s = with_fault (not_json file fault) s
+
+abbrev pub survey_each : Files → Surveyed → Surveyed
+survey_each [] s = s
+survey_each (f ∷ fs) s = survey_each fs (survey_tree f.0 (reading f.1) s)
+
+abbrev pub survey : Files → Surveyed
+survey files = survey_each files nothing_surveyed
+
+-- ---- what a survey says of the package
+
+abbrev pub refusal_of : FileFault → Refusal
+refusal_of (not_json file fault) = not_text file
+refusal_of (clash kind url file first) = two_of url
+
+-- the package of files of which nothing is wrong, or else the first fault as a refusal
+abbrev pub told_by : List FileFault → Definitions → Result Definitions Refusal
+told_by [] p = Ok p
+told_by (fault ∷ faults) p = Err (refusal_of fault)
+
+abbrev pub packed_by : Surveyed → Result Definitions Refusal
+packed_by s = told_by s.faults s.definitions

@@ -1,0 +1,268 @@
+//! What is wrong with the files of a folder.
+
+ghost use Rattle.std.specs.Prelude.{◌≡◌, [], ◌∷◌, ◌++◌, map, get_or, length, OnOk, IfOk, string_bytes};
+ghost use Rattle.fhir_json.specs.Views.{tree_of};
+ghost use Rattle.fhir_json.specs.Memory.{Gives};
+ghost use Rattle.fhir_json.specs.Reading.{reading};
+ghost use Rattle.fhir_package.specs.FilesView.{folder_files};
+ghost use Rattle.fhir_package.specs.Packing.{definitions_in};
+ghost use Rattle.fhir_package.specs.Surveying.{no_sources, sources_of, with_sources, nothing_surveyed, source_of, not_json, with_fault, clash, with_new, put, put_each, survey_tree, survey_each, survey};
+ghost use Rattle.fhir_package.specs.SurveyView.{fault_seen, faults_seen};
+
+use crate::definitions::{Held, definitions_in};
+use crate::folder_files::{FolderFile, FolderFiles};
+use crate::kind::Kind;
+use crate::package::Package;
+use fhir_json::{Json, JsonFault, NoMemory, read};
+use fhir_matching::json_eq_in;
+use std::alloc::{AllocError, Global};
+use std::marker::Model;
+
+/// Two different definitions of one kind and url.
+#[derive(Debug, Drop)]
+pub struct Clash<'f> {
+    /// The kind.
+    pub kind: Kind,
+    /// The url.
+    pub url: String,
+    /// The file of the second.
+    pub file: &'f str,
+    /// The file of the first, which may be the same.
+    pub first: &'f str,
+}
+
+/// What is wrong with a file.
+#[derive(Debug, Drop)]
+pub enum FileFault<'f> {
+    /// The file of this name is no JSON text.
+    NotJson(&'f str, JsonFault),
+    /// A definition of it differs from one of the same kind and url that was read before it.
+    Clash(Clash<'f>),
+}
+
+// Of each kind the file of each definition.
+#[derive(Drop)]
+struct Sources<'f> {
+    structure_definitions: Vec<&'f str>,
+    value_sets: Vec<&'f str>,
+    code_systems: Vec<&'f str>,
+}
+
+impl<'f> Model for Sources<'f> {
+    ghost use Rattle.std.specs.Prelude.{map};
+    ghost use Rattle.fhir_package.specs.Surveying.{Sources as Shown};
+
+    ghost Value = { Shown };
+
+    ghost view = { λ s. record {
+      structure_definitions = map (λ f. f.now) s.structure_definitions.items;
+      value_sets = map (λ f. f.now) s.value_sets.items;
+      code_systems = map (λ f. f.now) s.code_systems.items;
+    } };
+}
+
+impl<'f> Sources<'f> {
+    fn new(alloc: Global) -> Sources<'f>
+        ensures { result ≡ no_sources }
+    {
+        Sources {
+            structure_definitions: Vec::new(alloc),
+            value_sets: Vec::new(alloc),
+            code_systems: Vec::new(alloc),
+        }
+    }
+
+    fn of_kind(&self, kind: Kind) -> &[&'f str]
+        ensures { map (λ f. f.now) result.now ≡ sources_of kind self.now }
+    {
+        match kind {
+            Kind::StructureDefinition => &self.structure_definitions,
+            Kind::ValueSet => &self.value_sets,
+            Kind::CodeSystem => &self.code_systems,
+        }
+    }
+
+    fn at(&self, kind: Kind, place: usize) -> &'f str
+        ensures { result.now ≡ get_or (sources_of kind self.now) place [] }
+    {
+        match self.of_kind(kind).get(place) {
+            Some(file) => *file,
+            None => "",
+        }
+    }
+
+    fn push(&mut self, kind: Kind, file: &'f str) -> Result<(), AllocError>
+        ensures { OnOk result (self.new ≡ with_sources kind (sources_of kind self.old ++ file.now ∷ []) self.old) }
+    {
+        match kind {
+            Kind::StructureDefinition => self.structure_definitions.push(file)?,
+            Kind::ValueSet => self.value_sets.push(file)?,
+            Kind::CodeSystem => self.code_systems.push(file)?,
+        }
+        Ok(())
+    }
+}
+
+/// What is wrong with the files of a folder, and the package of all that is right.
+#[derive(Drop)]
+pub struct Survey<'f> {
+    package: Package<'f>,
+    sources: Sources<'f>,
+    faults: Vec<FileFault<'f>>,
+}
+
+impl<'f> Model for Survey<'f> {
+    ghost use Rattle.fhir_package.specs.Surveying.{Surveyed};
+    ghost use Rattle.fhir_package.specs.SurveyView.{faults_seen};
+
+    ghost Value = { Surveyed };
+
+    ghost use Rattle.fhir_json.specs.Coding.{tree_code};
+    ghost use Rattle.std.specs.Coded.{codes};
+
+    ghost coded = { Prim.hlevel (codes, tree_code) };
+
+    ghost view = { λ s. record { definitions = s.package; sources = s.sources; faults = faults_seen s.faults.items } };
+}
+
+impl<'f> Survey<'f> {
+    fn new(alloc: Global) -> Survey<'f>
+        ensures { result ≡ nothing_surveyed }
+    {
+        Survey {
+            package: Package::new(alloc),
+            sources: Sources::new(alloc),
+            faults: Vec::new(alloc),
+        }
+    }
+
+    /// The package of all that is right.
+    pub fn package(&self) -> &Package<'f>
+        ensures { result.now ≡ self.now.definitions }
+    {
+        &self.package
+    }
+
+    /// The faults, in the order of the files and within one in that of the text.
+    pub fn faults(&self) -> &[FileFault<'f>]
+        ensures { faults_seen result.now ≡ self.now.faults }
+    {
+        &self.faults
+    }
+
+    /// The file of the definition at a place of the package; an empty text where there is none.
+    pub fn source(&self, kind: Kind, place: usize) -> &'f str
+        ensures { result.now ≡ get_or (sources_of kind self.now.sources) place [] }
+    {
+        self.sources.at(kind, place)
+    }
+
+    // The file of the definition at a url.
+    fn source_of(&self, kind: Kind, url: &str) -> &'f str
+        ensures { result.now ≡ source_of kind url.now self.now }
+    {
+        match self.package.place(kind, url) {
+            Some(place) => self.sources.at(kind, place),
+            None => "",
+        }
+    }
+
+    fn push_fault(&mut self, fault: FileFault<'f>) -> Result<(), AllocError>
+        ensures { OnOk result (self.new ≡ with_fault (fault_seen fault.entry) self.old) }
+    {
+        self.faults.push(fault)?;
+        Ok(())
+    }
+
+    // A definition of a file that differs from the one at its url.
+    fn push_clash(&mut self, file: &'f str, definition: Held<'f>) -> Result<(), AllocError>
+        ensures { OnOk result (self.new ≡ with_fault
+            (clash definition.entry.kind definition.entry.url file.now
+            (source_of definition.entry.kind definition.entry.url self.old)) self.old) }
+    {
+        let Held { kind, url, .. } = definition;
+        let first = self.source_of(kind, url.as_str());
+        self.push_fault(FileFault::Clash(Clash {
+            kind,
+            url,
+            file,
+            first,
+        }))
+    }
+
+    fn push_new(
+        &mut self,
+        alloc: Global,
+        file: &'f str,
+        definition: Held<'f>,
+    ) -> Result<(), NoMemory>
+        ensures { OnOk result (self.new ≡ with_new file.now definition.entry self.old) }
+    {
+        self.sources.push(definition.kind, file)?;
+        self.package.push(alloc, definition)
+    }
+
+    // A definition of a file.
+    fn put(&mut self, alloc: Global, file: &'f str, definition: Held<'f>) -> Result<(), NoMemory>
+        ensures { OnOk result (self.new ≡ put file.now definition.entry self.old) }
+    {
+        match self
+            .package
+            .at_url(definition.kind, definition.url.as_str())
+        {
+            None => self.push_new(alloc, file, definition),
+            Some(there) => {
+                if !json_eq_in(alloc, there, &definition.tree)? {
+                    self.push_clash(file, definition)?;
+                }
+                Ok(())
+            }
+        }
+    }
+
+    // The definitions of a file.
+    fn put_each(
+        &mut self,
+        alloc: Global,
+        file: &'f str,
+        definitions: Vec<Held<'f>>,
+    ) -> Result<(), NoMemory>
+        ensures { OnOk result (self.new ≡ put_each file.now definitions.entry.items self.old) }
+    {
+        for definition in definitions {
+            self.put(alloc, file, definition)?;
+        }
+        Ok(())
+    }
+
+    fn take_file(&mut self, alloc: Global, file: &'f FolderFile) -> Result<(), NoMemory>
+        ensures { OnOk result (self.new
+            ≡ survey_tree (string_bytes file.now.name) (reading file.now.bytes.items) self.old) }
+    {
+        let name = file.name.as_str();
+        match read(alloc, &file.bytes) {
+            Ok(json) => self.put_each(alloc, name, definitions_in(alloc, json)?),
+            Err(JsonFault::NoMemory) => Err(NoMemory),
+            Err(fault) => Ok(self.push_fault(FileFault::NotJson(name, fault))?),
+        }
+    }
+
+    fn take_each(&mut self, alloc: Global, files: &'f [FolderFile]) -> Result<(), NoMemory>
+        ensures { OnOk result (self.new ≡ survey_each (folder_files files.now) self.old) }
+    {
+        for file in files {
+            self.take_file(alloc, file)?;
+        }
+        Ok(())
+    }
+
+    /// What is wrong with files, each of them, and the package of all that is right: the definitions of the files that are
+    /// JSON texts, of two different ones of one kind and url the first. The one refusal is want of memory.
+    pub fn of(alloc: Global, files: &'f FolderFiles) -> Result<Survey<'f>, NoMemory>
+        ensures { Gives (λ s. s) result (survey files.now) }
+    {
+        let mut survey = Survey::new(alloc);
+        survey.take_each(alloc, files.files())?;
+        Ok(survey)
+    }
+}
