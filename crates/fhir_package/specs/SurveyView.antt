@@ -1,6 +1,5 @@
 -- What contracts see of a survey's faults.
 use Rattle.std.specs.Prelude.{List, map, string_bytes}
-use Rattle.fhir_package.specs.declared.survey.Clash.{Clash}
 use Rattle.fhir_package.specs.declared.survey.FileFault.{FileFault}
 use Rattle.fhir_package.specs.declared.survey.FileFault.TheVariants.{NotJson as NotJsonFile, Clash as ClashOf}
 use Rattle.fhir_package.specs.Surveying.{FileFault as Fault, not_json, clash}
