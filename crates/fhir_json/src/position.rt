@@ -6,7 +6,9 @@ ghost use Rattle.fhir_json.specs.Position.{begins_character, counted, position_a
 /// A place in a text: its line and its column, both from 1.
 #[derive(Clone, Copy, Debug, PartialEq, Eq)]
 pub struct Position {
+    /// The line.
     pub line: usize,
+    /// The column.
     pub column: usize,
 }
 

@@ -65,7 +65,9 @@ impl Expected {
 /// Why bytes could not be read: what was expected, and how many bytes were left there.
 #[derive(Clone, Copy, Debug, PartialEq, Eq)]
 pub struct Refusal {
+    /// What was expected.
     pub expected: Expected,
+    /// How many bytes were left there.
     pub left: usize,
 }
 

@@ -1,8 +1,8 @@
 -- A survey and the package of the same files.
 use Rattle.std.proofs.Common.{◌≡◌, Bool, true, false, cond, List, [], ◌∷◌, ◌++◌, Option, None, Some, Result, Ok, Err, refl, ap, subst, sym}
 use Rattle.fhir_json.specs.Tree.{Text, Tree}
-use Rattle.fhir_json.specs.declared.fault.JsonFault.{JsonFault}
-use Rattle.fhir_json.specs.Reading.{reading}
+use Rattle.fhir_json.specs.declared.refusal.Refusal.{Refusal as JsonRefusal}
+use Rattle.fhir_json.specs.Reading.{placed_reading, without_place, reading}
 use Rattle.fhir_matching.specs.Equality.{equal}
 use Rattle.fhir_package.specs.Definitions.{Definitions, no_definitions, at_url}
 use Rattle.fhir_package.specs.Folder.{Files}
@@ -80,23 +80,25 @@ each_tells file (d ∷ ds) s none =
 
 -- ---- files
 
-tree_keeps : (file : Text) (r : Result Tree JsonFault) (f : FileFault) (s : Surveyed) → Begins f s → Begins f (survey_tree file r s)
+tree_keeps : (file : Text) (r : Result Tree JsonRefusal) (f : FileFault) (s : Surveyed) → Begins f s → Begins f (survey_tree file r s)
 tree_keeps file (Ok t) f s b = each_keeps file (definitions_in t) f s b
 tree_keeps file (Err fault) f s b = fault_behind f _ s b
 
-tree_tells : (file : Text) (r : Result Tree JsonFault) (s : Surveyed) → s.faults ≡ [] → Tells (take_tree file r s.definitions) (survey_tree file r s)
+tree_tells : (file : Text) (r : Result Tree JsonRefusal) (s : Surveyed) → s.faults ≡ [] → Tells (take_tree file (without_place r) s.definitions) (survey_tree file r s)
 tree_tells file (Ok t) s none = each_tells file (definitions_in t) s none
 tree_tells file (Err fault) s none = (not_json file fault, first_fault (not_json file fault) s none, refl)
 
 files_keep : (fs : Files) (f : FileFault) (s : Surveyed) → Begins f s → Begins f (survey_each fs s)
 files_keep [] f s b = b
-files_keep (x ∷ fs) f s b = files_keep fs f (survey_tree x.0 (reading x.1) s) (tree_keeps x.0 (reading x.1) f s b)
+files_keep (x ∷ fs) f s b = files_keep fs f (survey_tree x.0 (placed_reading x.1) s) (tree_keeps x.0 (placed_reading x.1) f s b)
 
 files_tell : (fs : Files) (s : Surveyed) → s.faults ≡ [] → Tells (take_files fs s.definitions) (survey_each fs s)
+unfolding reading
 files_tell [] s none = (none, refl)
 files_tell (x ∷ fs) s none =
-    goes_on (take_files fs) (survey_each fs) (files_keep fs) (files_tell fs) (take_tree x.0 (reading x.1) s.definitions) (survey_tree x.0 (reading x.1) s)
-    (tree_tells x.0 (reading x.1) s none)
+    goes_on (take_files fs) (survey_each fs) (files_keep fs) (files_tell fs)
+    (take_tree x.0 (without_place (placed_reading x.1)) s.definitions) (survey_tree x.0 (placed_reading x.1) s)
+    (tree_tells x.0 (placed_reading x.1) s none)
 
 pub survey_packs : (files : Files) → take_files files no_definitions ≡ packed_by (survey_each files nothing_surveyed)
 survey_packs files = told (take_files files no_definitions) (survey_each files nothing_surveyed) (files_tell files nothing_surveyed refl)

@@ -2,8 +2,8 @@
 -- fault. Of two different definitions of one kind and url the first is kept.
 use Rattle.std.specs.Prelude.{ℕ, List, [], ◌∷◌, ◌++◌, Option, None, Some, Result, Ok, Err, if◌then◌else◌, get_or}
 use Rattle.fhir_json.specs.Tree.{Text, Tree}
-use Rattle.fhir_json.specs.declared.fault.JsonFault.{JsonFault}
-use Rattle.fhir_json.specs.Reading.{reading}
+use Rattle.fhir_json.specs.declared.refusal.Refusal.{Refusal as JsonRefusal}
+use Rattle.fhir_json.specs.Reading.{placed_reading}
 use Rattle.fhir_matching.specs.Equality.{equal}
 use Rattle.fhir_package.specs.declared.kind.Kind.{Kind}
 use Rattle.fhir_package.specs.declared.kind.Kind.TheVariants.{StructureDefinition, ValueSet, CodeSystem}
@@ -13,8 +13,8 @@ use Rattle.fhir_package.specs.Packing.{Refusal, not_json as not_text, clash as t
 
 -- what is wrong with a file
 pub data FileFault : Type 0 where
-  -- the file of that name is no text of JSON
-  not_json : Text → JsonFault → FileFault
+  -- the file of that name is no text of JSON: what was expected, and how many bytes are left there
+  not_json : Text → JsonRefusal → FileFault
   -- of that kind and url are two different definitions, in the file of the first name and, before it, in that of the second
   clash : Kind → Text → Text → Text → FileFault
 
@@ -74,13 +74,13 @@ put_each file [] s = s
 put_each file (d ∷ ds) s = put_each file ds (put file d s)
 
 -- the definitions of a file, or why it has none
-abbrev pub survey_tree : Text → Result Tree JsonFault → Surveyed → Surveyed
+abbrev pub survey_tree : Text → Result Tree JsonRefusal → Surveyed → Surveyed
 survey_tree file (Ok t) s = put_each file (definitions_in t) s
-survey_tree file (Err fault) s = with_fault (not_json file fault) s
+survey_tree file (Err refusal) s = with_fault (not_json file refusal) s
 
 abbrev pub survey_each : Files → Surveyed → Surveyed
 survey_each [] s = s
-survey_each (f ∷ fs) s = survey_each fs (survey_tree f.0 (reading f.1) s)
+survey_each (f ∷ fs) s = survey_each fs (survey_tree f.0 (placed_reading f.1) s)
 
 abbrev pub survey : Files → Surveyed
 survey files = survey_each files nothing_surveyed

@@ -3,7 +3,7 @@
 ghost use Rattle.std.specs.Prelude.{◌≡◌, [], ◌∷◌, ◌++◌, map, get_or, length, OnOk, IfOk, string_bytes};
 ghost use Rattle.fhir_json.specs.Views.{tree_of};
 ghost use Rattle.fhir_json.specs.Memory.{Gives};
-ghost use Rattle.fhir_json.specs.Reading.{reading};
+ghost use Rattle.fhir_json.specs.Reading.{placed_reading};
 ghost use Rattle.fhir_package.specs.FilesView.{folder_files};
 ghost use Rattle.fhir_package.specs.Packing.{definitions_in};
 ghost use Rattle.fhir_package.specs.Surveying.{no_sources, sources_of, with_sources, nothing_surveyed, source_of, not_json, with_fault, clash, with_new, put, put_each, survey_tree, survey_each, survey};
@@ -13,7 +13,7 @@ use crate::definitions::{Held, definitions_in};
 use crate::folder_files::{FolderFile, FolderFiles};
 use crate::kind::Kind;
 use crate::package::Package;
-use fhir_json::{Json, JsonFault, NoMemory, read};
+use fhir_json::{Expected, NoMemory, Refusal, read_or_place};
 use fhir_matching::json_eq_in;
 use std::alloc::{AllocError, Global};
 use std::marker::Model;
@@ -34,8 +34,8 @@ pub struct Clash<'f> {
 /// What is wrong with a file.
 #[derive(Debug, Drop)]
 pub enum FileFault<'f> {
-    /// The file of this name is no JSON text.
-    NotJson(&'f str, JsonFault),
+    /// The file of this name is no JSON text: what was expected, and where.
+    NotJson(&'f str, Refusal),
     /// A definition of it differs from one of the same kind and url that was read before it.
     Clash(Clash<'f>),
 }
@@ -237,13 +237,16 @@ impl<'f> Survey<'f> {
 
     fn take_file(&mut self, alloc: Global, file: &'f FolderFile) -> Result<(), NoMemory>
         ensures { OnOk result (self.new
-            ≡ survey_tree (string_bytes file.now.name) (reading file.now.bytes.items) self.old) }
+            ≡ survey_tree (string_bytes file.now.name) (placed_reading file.now.bytes.items) self.old) }
     {
         let name = file.name.as_str();
-        match read(alloc, &file.bytes) {
+        match read_or_place(alloc, &file.bytes) {
             Ok(json) => self.put_each(alloc, name, definitions_in(alloc, json)?),
-            Err(JsonFault::NoMemory) => Err(NoMemory),
-            Err(fault) => Ok(self.push_fault(FileFault::NotJson(name, fault))?),
+            Err(Refusal {
+                expected: Expected::Memory,
+                ..
+            }) => Err(NoMemory),
+            Err(refusal) => Ok(self.push_fault(FileFault::NotJson(name, refusal))?),
         }
     }
 
