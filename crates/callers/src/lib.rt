@@ -42,6 +42,7 @@ ghost use Rattle.fhir_slicing.specs.Conformance.{Interpretation, Conforms};
 ghost use Rattle.fhir_certificate.specs.Certificate.{CertificateValue};
 ghost use Rattle.fhir_certificate.specs.Judging.{Stands};
 ghost use Rattle.fhir_cert_check.specs.Checking.{SpellsCertificate};
+ghost use Rattle.fhir_report.specs.Finding.{all_unusable};
 ghost use Rattle.fhir_registry.specs.Replying.{RequestValue, Promise};
 
 use fhir_cert_check::{Answer, check_bytes};
@@ -57,7 +58,7 @@ use fhir_instance::{Misfit, Typed, type_resource};
 use fhir_json::{Json, JsonFault, NoMemory};
 use fhir_matching::{json_eq, matches};
 use fhir_names::{ElementId, front_of};
-use fhir_package::{FolderFile, FolderFiles, Kind, LoadFault, Package, pack};
+use fhir_package::{FolderFile, FolderFiles, Kind, LoadFault, Package, Survey, pack};
 use fhir_prims::{PrimType, lexical};
 use fhir_registry::{Status, bytes_at, files_at, refuse, request_of, respond};
 use fhir_schema::{NodeRef, Schema, Slot};
@@ -257,6 +258,19 @@ pub fn is_right(alloc: Global, schema: &Schema, bytes: &[u8]) -> Result<bool, Ce
         Answer::Yes => Ok(true),
         Answer::No(_, _) => Ok(false),
     }
+}
+
+/// Whether nothing is wrong with files, and each of their definitions can be used.
+pub fn are_usable<'r>(
+    alloc: Global,
+    survey: &'r Survey<'r>,
+    schema: &Schema,
+) -> Result<bool, NoMemory>
+    ensures { IfOk result (λ all. IsTrue all
+        → (survey.now.faults ≡ []) × (all_unusable schema.now survey.now ≡ [])) }
+{
+    let found = fhir_report::findings(alloc, survey, schema)?;
+    Ok(found.is_empty())
 }
 
 /// Does what words ask, and gives the status.

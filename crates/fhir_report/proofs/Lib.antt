@@ -1,0 +1,2 @@
+-- Lemmas on findings.
+pub mod Telling

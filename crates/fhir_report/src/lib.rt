@@ -1,0 +1,26 @@
+//! What is wrong with the files of a folder and with its definitions.
+//!
+//! ```
+//! /// Whether nothing is wrong with files, and each of their definitions can be used.
+//! pub fn are_usable<'r>(
+//!     alloc: Global,
+//!     survey: &'r Survey<'r>,
+//!     schema: &Schema,
+//! ) -> Result<bool, NoMemory>
+//!     ensures { IfOk result (λ all. IsTrue all
+//!         → (survey.now.faults ≡ []) × (all_unusable schema.now survey.now ≡ [])) }
+//! {
+//!     let found = fhir_report::findings(alloc, survey, schema)?;
+//!     Ok(found.is_empty())
+//! }
+//! ```
+//!
+//! The contract to read first is that of [`findings`]: a fault of a file is found exactly where its survey has it, and a
+//! definition that can't be used exactly where the schema says so (`all_unusable` in `specs/Finding.antt`).
+#![tactic(auto)]
+
+mod finding;
+mod reporting;
+
+pub use finding::{Finding, Unusable};
+pub use reporting::findings;

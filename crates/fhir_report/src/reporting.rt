@@ -1,0 +1,106 @@
+//! From a survey and a schema to what was found.
+
+ghost use Rattle.std.specs.Prelude.{◌≡◌, [], ◌∷◌, ◌++◌, drop, IfOk, OnOk};
+ghost use Rattle.fhir_package.specs.SurveyView.{fault_seen, faults_seen};
+ghost use Rattle.fhir_report.specs.Finding.{unusable_at, all_unusable, faults_told, all_told};
+
+use crate::finding::{Finding, Unusable};
+use fhir_json::NoMemory;
+use fhir_package::{FileFault, Kind, Survey};
+use fhir_schema::Schema;
+use std::alloc::{AllocError, Global};
+
+fn file_of<'r>(fault: &FileFault<'r>) -> &'r str {
+    match fault {
+        FileFault::NotJson(file, _fault) => *file,
+        FileFault::Clash(clash) => clash.file,
+    }
+}
+
+fn push_fault<'r>(fault: &'r FileFault<'r>, into: &mut Vec<Finding<'r>>) -> Result<(), AllocError>
+    ensures faults { OnOk result (faults_told into.new.items ≡ faults_told into.old.items ++ fault_seen fault.now ∷ []) }
+    ensures unusable { OnOk result (all_told into.new.items ≡ all_told into.old.items) }
+{
+    into.push(Finding::File(fault))?;
+    Ok(())
+}
+
+// Puts in the faults from a place on whose files aren't behind this one, and gives the place of the first that is.
+fn push_faults<'r>(
+    faults: &'r [FileFault<'r>],
+    from: usize,
+    file: &str,
+    into: &mut Vec<Finding<'r>>,
+) -> Result<usize, AllocError>
+    ensures faults { IfOk result (λ place. faults_told into.old.items ++ drop from (faults_seen faults.now)
+        ≡ faults_told into.new.items ++ drop place (faults_seen faults.now)) }
+    ensures unusable { IfOk result (λ place. all_told into.new.items ≡ all_told into.old.items) }
+{
+    let mut place = from;
+    while place < faults.len() {
+        if file_of(&faults[place]) > file {
+            return Ok(place);
+        }
+        push_fault(&faults[place], into)?;
+        place += 1;
+    }
+    Ok(place)
+}
+
+// Puts in all faults from a place on.
+fn push_rest<'r>(
+    faults: &'r [FileFault<'r>],
+    from: usize,
+    into: &mut Vec<Finding<'r>>,
+) -> Result<(), AllocError>
+    ensures faults { OnOk result (faults_told into.new.items ≡ faults_told into.old.items ++ drop from (faults_seen faults.now)) }
+    ensures unusable { OnOk result (all_told into.new.items ≡ all_told into.old.items) }
+{
+    let mut place = from;
+    while place < faults.len() {
+        push_fault(&faults[place], into)?;
+        place += 1;
+    }
+    Ok(())
+}
+
+// Puts in the definition of a file at a url, if it can't be used.
+fn push_unusable<'r>(
+    schema: &Schema,
+    file: &'r str,
+    url: &'r str,
+    into: &mut Vec<Finding<'r>>,
+) -> Result<(), AllocError>
+    ensures faults { OnOk result (faults_told into.new.items ≡ faults_told into.old.items) }
+    ensures unusable { OnOk result (all_told into.new.items ≡ all_told into.old.items ++ unusable_at schema.now file.now url.now) }
+{
+    if let Some(reason) = schema.unusable(url) {
+        into.push(Finding::Unusable(Unusable { file, url, reason }))?;
+    }
+    Ok(())
+}
+
+/// What is wrong with the files of a survey, and its definitions that can't be used, by the schema of its package: in the order
+/// of the files, and within one the faults first. The one refusal is want of memory.
+pub fn findings<'r>(
+    alloc: Global,
+    survey: &'r Survey<'r>,
+    schema: &Schema,
+) -> Result<Vec<Finding<'r>>, NoMemory>
+    ensures faults { IfOk result (λ fs. faults_told fs.items ≡ survey.now.faults) }
+    ensures unusable { IfOk result (λ fs. all_told fs.items ≡ all_unusable schema.now survey.now) }
+{
+    let mut found = Vec::new(alloc);
+    let mut told = 0;
+    for (place, url) in survey
+        .package()
+        .names(Kind::StructureDefinition)
+        .enumerate()
+    {
+        let file = survey.source(Kind::StructureDefinition, place);
+        told = push_faults(survey.faults(), told, file, &mut found)?;
+        push_unusable(schema, file, url, &mut found)?;
+    }
+    push_rest(survey.faults(), told, &mut found)?;
+    Ok(found)
+}
