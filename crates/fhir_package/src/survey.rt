@@ -242,10 +242,12 @@ impl<'f> Survey<'f> {
         let name = file.name.as_str();
         match read_or_place(alloc, &file.bytes) {
             Ok(json) => self.put_each(alloc, name, definitions_in(alloc, json)?),
-            Err(Refusal {
-                expected: Expected::Memory,
-                ..
-            }) => Err(NoMemory),
+            Err(
+                Refusal {
+                    expected: Expected::Memory,
+                    ..
+                },
+            ) => Err(NoMemory),
             Err(refusal) => Ok(self.push_fault(FileFault::NotJson(name, refusal))?),
         }
     }
