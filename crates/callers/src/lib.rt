@@ -264,7 +264,7 @@ pub fn is_right(alloc: Global, schema: &Schema, bytes: &[u8]) -> Result<bool, Ce
 pub fn are_usable<'r>(
     alloc: Global,
     survey: &'r Survey<'r>,
-    schema: &Schema,
+    schema: &'r Schema,
 ) -> Result<bool, NoMemory>
     ensures { IfOk result (λ all. IsTrue all
         → (survey.now.faults ≡ []) × (all_unusable schema.now survey.now ≡ [])) }

@@ -112,7 +112,8 @@ pub(crate) fn next_pair(text: &str) -> Option<(PairLine<'_>, &str)>
     Some((line_of(line)?, rest))
 }
 
-fn behind_line<'a>(word: &str, text: &'a str) -> Option<&'a str>
+/// What stands behind a first line that is this.
+pub(crate) fn behind_line<'a>(word: &str, text: &'a str) -> Option<&'a str>
     ensures { text_seen result ≡ behind_line word.now text.now }
 {
     let (line, rest) = cut_at_feed(text)?;
@@ -130,7 +131,8 @@ fn field_of<'a>(word: &str, line: &'a str) -> Option<&'a str>
     }
 }
 
-fn field_line<'a>(word: &str, text: &'a str) -> Option<(&'a str, &'a str)>
+/// The field of a first line with this word, and what stands behind the line.
+pub(crate) fn field_line<'a>(word: &str, text: &'a str) -> Option<(&'a str, &'a str)>
     ensures { parts_seen result ≡ field_line word.now text.now }
 {
     let (line, rest) = cut_at_feed(text)?;

@@ -19,6 +19,7 @@
 
 mod certificate;
 mod fault;
+mod flaw;
 mod format;
 mod laws;
 mod lines;
@@ -28,6 +29,7 @@ mod writing;
 
 pub use certificate::{Certificate, fits};
 pub use fault::CertFault;
+pub use flaw::{Flaw, FlawKind, Part, flaws};
 pub use laws::{format_agrees, written_back, written_back_in_packages};
 pub use lines::MAX_PAIRS;
 pub use pair::{NodePair, Pair};

@@ -1,2 +1,4 @@
 -- Lemmas on findings.
-pub mod Telling
+pub mod Faulty
+pub mod Told
+pub mod Usable

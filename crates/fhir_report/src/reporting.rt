@@ -4,15 +4,16 @@ ghost use Rattle.std.specs.Prelude.{◌≡◌, [], ◌∷◌, ◌++◌, drop, If
 ghost use Rattle.fhir_package.specs.SurveyView.{fault_seen, faults_seen};
 ghost use Rattle.fhir_report.specs.Finding.{unusable_at, all_unusable, faults_told, all_told};
 
-use crate::finding::{Finding, Unusable};
+use crate::finding::{Finding, UnreadRule, Unusable};
+use crate::unread::unread_rules;
 use fhir_json::NoMemory;
 use fhir_package::{FileFault, Kind, Survey};
-use fhir_schema::Schema;
+use fhir_schema::{NodeRef, Schema};
 use std::alloc::{AllocError, Global};
 
 fn file_of<'r>(fault: &FileFault<'r>) -> &'r str {
     match fault {
-        FileFault::NotJson(file, _fault) => *file,
+        FileFault::NotJson(fault) => fault.file,
         FileFault::Clash(clash) => clash.file,
     }
 }
@@ -80,12 +81,85 @@ fn push_unusable<'r>(
     Ok(())
 }
 
-/// What is wrong with the files of a survey, and its definitions that can't be used, by the schema of its package: in the order
-/// of the files, and within one the faults first. The one refusal is want of memory.
+fn push_rule<'r>(unread: UnreadRule<'r>, into: &mut Vec<Finding<'r>>) -> Result<(), AllocError>
+    ensures faults { OnOk result (faults_told into.new.items ≡ faults_told into.old.items) }
+    ensures unusable { OnOk result (all_told into.new.items ≡ all_told into.old.items) }
+{
+    into.push(Finding::Unread(unread))?;
+    Ok(())
+}
+
+// Puts in the rules of a node that aren't judged.
+fn push_unread<'r>(
+    alloc: Global,
+    schema: &'r Schema,
+    file: &'r str,
+    node: NodeRef,
+    into: &mut Vec<Finding<'r>>,
+) -> Result<(), AllocError>
+    ensures faults { OnOk result (faults_told into.new.items ≡ faults_told into.old.items) }
+    ensures unusable { OnOk result (all_told into.new.items ≡ all_told into.old.items) }
+{
+    let (url, id) = schema.name(node);
+    for rule in unread_rules(alloc, schema, node)? {
+        let unread = UnreadRule {
+            file,
+            url,
+            id,
+            rule,
+        };
+        push_rule(unread, into)?;
+    }
+    Ok(())
+}
+
+// Puts in the rules of the definition at a place that aren't judged, if it can be used.
+fn push_unread_each<'r>(
+    alloc: Global,
+    schema: &'r Schema,
+    file: &'r str,
+    place: usize,
+    into: &mut Vec<Finding<'r>>,
+) -> Result<(), AllocError>
+    ensures faults { OnOk result (faults_told into.new.items ≡ faults_told into.old.items) }
+    ensures unusable { OnOk result (all_told into.new.items ≡ all_told into.old.items) }
+{
+    let count = match schema.definitions().get(place) {
+        Some(definition) if schema.reason(place).is_none() => definition.elements().len(),
+        _ => 0,
+    };
+    for element in 0..count {
+        let node = NodeRef {
+            definition: place,
+            element,
+        };
+        push_unread(alloc, schema, file, node, into)?;
+    }
+    Ok(())
+}
+
+// Puts in what was found of a definition of a file, by its place and its url.
+fn push_definition<'r>(
+    alloc: Global,
+    schema: &'r Schema,
+    file: &'r str,
+    place: usize,
+    url: &'r str,
+    into: &mut Vec<Finding<'r>>,
+) -> Result<(), AllocError>
+    ensures faults { OnOk result (faults_told into.new.items ≡ faults_told into.old.items) }
+    ensures unusable { OnOk result (all_told into.new.items ≡ all_told into.old.items ++ unusable_at schema.now file.now url.now) }
+{
+    push_unusable(schema, file, url, into)?;
+    push_unread_each(alloc, schema, file, place, into)
+}
+
+/// What is wrong with the files of a survey, its definitions that can't be used, and the rules of the others that aren't judged,
+/// by the schema of its package: in the order of the files, and within one the faults first. The one refusal is want of memory.
 pub fn findings<'r>(
     alloc: Global,
     survey: &'r Survey<'r>,
-    schema: &Schema,
+    schema: &'r Schema,
 ) -> Result<Vec<Finding<'r>>, NoMemory>
     ensures faults { IfOk result (λ fs. faults_told fs.items ≡ survey.now.faults) }
     ensures unusable { IfOk result (λ fs. all_told fs.items ≡ all_unusable schema.now survey.now) }
@@ -99,7 +173,7 @@ pub fn findings<'r>(
     {
         let file = survey.source(Kind::StructureDefinition, place);
         told = push_faults(survey.faults(), told, file, &mut found)?;
-        push_unusable(schema, file, url, &mut found)?;
+        push_definition(alloc, schema, file, place, url, &mut found)?;
     }
     push_rest(survey.faults(), told, &mut found)?;
     Ok(found)

@@ -4,7 +4,8 @@ ghost use Rattle.std.specs.Prelude.{◌≡◌, false, IsTrue};
 ghost use Rattle.std.specs.Option.{option_copied, option_map, option_map_or};
 ghost use Rattle.fhir_json.specs.Memory.{Gives};
 ghost use Rattle.fhir_schema.specs.Schemas.{schema_of, unusable, is_usable, elements_at, has, element_at, url_at, id_of_node, is_root_node, node_in, root_element, root, node_with, node, slots, slot_named, slices, slice_named, criteria, is_closed, target, holder, types, forms, property, type_root, resource_root, is_concrete, is_loaded, loaded, concepts_at};
-ghost use Rattle.fhir_schema.specs.Types.{names_resource, type_of_code};
+ghost use Rattle.fhir_schema.specs.Settling.{reason_at};
+ghost use Rattle.fhir_schema.specs.Types.{names_resource, type_of_code, type_place};
 ghost use Rattle.fhir_fp_syntax.specs.Expression.{expression_of as tree_of};
 ghost use Rattle.fhir_schema.specs.Expressions.{expression_at};
 ghost use Rattle.fhir_schema.specs.Forms.{are_apart};
@@ -28,6 +29,7 @@ use crate::slots::Slot;
 use crate::table::Table;
 use crate::types::{canonical_place, reason_at};
 use fhir_codes::{ConceptSet, ValueSets};
+use fhir_definition::Definition;
 use fhir_elements::{ElementDef, Reason, TypeEntry};
 use fhir_fp_syntax::Expr;
 use fhir_json::NoMemory;
@@ -99,6 +101,27 @@ impl Schema {
             value_sets,
             expressions,
         })
+    }
+
+    /// The definitions of the package, in its order, also those that can't be used.
+    pub fn definitions(&self) -> &[Definition]
+        ensures { result.now ≡ self.now.definitions }
+    {
+        self.table.definitions()
+    }
+
+    /// The place of the first definition of a type. It may be one that can't be used.
+    pub fn type_place(&self, code: &str) -> Option<usize>
+        ensures { result ≡ type_place self.now.definitions code.now }
+    {
+        self.table.type_place(code)
+    }
+
+    /// Why the definition at a place can't be used, if there is one that can't.
+    pub fn reason(&self, place: usize) -> Option<Reason>
+        ensures { result ≡ reason_at self.now.reasons place }
+    {
+        reason_at(&self.reasons, place)
     }
 
     /// Why the definition at a url can't be used, if it is there and can't.

@@ -1,7 +1,7 @@
 use Rattle.std.proofs.Common.{◌+◌, drop, ◌∙◌, arith}
 use Rattle.fhir_package.specs.SurveyView.{fault_seen, faults_seen}
 use Rattle.fhir_report.specs.Finding.{faults_told}
-use Rattle.fhir_report.proofs.Telling.{one_told, seen_from}
+use Rattle.fhir_report.proofs.Told.{one_told, seen_from}
 use Rattle.fhir_report.proofs.reporting.push_rest.Goals as goal
 
 pub loop-place-preserved : goal.loop-place-preserved

@@ -1,0 +1,186 @@
+//! What is wrong with the text of a certificate, line by line.
+
+use crate::format::{NameText, PairLine, behind_line, field_line, next_pair};
+use fhir_json::{NoMemory, position_of};
+use fhir_names::Index;
+use fhir_schema::Schema;
+use std::alloc::Global;
+
+/// What stands on a line of a certificate.
+#[derive(Clone, Copy, Debug, PartialEq, Eq)]
+pub enum Part {
+    /// Bytes of UTF-8.
+    Utf8,
+    /// The line that names the format.
+    FirstLine,
+    /// The url of the derived profile.
+    Derived,
+    /// The url of the base.
+    Base,
+    /// A pair, or the last line.
+    PairOrEnd,
+    /// The line feed that ends the last line.
+    LineFeed,
+    /// Nothing: the line before is the last.
+    Nothing,
+}
+
+/// What is wrong with a line.
+#[derive(Clone, Copy, Debug, PartialEq, Eq)]
+pub enum FlawKind<'a> {
+    /// `C1`: this doesn't stand there.
+    Expected(Part),
+    /// `C2`: no definition at the url can be used.
+    Definition(&'a str),
+    /// `C2`: the definition at the url has no element of the id.
+    Element(&'a str, &'a str),
+}
+
+/// Something that is wrong with a line of a certificate.
+#[derive(Clone, Copy, Debug, PartialEq, Eq)]
+pub struct Flaw<'a> {
+    /// The line, from 1.
+    pub line: usize,
+    /// What is wrong with it.
+    pub kind: FlawKind<'a>,
+}
+
+// The flaws that were found, and the names that were told.
+#[derive(Drop)]
+struct FlawList<'a> {
+    found: Vec<Flaw<'a>>,
+    told: Index,
+}
+
+impl<'a> FlawList<'a> {
+    fn put(&mut self, line: usize, kind: FlawKind<'a>) -> Result<(), NoMemory> {
+        Ok(self.found.push(Flaw { line, kind })?)
+    }
+
+    // Puts in what is wrong with a name, unless that was told.
+    fn put_new(
+        &mut self,
+        alloc: Global,
+        line: usize,
+        name: &str,
+        kind: FlawKind<'a>,
+    ) -> Result<(), NoMemory> {
+        if self.told.get(name).is_some() {
+            return Ok(());
+        }
+        self.told.put(alloc, name, line)?;
+        self.put(line, kind)
+    }
+
+    fn take_url(
+        &mut self,
+        alloc: Global,
+        schema: &Schema,
+        line: usize,
+        url: &'a str,
+    ) -> Result<(), NoMemory> {
+        if schema.root(url).is_some() {
+            return Ok(());
+        }
+        self.put_new(alloc, line, url, FlawKind::Definition(url))
+    }
+
+    fn take_name(
+        &mut self,
+        alloc: Global,
+        schema: &Schema,
+        line: usize,
+        name: NameText<'a>,
+    ) -> Result<(), NoMemory> {
+        if schema.root(name.url).is_none() {
+            return self.take_url(alloc, schema, line, name.url);
+        }
+        if schema.node(name.url, name.id).is_some() {
+            return Ok(());
+        }
+        let both = format!(in alloc; "{}\t{}", name.url, name.id)?;
+        let kind = FlawKind::Element(name.url, name.id);
+        self.put_new(alloc, line, both.as_str(), kind)
+    }
+
+    fn take_pair(
+        &mut self,
+        alloc: Global,
+        schema: &Schema,
+        line: usize,
+        pair: PairLine<'a>,
+    ) -> Result<(), NoMemory> {
+        match pair {
+            PairLine::Item(derived, base) | PairLine::Kids(derived, base) => {
+                self.take_name(alloc, schema, line, derived)?;
+                self.take_name(alloc, schema, line, base)
+            }
+        }
+    }
+
+    // What stands behind the pairs, from a line on.
+    fn take_end(&mut self, line: usize, text: &str) -> Result<(), NoMemory> {
+        if text == "end\n" {
+            Ok(())
+        } else if text == "end" {
+            self.put(line, FlawKind::Expected(Part::LineFeed))
+        } else if text.as_bytes().starts_with(b"end\n") {
+            self.put(line.saturating_add(1), FlawKind::Expected(Part::Nothing))
+        } else {
+            self.put(line, FlawKind::Expected(Part::PairOrEnd))
+        }
+    }
+
+    fn take_pairs(
+        &mut self,
+        alloc: Global,
+        schema: &Schema,
+        text: &'a str,
+    ) -> Result<(), NoMemory> {
+        let mut line = 4_usize;
+        let mut rest = text;
+        while let Some((pair, behind)) = next_pair(rest) {
+            self.take_pair(alloc, schema, line, pair)?;
+            line = line.saturating_add(1);
+            rest = behind;
+        }
+        self.take_end(line, rest)
+    }
+
+    fn take_text(&mut self, alloc: Global, schema: &Schema, text: &'a str) -> Result<(), NoMemory> {
+        let Some(rest) = behind_line("fhirprof-certificate 1", text) else {
+            return self.put(1, FlawKind::Expected(Part::FirstLine));
+        };
+        let Some((derived, rest)) = field_line("derived", rest) else {
+            return self.put(2, FlawKind::Expected(Part::Derived));
+        };
+        self.take_url(alloc, schema, 2, derived)?;
+        let Some((base, rest)) = field_line("base", rest) else {
+            return self.put(3, FlawKind::Expected(Part::Base));
+        };
+        self.take_url(alloc, schema, 3, base)?;
+        self.take_pairs(alloc, schema, rest)
+    }
+}
+
+/// What is wrong with the bytes of a certificate, in the order of their lines: each definition and each element that isn't
+/// known, at the first line that names it, and the first line that isn't written as it should be, with which it ends. The one
+/// refusal is want of memory.
+pub fn flaws<'a>(
+    alloc: Global,
+    schema: &Schema,
+    bytes: &'a [u8],
+) -> Result<Vec<Flaw<'a>>, NoMemory> {
+    let mut flaws = FlawList {
+        found: Vec::new(alloc),
+        told: Index::new(alloc),
+    };
+    match str::from_utf8(bytes) {
+        Ok(text) => flaws.take_text(alloc, schema, text)?,
+        Err(error) => {
+            let line = position_of(bytes, error.valid_up_to()).line;
+            flaws.put(line, FlawKind::Expected(Part::Utf8))?;
+        }
+    }
+    Ok(flaws.found)
+}

@@ -1,0 +1,217 @@
+//! What a pair of a certificate fails, in plain words, with what stands in both elements.
+
+use fhir_cert_check::Rule;
+use fhir_certificate::{NodePair, Pair};
+use fhir_elements::{ElementDef, Max, TypeEntry};
+use fhir_json::{Json, Member, NoMemory, write};
+use fhir_schema::{NodeRef, Schema, Slot};
+use std::alloc::{AllocError, Global};
+
+fn nodes_of(pair: Pair) -> NodePair {
+    match pair {
+        Pair::Item(nodes) | Pair::Kids(nodes) => nodes,
+    }
+}
+
+fn entry_of(node: NodeRef, slot: &Slot) -> NodeRef {
+    NodeRef {
+        definition: node.definition,
+        element: slot.entry(),
+    }
+}
+
+// The element of a node's slot, and that of a slice of it.
+fn slot_node(schema: &Schema, node: NodeRef, name: &str) -> Option<NodeRef> {
+    Some(entry_of(node, schema.slot(node, name)?))
+}
+
+fn slice_node(schema: &Schema, node: NodeRef, name: &str, slice: &str) -> Option<NodeRef> {
+    let node = slot_node(schema, node, name)?;
+    Some(entry_of(node, schema.slice(node, slice)?))
+}
+
+fn element_at(schema: &Schema, node: Option<NodeRef>) -> Option<&ElementDef> {
+    schema.element(node?)
+}
+
+// ---- what an element says
+
+fn most_text(alloc: Global, most: Option<Max>) -> Result<String, AllocError> {
+    match most {
+        Some(Max::UpTo(most)) => format!(in alloc; "{most}"),
+        Some(Max::Unbounded) | None => String::from_str(alloc, "*"),
+    }
+}
+
+fn bounds_text(alloc: Global, element: Option<&ElementDef>) -> Result<String, AllocError> {
+    let Some(element) = element else {
+        return String::from_str(alloc, "nothing");
+    };
+    let least = element.min().unwrap_or(0);
+    let most = most_text(alloc, element.max())?;
+    format!(in alloc; "{least}..{most}")
+}
+
+fn json_text(alloc: Global, value: &Json<'_>) -> Result<String, NoMemory> {
+    let bytes = write(alloc, value)?;
+    Ok(String::from_utf8_lossy(alloc, &bytes)?)
+}
+
+// A value under its whole name.
+fn put_member(
+    alloc: Global,
+    text: &mut String,
+    member: Option<&Member<'static>>,
+) -> Result<(), NoMemory> {
+    let Some(member) = member else {
+        return Ok(());
+    };
+    if !text.is_empty() {
+        text.push_str(", ")?;
+    }
+    text.push_str(member.name.as_str())?;
+    text.push_str(" ")?;
+    Ok(text.push_str(json_text(alloc, &member.value)?.as_str())?)
+}
+
+fn or_nothing(mut text: String) -> Result<String, NoMemory> {
+    if text.is_empty() {
+        text.push_str("nothing")?;
+    }
+    Ok(text)
+}
+
+fn fixed_text(alloc: Global, element: &ElementDef) -> Result<String, NoMemory> {
+    let mut text = String::new(alloc);
+    put_member(alloc, &mut text, element.fixed())?;
+    or_nothing(text)
+}
+
+fn pattern_text(alloc: Global, element: &ElementDef) -> Result<String, NoMemory> {
+    let mut text = String::new(alloc);
+    put_member(alloc, &mut text, element.fixed())?;
+    put_member(alloc, &mut text, element.pattern())?;
+    or_nothing(text)
+}
+
+fn range_text(alloc: Global, element: &ElementDef) -> Result<String, NoMemory> {
+    let mut text = String::new(alloc);
+    put_member(alloc, &mut text, element.min_value())?;
+    put_member(alloc, &mut text, element.max_value())?;
+    or_nothing(text)
+}
+
+fn length_text(alloc: Global, element: &ElementDef) -> Result<String, AllocError> {
+    match element.max_length() {
+        Some(length) => format!(in alloc; "{length}"),
+        None => String::from_str(alloc, "any length"),
+    }
+}
+
+fn binding_text(alloc: Global, element: &ElementDef) -> Result<String, AllocError> {
+    String::from_str(alloc, element.required_value_set().unwrap_or("any codes"))
+}
+
+fn put_urls(text: &mut String, opening: &str, urls: &[String]) -> Result<(), AllocError> {
+    for (place, url) in urls.iter().enumerate() {
+        text.push_str(if place == 0 { opening } else { " or " })?;
+        text.push_str(url.as_str())?;
+    }
+    Ok(())
+}
+
+fn types_text(alloc: Global, entries: &[TypeEntry]) -> Result<String, AllocError> {
+    let mut text = String::new(alloc);
+    for entry in entries {
+        if !text.is_empty() {
+            text.push_str(", ")?;
+        }
+        text.push_str(entry.code())?;
+        put_urls(&mut text, " as ", entry.profiles())?;
+        put_urls(&mut text, " to ", entry.targets())?;
+    }
+    if text.is_empty() {
+        text.push_str("any type")?;
+    }
+    Ok(text)
+}
+
+fn node_types_text(alloc: Global, schema: &Schema, node: NodeRef) -> Result<String, AllocError> {
+    if schema.is_root(node) {
+        return String::from_str(alloc, schema.type_code(node));
+    }
+    types_text(alloc, schema.types(node))
+}
+
+// What an element says by the field that a rule is about.
+fn said(alloc: Global, schema: &Schema, node: NodeRef, rule: Rule<'_>) -> Result<String, NoMemory> {
+    let Some(element) = schema.element(node) else {
+        return Ok(String::from_str(alloc, "nothing")?);
+    };
+    match rule {
+        Rule::TypeCode => Ok(node_types_text(alloc, schema, node)?),
+        Rule::Length => Ok(length_text(alloc, element)?),
+        Rule::Binding => Ok(binding_text(alloc, element)?),
+        Rule::Cardinality(name) => {
+            let slot = element_at(schema, slot_node(schema, node, name));
+            Ok(bounds_text(alloc, slot)?)
+        }
+        Rule::Bounds { name, slice } => {
+            let slice = element_at(schema, slice_node(schema, node, name, slice));
+            Ok(bounds_text(alloc, slice)?)
+        }
+        Rule::Fixed => fixed_text(alloc, element),
+        Rule::Pattern => pattern_text(alloc, element),
+        _ => range_text(alloc, element),
+    }
+}
+
+fn compared(
+    alloc: Global,
+    schema: &Schema,
+    nodes: NodePair,
+    rule: Rule<'_>,
+) -> Result<String, NoMemory> {
+    let derived = said(alloc, schema, nodes.derived, rule)?;
+    let base = said(alloc, schema, nodes.base, rule)?;
+    Ok(format!(in alloc;
+        "{rule}: {derived} in the derived profile isn't within {base} of the base"
+    )?)
+}
+
+// What is asked that isn't there, by the rules that ask for that.
+fn lacking(rule: Rule<'_>) -> &'static str {
+    match rule {
+        Rule::Root => "no `item` line pairs the roots of the two profiles",
+        Rule::Constraint(_) => "the derived element has no constraint with the same expression",
+        Rule::Children => "no `kids` line pairs the children of the two elements",
+        Rule::Slot(_) => "the derived profile has no such element there",
+        Rule::Entry(_) => "no `item` line pairs the two elements of this name",
+        Rule::Closed(_) => "the base allows items in slices alone, and the derived profile others",
+        Rule::Slice { .. } =>
+            "the derived profile has no such slice, or no `item` line pairs the two",
+        Rule::Criteria { .. } => "the two slices are not told apart by the same",
+        _ => "it doesn't hold",
+    }
+}
+
+/// Which rule a pair fails, in plain words: with what stands in both elements, where the rule compares that. The one refusal is
+/// want of memory.
+pub fn rule_words(
+    alloc: Global,
+    schema: &Schema,
+    pair: Pair,
+    rule: Rule<'_>,
+) -> Result<String, NoMemory> {
+    match rule {
+        Rule::TypeCode
+        | Rule::Fixed
+        | Rule::Pattern
+        | Rule::Range
+        | Rule::Length
+        | Rule::Binding
+        | Rule::Cardinality(_)
+        | Rule::Bounds { .. } => compared(alloc, schema, nodes_of(pair), rule),
+        _ => Ok(format!(in alloc; "{rule}: {}", lacking(rule))?),
+    }
+}
