@@ -2,13 +2,14 @@
 //! of `sound_levels` a count.
 
 use crate::trees::{array_of_levels, object_of};
-use fhir_json::{Json, JsonFault, NoMemory, read, sound, write};
+use fhir_json::{Json, JsonFault, NoMemory, position_of, read, read_or_place, sound, write};
 use std::alloc::{AllocError, Global};
 use std::borrow::CowStr;
 
 #[derive(Clone, Copy)]
 enum Call {
     Read,
+    Place,
     Sound,
     Write,
     Detach,
@@ -24,6 +25,7 @@ enum Call {
 fn call_of(name: &str) -> Option<Call> {
     match name {
         "read" => Some(Call::Read),
+        "place" => Some(Call::Place),
         "sound" => Some(Call::Sound),
         "write" => Some(Call::Write),
         "detach" => Some(Call::Detach),
@@ -48,6 +50,7 @@ pub(crate) fn answer(alloc: Global, call: &str, text: &str) -> Result<Option<Str
 
 fn answer_of_call(alloc: Global, call: Call, text: &str) -> Result<String, AllocError> {
     match call {
+        Call::Place => place_of(alloc, text.as_bytes()),
         Call::ReadsAFront => format!(in alloc; "{}", reads_a_front(alloc, text.as_bytes())),
         Call::Broken => broken(alloc, text),
         // Trees that no text has.
@@ -57,6 +60,17 @@ fn answer_of_call(alloc: Global, call: Call, text: &str) -> Result<String, Alloc
         Call::NoMemory => format!(in alloc; "{} {NoMemory}", JsonFault::NoMemory),
         Call::Read | Call::Sound | Call::Write | Call::Detach | Call::FirstLoan => {
             answer_of_bytes(alloc, text.as_bytes(), call)
+        }
+    }
+}
+
+// Where bytes are refused, and what was expected there.
+fn place_of(alloc: Global, bytes: &[u8]) -> Result<String, AllocError> {
+    match read_or_place(alloc, bytes) {
+        Ok(_) => String::from_str(alloc, "a tree"),
+        Err(refusal) => {
+            let place = position_of(bytes, bytes.len().saturating_sub(refusal.left));
+            format!(in alloc; "{}:{} {:?}", place.line, place.column, refusal.expected)
         }
     }
 }

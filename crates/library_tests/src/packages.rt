@@ -2,7 +2,8 @@
 //! `!` where the device fails to give them.
 
 use fhir_package::{
-    Folder, FolderFile, FolderFiles, Kind, LoadFault, MemoryFile, MemoryFolder, Package, load, pack,
+    FileFault, Folder, FolderFile, FolderFiles, Kind, LoadFault, MemoryFile, MemoryFolder, Package,
+    Survey, load, pack,
 };
 use std::alloc::{AllocError, Global};
 
@@ -10,6 +11,7 @@ use std::alloc::{AllocError, Global};
 enum Call {
     Load,
     Pack,
+    Survey,
     List,
     Read,
     Get,
@@ -23,6 +25,7 @@ fn call_of(name: &str) -> Option<Call> {
     match name {
         "load" => Some(Call::Load),
         "pack" => Some(Call::Pack),
+        "survey" => Some(Call::Survey),
         "list" => Some(Call::List),
         "read" => Some(Call::Read),
         "get" => Some(Call::Get),
@@ -59,6 +62,7 @@ fn answer_of_call(
         Call::Unlisted => answer_of_unlisted(alloc),
         Call::NoMemory => format!(in alloc; "{}", LoadFault::NoMemory),
         Call::Pack => answer_of_pack(alloc, text),
+        Call::Survey => answer_of_survey(alloc, text),
         Call::Get | Call::Places => answer_of_loaded(alloc, &mut folder, call, argument),
         Call::Load | Call::List | Call::Read => {
             answer_of_folder(alloc, &mut folder, call, argument)
@@ -160,6 +164,42 @@ fn answer_of_pack(alloc: Global, text: &[u8]) -> Result<String, AllocError> {
     let files = files_of_lines(alloc, text)?;
     match pack(alloc, &files) {
         Ok(package) => names_of(alloc, &package),
+        Err(fault) => format!(in alloc; "{fault}"),
+    }
+}
+
+fn fault_text(alloc: Global, fault: &FileFault<'_>) -> Result<String, AllocError> {
+    match fault {
+        FileFault::NotJson(fault) => {
+            let place = fault.position;
+            format!(in alloc;
+                "{} {}:{} {:?}",
+                fault.file, place.line, place.column, fault.expected
+            )
+        }
+        FileFault::Clash(clash) => {
+            format!(in alloc;
+                "{} {:?} {} {}",
+                clash.file, clash.kind, clash.url, clash.first
+            )
+        }
+    }
+}
+
+fn faults_text(alloc: Global, survey: &Survey<'_>) -> Result<String, AllocError> {
+    let mut text = names_of(alloc, survey.package())?;
+    for fault in survey.faults() {
+        text.push_str("; ")?;
+        text.push_str(fault_text(alloc, fault)?.as_str())?;
+    }
+    Ok(text)
+}
+
+// What a survey of files says: the urls of the package, and each fault.
+fn answer_of_survey(alloc: Global, text: &[u8]) -> Result<String, AllocError> {
+    let files = files_of_lines(alloc, text)?;
+    match Survey::of(alloc, &files) {
+        Ok(survey) => faults_text(alloc, &survey),
         Err(fault) => format!(in alloc; "{fault}"),
     }
 }
