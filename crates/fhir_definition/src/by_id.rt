@@ -63,7 +63,9 @@ fn ids_of(alloc: Global, elements: &[ElementDef]) -> Result<Index, AllocError>
     Ok(index)
 }
 
-fn up_of(id: &str) -> Option<&str>
+/// The id under which an element of that id stands: for a slice its element's, and else the id in front of its last name. A
+/// root has none.
+pub fn up_of(id: &str) -> Option<&str>
     ensures { text_seen result ≡ up_of id.now }
 {
     if slice_of(id).is_some() {

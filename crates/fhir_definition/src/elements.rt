@@ -12,8 +12,8 @@ use fhir_elements::{ElementDef, Reason, element_fault, fields_of};
 use fhir_json::{Json, NoMemory};
 use std::alloc::Global;
 
-/// The trees of the snapshot's elements.
-pub(crate) fn element_trees<'t, 'j>(json: &'t Json<'j>) -> &'t [Json<'j>]
+/// The trees of the elements of a definition's snapshot, in their order.
+pub fn element_trees<'t, 'j>(json: &'t Json<'j>) -> &'t [Json<'j>]
     ensures { trees_of result.now ≡ element_trees (tree_of json.now) }
 {
     match json.field("snapshot") {

@@ -25,8 +25,9 @@ mod laws;
 mod snapshot;
 
 pub use bounds::bound_type;
-pub use by_id::is_root;
+pub use by_id::{is_root, up_of};
 pub use children::{empty_lists, put_at};
 pub use definition::Definition;
+pub use elements::element_trees;
 pub use kind::TypeKind;
 pub use laws::children_and_slices;

@@ -194,7 +194,8 @@ pub fn element_fault(alloc: Global, json: &Json<'_>) -> Result<Option<Reason>, N
 
 // ---- the element that it is
 
-fn owned_member(alloc: Global, member: &Member<'_>) -> Result<Member<'static>, NoMemory>
+/// A copy of a member that borrows nothing. The one refusal is want of memory.
+pub fn owned_member(alloc: Global, member: &Member<'_>) -> Result<Member<'static>, NoMemory>
     ensures { Gives property_of result (property_of member.now) }
 {
     let name = String::from_str(alloc, member.name.as_str())?;

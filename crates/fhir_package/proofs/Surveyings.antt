@@ -7,7 +7,7 @@ use Rattle.fhir_matching.specs.Equality.{equal}
 use Rattle.fhir_package.specs.Definitions.{Definitions, no_definitions, at_url}
 use Rattle.fhir_package.specs.Folder.{Files}
 use Rattle.fhir_package.specs.Packing.{Refusal, Definition, definitions_in, joined, join, join_all, and_then, or_clash, put_all, take_tree, take_files}
-use Rattle.fhir_package.specs.Surveying.{FileFault, not_json, clash, source_of, Surveyed, nothing_surveyed, with_fault, compared, put, put_each, survey_tree, survey_each, refusal_of, packed_by}
+use Rattle.fhir_package.specs.Surveying.{FileFault, not_json, clash, source_of, Surveyed, nothing_surveyed, with_fault, compared, put, put_each, position_in, survey_tree, survey_each, refusal_of, packed_by}
 
 -- this is the first fault
 abbrev Begins : FileFault → Surveyed → Type 0
@@ -80,25 +80,28 @@ each_tells file (d ∷ ds) s none =
 
 -- ---- files
 
-tree_keeps : (file : Text) (r : Result Tree JsonRefusal) (f : FileFault) (s : Surveyed) → Begins f s → Begins f (survey_tree file r s)
-tree_keeps file (Ok t) f s b = each_keeps file (definitions_in t) f s b
-tree_keeps file (Err fault) f s b = fault_behind f _ s b
+tree_keeps : (file bytes : Text) (r : Result Tree JsonRefusal) (f : FileFault) (s : Surveyed) → Begins f s → Begins f (survey_tree file bytes r s)
+tree_keeps file bytes (Ok t) f s b = each_keeps file (definitions_in t) f s b
+tree_keeps file bytes (Err refusal) f s b = fault_behind f _ s b
 
-tree_tells : (file : Text) (r : Result Tree JsonRefusal) (s : Surveyed) → s.faults ≡ [] → Tells (take_tree file (without_place r) s.definitions) (survey_tree file r s)
-tree_tells file (Ok t) s none = each_tells file (definitions_in t) s none
-tree_tells file (Err fault) s none = (not_json file fault, first_fault (not_json file fault) s none, refl)
+tree_tells : (file bytes : Text) (r : Result Tree JsonRefusal) (s : Surveyed) → s.faults ≡ []
+    → Tells (take_tree file (without_place r) s.definitions) (survey_tree file bytes r s)
+tree_tells file bytes (Ok t) s none = each_tells file (definitions_in t) s none
+tree_tells file bytes (Err refusal) s none =
+    let x : FileFault = not_json file refusal.expected (position_in bytes refusal) in
+    (x, first_fault x s none, refl)
 
 files_keep : (fs : Files) (f : FileFault) (s : Surveyed) → Begins f s → Begins f (survey_each fs s)
 files_keep [] f s b = b
-files_keep (x ∷ fs) f s b = files_keep fs f (survey_tree x.0 (placed_reading x.1) s) (tree_keeps x.0 (placed_reading x.1) f s b)
+files_keep (x ∷ fs) f s b = files_keep fs f (survey_tree x.0 x.1 (placed_reading x.1) s) (tree_keeps x.0 x.1 (placed_reading x.1) f s b)
 
 files_tell : (fs : Files) (s : Surveyed) → s.faults ≡ [] → Tells (take_files fs s.definitions) (survey_each fs s)
 unfolding reading
 files_tell [] s none = (none, refl)
 files_tell (x ∷ fs) s none =
     goes_on (take_files fs) (survey_each fs) (files_keep fs) (files_tell fs)
-    (take_tree x.0 (without_place (placed_reading x.1)) s.definitions) (survey_tree x.0 (placed_reading x.1) s)
-    (tree_tells x.0 (placed_reading x.1) s none)
+    (take_tree x.0 (without_place (placed_reading x.1)) s.definitions) (survey_tree x.0 x.1 (placed_reading x.1) s)
+    (tree_tells x.0 x.1 (placed_reading x.1) s none)
 
 pub survey_packs : (files : Files) → take_files files no_definitions ≡ packed_by (survey_each files nothing_surveyed)
 survey_packs files = told (take_files files no_definitions) (survey_each files nothing_surveyed) (files_tell files nothing_surveyed refl)

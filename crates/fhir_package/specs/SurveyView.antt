@@ -5,7 +5,7 @@ use Rattle.fhir_package.specs.declared.survey.FileFault.TheVariants.{NotJson as 
 use Rattle.fhir_package.specs.Surveying.{FileFault as Fault, not_json, clash}
 
 abbrev pub fault_seen : FileFault → Fault
-fault_seen (NotJsonFile file fault) = not_json file.now fault
+fault_seen (NotJsonFile f) = not_json f.file.now f.expected f.position
 fault_seen (ClashOf c) = clash c.kind (string_bytes c.url) c.file.now c.first.now
 
 abbrev pub faults_seen : List FileFault → List Fault

@@ -1,8 +1,11 @@
 -- What is wrong with the files of a folder, in their order, and the package of all that is right: the reading goes on behind each
 -- fault. Of two different definitions of one kind and url the first is kept.
-use Rattle.std.specs.Prelude.{ℕ, List, [], ◌∷◌, ◌++◌, Option, None, Some, Result, Ok, Err, if◌then◌else◌, get_or}
+use Rattle.std.specs.Prelude.{ℕ, ◌-◌, List, [], ◌∷◌, ◌++◌, length, Option, None, Some, Result, Ok, Err, if◌then◌else◌, get_or}
 use Rattle.fhir_json.specs.Tree.{Text, Tree}
+use Rattle.fhir_json.specs.declared.position.Position.{Position}
+use Rattle.fhir_json.specs.declared.refusal.Expected.{Expected}
 use Rattle.fhir_json.specs.declared.refusal.Refusal.{Refusal as JsonRefusal}
+use Rattle.fhir_json.specs.Position.{position_at}
 use Rattle.fhir_json.specs.Reading.{placed_reading}
 use Rattle.fhir_matching.specs.Equality.{equal}
 use Rattle.fhir_package.specs.declared.kind.Kind.{Kind}
@@ -13,8 +16,8 @@ use Rattle.fhir_package.specs.Packing.{Refusal, not_json as not_text, clash as t
 
 -- what is wrong with a file
 pub data FileFault : Type 0 where
-  -- the file of that name is no text of JSON: what was expected, and how many bytes are left there
-  not_json : Text → JsonRefusal → FileFault
+  -- the file of that name is no text of JSON: what was expected, and where
+  not_json : Text → Expected → Position → FileFault
   -- of that kind and url are two different definitions, in the file of the first name and, before it, in that of the second
   clash : Kind → Text → Text → Text → FileFault
 
@@ -73,14 +76,18 @@ abbrev pub put_each : Text → List Definition → Surveyed → Surveyed
 put_each file [] s = s
 put_each file (d ∷ ds) s = put_each file ds (put file d s)
 
--- the definitions of a file, or why it has none
-abbrev pub survey_tree : Text → Result Tree JsonRefusal → Surveyed → Surveyed
-survey_tree file (Ok t) s = put_each file (definitions_in t) s
-survey_tree file (Err refusal) s = with_fault (not_json file refusal) s
+-- the place in the bytes of a file where they are refused
+abbrev pub position_in : Text → JsonRefusal → Position
+position_in bytes refusal = position_at bytes (length bytes - refusal.left)
+
+-- the definitions of a file with these bytes, or why it has none
+abbrev pub survey_tree : Text → Text → Result Tree JsonRefusal → Surveyed → Surveyed
+survey_tree file bytes (Ok t) s = put_each file (definitions_in t) s
+survey_tree file bytes (Err refusal) s = with_fault (not_json file refusal.expected (position_in bytes refusal)) s
 
 abbrev pub survey_each : Files → Surveyed → Surveyed
 survey_each [] s = s
-survey_each (f ∷ fs) s = survey_each fs (survey_tree f.0 (placed_reading f.1) s)
+survey_each (f ∷ fs) s = survey_each fs (survey_tree f.0 f.1 (placed_reading f.1) s)
 
 abbrev pub survey : Files → Surveyed
 survey files = survey_each files nothing_surveyed
@@ -88,7 +95,7 @@ survey files = survey_each files nothing_surveyed
 -- ---- what a survey says of the package
 
 abbrev pub refusal_of : FileFault → Refusal
-refusal_of (not_json file fault) = not_text file
+refusal_of (not_json file expected position) = not_text file
 refusal_of (clash kind url file first) = two_of url
 
 -- the package of files of which nothing is wrong, or else the first fault as a refusal

@@ -145,7 +145,7 @@ impl FolderFiles {
     }
 
     /// The files, in their order.
-    pub(crate) fn files(&self) -> &[FolderFile]
+    pub fn files(&self) -> &[FolderFile]
         ensures { folder_files result.now ≡ self.now }
     {
         &self.files

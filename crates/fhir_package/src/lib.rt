@@ -38,4 +38,4 @@ pub use laws::{bundles, ordered_names, packages, packing, surveys};
 pub use loading::{load, pack};
 pub use memory::{MemoryFile, MemoryFolder};
 pub use package::{Names, Package};
-pub use survey::{Clash, FileFault, Survey};
+pub use survey::{Clash, FileFault, NotJson, Survey};

@@ -6,14 +6,14 @@ ghost use Rattle.fhir_json.specs.Memory.{Gives};
 ghost use Rattle.fhir_json.specs.Reading.{placed_reading};
 ghost use Rattle.fhir_package.specs.FilesView.{folder_files};
 ghost use Rattle.fhir_package.specs.Packing.{definitions_in};
-ghost use Rattle.fhir_package.specs.Surveying.{no_sources, sources_of, with_sources, nothing_surveyed, source_of, not_json, with_fault, clash, with_new, put, put_each, survey_tree, survey_each, survey};
+ghost use Rattle.fhir_package.specs.Surveying.{no_sources, sources_of, with_sources, nothing_surveyed, source_of, not_json, position_in, with_fault, clash, with_new, put, put_each, survey_tree, survey_each, survey};
 ghost use Rattle.fhir_package.specs.SurveyView.{fault_seen, faults_seen};
 
 use crate::definitions::{Held, definitions_in};
 use crate::folder_files::{FolderFile, FolderFiles};
 use crate::kind::Kind;
 use crate::package::Package;
-use fhir_json::{Expected, NoMemory, Refusal, read_or_place};
+use fhir_json::{Expected, NoMemory, Position, Refusal, position_of, read_or_place};
 use fhir_matching::json_eq_in;
 use std::alloc::{AllocError, Global};
 use std::marker::Model;
@@ -31,13 +31,35 @@ pub struct Clash<'f> {
     pub first: &'f str,
 }
 
+/// A file that is no JSON text.
+#[derive(Clone, Copy, Debug)]
+pub struct NotJson<'f> {
+    /// The name of the file.
+    pub file: &'f str,
+    /// What was expected.
+    pub expected: Expected,
+    /// Where.
+    pub position: Position,
+}
+
 /// What is wrong with a file.
 #[derive(Debug, Drop)]
 pub enum FileFault<'f> {
-    /// The file of this name is no JSON text: what was expected, and where.
-    NotJson(&'f str, Refusal),
+    /// It is no JSON text.
+    NotJson(NotJson<'f>),
     /// A definition of it differs from one of the same kind and url that was read before it.
     Clash(Clash<'f>),
+}
+
+// The fault of a file whose bytes are refused.
+fn not_json(file: &FolderFile, refusal: Refusal) -> FileFault<'_>
+    ensures { fault_seen result ≡ not_json (string_bytes file.now.name) refusal.expected (position_in file.now.bytes.items refusal) }
+{
+    FileFault::NotJson(NotJson {
+        file: file.name.as_str(),
+        expected: refusal.expected,
+        position: position_of(&file.bytes, file.bytes.len().saturating_sub(refusal.left)),
+    })
 }
 
 // Of each kind the file of each definition.
@@ -126,7 +148,8 @@ impl<'f> Model for Survey<'f> {
 }
 
 impl<'f> Survey<'f> {
-    fn new(alloc: Global) -> Survey<'f>
+    /// A survey of no files.
+    pub fn new(alloc: Global) -> Survey<'f>
         ensures { result ≡ nothing_surveyed }
     {
         Survey {
@@ -235,9 +258,11 @@ impl<'f> Survey<'f> {
         Ok(())
     }
 
-    fn take_file(&mut self, alloc: Global, file: &'f FolderFile) -> Result<(), NoMemory>
+    /// Goes on with a file. Taken one after the other, in the order of their names, files are surveyed as by [`Survey::of`]. The one
+    /// refusal is want of memory.
+    pub fn take_file(&mut self, alloc: Global, file: &'f FolderFile) -> Result<(), NoMemory>
         ensures { OnOk result (self.new
-            ≡ survey_tree (string_bytes file.now.name) (placed_reading file.now.bytes.items) self.old) }
+            ≡ survey_tree (string_bytes file.now.name) file.now.bytes.items (placed_reading file.now.bytes.items) self.old) }
     {
         let name = file.name.as_str();
         match read_or_place(alloc, &file.bytes) {
@@ -248,7 +273,7 @@ impl<'f> Survey<'f> {
                     ..
                 },
             ) => Err(NoMemory),
-            Err(refusal) => Ok(self.push_fault(FileFault::NotJson(name, refusal))?),
+            Err(refusal) => Ok(self.push_fault(not_json(file, refusal))?),
         }
     }
 

@@ -55,4 +55,5 @@ pub use naming::{names_are_utf8, nodes_by_name};
 pub use node::NodeRef;
 pub use rooted::usable_roots;
 pub use schema::Schema;
+pub use slicings::MAX_DISCRIMINATORS;
 pub use slots::Slot;

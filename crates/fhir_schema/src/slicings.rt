@@ -12,8 +12,9 @@ use fhir_elements::{DiscriminatorDef, DiscriminatorType, ElementDef, SlicingDef,
 use fhir_names::name_of;
 use std::alloc::{AllocError, Global};
 
-// Each slice has a criterion for each discriminator, so that many of both would take memory by their product.
-const MAX_DISCRIMINATORS: usize = 16;
+/// How many discriminators a slicing may have. Each slice has a criterion for each, so that many of both would take memory by
+/// their product.
+pub const MAX_DISCRIMINATORS: usize = 16;
 
 /// A discriminator of an element, or one that its name implies.
 #[derive(Clone, Copy)]
