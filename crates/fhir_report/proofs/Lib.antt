@@ -1,4 +1,2 @@
--- Lemmas on findings.
-pub mod Faulty
-pub mod Told
-pub mod Usable
+-- Lemmas on reports.
+pub mod Saying

@@ -1,9 +1,8 @@
 //! Which field is wrong (`U1`).
 
-use crate::trees::element_trees;
 use crate::why::{Why, known, of_definition, of_element};
-use fhir_definition::{Definition, bound_type, is_root};
-use fhir_elements::{ElementDef, Reason, element_fault};
+use fhir_definition::{Definition, bound_type, element_trees, is_root};
+use fhir_elements::{ElementDef, Reason, element_fault, owned_member};
 use fhir_json::{Json, Member, NoMemory};
 use fhir_prims::{is_uri, lexical};
 use std::alloc::Global;
@@ -16,15 +15,6 @@ fn text_member(name: &'static str, text: &'static str) -> Member<'static> {
     }
 }
 
-fn owned(alloc: Global, member: &Member<'_>) -> Result<Member<'static>, NoMemory> {
-    let name = String::from_str(alloc, member.name.as_str())?;
-    let value = member.value.detach(alloc)?;
-    Ok(Member {
-        name: CowStr::Owned(name),
-        value,
-    })
-}
-
 fn members<'t, 'j>(json: &'t Json<'j>) -> &'t [Member<'j>] {
     match json {
         Json::Obj(members) => members,
@@ -34,7 +24,7 @@ fn members<'t, 'j>(json: &'t Json<'j>) -> &'t [Member<'j>] {
 
 // Whether a field makes an element wrong by itself.
 fn is_wrong_in_element(alloc: Global, member: &Member<'_>) -> Result<bool, NoMemory> {
-    let alone = Json::Obj(vec![in alloc; owned(alloc, member)?]?);
+    let alone = Json::Obj(vec![in alloc; owned_member(alloc, member)?]?);
     let fault = element_fault(alloc, &alone)?;
     Ok(matches!(fault, Some(Reason::WrongField)))
 }
@@ -45,7 +35,7 @@ fn is_wrong_in_head(alloc: Global, member: &Member<'_>) -> Result<bool, NoMemory
         return Ok(!member.value.is_object() || !member.value.allows_items("element"));
     }
     let alone = Json::Obj(vec![in alloc;
-        owned(alloc, member)?,
+        owned_member(alloc, member)?,
         text_member("kind", "resource"),
         text_member("type", "Resource"),
     ]?);

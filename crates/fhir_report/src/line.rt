@@ -1,6 +1,6 @@
 //! Lines of a report.
 
-ghost use Rattle.std.specs.Prelude.{◌≡◌, None, Some};
+ghost use Rattle.std.specs.Prelude.{◌≡◌, None, Some, option_map};
 
 use fhir_elements::Reason;
 use fhir_json::{Json, JsonFault, Member, NoMemory, Position};
@@ -46,7 +46,7 @@ impl fmt::Display for Number {
 #[derive(Debug, Drop)]
 pub struct Line<'r> {
     /// The file.
-    pub file: &'r str,
+    pub file: Option<&'r str>,
     /// The line in the file, from 1.
     pub line: Option<usize>,
     /// The column in the line, from 1.
@@ -62,15 +62,32 @@ pub struct Line<'r> {
 }
 
 impl<'r> Line<'r> {
+    /// A line on no file of its own.
+    pub fn of_text(text: String) -> Line<'r>
+        ensures number { result.number ≡ None }
+        ensures text { result.text ≡ text }
+    {
+        Line {
+            file: None,
+            line: None,
+            column: None,
+            number: None,
+            url: None,
+            id: None,
+            text,
+        }
+    }
+
     /// A line on a file.
     pub fn of_file(file: &'r str, number: Option<Number>, text: String) -> Line<'r>
+        ensures file { option_map (λ f. f.now) result.file ≡ Some file.now }
         ensures number { result.number ≡ number }
         ensures text { result.text ≡ text }
         ensures line { result.line ≡ None }
         ensures column { result.column ≡ None }
     {
         Line {
-            file,
+            file: Some(file),
             line: None,
             column: None,
             number,
@@ -97,20 +114,32 @@ impl<'r> Line<'r> {
 
 impl fmt::Display for Line<'_> {
     fn fmt<W: fmt::Write>(&self, f: &mut fmt::Formatter<W>) -> fmt::Result {
-        f.write_str(self.file)?;
-        if let Some(line) = self.line {
-            write!(f, ":{line}")?;
+        if let Some(file) = self.file {
+            write_place(f, file, self.line, self.column)?;
         }
-        if let Some(column) = self.column {
-            write!(f, ":{column}")?;
-        }
-        f.write_str(": ")?;
         if let Some(number) = self.number {
             write!(f, "{number}")?;
         }
         write_name(f, self.number.is_some(), self.url, self.id)?;
         f.write_str(&self.text)
     }
+}
+
+// The file, and where in it.
+fn write_place<W: fmt::Write>(
+    f: &mut fmt::Formatter<W>,
+    file: &str,
+    line: Option<usize>,
+    column: Option<usize>,
+) -> fmt::Result {
+    f.write_str(file)?;
+    if let Some(line) = line {
+        write!(f, ":{line}")?;
+    }
+    if let Some(column) = column {
+        write!(f, ":{column}")?;
+    }
+    f.write_str(": ")
 }
 
 // The url and the id, behind a number if there is one, and what parts them from the text.
@@ -175,7 +204,7 @@ impl Line<'_> {
     /// line has it.
     pub fn to_json(&self, alloc: Global) -> Result<Json<'static>, NoMemory> {
         let mut members = Vec::with_capacity(alloc, 7)?;
-        put_text(alloc, &mut members, "file", Some(self.file))?;
+        put_text(alloc, &mut members, "file", self.file)?;
         put_count(alloc, &mut members, "line", self.line)?;
         put_count(alloc, &mut members, "column", self.column)?;
         if let Some(number) = self.number {

@@ -5,7 +5,7 @@ use fhir_definition::Definition;
 use fhir_elements::{DiscriminatorDef, DiscriminatorType, ElementDef, SlicingDef, SlicingRules};
 use fhir_json::NoMemory;
 use fhir_names::sliced_of;
-use fhir_schema::{Criterion, NodeRef, Schema};
+use fhir_schema::{Criterion, MAX_DISCRIMINATORS, NodeRef, Schema};
 use std::alloc::{AllocError, Global};
 
 fn word_of(by: DiscriminatorType) -> &'static str {
@@ -77,7 +77,7 @@ fn unsupported(slicing: &SlicingDef) -> Option<&'static str> {
         Some("a slicing that is open at its end isn't supported")
     } else if slicing.discriminators().is_empty() {
         Some("the slicing has no discriminator")
-    } else if slicing.discriminators().len() > 16 {
+    } else if slicing.discriminators().len() > MAX_DISCRIMINATORS {
         Some("a slicing by more than 16 discriminators isn't supported")
     } else {
         None

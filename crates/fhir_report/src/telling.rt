@@ -2,10 +2,10 @@
 
 use crate::causes::Causes;
 use crate::explaining::explain;
-use crate::finding::{Finding, UnreadRule, Unusable};
 use crate::line::{Line, Number};
 use crate::why::{Why, known};
 use crate::wording::expected_words;
+use fhir_findings::{Finding, UnreadRule, Unusable};
 use fhir_json::NoMemory;
 use fhir_package::{Clash, FileFault, Kind, NotJson, Survey};
 use fhir_schema::Schema;
@@ -13,13 +13,16 @@ use std::alloc::{AllocError, Global};
 
 /// What is told of a package's findings: a line for each.
 #[derive(Drop)]
-pub struct Teller<'r> {
-    survey: &'r Survey<'r>,
-    schema: &'r Schema,
+pub struct Teller<'s, 'f> {
+    survey: &'s Survey<'f>,
+    schema: &'s Schema,
     causes: Causes,
 }
 
-fn not_json_line<'r>(alloc: Global, fault: &NotJson<'r>) -> Result<Line<'r>, AllocError> {
+fn not_json_line<'s, 'f: 's>(
+    alloc: Global,
+    fault: &'s NotJson<'f>,
+) -> Result<Line<'s>, AllocError> {
     let text = String::from_str(alloc, expected_words(fault.expected))?;
     let number = Number::Json(fault.expected.fault());
     Ok(Line::of_file(fault.file, Some(number), text).at(fault.position))
@@ -33,22 +36,23 @@ fn kind_word(kind: Kind) -> &'static str {
     }
 }
 
-fn clash_line<'r>(alloc: Global, clash: &'r Clash<'r>) -> Result<Line<'r>, AllocError> {
+fn clash_line<'s, 'f: 's>(alloc: Global, clash: &'s Clash<'f>) -> Result<Line<'s>, AllocError> {
     let kind = kind_word(clash.kind);
     let text = format!(in alloc; "another {kind} of this url stands in {}", clash.first)?;
-    let mut line = Line::of_file(clash.file, Some(Number::Clash), text);
+    let file: &'s str = clash.file;
+    let mut line = Line::of_file(file, Some(Number::Clash), text);
     line.url = Some(clash.url.as_str());
     Ok(line)
 }
 
-fn file_line<'r>(alloc: Global, fault: &'r FileFault<'r>) -> Result<Line<'r>, AllocError> {
+fn file_line<'s, 'f: 's>(alloc: Global, fault: &'s FileFault<'f>) -> Result<Line<'s>, AllocError> {
     match fault {
         FileFault::NotJson(fault) => not_json_line(alloc, fault),
         FileFault::Clash(clash) => clash_line(alloc, clash),
     }
 }
 
-fn unread_line<'r>(alloc: Global, unread: &UnreadRule<'r>) -> Result<Line<'r>, AllocError> {
+fn unread_line<'s>(alloc: Global, unread: &UnreadRule<'s>) -> Result<Line<'s>, AllocError> {
     let text = format!(in alloc; "unread {}", unread.rule)?;
     let mut line = Line::of_file(unread.file, None, text);
     line.url = Some(unread.url);
@@ -56,13 +60,13 @@ fn unread_line<'r>(alloc: Global, unread: &UnreadRule<'r>) -> Result<Line<'r>, A
     Ok(line)
 }
 
-impl<'r> Teller<'r> {
+impl<'s, 'f: 's> Teller<'s, 'f> {
     /// A teller of what was found in the package of a survey, by its schema. The one refusal is want of memory.
     pub fn of(
         alloc: Global,
-        survey: &'r Survey<'r>,
-        schema: &'r Schema,
-    ) -> Result<Teller<'r>, NoMemory> {
+        survey: &'s Survey<'f>,
+        schema: &'s Schema,
+    ) -> Result<Teller<'s, 'f>, NoMemory> {
         Ok(Teller {
             survey,
             schema,
@@ -70,7 +74,7 @@ impl<'r> Teller<'r> {
         })
     }
 
-    fn why(&self, alloc: Global, unusable: &Unusable<'r>) -> Result<Why<'r>, NoMemory> {
+    fn why(&self, alloc: Global, unusable: &Unusable<'s>) -> Result<Why<'s>, NoMemory> {
         let package = self.survey.package();
         let Some(place) = package.place(Kind::StructureDefinition, unusable.url) else {
             return Ok(known(alloc, "it can't be used")?);
@@ -91,7 +95,7 @@ impl<'r> Teller<'r> {
         }
     }
 
-    fn unusable_line(&self, alloc: Global, unusable: &Unusable<'r>) -> Result<Line<'r>, NoMemory> {
+    fn unusable_line(&self, alloc: Global, unusable: &Unusable<'s>) -> Result<Line<'s>, NoMemory> {
         let Why { id, text } = self.why(alloc, unusable)?;
         let mut line = Line::of_file(unusable.file, Some(Number::Unusable(unusable.reason)), text);
         line.url = Some(unusable.url);
@@ -100,7 +104,7 @@ impl<'r> Teller<'r> {
     }
 
     /// The line of a finding. The one refusal is want of memory.
-    pub fn line(&self, alloc: Global, finding: &Finding<'r>) -> Result<Line<'r>, NoMemory> {
+    pub fn line(&self, alloc: Global, finding: &Finding<'s, 'f>) -> Result<Line<'s>, NoMemory> {
         match finding {
             Finding::File(fault) => Ok(file_line(alloc, fault)?),
             Finding::Unusable(unusable) => self.unusable_line(alloc, unusable),

@@ -1,20 +1,12 @@
 //! What is wrong with ids, and with the tree that they make (`U2`, `U3`, `U4`, `U6`).
 
 use crate::why::{Why, known, of_definition, of_element};
-use fhir_definition::{Definition, is_root};
+use fhir_definition::{Definition, element_trees, is_root, up_of};
 use fhir_elements::{ElementDef, Reason, element_fault};
 use fhir_json::{Json, NoMemory};
-use fhir_names::{Index, front_of, slice_of, sliced_of};
+use fhir_names::Index;
 use fhir_schema::{Form, NodeRef, Schema};
 use std::alloc::{AllocError, Global};
-
-/// The trees of the elements of a definition's snapshot.
-pub(crate) fn element_trees<'t, 'j>(tree: &'t Json<'j>) -> &'t [Json<'j>] {
-    match tree.field("snapshot") {
-        Some(snapshot) => snapshot.items_in("element"),
-        None => Default::default(),
-    }
-}
 
 fn bounds_text(alloc: Global, tree: &Json<'_>) -> Result<String, AllocError> {
     let min = match tree.count_in("min") {
@@ -89,15 +81,6 @@ pub(crate) fn why_wrong_id<'s>(
         }
     }
     Ok(known(alloc, "an `id` is wrong")?)
-}
-
-// The id under which an element stands.
-fn up_of(id: &str) -> Option<&str> {
-    if slice_of(id).is_some() {
-        sliced_of(id)
-    } else {
-        front_of(id)
-    }
 }
 
 fn why_orphan<'s>(alloc: Global, definition: &'s Definition) -> Result<Option<Why<'s>>, NoMemory> {

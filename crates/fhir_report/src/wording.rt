@@ -10,7 +10,7 @@ pub(crate) fn expected_words(expected: Expected) -> &'static str {
         Expected::Name => "a name in quotation marks was expected",
         Expected::NewName => "a name was expected that no member before it has",
         Expected::Colon => "a colon was expected",
-        Expected::CommaOrEnd => "a comma or the closing bracket was expected",
+        Expected::CommaOrEnd => "the closing bracket was expected, or a comma behind a value",
         Expected::EndOfString => "the closing quotation mark was expected",
         Expected::Character => "a character was expected that needs no escape",
         Expected::Escape => {

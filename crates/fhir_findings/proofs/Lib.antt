@@ -1,0 +1,5 @@
+-- Lemmas on findings.
+pub mod CleanFiles
+pub mod Faulty
+pub mod Told
+pub mod Usable

@@ -1,0 +1,186 @@
+//! From a survey and a schema to what was found.
+
+ghost use Rattle.std.specs.Prelude.{◌≡◌, [], ◌∷◌, ◌++◌, drop, IfOk, OnOk};
+ghost use Rattle.fhir_package.specs.SurveyView.{fault_seen, faults_seen};
+ghost use Rattle.fhir_findings.specs.Finding.{unusable_at, all_unusable, faults_told, all_told};
+
+use crate::finding::{Finding, UnreadRule, Unusable};
+use crate::unread::unread_rules;
+use fhir_json::NoMemory;
+use fhir_package::{FileFault, Kind, Survey};
+use fhir_schema::{NodeRef, Schema};
+use std::alloc::{AllocError, Global};
+
+fn file_of<'r>(fault: &FileFault<'r>) -> &'r str {
+    match fault {
+        FileFault::NotJson(fault) => fault.file,
+        FileFault::Clash(clash) => clash.file,
+    }
+}
+
+fn push_fault<'s, 'f>(
+    fault: &'s FileFault<'f>,
+    into: &mut Vec<Finding<'s, 'f>>,
+) -> Result<(), AllocError>
+    ensures faults { OnOk result (faults_told into.new.items ≡ faults_told into.old.items ++ fault_seen fault.now ∷ []) }
+    ensures unusable { OnOk result (all_told into.new.items ≡ all_told into.old.items) }
+{
+    into.push(Finding::File(fault))?;
+    Ok(())
+}
+
+// Puts in the faults from a place on whose files aren't behind this one, and gives the place of the first that is.
+fn push_faults<'s, 'f>(
+    faults: &'s [FileFault<'f>],
+    from: usize,
+    file: &str,
+    into: &mut Vec<Finding<'s, 'f>>,
+) -> Result<usize, AllocError>
+    ensures faults { IfOk result (λ place. faults_told into.old.items ++ drop from (faults_seen faults.now)
+        ≡ faults_told into.new.items ++ drop place (faults_seen faults.now)) }
+    ensures unusable { IfOk result (λ place. all_told into.new.items ≡ all_told into.old.items) }
+{
+    let mut place = from;
+    while place < faults.len() {
+        if file_of(&faults[place]) > file {
+            return Ok(place);
+        }
+        push_fault(&faults[place], into)?;
+        place += 1;
+    }
+    Ok(place)
+}
+
+// Puts in all faults from a place on.
+fn push_rest<'s, 'f>(
+    faults: &'s [FileFault<'f>],
+    from: usize,
+    into: &mut Vec<Finding<'s, 'f>>,
+) -> Result<(), AllocError>
+    ensures faults { OnOk result (faults_told into.new.items ≡ faults_told into.old.items ++ drop from (faults_seen faults.now)) }
+    ensures unusable { OnOk result (all_told into.new.items ≡ all_told into.old.items) }
+{
+    let mut place = from;
+    while place < faults.len() {
+        push_fault(&faults[place], into)?;
+        place += 1;
+    }
+    Ok(())
+}
+
+// Puts in the definition of a file at a url, if it can't be used.
+fn push_unusable<'s, 'f>(
+    schema: &Schema,
+    file: &'s str,
+    url: &'s str,
+    into: &mut Vec<Finding<'s, 'f>>,
+) -> Result<(), AllocError>
+    ensures faults { OnOk result (faults_told into.new.items ≡ faults_told into.old.items) }
+    ensures unusable { OnOk result (all_told into.new.items ≡ all_told into.old.items ++ unusable_at schema.now file.now url.now) }
+{
+    if let Some(reason) = schema.unusable(url) {
+        into.push(Finding::Unusable(Unusable { file, url, reason }))?;
+    }
+    Ok(())
+}
+
+fn push_rule<'s, 'f>(
+    unread: UnreadRule<'s>,
+    into: &mut Vec<Finding<'s, 'f>>,
+) -> Result<(), AllocError>
+    ensures faults { OnOk result (faults_told into.new.items ≡ faults_told into.old.items) }
+    ensures unusable { OnOk result (all_told into.new.items ≡ all_told into.old.items) }
+{
+    into.push(Finding::Unread(unread))?;
+    Ok(())
+}
+
+// Puts in the rules of a node that aren't judged.
+fn push_unread<'s, 'f>(
+    alloc: Global,
+    schema: &'s Schema,
+    file: &'s str,
+    node: NodeRef,
+    into: &mut Vec<Finding<'s, 'f>>,
+) -> Result<(), AllocError>
+    ensures faults { OnOk result (faults_told into.new.items ≡ faults_told into.old.items) }
+    ensures unusable { OnOk result (all_told into.new.items ≡ all_told into.old.items) }
+{
+    let (url, id) = schema.name(node);
+    for rule in unread_rules(alloc, schema, node)? {
+        let unread = UnreadRule {
+            file,
+            url,
+            id,
+            rule,
+        };
+        push_rule(unread, into)?;
+    }
+    Ok(())
+}
+
+// Puts in the rules of the definition at a place that aren't judged, if it can be used.
+fn push_unread_each<'s, 'f>(
+    alloc: Global,
+    schema: &'s Schema,
+    file: &'s str,
+    place: usize,
+    into: &mut Vec<Finding<'s, 'f>>,
+) -> Result<(), AllocError>
+    ensures faults { OnOk result (faults_told into.new.items ≡ faults_told into.old.items) }
+    ensures unusable { OnOk result (all_told into.new.items ≡ all_told into.old.items) }
+{
+    let count = match schema.definitions().get(place) {
+        Some(definition) if schema.reason(place).is_none() => definition.elements().len(),
+        _ => 0,
+    };
+    for element in 0..count {
+        let node = NodeRef {
+            definition: place,
+            element,
+        };
+        push_unread(alloc, schema, file, node, into)?;
+    }
+    Ok(())
+}
+
+// Puts in what was found of a definition of a file, by its place and its url.
+fn push_definition<'s, 'f>(
+    alloc: Global,
+    schema: &'s Schema,
+    file: &'s str,
+    place: usize,
+    url: &'s str,
+    into: &mut Vec<Finding<'s, 'f>>,
+) -> Result<(), AllocError>
+    ensures faults { OnOk result (faults_told into.new.items ≡ faults_told into.old.items) }
+    ensures unusable { OnOk result (all_told into.new.items ≡ all_told into.old.items ++ unusable_at schema.now file.now url.now) }
+{
+    push_unusable(schema, file, url, into)?;
+    push_unread_each(alloc, schema, file, place, into)
+}
+
+/// What is wrong with the files of a survey, its definitions that can't be used, and the rules of the others that aren't judged,
+/// by the schema of its package: in the order of the files, and within one the faults first. The one refusal is want of memory.
+pub fn findings<'s, 'f>(
+    alloc: Global,
+    survey: &'s Survey<'f>,
+    schema: &'s Schema,
+) -> Result<Vec<Finding<'s, 'f>>, NoMemory>
+    ensures faults { IfOk result (λ fs. faults_told fs.items ≡ survey.now.faults) }
+    ensures unusable { IfOk result (λ fs. all_told fs.items ≡ all_unusable schema.now survey.now) }
+{
+    let mut found = Vec::new(alloc);
+    let mut told = 0;
+    for (place, url) in survey
+        .package()
+        .names(Kind::StructureDefinition)
+        .enumerate()
+    {
+        let file = survey.source(Kind::StructureDefinition, place);
+        told = push_faults(survey.faults(), told, file, &mut found)?;
+        push_definition(alloc, schema, file, place, url, &mut found)?;
+    }
+    push_rest(survey.faults(), told, &mut found)?;
+    Ok(found)
+}

@@ -1,0 +1,49 @@
+-- What it is that nothing is wrong with the files of a folder and with a certificate.
+use Rattle.std.specs.Prelude.{◌≡◌, List, [], Option, None, Some, Ok, String, string_bytes, map, option_map}
+use Rattle.std.specs.declared.alloc.Global.{Global}
+use Rattle.fhir_json.specs.Tree.{Text}
+use Rattle.fhir_package.specs.Definitions.{Definitions}
+use Rattle.fhir_package.specs.Folder.{Files}
+use Rattle.fhir_package.specs.Packing.{pack_files}
+use Rattle.fhir_schema.specs.Schemas.{SchemaValue, schema_of}
+use Rattle.fhir_certificate.specs.Format.{Written, Spells}
+use Rattle.fhir_certificate.specs.Reading.{reading}
+use Rattle.fhir_cert_check.specs.Checking.{answer_of}
+use Rattle.fhir_cert_check.specs.Inclusion.{Includes}
+use Rattle.fhir_findings.specs.Clean.{AreUsable}
+use Rattle.fhir_report.specs.declared.reporting.CertificateFile.{CertificateFile}
+
+-- nothing is wrong with a certificate of these bytes
+abbrev pub IsRight : SchemaValue → Text → Type 0
+IsRight s bytes = answer_of (reading s bytes) s ≡ Ok None
+
+-- what a right one promises: each resource that conforms to the derived profile that it spells conforms to its base
+abbrev pub Promises : SchemaValue → Text → Type 0
+Promises s bytes = (w : Written) × Spells bytes w × Includes s w.derived w.base
+
+-- the same where there may be none
+abbrev pub IsRightIfAny : SchemaValue → Option Text → Type 0
+IsRightIfAny s None = Unit {0}
+IsRightIfAny s (Some bytes) = IsRight s bytes
+
+abbrev pub PromisesIfAny : SchemaValue → Option Text → Type 0
+PromisesIfAny s None = Unit {0}
+PromisesIfAny s (Some bytes) = Promises s bytes
+
+-- No file is unread, the files that were read are a package, each of its definitions can be used, and the certificate, if there
+-- is one, is right.
+abbrev pub IsFaultless : List Text → Files → Option Text → Type 0
+IsFaultless unread files certificate =
+    (unread ≡ []) × (p : Definitions) × (pack_files files ≡ Ok p) × AreUsable (schema_of p) × IsRightIfAny (schema_of p) certificate
+
+-- what that promises
+abbrev pub IsPromised : Files → Option Text → Type 0
+IsPromised files certificate = (p : Definitions) × (pack_files files ≡ Ok p) × PromisesIfAny (schema_of p) certificate
+
+-- ---- what contracts see
+
+abbrev pub names_seen : List (String Global) → List Text
+names_seen names = map string_bytes names
+
+abbrev pub bytes_seen : Option CertificateFile → Option Text
+bytes_seen certificate = option_map (λ c. c.bytes.now) certificate
