@@ -1,4 +1,3 @@
-pub mod Checks
 pub mod FaultsEnd
 pub mod Items
 pub mod Judging

@@ -7,4 +7,3 @@ pub mod Words
 pub mod Views
 pub mod Ending
 pub mod Agreeing
-pub mod Checking
