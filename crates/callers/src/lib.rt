@@ -43,7 +43,9 @@ ghost use Rattle.fhir_certificate.specs.Certificate.{CertificateValue};
 ghost use Rattle.fhir_certificate.specs.Judging.{Stands};
 ghost use Rattle.fhir_cert_check.specs.Checking.{SpellsCertificate};
 ghost use Rattle.fhir_findings.specs.Finding.{all_unusable};
-ghost use Rattle.fhir_registry.specs.Replying.{RequestValue, Promise};
+ghost use Rattle.fhir_report.specs.Faultless.{IsFaultless};
+ghost use Rattle.fhir_registry.specs.Replying.{Promise};
+ghost use Rattle.fhir_registry.specs.Views.{request_seen};
 
 use fhir_cert_check::{Answer, check_bytes};
 use fhir_certificate::CertFault;
@@ -60,7 +62,8 @@ use fhir_matching::{json_eq, matches};
 use fhir_names::{ElementId, front_of};
 use fhir_package::{FolderFile, FolderFiles, Kind, LoadFault, Package, Survey, pack};
 use fhir_prims::{PrimType, lexical};
-use fhir_registry::{Status, bytes_at, files_at, refuse, request_of, respond};
+use fhir_registry::{Request, Status, bytes_at, files_at, respond};
+use fhir_report::{Form, Silent, Subject};
 use fhir_schema::{NodeRef, Schema, Slot};
 use fhir_slicing::{Children, asks};
 use fhir_validator::{Fault, validate};
@@ -270,25 +273,33 @@ pub fn are_usable<'r>(
         → (survey.now.faults ≡ []) × (all_unusable schema.now survey.now ≡ [])) }
 {
     let found = fhir_findings::findings(alloc, survey, schema)?;
-    Ok(found.is_empty())
+    Ok(!fhir_findings::has_faults(&found))
 }
 
-/// Does what words ask, and gives the status.
+/// Whether nothing is wrong with files, and each of their definitions can be used.
+pub fn is_clean(alloc: Global, files: &FolderFiles) -> Result<bool, NoMemory>
+    ensures { IfOk result (λ is_clean. IsTrue is_clean → IsFaultless [] files.now None) }
+{
+    let subject = Subject {
+        files,
+        unread: &[],
+        certificate: None,
+    };
+    let report = fhir_report::report_on(alloc, Form::Text, subject, &mut Silent)?;
+    Ok(report.is_clean)
+}
+
+/// Answers a request, and gives the status.
 pub fn status_of<R: Files + AllocGlobal + Clone + Drop, W: Write, E: Write>(
     rt: &R,
-    words: &[String],
+    request: Request<'_>,
     out: &mut W,
     err: &mut E,
 ) -> io::Result<Status>
     ensures { IfOk result (λ status. status ≡ Status.Yes
-        → (request : RequestValue) × (files : Result Files LoadFault) × (file : Option Text) × Promise request files file) }
+        → (files : Result Files LoadFault) × (file : Option Text) × Promise (request_seen request.entry) files file) }
 {
-    let alloc = rt.alloc();
-    let request = match request_of(alloc, words) {
-        Ok(request) => request,
-        Err(fault) => return Ok(refuse(fault, err)),
-    };
     let files = files_at(rt, request.folder());
     let file = bytes_at(rt, request.file())?;
-    Ok(respond(alloc, request, &files, file.as_deref(), out, err))
+    Ok(respond(rt.alloc(), request, &files, file.as_deref(), out, err))
 }

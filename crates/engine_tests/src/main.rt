@@ -7,10 +7,15 @@
 //! - `# NAME`: here begins a case.
 //! - `? WORD .. = STATUS OUT ERR`: a command, with the status and the bytes of each output that must come, these two as Rust
 //!   writes texts. The words are those behind the program's name. A folder or a file is one of `data/`. `full` as the first
-//!   word makes standard output take nothing, and isn't the program's. An outcome stands there as it is, without its line feed.
+//!   word makes standard output take nothing, and isn't the program's. An outcome, as any one line of a JSON object, stands
+//!   there as it is, without its line feed.
 #![tactic(auto)]
 
-use fhir_registry::{Request, Status, bytes_at, files_at, refuse, request_of, respond};
+use fhir_registry::{
+    CheckRequest, Invocation, Request, Status, bytes_at, check, files_at, invocation_of,
+    listing_at, refuse, respond, tell_version,
+};
+use fhir_report::Silent;
 use std::alloc::{AllocError, Global};
 use std::io::Write;
 use std::rt::Files;
@@ -37,12 +42,42 @@ fn told<R: Files + AllocGlobal + Clone + Drop>(
     let (mut out, mut err) = (Vec::new(alloc), Vec::new(alloc));
     let mut full: &mut [u8] = &mut [];
     let words = words_of(alloc, command)?;
-    let status = match request_of(alloc, &words) {
-        Ok(request) if is_full => answer(rt, request, &mut full, &mut err)?,
-        Ok(request) => answer(rt, request, &mut out, &mut err)?,
-        Err(fault) => refuse(fault, &mut err),
+    let status = if is_full {
+        done(rt, &words, &mut full, &mut err)?
+    } else {
+        done(rt, &words, &mut out, &mut err)?
     };
     Ok(line_of(alloc, status, &out, &err)?)
+}
+
+// What the engine does.
+fn done<R: Files + AllocGlobal + Clone + Drop, W: Write>(
+    rt: &R,
+    words: &[String],
+    out: &mut W,
+    err: &mut Vec<u8>,
+) -> io::Result<Status> {
+    match invocation_of(rt.alloc(), words) {
+        Ok(Invocation::Judge(request)) => answer(rt, request, out, err),
+        Ok(Invocation::Check(request)) => report(rt, request, out, err),
+        Ok(Invocation::Version) => Ok(tell_version(out)),
+        Err(fault) => Ok(refuse(fault, err)),
+    }
+}
+
+fn report<R: Files + AllocGlobal + Clone + Drop, W: Write>(
+    rt: &R,
+    request: CheckRequest<'_>,
+    out: &mut W,
+    err: &mut Vec<u8>,
+) -> io::Result<Status> {
+    let file = match request.certificate {
+        Some(path) => bytes_at(rt, path)?,
+        None => None,
+    };
+    let listing = listing_at(rt, request.folder, &mut Silent);
+    let bytes = file.as_deref();
+    Ok(check(rt.alloc(), request, &listing, bytes, &mut Silent, out, err))
 }
 
 // What the engine answers.
@@ -66,10 +101,10 @@ fn line_of(alloc: Global, status: Status, out: &[u8], err: &[u8]) -> Result<Stri
     }
 }
 
-// The outcome that an output is, without its line feed.
+// The outcome, or another JSON object, that an output is, without its line feed.
 fn outcome_in(out: &str) -> Option<&str> {
     let line = out.strip_suffix("\n")?;
-    if line.starts_with("{") {
+    if line.starts_with("{") && !line.contains('\n') {
         Some(line)
     } else {
         None

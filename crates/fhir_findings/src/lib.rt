@@ -11,7 +11,7 @@
 //!         → (survey.now.faults ≡ []) × (all_unusable schema.now survey.now ≡ [])) }
 //! {
 //!     let found = fhir_findings::findings(alloc, survey, schema)?;
-//!     Ok(found.is_empty())
+//!     Ok(!fhir_findings::has_faults(&found))
 //! }
 //! ```
 //!

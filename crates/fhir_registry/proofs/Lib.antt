@@ -1,3 +1,4 @@
+pub mod Checks
 pub mod FaultsEnd
 pub mod Items
 pub mod Judging

@@ -7,3 +7,4 @@ pub mod Words
 pub mod Views
 pub mod Ending
 pub mod Agreeing
+pub mod Checking

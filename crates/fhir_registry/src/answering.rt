@@ -126,7 +126,11 @@ fn load_subject<'f>(folder: &'f str, fault: &'f LoadFault) -> &'f str
     }
 }
 
-fn load_fault_reply(alloc: Global, folder: &str, fault: &LoadFault) -> Result<Reply, NoMemory>
+pub(crate) fn load_fault_reply(
+    alloc: Global,
+    folder: &str,
+    fault: &LoadFault,
+) -> Result<Reply, NoMemory>
     ensures told { Gives (λ r. r) result (load_fault_reply folder.now fault.now) }
     ensures memory { IfOk result (λ r. fault.now ≡ LoadFault.NoMemory → ⊥) }
 {

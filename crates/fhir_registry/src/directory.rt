@@ -5,68 +5,110 @@ ghost use Rattle.std.specs.IoError.{error_kind};
 ghost use Rattle.fhir_package.specs.Faults.{IsOfDevice};
 
 use fhir_package::{FolderFile, FolderFiles, LoadFault, is_json_name};
+use fhir_report::{Progress, Silent, Stage};
 use std::alloc::Global;
+use std::collections::BTreeMap;
 use std::fs::DirEntry;
 use std::io::{ErrorKind, Read};
 use std::rt::Files;
 use std::{fs, io};
 
-// What was found in a directory: the files that were read, and of those that weren't the first in the order of names.
-#[derive(Drop)]
-struct Found {
-    files: Vec<FolderFile>,
-    unread: Option<String>,
+/// What a directory holds whose names end in `.json`.
+#[derive(Debug, Drop)]
+pub struct Listing {
+    /// The files that were read.
+    pub files: FolderFiles,
+    /// The names of those that weren't, in their order.
+    pub unread: Vec<String>,
 }
 
-impl Found {
-    fn add_unread(&mut self, name: String) {
-        match &self.unread {
-            Some(first) if first.as_str() <= name.as_str() => {}
-            _ => self.unread = Some(name),
-        }
-    }
-}
-
-// Puts in what an entry of a directory is, if its name is UTF-8 and ends in `.json`. An error is of the listing, or of memory.
-fn take_entry<R: Files + AllocGlobal + Clone + Drop>(
+// Puts in the name and the path of an entry of a directory, if its name is UTF-8 and ends in `.json`. An error is of the
+// listing, or of memory.
+fn put_entry<R: Files + AllocGlobal + Clone + Drop>(
     rt: &R,
     entry: io::Result<DirEntry<R, Global>>,
-    found: &mut Found,
+    paths: &mut BTreeMap<String, String>,
 ) -> io::Result<()> {
     let entry = match entry {
         Ok(entry) => entry,
         Err(error) if error.kind() == ErrorKind::InvalidFilename => return Ok(()),
         Err(error) => return Err(error),
     };
-    if !is_json_name(entry.file_name()) {
-        return Ok(());
-    }
-    let name = String::from_str(rt.alloc(), entry.file_name())?;
-    match bytes_at(rt, entry.path().as_str())? {
-        Some(bytes) => found.files.push(FolderFile { name, bytes })?,
-        None => found.add_unread(name),
+    if is_json_name(entry.file_name()) {
+        let name = String::from_str(rt.alloc(), entry.file_name())?;
+        let path = String::from_str(rt.alloc(), entry.path().as_str())?;
+        paths.insert(name, path)?;
     }
     Ok(())
 }
 
-fn found_at<R: Files + AllocGlobal + Clone + Drop>(rt: &R, path: &str) -> io::Result<Found> {
+// The paths of what a directory holds whose names end in `.json`, by these.
+fn paths_at<R: Files + AllocGlobal + Clone + Drop>(
+    rt: &R,
+    path: &str,
+) -> io::Result<BTreeMap<String, String>> {
+    let mut paths = BTreeMap::new(rt.alloc());
+    for entry in fs::read_dir(rt, path)? {
+        put_entry(rt, entry, &mut paths)?;
+    }
+    Ok(paths)
+}
+
+// The files that were read, and the names of those that weren't.
+#[derive(Drop)]
+struct Found {
+    files: Vec<FolderFile>,
+    unread: Vec<String>,
+}
+
+impl Found {
+    fn take<R: Files + AllocGlobal + Clone + Drop>(
+        &mut self,
+        rt: &R,
+        name: String,
+        path: &str,
+    ) -> io::Result<()> {
+        match bytes_at(rt, path)? {
+            Some(bytes) => Ok(self.files.push(FolderFile { name, bytes })?),
+            None => Ok(self.unread.push(name)?),
+        }
+    }
+}
+
+fn found_at<R: Files + AllocGlobal + Clone + Drop, P: Progress>(
+    rt: &R,
+    path: &str,
+    progress: &mut P,
+) -> io::Result<Found> {
     let mut found = Found {
         files: Vec::new(rt.alloc()),
-        unread: None,
+        unread: Vec::new(rt.alloc()),
     };
-    for entry in fs::read_dir(rt, path)? {
-        take_entry(rt, entry, &mut found)?;
+    let paths = paths_at(rt, path)?;
+    let count = paths.len();
+    for (place, (name, path)) in paths.into_iter().enumerate() {
+        found.take(rt, name, path.as_str())?;
+        progress.tell(Stage::Reading, place.saturating_add(1), count);
     }
     Ok(found)
 }
 
-fn files_of(alloc: Global, found: Found) -> Result<FolderFiles, LoadFault>
+/// What the directory at a path holds whose names end in `.json`: the regular files, and the names of what the device doesn't
+/// give, or is no regular file. A file whose name isn't UTF-8 is passed over. How many are read is told to `progress`.
+pub fn listing_at<R: Files + AllocGlobal + Clone + Drop, P: Progress>(
+    rt: &R,
+    path: &str,
+    progress: &mut P,
+) -> Result<Listing, LoadFault>
     ensures { IfErr result IsOfDevice }
 {
-    let Found { files, unread } = found;
-    match unread {
-        Some(name) => Err(LoadFault::Unread(name)),
-        None => Ok(FolderFiles::of(alloc, files)?),
+    match found_at(rt, path, progress) {
+        Ok(Found { files, unread }) => {
+            let files = FolderFiles::of(rt.alloc(), files)?;
+            Ok(Listing { files, unread })
+        }
+        Err(error) if error.kind() == ErrorKind::OutOfMemory => Err(LoadFault::NoMemory),
+        Err(_) => Err(LoadFault::Unlisted),
     }
 }
 
@@ -78,10 +120,10 @@ pub fn files_at<R: Files + AllocGlobal + Clone + Drop>(
 ) -> Result<FolderFiles, LoadFault>
     ensures { IfErr result IsOfDevice }
 {
-    match found_at(rt, path) {
-        Ok(found) => files_of(rt.alloc(), found),
-        Err(error) if error.kind() == ErrorKind::OutOfMemory => Err(LoadFault::NoMemory),
-        Err(_) => Err(LoadFault::Unlisted),
+    let Listing { files, unread } = listing_at(rt, path, &mut Silent)?;
+    match unread.into_iter().next() {
+        Some(name) => Err(LoadFault::Unread(name)),
+        None => Ok(files),
     }
 }
 

@@ -3,16 +3,21 @@
 ghost use Rattle.std.specs.Prelude.{◌≡◌, [], false, Err, IsTrue};
 ghost use Rattle.std.specs.Io.KnownBytes.{Appends};
 ghost use Rattle.fhir_package.specs.declared.fault.LoadFault.{LoadFault};
+ghost use Rattle.fhir_registry.specs.Checking.{CheckPromise, IsWrong};
 ghost use Rattle.fhir_registry.specs.Replying.{ReplyValue, IsReply, answer_to, Promise};
 ghost use Rattle.fhir_registry.specs.Ending.{HasEnded, is_fault, tells_fault};
 ghost use Rattle.fhir_registry.specs.Status.{words_status};
-ghost use Rattle.fhir_registry.specs.Views.{bytes_seen, request_seen};
+ghost use Rattle.fhir_registry.specs.Views.{bytes_seen, check_seen, request_seen};
 
 use crate::answering::answer;
+use crate::checking::checked;
+use crate::directory::Listing;
 use crate::reply::{Reply, Status};
-use crate::request::{Request, WordsFault};
+use crate::request::{CheckRequest, Request, WordsFault};
+use crate::version::VERSION;
 use fhir_json::NoMemory;
 use fhir_package::{FolderFiles, LoadFault};
+use fhir_report::Progress;
 use std::alloc::Global;
 use std::io::Write;
 
@@ -79,6 +84,38 @@ pub fn respond<W: Write, E: Write>(
     match answer(alloc, request, files, file) {
         Ok(reply) => write_reply(&reply, out, err),
         Err(NoMemory) => end_with(err, "no memory\n", Status::NoMemory),
+    }
+}
+
+/// Reports on what a folder holds and on the bytes of a certificate's file, and writes the report at once: a fault to standard
+/// error, and all else to standard output. How far the work is, is told to `progress`. An output that fails is a fault.
+pub fn check<W: Write, E: Write, P: Progress>(
+    alloc: Global,
+    request: CheckRequest<'_>,
+    listing: &Result<Listing, LoadFault>,
+    file: Option<&[u8]>,
+    progress: &mut P,
+    out: &mut W,
+    err: &mut E,
+) -> Status
+    // What a yes promises, and what a no says.
+    ensures promised { result ≡ Status.Yes → CheckPromise (check_seen request.entry) listing.now (bytes_seen file.entry) }
+    ensures wrong { result ≡ Status.No → IsWrong (check_seen request.entry) listing.now (bytes_seen file.entry) }
+{
+    let reply = checked(alloc, request, listing, file, progress);
+    progress.end();
+    match reply {
+        Ok(reply) => write_reply(&reply, out, err),
+        Err(NoMemory) => end_with(err, "no memory\n", Status::NoMemory),
+    }
+}
+
+/// Writes the version to standard output.
+pub fn tell_version<W: Write>(out: &mut W) -> Status {
+    if write!(out, "fhirprof {VERSION}\n").is_ok() {
+        Status::Yes
+    } else {
+        Status::Unwritten
     }
 }
 

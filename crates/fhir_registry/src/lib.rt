@@ -1,24 +1,19 @@
 //! The engine of the program: from words, the files of a folder and the bytes of a file to a status and what is written.
 //!
 //! ```
-//! /// Does what words ask, and gives the status.
+//! /// Answers a request, and gives the status.
 //! pub fn status_of<R: Files + AllocGlobal + Clone + Drop, W: Write, E: Write>(
 //!     rt: &R,
-//!     words: &[String],
+//!     request: Request<'_>,
 //!     out: &mut W,
 //!     err: &mut E,
 //! ) -> io::Result<Status>
 //!     ensures { IfOk result (λ status. status ≡ Status.Yes
-//!         → (request : RequestValue) × (files : Result Files LoadFault) × (file : Option Text) × Promise request files file) }
+//!         → (files : Result Files LoadFault) × (file : Option Text) × Promise (request_seen request.entry) files file) }
 //! {
-//!     let alloc = rt.alloc();
-//!     let request = match request_of(alloc, words) {
-//!         Ok(request) => request,
-//!         Err(fault) => return Ok(refuse(fault, err)),
-//!     };
 //!     let files = files_at(rt, request.folder());
 //!     let file = bytes_at(rt, request.file())?;
-//!     Ok(respond(alloc, request, &files, file.as_deref(), out, err))
+//!     Ok(respond(rt.alloc(), request, &files, file.as_deref(), out, err))
 //! }
 //! ```
 //!
@@ -27,18 +22,22 @@
 #![tactic(auto)]
 
 mod answering;
+mod checking;
 mod directory;
 mod engine;
 mod laws;
+mod meter;
 mod outcomes;
 mod reply;
 mod request;
 mod telling;
+mod version;
 
 pub use answering::answer;
-pub use directory::{bytes_at, files_at};
-pub use engine::{refuse, respond};
+pub use directory::{Listing, bytes_at, files_at, listing_at};
+pub use engine::{check, refuse, respond, tell_version};
 pub use laws::verdicts_agree;
+pub use meter::Meter;
 pub use outcomes::outcome;
 pub use reply::{Reply, Status};
-pub use request::{Request, WordsFault, request_of};
+pub use request::{CheckRequest, Invocation, Request, WordsFault, invocation_of};

@@ -1,5 +1,20 @@
 //! What is told of the files of a folder, their definitions and a certificate: a line for each finding.
 //!
+//! ```
+//! /// Whether nothing is wrong with files, and each of their definitions can be used.
+//! pub fn is_clean(alloc: Global, files: &FolderFiles) -> Result<bool, NoMemory>
+//!     ensures { IfOk result (λ is_clean. IsTrue is_clean → IsFaultless [] files.now None) }
+//! {
+//!     let subject = Subject {
+//!         files,
+//!         unread: &[],
+//!         certificate: None,
+//!     };
+//!     let report = fhir_report::report_on(alloc, Form::Text, subject, &mut Silent)?;
+//!     Ok(report.is_clean)
+//! }
+//! ```
+//!
 //! The contract to read first is that of [`report_on`].
 #![tactic(auto)]
 

@@ -4,21 +4,32 @@
 ghost use Rattle.std.specs.Prelude.{◌≡◌};
 ghost use Rattle.std.specs.Process.{exit_status};
 ghost use Rattle.fhir_registry.specs.Replying.{ReplyValue, IsReply, answer_to, Promise};
-ghost use Rattle.fhir_registry.specs.Views.{bytes_seen, request_seen};
+ghost use Rattle.fhir_registry.specs.Checking.{CheckPromise, IsWrong};
+ghost use Rattle.fhir_registry.specs.Views.{bytes_seen, check_seen, request_seen};
 
 use fhir_package::{FolderFiles, LoadFault};
-use fhir_registry::{Request, WordsFault, bytes_at, files_at, refuse, request_of, respond};
+use fhir_registry::{
+    CheckRequest, Invocation, Listing, Meter, Request, WordsFault, bytes_at, check, files_at,
+    invocation_of, listing_at, refuse, respond, tell_version,
+};
+use fhir_report::Progress;
 use std::alloc::Global;
-use std::io::{ErrorKind, Write};
+use std::io::{ErrorKind, IsTerminal, Write};
 use std::process::ExitCode;
 use std::rt::{Env, Files};
 use std::{env, io};
 
 fn main(rt: HostRuntime) -> ExitCode {
     let mut err = rt.stderr();
-    match exit_code(&rt, &mut err) {
+    let mut terminal = rt.stderr();
+    let is_terminal = terminal.is_terminal();
+    let mut meter = Meter::new(&rt, &mut terminal, is_terminal);
+    match exit_code(&rt, &mut meter, &mut err) {
         Ok(code) => code,
-        Err(fault) => ExitCode::from(refuse(fault, &mut err)),
+        Err(fault) => {
+            meter.end();
+            ExitCode::from(refuse(fault, &mut err))
+        }
     }
 }
 
@@ -38,6 +49,22 @@ fn answer<W: Write, E: Write>(
     ExitCode::from(respond(alloc, request, files, file, out, err))
 }
 
+// The report of the engine, as the code with which the process ends.
+fn checked<W: Write, E: Write, P: Progress>(
+    alloc: Global,
+    request: CheckRequest<'_>,
+    listing: &Result<Listing, LoadFault>,
+    file: Option<&[u8]>,
+    progress: &mut P,
+    out: &mut W,
+    err: &mut E,
+) -> ExitCode
+    ensures promised { exit_status result ≡ 0 → CheckPromise (check_seen request.entry) listing.now (bytes_seen file.entry) }
+    ensures wrong { exit_status result ≡ 1 → IsWrong (check_seen request.entry) listing.now (bytes_seen file.entry) }
+{
+    ExitCode::from(check(alloc, request, listing, file, progress, out, err))
+}
+
 // The words. One that isn't UTF-8 asks for nothing.
 fn words_of<R: Env + AllocGlobal>(rt: &R) -> Result<Vec<String>, WordsFault> {
     match env::args(rt) {
@@ -47,18 +74,54 @@ fn words_of<R: Env + AllocGlobal>(rt: &R) -> Result<Vec<String>, WordsFault> {
     }
 }
 
-// The code of the engine's answer, or why there is none.
-fn exit_code<R: Files + Env + AllocGlobal + Print + Clone + Drop, E: Write>(
+fn file_at<R: Files + AllocGlobal>(rt: &R, path: &str) -> Result<Option<Vec<u8>>, WordsFault> {
+    bytes_at(rt, path).map_err(|_| WordsFault::NoMemory)
+}
+
+fn judge<R: Files + AllocGlobal + Print + Clone + Drop, E: Write>(
     rt: &R,
+    request: Request<'_>,
     err: &mut E,
 ) -> Result<ExitCode, WordsFault> {
-    let alloc = rt.alloc();
-    let words = words_of(rt)?;
-    let request = request_of(alloc, &words)?;
     let files = files_at(rt, request.folder());
-    let Ok(file) = bytes_at(rt, request.file()) else {
-        return Err(WordsFault::NoMemory);
+    let file = file_at(rt, request.file())?;
+    let mut out = io::writer(rt);
+    Ok(answer(rt.alloc(), request, &files, file.as_deref(), &mut out, err))
+}
+
+fn report<R: Files + AllocGlobal + Print + Clone + Drop, P: Progress, E: Write>(
+    rt: &R,
+    request: CheckRequest<'_>,
+    progress: &mut P,
+    err: &mut E,
+) -> Result<ExitCode, WordsFault> {
+    let listing = listing_at(rt, request.folder, progress);
+    let file = match request.certificate {
+        Some(path) => file_at(rt, path)?,
+        None => None,
     };
     let mut out = io::writer(rt);
-    Ok(answer(alloc, request, &files, file.as_deref(), &mut out, err))
+    Ok(checked(
+        rt.alloc(),
+        request,
+        &listing,
+        file.as_deref(),
+        progress,
+        &mut out,
+        err,
+    ))
+}
+
+// The code of the engine's answer, or why there is none.
+fn exit_code<R: Files + Env + AllocGlobal + Print + Clone + Drop, P: Progress, E: Write>(
+    rt: &R,
+    progress: &mut P,
+    err: &mut E,
+) -> Result<ExitCode, WordsFault> {
+    let words = words_of(rt)?;
+    match invocation_of(rt.alloc(), &words)? {
+        Invocation::Judge(request) => judge(rt, request, err),
+        Invocation::Check(request) => report(rt, request, progress, err),
+        Invocation::Version => Ok(ExitCode::from(tell_version(&mut io::writer(rt)))),
+    }
 }
