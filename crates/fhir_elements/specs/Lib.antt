@@ -8,3 +8,4 @@ pub mod Binding
 pub mod Slicing
 pub mod Element
 pub mod CodesSeen
+pub mod Numbers

@@ -1,42 +1,56 @@
 //! Why a definition can't be used.
 
+ghost use Rattle.std.specs.Prelude.{◌≡◌};
+ghost use Rattle.fhir_elements.specs.Numbers.{reason_number};
+
 use thiserror::Error;
 
 /// Why a definition can't be used.
 #[derive(Clone, Copy, Debug, PartialEq, Eq, Error)]
+#[error("{}", self.number())]
 pub enum Reason {
-    /// A field has a wrong JSON kind or a value outside its set, or an element of a snapshot lacks a field that it must
+    /// `U1`: a field has a wrong JSON kind or a value outside its set, or an element of a snapshot lacks a field that it must
     /// have there.
-    #[error("U1")]
     WrongField,
-    /// The `min` of an element is over its `max`.
-    #[error("U2")]
+    /// `U2`: the `min` of an element is over its `max`.
     MinOverMax,
-    /// A type code is repeated in one element.
-    #[error("U3")]
+    /// `U3`: a type code is repeated in one element.
     RepeatedType,
-    /// The `id` of an element is missing, unreadable or repeated.
-    #[error("U4")]
+    /// `U4`: the `id` of an element is missing, unreadable or repeated.
     WrongId,
-    /// The type definition of a type code isn't there, or can't be used itself.
-    #[error("U5")]
+    /// `U5`: the type definition of a type code isn't there, or can't be used itself.
     UnusableType,
-    /// The elements are no tree: a parent is missing, there is no root or there are two, or two elements spell one property.
-    #[error("U6")]
+    /// `U6`: the elements are no tree: a parent is missing, there is no root or there are two, or two elements spell one property.
     NoTree,
-    /// The element that a content reference names is missing.
-    #[error("U7")]
+    /// `U7`: the element that a content reference names is missing.
     MissingContent,
-    /// The chain of `baseDefinition` runs in a cycle.
-    #[error("U8")]
+    /// `U8`: the chain of `baseDefinition` runs in a cycle.
     BaseCycle,
-    /// A slicing isn't supported.
-    #[error("U9")]
+    /// `U9`: a slicing isn't supported.
     UnsupportedSlicing,
-    /// There is no snapshot.
-    #[error("U10")]
+    /// `U10`: there is no snapshot.
     NoSnapshot,
-    /// Another definition of the same type comes before it.
-    #[error("U11")]
+    /// `U11`: another definition of the same type comes before it.
     SecondType,
+}
+
+impl Reason {
+    /// The number that `Display` prints.
+    pub fn number(&self) -> &'static str
+        ensures { result.now ≡ reason_number self.now }
+    {
+        match self {
+            Reason::WrongField => "U1",
+            Reason::MinOverMax => "U2",
+            Reason::RepeatedType => "U3",
+            Reason::WrongId => "U4",
+            Reason::UnusableType => "U5",
+            Reason::NoTree => "U6",
+            Reason::MissingContent => "U7",
+            Reason::BaseCycle => "U8",
+            Reason::UnsupportedSlicing => "U9",
+            Reason::NoSnapshot => "U10",
+            Reason::SecondType => "U11",
+        }
+    }
 }
