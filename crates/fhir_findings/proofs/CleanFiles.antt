@@ -1,8 +1,8 @@
 -- Files are clean exactly where nothing is listed of them.
-use Rattle.std.proofs.Common.{◌≡◌, List, [], ◌∷◌, Result, Ok, Err, refl, sym, ap, ◌∙◌, subst}
+use Rattle.std.proofs.Common.{◌≡◌, List, [], ◌∷◌, Ok, refl, sym, ap, ◌∙◌, subst}
 use Rattle.fhir_package.specs.Definitions.{Definitions}
 use Rattle.fhir_package.specs.Folder.{Files}
-use Rattle.fhir_package.specs.Packing.{Refusal, pack_files}
+use Rattle.fhir_package.specs.Packing.{pack_files}
 use Rattle.fhir_package.specs.Surveying.{FileFault, survey, told_by, packed_by}
 use Rattle.fhir_schema.specs.Schemas.{schema_of}
 use Rattle.fhir_findings.specs.Clean.{AreUsable, IsClean}

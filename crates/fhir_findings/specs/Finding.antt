@@ -5,7 +5,7 @@ use Rattle.std.specs.List.{flat_map}
 use Rattle.std.specs.Map.{keys_of}
 use Rattle.fhir_json.specs.Tree.{Text}
 use Rattle.fhir_elements.specs.declared.reason.Reason.{Reason}
-use Rattle.fhir_package.specs.Surveying.{FileFault, Surveyed}
+use Rattle.fhir_package.specs.Surveying.{FileFault, not_json, clash, Surveyed}
 use Rattle.fhir_package.specs.SurveyView.{fault_seen}
 use Rattle.fhir_schema.specs.Schemas.{SchemaValue, unusable}
 use Rattle.fhir_findings.specs.declared.finding.Finding.{Finding}
@@ -27,6 +27,18 @@ unusable_from s files place (url ∷ urls) = unusable_at s (get_or files place [
 -- all definitions of a package that can't be used, in its order
 abbrev pub all_unusable : SchemaValue → Surveyed → List UnusableValue
 all_unusable s survey = unusable_from s survey.sources.structure_definitions 0 (keys_of survey.definitions.structure_definitions)
+
+-- ---- files
+
+abbrev pub fault_file : FileFault → Text
+fault_file (not_json file expected position) = file
+fault_file (clash kind url file first) = file
+
+-- the file that something is found in
+abbrev pub file_of : Finding → Text
+file_of (File fault) = fault_file (fault_seen fault.now)
+file_of (UnusableOne u) = u.file.now
+file_of (UnreadOne u) = u.file.now
 
 -- ---- what findings tell
 

@@ -1,3 +1,4 @@
 pub mod Clean
 pub mod Faults
 pub mod Finding
+pub mod Counting

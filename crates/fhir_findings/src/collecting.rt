@@ -1,22 +1,15 @@
 //! From a survey and a schema to what was found.
 
-ghost use Rattle.std.specs.Prelude.{◌≡◌, [], ◌∷◌, ◌++◌, drop, IfOk, OnOk};
+ghost use Rattle.std.specs.Prelude.{◌≡◌, ◌≤◌, [], ◌∷◌, ◌++◌, drop, length, IfOk, OnOk};
 ghost use Rattle.fhir_package.specs.SurveyView.{fault_seen, faults_seen};
 ghost use Rattle.fhir_findings.specs.Finding.{unusable_at, all_unusable, faults_told, all_told};
 
-use crate::finding::{Finding, UnreadRule, Unusable};
+use crate::finding::{Finding, UnreadRule, Unusable, fault_file};
 use crate::unread::unread_rules;
 use fhir_json::NoMemory;
 use fhir_package::{FileFault, Kind, Survey};
 use fhir_schema::{NodeRef, Schema};
 use std::alloc::{AllocError, Global};
-
-fn file_of<'r>(fault: &FileFault<'r>) -> &'r str {
-    match fault {
-        FileFault::NotJson(fault) => fault.file,
-        FileFault::Clash(clash) => clash.file,
-    }
-}
 
 fn push_fault<'s, 'f>(
     fault: &'s FileFault<'f>,
@@ -29,43 +22,49 @@ fn push_fault<'s, 'f>(
     Ok(())
 }
 
-// Puts in the faults from a place on whose files aren't behind this one, and gives the place of the first that is.
+// The first place from one on of a fault whose file comes behind this one; where none does, how many faults there are.
+fn place_behind(faults: &[FileFault<'_>], from: usize, file: &str) -> usize
+    requires { from ≤ length faults.now }
+    ensures least { from ≤ result }
+    ensures most { result ≤ length faults.now }
+{
+    let mut place = from;
+    while place < faults.len() && fault_file(&faults[place]) <= file {
+        place += 1;
+    }
+    place
+}
+
+// Puts in faults.
 fn push_faults<'s, 'f>(
+    faults: &'s [FileFault<'f>],
+    into: &mut Vec<Finding<'s, 'f>>,
+) -> Result<(), AllocError>
+    ensures faults { OnOk result (faults_told into.new.items ≡ faults_told into.old.items ++ faults_seen faults.now) }
+    ensures unusable { OnOk result (all_told into.new.items ≡ all_told into.old.items) }
+{
+    for fault in faults {
+        push_fault(fault, into)?;
+    }
+    Ok(())
+}
+
+// Puts in the faults from a place on whose files don't come behind this one, and gives the place behind them.
+fn push_before<'s, 'f>(
     faults: &'s [FileFault<'f>],
     from: usize,
     file: &str,
     into: &mut Vec<Finding<'s, 'f>>,
 ) -> Result<usize, AllocError>
-    ensures faults { IfOk result (λ place. faults_told into.old.items ++ drop from (faults_seen faults.now)
-        ≡ faults_told into.new.items ++ drop place (faults_seen faults.now)) }
+    requires { from ≤ length faults.now }
+    ensures within { IfOk result (λ place. place ≤ length faults.now) }
+    ensures faults { IfOk result (λ place. faults_told into.new.items ++ drop place (faults_seen faults.now)
+        ≡ faults_told into.old.items ++ drop from (faults_seen faults.now)) }
     ensures unusable { IfOk result (λ place. all_told into.new.items ≡ all_told into.old.items) }
 {
-    let mut place = from;
-    while place < faults.len() {
-        if file_of(&faults[place]) > file {
-            return Ok(place);
-        }
-        push_fault(&faults[place], into)?;
-        place += 1;
-    }
-    Ok(place)
-}
-
-// Puts in all faults from a place on.
-fn push_rest<'s, 'f>(
-    faults: &'s [FileFault<'f>],
-    from: usize,
-    into: &mut Vec<Finding<'s, 'f>>,
-) -> Result<(), AllocError>
-    ensures faults { OnOk result (faults_told into.new.items ≡ faults_told into.old.items ++ drop from (faults_seen faults.now)) }
-    ensures unusable { OnOk result (all_told into.new.items ≡ all_told into.old.items) }
-{
-    let mut place = from;
-    while place < faults.len() {
-        push_fault(&faults[place], into)?;
-        place += 1;
-    }
-    Ok(())
+    let end = place_behind(faults, from, file);
+    push_faults(&faults[from..end], into)?;
+    Ok(end)
 }
 
 // Puts in the definition of a file at a url, if it can't be used.
@@ -170,6 +169,7 @@ pub fn findings<'s, 'f>(
     ensures faults { IfOk result (λ fs. faults_told fs.items ≡ survey.now.faults) }
     ensures unusable { IfOk result (λ fs. all_told fs.items ≡ all_unusable schema.now survey.now) }
 {
+    let faults = survey.faults();
     let mut found = Vec::new(alloc);
     let mut told = 0;
     for (place, url) in survey
@@ -178,9 +178,9 @@ pub fn findings<'s, 'f>(
         .enumerate()
     {
         let file = survey.source(Kind::StructureDefinition, place);
-        told = push_faults(survey.faults(), told, file, &mut found)?;
+        told = push_before(faults, told, file, &mut found)?;
         push_definition(alloc, schema, file, place, url, &mut found)?;
     }
-    push_rest(survey.faults(), told, &mut found)?;
+    push_faults(&faults[told..], &mut found)?;
     Ok(found)
 }

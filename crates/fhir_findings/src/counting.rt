@@ -1,6 +1,10 @@
 //! How much of a package there is, and how much of it can be used.
 
-ghost use Rattle.std.specs.Prelude.{◌≡◌, ◌-◌, length};
+ghost use Rattle.std.specs.Prelude.{◌≡◌, ◌-◌, Some, count_by, is_none, is_some};
+ghost use Rattle.std.specs.Map.{keys_of};
+ghost use Rattle.fhir_schema.specs.Schemas.{concepts_at};
+ghost use Rattle.fhir_schema.specs.Settling.{reason_at};
+ghost use Rattle.fhir_findings.specs.Counting.{counts, counts_text};
 
 use fhir_package::{Kind, Package, Survey};
 use fhir_schema::Schema;
@@ -37,7 +41,9 @@ impl Counts {
     }
 }
 
-fn usable_of(schema: &Schema) -> usize {
+fn usable_of(schema: &Schema) -> usize
+    ensures { result ≡ count_by (λ d. is_none (reason_at schema.now.reasons d.place)) schema.now.definitions }
+{
     schema
         .definitions()
         .iter()
@@ -45,7 +51,9 @@ fn usable_of(schema: &Schema) -> usize {
         .count()
 }
 
-fn read_of(package: &Package<'_>, schema: &Schema) -> usize {
+fn read_of(package: &Package<'_>, schema: &Schema) -> usize
+    ensures { result ≡ count_by (λ url. is_some (concepts_at schema.now url)) (keys_of «package».now.value_sets) }
+{
     package
         .names(Kind::ValueSet)
         .filter(|url| schema.concepts(url).is_some())
@@ -54,9 +62,7 @@ fn read_of(package: &Package<'_>, schema: &Schema) -> usize {
 
 /// The counts of the package of a survey of so many files, by its schema.
 pub fn counts_of(files: usize, survey: &Survey<'_>, schema: &Schema) -> Counts
-    ensures files { result.files ≡ files }
-    ensures definitions { result.definitions ≡ length schema.now.definitions }
-    ensures value_sets { result.value_sets ≡ length survey.now.definitions.value_sets }
+    ensures { result ≡ counts files survey.now schema.now }
 {
     let package = survey.package();
     Counts {
@@ -69,6 +75,8 @@ pub fn counts_of(files: usize, survey: &Survey<'_>, schema: &Schema) -> Counts
 }
 
 impl fmt::Display for Counts {
+    ghost output = { λ c. Some (counts_text c) };
+
     fn fmt<W: fmt::Write>(&self, f: &mut fmt::Formatter<W>) -> fmt::Result {
         write!(
             f,

@@ -3,7 +3,8 @@
 ghost use Rattle.std.specs.Prelude.{◌≡◌, [], false};
 ghost use Rattle.std.specs.List.{list_any};
 ghost use Rattle.fhir_findings.specs.Faults.{is_fault};
-ghost use Rattle.fhir_findings.specs.Finding.{faults_told, all_told, has_faults};
+ghost use Rattle.fhir_package.specs.SurveyView.{fault_seen};
+ghost use Rattle.fhir_findings.specs.Finding.{fault_file, file_of, faults_told, all_told, has_faults};
 
 use fhir_elements::Reason;
 use fhir_facets::Unread;
@@ -42,6 +43,29 @@ pub enum Finding<'s, 'f> {
     Unusable(Unusable<'s>),
     /// A definition that can be used states a rule that isn't judged.
     Unread(UnreadRule<'s>),
+}
+
+/// The file that a fault is of.
+pub(crate) fn fault_file<'f>(fault: &FileFault<'f>) -> &'f str
+    ensures { result.now ≡ fault_file (fault_seen fault.now) }
+{
+    match fault {
+        FileFault::NotJson(fault) => fault.file,
+        FileFault::Clash(clash) => clash.file,
+    }
+}
+
+impl<'s, 'f: 's> Finding<'s, 'f> {
+    /// The file that it is found in.
+    pub fn file(&self) -> &'s str
+        ensures { result.now ≡ file_of self.now }
+    {
+        match self {
+            Finding::File(fault) => fault_file(fault),
+            Finding::Unusable(unusable) => unusable.file,
+            Finding::Unread(unread) => unread.file,
+        }
+    }
 }
 
 fn is_fault(finding: &Finding<'_, '_>) -> bool
