@@ -1,2 +1,4 @@
 -- Lemmas on reports.
 pub mod Saying
+pub mod Shown
+pub mod Told

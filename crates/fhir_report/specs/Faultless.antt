@@ -13,6 +13,10 @@ use Rattle.fhir_cert_check.specs.Inclusion.{Includes}
 use Rattle.fhir_findings.specs.Clean.{AreUsable}
 use Rattle.fhir_report.specs.declared.reporting.CertificateFile.{CertificateFile}
 
+-- a certificate: the name of its file, and its bytes
+abbrev pub CertificateValue : Type 0
+CertificateValue = Text × Text
+
 -- nothing is wrong with a certificate of these bytes
 abbrev pub IsRight : SchemaValue → Text → Type 0
 IsRight s bytes = answer_of (reading s bytes) s ≡ Ok None
@@ -22,22 +26,22 @@ abbrev pub Promises : SchemaValue → Text → Type 0
 Promises s bytes = (w : Written) × Spells bytes w × Includes s w.derived w.base
 
 -- the same where there may be none
-abbrev pub IsRightIfAny : SchemaValue → Option Text → Type 0
+abbrev pub IsRightIfAny : SchemaValue → Option CertificateValue → Type 0
 IsRightIfAny s None = Unit {0}
-IsRightIfAny s (Some bytes) = IsRight s bytes
+IsRightIfAny s (Some c) = IsRight s c.1
 
-abbrev pub PromisesIfAny : SchemaValue → Option Text → Type 0
+abbrev pub PromisesIfAny : SchemaValue → Option CertificateValue → Type 0
 PromisesIfAny s None = Unit {0}
-PromisesIfAny s (Some bytes) = Promises s bytes
+PromisesIfAny s (Some c) = Promises s c.1
 
 -- No file is unread, the files that were read are a package, each of its definitions can be used, and the certificate, if there
 -- is one, is right.
-abbrev pub IsFaultless : List Text → Files → Option Text → Type 0
+abbrev pub IsFaultless : List Text → Files → Option CertificateValue → Type 0
 IsFaultless unread files certificate =
     (unread ≡ []) × (p : Definitions) × (pack_files files ≡ Ok p) × AreUsable (schema_of p) × IsRightIfAny (schema_of p) certificate
 
 -- what that promises
-abbrev pub IsPromised : Files → Option Text → Type 0
+abbrev pub IsPromised : Files → Option CertificateValue → Type 0
 IsPromised files certificate = (p : Definitions) × (pack_files files ≡ Ok p) × PromisesIfAny (schema_of p) certificate
 
 -- ---- what contracts see
@@ -45,5 +49,5 @@ IsPromised files certificate = (p : Definitions) × (pack_files files ≡ Ok p) 
 abbrev pub names_seen : List (String Global) → List Text
 names_seen names = map string_bytes names
 
-abbrev pub bytes_seen : Option CertificateFile → Option Text
-bytes_seen certificate = option_map (λ c. c.bytes.now) certificate
+abbrev pub certificate_seen : Option CertificateFile → Option CertificateValue
+certificate_seen certificate = option_map (λ c. (c.name.now, c.bytes.now)) certificate

@@ -1,1 +1,4 @@
 pub mod Faultless
+pub mod Lines
+pub mod Report
+pub mod Growing

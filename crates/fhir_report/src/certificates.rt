@@ -1,9 +1,14 @@
 //! What is told of a certificate.
 
+ghost use Rattle.std.specs.Prelude.{◌≡◌, ◌++◌, IfOk, None, codes, string_bytes};
+ghost use Rattle.fhir_json.specs.Tree.{Text};
+ghost use Rattle.fhir_report.specs.Lines.{file_line, line_seen};
+ghost use Rattle.fhir_report.specs.Report.{node_text, pair_word, derived_of, base_of, pair_text, IsOfCertificate};
+
 use crate::line::{Line, Number};
 use crate::narrowing::rule_words;
 use fhir_cert_check::Rule;
-use fhir_certificate::{Flaw, FlawKind, Pair, Part};
+use fhir_certificate::{CertFault, Flaw, FlawKind, Pair, Part};
 use fhir_json::NoMemory;
 use fhir_schema::{NodeRef, Schema};
 use std::alloc::{AllocError, Global};
@@ -35,46 +40,81 @@ fn flaw_text(alloc: Global, kind: FlawKind<'_>) -> Result<String, AllocError> {
     }
 }
 
-fn flaw_number(kind: FlawKind<'_>) -> Number {
+fn flaw_fault(kind: FlawKind<'_>) -> CertFault {
     match kind {
-        FlawKind::Expected(_) => Number::Format,
-        FlawKind::Definition(_) | FlawKind::Element(_, _) => Number::Unknown,
+        FlawKind::Expected(_) => CertFault::WrongFormat,
+        FlawKind::Definition(_) | FlawKind::Element(_, _) => CertFault::UnknownNode,
     }
 }
 
 /// The line on a flaw of a certificate in a file.
-pub fn flaw_line<'r>(
-    alloc: Global,
-    file: &'r str,
-    flaw: &Flaw<'r>,
-) -> Result<Line<'r>, AllocError> {
+pub fn flaw_line<'r>(alloc: Global, file: &'r str, flaw: &Flaw<'r>) -> Result<Line<'r>, AllocError>
+    ensures { IfOk result (λ l. IsOfCertificate file.now (line_seen l)) }
+{
     let text = flaw_text(alloc, flaw.kind)?;
-    let mut line = Line::of_file(file, Some(flaw_number(flaw.kind)), text);
-    line.line = Some(flaw.line);
-    match flaw.kind {
-        FlawKind::Expected(_) => {}
-        FlawKind::Definition(url) => line.url = Some(url),
-        FlawKind::Element(url, id) => {
-            line.url = Some(url);
-            line.id = Some(id);
-        }
-    }
-    Ok(line)
-}
-
-fn node_text(alloc: Global, schema: &Schema, node: NodeRef) -> Result<String, AllocError> {
-    let (url, id) = schema.name(node);
-    format!(in alloc; "{url}#{id}")
-}
-
-fn pair_text(alloc: Global, schema: &Schema, pair: Pair) -> Result<String, AllocError> {
-    let (word, nodes) = match pair {
-        Pair::Item(nodes) => ("item", nodes),
-        Pair::Kids(nodes) => ("kids", nodes),
+    let number = Number::Certificate(flaw_fault(flaw.kind));
+    let (url, id) = match flaw.kind {
+        FlawKind::Expected(_) => (None, None),
+        FlawKind::Definition(url) => (Some(url), None),
+        FlawKind::Element(url, id) => (Some(url), Some(id)),
     };
-    let derived = node_text(alloc, schema, nodes.derived)?;
-    let base = node_text(alloc, schema, nodes.base)?;
-    format!(in alloc; "{word} {derived} {base}")
+    Ok(Line {
+        line: Some(flaw.line),
+        url,
+        id,
+        ..Line::of_file(file, Some(number), text)
+    })
+}
+
+fn node_text(alloc: Global, schema: &Schema, node: NodeRef) -> Result<String, AllocError>
+    ensures { IfOk result (λ text. string_bytes text ≡ node_text schema.now node) }
+{
+    let (url, id) = schema.name(node);
+    let mut text = String::new(alloc);
+    text.push_str(url)?;
+    text.push_str("#")?;
+    text.push_str(id)?;
+    Ok(text)
+}
+
+fn pair_word(pair: Pair) -> &'static str
+    ensures { result.now ≡ pair_word pair }
+{
+    match pair {
+        Pair::Item(_) => "item ",
+        Pair::Kids(_) => "kids ",
+    }
+}
+
+fn derived_of(pair: Pair) -> NodeRef
+    ensures { result ≡ derived_of pair }
+{
+    match pair {
+        Pair::Item(nodes) => nodes.derived,
+        Pair::Kids(nodes) => nodes.derived,
+    }
+}
+
+fn base_of(pair: Pair) -> NodeRef
+    ensures { result ≡ base_of pair }
+{
+    match pair {
+        Pair::Item(nodes) => nodes.base,
+        Pair::Kids(nodes) => nodes.base,
+    }
+}
+
+/// A pair as a text: `item` or `kids`, and its two elements, each as URL`#`ID.
+pub fn pair_text(alloc: Global, schema: &Schema, pair: Pair) -> Result<String, AllocError>
+    ensures { IfOk result (λ text. string_bytes text ≡ pair_text schema.now pair) }
+{
+    let derived = node_text(alloc, schema, derived_of(pair))?;
+    let base = node_text(alloc, schema, base_of(pair))?;
+    let mut text = String::from_str(alloc, pair_word(pair))?;
+    text.push_str(derived.as_str())?;
+    text.push_str(" ")?;
+    text.push_str(base.as_str())?;
+    Ok(text)
 }
 
 /// The line on a certificate in a file of which that pair fails that rule.
@@ -84,9 +124,15 @@ pub fn no_line<'r>(
     file: &'r str,
     pair: Pair,
     rule: Rule<'_>,
-) -> Result<Line<'r>, NoMemory> {
+) -> Result<Line<'r>, NoMemory>
+    ensures { IfOk result (λ l. (words : Text)
+        × (line_seen l ≡ file_line file.now None (codes "no: " ++ pair_text schema.now pair ++ codes ": " ++ words))) }
+{
     let pair_text = pair_text(alloc, schema, pair)?;
     let words = rule_words(alloc, schema, pair, rule)?;
-    let text = format!(in alloc; "no: {pair_text}: {words}")?;
+    let mut text = String::from_str(alloc, "no: ")?;
+    text.push_str(pair_text.as_str())?;
+    text.push_str(": ")?;
+    text.push_str(words.as_str())?;
     Ok(Line::of_file(file, None, text))
 }

@@ -15,13 +15,6 @@ fn text_member(name: &'static str, text: &'static str) -> Member<'static> {
     }
 }
 
-fn members<'t, 'j>(json: &'t Json<'j>) -> &'t [Member<'j>] {
-    match json {
-        Json::Obj(members) => members,
-        _ => Default::default(),
-    }
-}
-
 // Whether a field makes an element wrong by itself.
 fn is_wrong_in_element(alloc: Global, member: &Member<'_>) -> Result<bool, NoMemory> {
     let alone = Json::Obj(vec![in alloc; owned_member(alloc, member)?]?);
@@ -44,7 +37,7 @@ fn is_wrong_in_head(alloc: Global, member: &Member<'_>) -> Result<bool, NoMemory
 }
 
 fn first_in_element<'t>(alloc: Global, tree: &'t Json<'_>) -> Result<Option<&'t str>, NoMemory> {
-    for member in members(tree) {
+    for member in tree.members() {
         if is_wrong_in_element(alloc, member)? {
             return Ok(Some(member.name.as_str()));
         }
@@ -53,7 +46,7 @@ fn first_in_element<'t>(alloc: Global, tree: &'t Json<'_>) -> Result<Option<&'t 
 }
 
 fn first_in_head<'t>(alloc: Global, tree: &'t Json<'_>) -> Result<Option<&'t str>, NoMemory> {
-    for member in members(tree) {
+    for member in tree.members() {
         if is_wrong_in_head(alloc, member)? {
             return Ok(Some(member.name.as_str()));
         }

@@ -15,13 +15,15 @@
 //! }
 //! ```
 //!
-//! The contract to read first is that of [`report_on`].
+//! The contract to read first is that of [`report_on`]. What a report says stands in `specs/Report.antt`, and how its lines are
+//! written in `specs/Lines.antt`.
 #![tactic(auto)]
 
 mod causes;
 mod certificates;
 mod explaining;
 mod fields;
+mod laws;
 mod line;
 mod narrowing;
 mod progress;
@@ -34,7 +36,8 @@ mod why;
 mod wording;
 mod writing;
 
-pub use certificates::{flaw_line, no_line};
+pub use certificates::{flaw_line, no_line, pair_text};
+pub use laws::rows_are_lines;
 pub use line::{Line, Number};
 pub use narrowing::rule_words;
 pub use progress::{Progress, Silent, Stage};

@@ -1,7 +1,13 @@
 //! Lines of a report.
 
-ghost use Rattle.std.specs.Prelude.{◌≡◌, None, Some, option_map};
+ghost use Rattle.std.specs.Prelude.{◌≡◌, ◌++◌, ◌∷◌, [], map, flat_map, None, Some, IfOk, OnOk, option_map, string_bytes};
+ghost use Rattle.std.specs.Fmt.{decimal};
+ghost use Rattle.fhir_json.specs.Tree.{string, number, object};
+ghost use Rattle.fhir_json.specs.Memory.{Gives};
+ghost use Rattle.fhir_json.specs.Views.{tree_of, property_of};
+ghost use Rattle.fhir_report.specs.Lines.{text_line, file_line, number_text, parts_of, group, place_text, name_text, line_text, text_member, count_member, line_tree, line_seen};
 
+use fhir_certificate::CertFault;
 use fhir_elements::Reason;
 use fhir_json::{Json, JsonFault, Member, NoMemory, Position};
 use std::alloc::{AllocError, Global};
@@ -19,30 +25,32 @@ pub enum Number {
     Json(JsonFault),
     /// `U1` to `U11`: a definition can't be used.
     Unusable(Reason),
-    /// `C1`: a line of a certificate isn't written as it should be.
-    Format,
-    /// `C2`: a line of a certificate names what isn't there.
-    Unknown,
-    /// `C3`: a certificate has too many pairs.
-    TooManyPairs,
+    /// `C1` to `C3`: a line of a certificate isn't written as it should be or names what isn't there, or there are too many.
+    Certificate(CertFault),
 }
 
-impl fmt::Display for Number {
-    fn fmt<W: fmt::Write>(&self, f: &mut fmt::Formatter<W>) -> fmt::Result {
+impl Number {
+    /// The number's text.
+    pub fn text(&self) -> &'static str
+        ensures { result.now ≡ number_text self.now }
+    {
         match self {
-            Number::Unread => f.write_str("P1"),
-            Number::Clash => f.write_str("P3"),
-            Number::Json(fault) => write!(f, "{fault}"),
-            Number::Unusable(reason) => write!(f, "{reason}"),
-            Number::Format => f.write_str("C1"),
-            Number::Unknown => f.write_str("C2"),
-            Number::TooManyPairs => f.write_str("C3"),
+            Number::Unread => "P1",
+            Number::Clash => "P3",
+            Number::Json(fault) => fault.number(),
+            Number::Unusable(reason) => reason.number(),
+            Number::Certificate(fault) => fault.number(),
         }
     }
 }
 
-/// A line of a report: something that was found, and where. `Display` prints it, without a line feed, as
-/// `FILE:LINE:COLUMN: NUMBER URL ID: TEXT`, and what it doesn't have it leaves out.
+impl fmt::Display for Number {
+    fn fmt<W: fmt::Write>(&self, f: &mut fmt::Formatter<W>) -> fmt::Result {
+        f.write_str(self.text())
+    }
+}
+
+/// A line of a report: something that was found, and where.
 #[derive(Debug, Drop)]
 pub struct Line<'r> {
     /// The file.
@@ -61,11 +69,110 @@ pub struct Line<'r> {
     pub text: String,
 }
 
+// Puts in a part, if it is there.
+fn push_part<'r>(part: Option<&'r str>, parts: &mut Vec<&'r str>) -> Result<(), AllocError>
+    ensures { OnOk result (map (λ p. p.now) parts.new.items
+        ≡ map (λ p. p.now) parts.old.items ++ parts_of (option_map (λ p. p.now) part.entry)) }
+{
+    match part {
+        Some(part) => Ok(parts.push(part)?),
+        None => Ok(()),
+    }
+}
+
+fn count_text(alloc: Global, count: Option<usize>) -> Result<Option<String>, AllocError>
+    ensures { IfOk result (λ text. option_map string_bytes text ≡ option_map decimal count) }
+{
+    match count {
+        Some(count) => Ok(Some(format!(in alloc; "{count}")?)),
+        None => Ok(None),
+    }
+}
+
+fn push_each(separator: &str, parts: &[&str], into: &mut String) -> Result<(), AllocError>
+    ensures { OnOk result (string_bytes into.new
+        ≡ string_bytes into.old ++ flat_map (λ p. separator.now ++ p) (map (λ p. p.now) parts.now)) }
+{
+    for part in parts {
+        into.push_str(separator)?;
+        into.push_str(*part)?;
+    }
+    Ok(())
+}
+
+// The parts behind one another, and a colon; nothing where there is none.
+fn push_group(separator: &str, parts: &[&str], into: &mut String) -> Result<(), AllocError>
+    ensures { OnOk result (string_bytes into.new
+        ≡ string_bytes into.old ++ group separator.now (map (λ p. p.now) parts.now)) }
+{
+    match parts {
+        [] => Ok(()),
+        [first, others @ ..] => {
+            into.push_str(*first)?;
+            push_each(separator, others, into)?;
+            into.push_str(": ")
+        }
+    }
+}
+
+fn member(name: &'static str, value: Json<'static>) -> Member<'static>
+    ensures { property_of result ≡ (name.now, tree_of value.entry) }
+{
+    Member {
+        name: CowStr::Borrowed(name),
+        value,
+    }
+}
+
+fn push_text(
+    alloc: Global,
+    name: &'static str,
+    text: Option<&str>,
+    members: &mut Vec<Member<'static>>,
+) -> Result<(), AllocError>
+    ensures { OnOk result (map property_of members.new.items
+        ≡ map property_of members.old.items ++ text_member name.now (option_map (λ t. t.now) text.entry)) }
+{
+    match text {
+        Some(text) => {
+            let text = String::from_str(alloc, text)?;
+            Ok(members.push(member(name, Json::Str(CowStr::Owned(text))))?)
+        }
+        None => Ok(()),
+    }
+}
+
+fn push_count(
+    alloc: Global,
+    name: &'static str,
+    count: Option<usize>,
+    members: &mut Vec<Member<'static>>,
+) -> Result<(), AllocError>
+    ensures { OnOk result (map property_of members.new.items
+        ≡ map property_of members.old.items ++ count_member name.now count) }
+{
+    match count {
+        Some(count) => {
+            let text = format!(in alloc; "{count}")?;
+            Ok(members.push(member(name, Json::Num(CowStr::Owned(text))))?)
+        }
+        None => Ok(()),
+    }
+}
+
+fn number_text(number: Option<Number>) -> Option<&'static str>
+    ensures { option_map (λ t. t.now) result ≡ option_map number_text number }
+{
+    match number {
+        Some(number) => Some(number.text()),
+        None => None,
+    }
+}
+
 impl<'r> Line<'r> {
     /// A line on no file of its own.
     pub fn of_text(text: String) -> Line<'r>
-        ensures number { result.number ≡ None }
-        ensures text { result.text ≡ text }
+        ensures { line_seen result ≡ text_line (string_bytes text) }
     {
         Line {
             file: None,
@@ -80,29 +187,18 @@ impl<'r> Line<'r> {
 
     /// A line on a file.
     pub fn of_file(file: &'r str, number: Option<Number>, text: String) -> Line<'r>
-        ensures file { option_map (λ f. f.now) result.file ≡ Some file.now }
-        ensures number { result.number ≡ number }
-        ensures text { result.text ≡ text }
-        ensures line { result.line ≡ None }
-        ensures column { result.column ≡ None }
+        ensures { line_seen result ≡ file_line file.now number (string_bytes text) }
     {
         Line {
             file: Some(file),
-            line: None,
-            column: None,
             number,
-            url: None,
-            id: None,
-            text,
+            ..Line::of_text(text)
         }
     }
 
     /// The same at a place in the file.
     pub fn at(self, position: Position) -> Line<'r>
-        ensures line { result.line ≡ Some position.line }
-        ensures column { result.column ≡ Some position.column }
-        ensures number { result.number ≡ self.entry.number }
-        ensures text { result.text ≡ self.entry.text }
+        ensures { line_seen result ≡ record (line_seen self.entry) { line = Some position.line; column = Some position.column } }
     {
         Line {
             line: Some(position.line),
@@ -110,110 +206,56 @@ impl<'r> Line<'r> {
             ..self
         }
     }
-}
 
-impl fmt::Display for Line<'_> {
-    fn fmt<W: fmt::Write>(&self, f: &mut fmt::Formatter<W>) -> fmt::Result {
-        if let Some(file) = self.file {
-            write_place(f, file, self.line, self.column)?;
-        }
-        if let Some(number) = self.number {
-            write!(f, "{number}")?;
-        }
-        write_name(f, self.number.is_some(), self.url, self.id)?;
-        f.write_str(&self.text)
+    // The file, and where in it.
+    fn push_place(&self, alloc: Global, into: &mut String) -> Result<(), AllocError>
+        ensures { OnOk result (string_bytes into.new ≡ string_bytes into.old ++ place_text (line_seen self.now)) }
+    {
+        let line = count_text(alloc, self.line)?;
+        let column = count_text(alloc, self.column)?;
+        let mut parts = Vec::with_capacity(alloc, 3)?;
+        push_part(self.file, &mut parts)?;
+        push_part(line.as_deref(), &mut parts)?;
+        push_part(column.as_deref(), &mut parts)?;
+        push_group(":", &parts, into)
     }
-}
 
-// The file, and where in it.
-fn write_place<W: fmt::Write>(
-    f: &mut fmt::Formatter<W>,
-    file: &str,
-    line: Option<usize>,
-    column: Option<usize>,
-) -> fmt::Result {
-    f.write_str(file)?;
-    if let Some(line) = line {
-        write!(f, ":{line}")?;
+    // The number, the url and the id.
+    fn push_name(&self, alloc: Global, into: &mut String) -> Result<(), AllocError>
+        ensures { OnOk result (string_bytes into.new ≡ string_bytes into.old ++ name_text (line_seen self.now)) }
+    {
+        let mut parts = Vec::with_capacity(alloc, 3)?;
+        push_part(number_text(self.number), &mut parts)?;
+        push_part(self.url, &mut parts)?;
+        push_part(self.id, &mut parts)?;
+        push_group(" ", &parts, into)
     }
-    if let Some(column) = column {
-        write!(f, ":{column}")?;
-    }
-    f.write_str(": ")
-}
 
-// The url and the id, behind a number if there is one, and what parts them from the text.
-fn write_name<W: fmt::Write>(
-    f: &mut fmt::Formatter<W>,
-    has_number: bool,
-    url: Option<&str>,
-    id: Option<&str>,
-) -> fmt::Result {
-    if let Some(url) = url {
-        write!(f, "{}{url}", if has_number { " " } else { "" })?;
+    /// The line as a text, without a line feed: `FILE:LINE:COLUMN: NUMBER URL ID: TEXT`, and what it doesn't have is left out. The
+    /// one refusal is want of memory.
+    pub fn to_text(&self, alloc: Global) -> Result<String, NoMemory>
+        ensures { Gives string_bytes result (line_text (line_seen self.now)) }
+    {
+        let mut text = String::new(alloc);
+        self.push_place(alloc, &mut text)?;
+        self.push_name(alloc, &mut text)?;
+        text.push_str(self.text.as_str())?;
+        Ok(text)
     }
-    if let Some(id) = id {
-        write!(f, " {id}")?;
-    }
-    if has_number || url.is_some() {
-        f.write_str(": ")
-    } else {
-        Ok(())
-    }
-}
 
-fn member(name: &'static str, value: Json<'static>) -> Member<'static> {
-    Member {
-        name: CowStr::Borrowed(name),
-        value,
-    }
-}
-
-fn put_text(
-    alloc: Global,
-    members: &mut Vec<Member<'static>>,
-    name: &'static str,
-    text: Option<&str>,
-) -> Result<(), AllocError> {
-    match text {
-        Some(text) => {
-            let text = String::from_str(alloc, text)?;
-            Ok(members.push(member(name, Json::Str(CowStr::Owned(text))))?)
-        }
-        None => Ok(()),
-    }
-}
-
-fn put_count(
-    alloc: Global,
-    members: &mut Vec<Member<'static>>,
-    name: &'static str,
-    count: Option<usize>,
-) -> Result<(), AllocError> {
-    match count {
-        Some(count) => {
-            let text = format!(in alloc; "{count}")?;
-            Ok(members.push(member(name, Json::Num(CowStr::Owned(text))))?)
-        }
-        None => Ok(()),
-    }
-}
-
-impl Line<'_> {
     /// The line as a JSON object, with the members `file`, `line`, `column`, `number`, `url`, `id` and `text`, each where the
-    /// line has it.
-    pub fn to_json(&self, alloc: Global) -> Result<Json<'static>, NoMemory> {
+    /// line has it. The one refusal is want of memory.
+    pub fn to_json(&self, alloc: Global) -> Result<Json<'static>, NoMemory>
+        ensures { Gives tree_of result (line_tree (line_seen self.now)) }
+    {
         let mut members = Vec::with_capacity(alloc, 7)?;
-        put_text(alloc, &mut members, "file", self.file)?;
-        put_count(alloc, &mut members, "line", self.line)?;
-        put_count(alloc, &mut members, "column", self.column)?;
-        if let Some(number) = self.number {
-            let number = format!(in alloc; "{number}")?;
-            put_text(alloc, &mut members, "number", Some(number.as_str()))?;
-        }
-        put_text(alloc, &mut members, "url", self.url)?;
-        put_text(alloc, &mut members, "id", self.id)?;
-        put_text(alloc, &mut members, "text", Some(self.text.as_str()))?;
+        push_text(alloc, "file", self.file, &mut members)?;
+        push_count(alloc, "line", self.line, &mut members)?;
+        push_count(alloc, "column", self.column, &mut members)?;
+        push_text(alloc, "number", number_text(self.number), &mut members)?;
+        push_text(alloc, "url", self.url, &mut members)?;
+        push_text(alloc, "id", self.id, &mut members)?;
+        push_text(alloc, "text", Some(self.text.as_str()), &mut members)?;
         Ok(Json::Obj(members))
     }
 }

@@ -1,18 +1,24 @@
 //! The report on the files of a folder, and on a certificate.
 
-ghost use Rattle.std.specs.Prelude.{◌≡◌, [], false, IfOk, IsTrue};
+ghost use Rattle.std.specs.Prelude.{◌≡◌, ◌≤◌, ◌+◌, ◌++◌, ◌∷◌, [], map, length, false, IfOk, OnOk, IsTrue, All, string_bytes};
 ghost use Rattle.fhir_json.specs.Memory.{Gives};
 ghost use Rattle.fhir_package.specs.Surveying.{survey};
-ghost use Rattle.fhir_findings.specs.Finding.{all_unusable, faults_told, all_told};
-ghost use Rattle.fhir_report.specs.Faultless.{IsRight, Promises, IsRightIfAny, PromisesIfAny, IsFaultless, IsPromised, names_seen, bytes_seen};
+ghost use Rattle.fhir_certificate.specs.Reading.{reading};
+ghost use Rattle.fhir_cert_check.specs.Checking.{answer_of};
+ghost use Rattle.fhir_findings.specs.Counting.{counts_text};
+ghost use Rattle.fhir_findings.specs.Finding.{all_unusable, fault_told, faults_told, unusable_told, all_told};
+ghost use Rattle.fhir_report.specs.Faultless.{IsRight, Promises, IsRightIfAny, PromisesIfAny, IsFaultless, IsPromised, names_seen, certificate_seen};
+ghost use Rattle.fhir_report.specs.Lines.{text_line, rows, line_seen, lines_seen};
+ghost use Rattle.fhir_report.specs.Report.{unread_head, fault_head, unusable_head, IsOfCertificate, TellsAnswer, TellsCertificate, IsReport, IsReportOn};
+ghost use Rattle.fhir_report.specs.Growing.{Grows};
 
 use crate::certificates::{flaw_line, no_line};
 use crate::line::{Line, Number};
 use crate::progress::{Progress, Stage};
 use crate::telling::Teller;
-use crate::writing::{Form, Lines};
+use crate::writing::{Form, push_row, push_rows};
 use fhir_cert_check::{Answer, check_bytes};
-use fhir_certificate::{CertFault, flaws};
+use fhir_certificate::{CertFault, Flaw, flaws};
 use fhir_findings::{Counts, Finding, all_usable, clean_files, counts_of, findings, has_faults};
 use fhir_json::NoMemory;
 use fhir_package::{FolderFiles, Survey, surveys};
@@ -67,9 +73,44 @@ fn surveyed<'r, P: Progress>(
     Ok(survey)
 }
 
-fn not_read_line(alloc: Global, file: &str) -> Result<Line<'_>, AllocError> {
-    let text = String::from_str(alloc, "it can't be read, or is no regular file")?;
-    Ok(Line::of_file(file, Some(Number::Unread), text))
+// The first place from one on of a name that comes behind a file's; where none does, how many names there are.
+fn place_behind(names: &[String], from: usize, file: &str) -> usize
+    requires { from ≤ length names.now }
+    ensures least { from ≤ result }
+    ensures most { result ≤ length names.now }
+{
+    let mut place = from;
+    while place < names.len() && names[place].as_str() <= file {
+        place += 1;
+    }
+    place
+}
+
+// Puts in a line for each file that can't be read.
+fn push_unread<'s>(
+    alloc: Global,
+    names: &'s [String],
+    lines: &mut Vec<Line<'s>>,
+) -> Result<(), AllocError>
+    ensures { OnOk result (Grows lines.old.items lines.new.items (map unread_head (names_seen names.now)) [] []) }
+{
+    for name in names {
+        let text = String::from_str(alloc, "it can't be read, or is no regular file")?;
+        lines.push(Line::of_file(name.as_str(), Some(Number::Unread), text))?;
+    }
+    Ok(())
+}
+
+// Puts in the line of a finding.
+fn push_finding<'s, 'f: 's>(
+    alloc: Global,
+    teller: &Teller<'s, 'f>,
+    finding: &Finding<'s, 'f>,
+    lines: &mut Vec<Line<'s>>,
+) -> Result<(), NoMemory>
+    ensures { OnOk result (Grows lines.old.items lines.new.items [] (map fault_head (fault_told finding.now)) (map unusable_head (unusable_told finding.now))) }
+{
+    Ok(lines.push(teller.line(alloc, finding)?)?)
 }
 
 // The lines on files that can't be read and on findings, in the order of the files.
@@ -78,102 +119,120 @@ fn lines_of<'s, 'f: 's>(
     unread: &'s [String],
     teller: &Teller<'s, 'f>,
     found: &[Finding<'s, 'f>],
-) -> Result<Vec<Line<'s>>, NoMemory> {
+) -> Result<Vec<Line<'s>>, NoMemory>
+    ensures { IfOk result (λ ls. Grows [] ls.items (map unread_head (names_seen unread.now))
+        (map fault_head (faults_told found.now)) (map unusable_head (all_told found.now))) }
+{
     let mut lines: Vec<Line<'s>> = Vec::new(alloc);
-    for file in unread {
-        lines.push(not_read_line(alloc, file.as_str())?)?;
-    }
+    let mut told = 0;
     for finding in found {
-        lines.push(teller.line(alloc, finding)?)?;
+        let end = place_behind(unread, told, finding.file());
+        push_unread(alloc, &unread[told..end], &mut lines)?;
+        push_finding(alloc, teller, finding, &mut lines)?;
+        told = end;
     }
-    if !unread.is_empty() {
-        lines.sort_by_key(|line| line.file)?;
+    push_unread(alloc, &unread[told..], &mut lines)?;
+    Ok(lines)
+}
+
+// What is told of a certificate, and whether it is right.
+#[derive(Drop)]
+struct Judged<'r> {
+    is_right: bool,
+    lines: Vec<Line<'r>>,
+}
+
+fn judged_by<'r>(alloc: Global, is_right: bool, line: Line<'r>) -> Result<Judged<'r>, NoMemory>
+    ensures { IfOk result (λ j. (j.is_right ≡ is_right) × (lines_seen j.lines.items ≡ line_seen line.entry ∷ [])) }
+{
+    let lines = vec![in alloc; line]?;
+    Ok(Judged { is_right, lines })
+}
+
+fn too_many<'r>(alloc: Global, file: &'r str) -> Result<Line<'r>, AllocError>
+    ensures { IfOk result (λ l. IsOfCertificate file.now (line_seen l)) }
+{
+    let text = String::from_str(alloc, "it has more than 1,048,576 lines of pairs")?;
+    let number = Number::Certificate(CertFault::TooManyPairs);
+    Ok(Line::of_file(file, Some(number), text))
+}
+
+#[tactic(auto, using(crate::proofs::Told::one_flaw_more))]
+fn push_flaw<'r>(
+    alloc: Global,
+    file: &'r str,
+    flaw: &Flaw<'r>,
+    lines: &mut Vec<Line<'r>>,
+) -> Result<(), NoMemory>
+    ensures { All (IsOfCertificate file.now) (lines_seen lines.old.items)
+        → OnOk result (All (IsOfCertificate file.now) (lines_seen lines.new.items)) }
+{
+    Ok(lines.push(flaw_line(alloc, file, flaw)?)?)
+}
+
+// What is wrong with the lines of a certificate.
+fn flaw_lines<'r>(
+    alloc: Global,
+    schema: &Schema,
+    certificate: CertificateFile<'r>,
+) -> Result<Vec<Line<'r>>, NoMemory>
+    ensures { IfOk result (λ ls. All (IsOfCertificate certificate.entry.name.now) (lines_seen ls.items)) }
+{
+    let mut lines: Vec<Line<'r>> = Vec::new(alloc);
+    for flaw in flaws(alloc, schema, certificate.bytes)? {
+        push_flaw(alloc, certificate.name, &flaw, &mut lines)?;
     }
     Ok(lines)
 }
 
-fn put_each(alloc: Global, found: &[Line<'_>], lines: &mut Lines) -> Result<(), NoMemory> {
-    for line in found {
-        lines.put(alloc, line)?;
-    }
-    Ok(())
-}
-
-fn put_text(alloc: Global, file: &str, text: &str, lines: &mut Lines) -> Result<(), NoMemory> {
-    let text = String::from_str(alloc, text)?;
-    lines.put(alloc, &Line::of_file(file, None, text))
-}
-
-fn put_too_many(alloc: Global, file: &str, lines: &mut Lines) -> Result<(), NoMemory> {
-    let text = String::from_str(alloc, "it has more than 1,048,576 lines of pairs")?;
-    lines.put(
-        alloc,
-        &Line::of_file(file, Some(Number::TooManyPairs), text),
-    )
-}
-
-// What is wrong with the lines of a certificate.
-fn put_flaws(
+fn judge<'r>(
     alloc: Global,
     schema: &Schema,
-    certificate: CertificateFile<'_>,
-    lines: &mut Lines,
-) -> Result<(), NoMemory> {
-    for flaw in flaws(alloc, schema, certificate.bytes)? {
-        lines.put(alloc, &flaw_line(alloc, certificate.name, &flaw)?)?;
-    }
-    Ok(())
-}
-
-// Puts in what is told of a certificate, and says whether it is right.
-fn put_certificate(
-    alloc: Global,
-    schema: &Schema,
-    certificate: CertificateFile<'_>,
-    lines: &mut Lines,
-) -> Result<bool, NoMemory>
-    ensures right { IfOk result (λ is_right. IsTrue is_right → IsRight schema.now certificate.entry.bytes.now) }
-    ensures promised { IfOk result (λ is_right. IsTrue is_right → Promises schema.now certificate.entry.bytes.now) }
-    ensures wrong { IfOk result (λ is_right. is_right ≡ false → IsRight schema.now certificate.entry.bytes.now → ⊥) }
+    certificate: CertificateFile<'r>,
+) -> Result<Judged<'r>, NoMemory>
+    ensures right { IfOk result (λ j. IsTrue j.is_right → IsRight schema.now certificate.entry.bytes.now) }
+    ensures promised { IfOk result (λ j. IsTrue j.is_right → Promises schema.now certificate.entry.bytes.now) }
+    ensures wrong { IfOk result (λ j. j.is_right ≡ false → IsRight schema.now certificate.entry.bytes.now → ⊥) }
+    ensures told { IfOk result (λ j. TellsAnswer schema.now certificate.entry.name.now
+        (answer_of (reading schema.now certificate.entry.bytes.now) schema.now) (lines_seen j.lines.items)) }
 {
     match check_bytes(alloc, schema, certificate.bytes) {
         Ok(Answer::Yes) => {
-            put_text(alloc, certificate.name, "yes", lines)?;
-            Ok(true)
+            let text = String::from_str(alloc, "yes")?;
+            judged_by(alloc, true, Line::of_file(certificate.name, None, text))
         }
         Ok(Answer::No(pair, rule)) => {
-            lines.put(
-                alloc,
-                &no_line(alloc, schema, certificate.name, pair, rule)?,
-            )?;
-            Ok(false)
+            let line = no_line(alloc, schema, certificate.name, pair, rule)?;
+            judged_by(alloc, false, line)
         }
         Err(CertFault::NoMemory) => Err(NoMemory),
         Err(CertFault::TooManyPairs) => {
-            put_too_many(alloc, certificate.name, lines)?;
-            Ok(false)
+            judged_by(alloc, false, too_many(alloc, certificate.name)?)
         }
-        Err(_) => {
-            put_flaws(alloc, schema, certificate, lines)?;
-            Ok(false)
-        }
+        Err(CertFault::WrongFormat | CertFault::UnknownNode) => Ok(Judged {
+            is_right: false,
+            lines: flaw_lines(alloc, schema, certificate)?,
+        }),
     }
 }
 
 // The same where there may be none: a missing one is right.
-fn put_if_any(
+fn judge_if_any<'r>(
     alloc: Global,
     schema: &Schema,
-    certificate: Option<CertificateFile<'_>>,
-    lines: &mut Lines,
-) -> Result<bool, NoMemory>
-    ensures right { IfOk result (λ is_right. IsTrue is_right → IsRightIfAny schema.now (bytes_seen certificate.entry)) }
-    ensures promised { IfOk result (λ is_right. IsTrue is_right → PromisesIfAny schema.now (bytes_seen certificate.entry)) }
-    ensures wrong { IfOk result (λ is_right. is_right ≡ false → IsRightIfAny schema.now (bytes_seen certificate.entry) → ⊥) }
+    certificate: Option<CertificateFile<'r>>,
+) -> Result<Judged<'r>, NoMemory>
+    ensures right { IfOk result (λ j. IsTrue j.is_right → IsRightIfAny schema.now (certificate_seen certificate.entry)) }
+    ensures promised { IfOk result (λ j. IsTrue j.is_right → PromisesIfAny schema.now (certificate_seen certificate.entry)) }
+    ensures wrong { IfOk result (λ j. j.is_right ≡ false → IsRightIfAny schema.now (certificate_seen certificate.entry) → ⊥) }
+    ensures told { IfOk result (λ j. TellsCertificate schema.now (certificate_seen certificate.entry) (lines_seen j.lines.items)) }
 {
     match certificate {
-        Some(certificate) => put_certificate(alloc, schema, certificate, lines),
-        None => Ok(true),
+        Some(certificate) => judge(alloc, schema, certificate),
+        None => Ok(Judged {
+            is_right: true,
+            lines: Vec::new(alloc),
+        }),
     }
 }
 
@@ -184,6 +243,30 @@ fn are_clean(unread: &[String], found: &[Finding<'_, '_>]) -> bool
     unread.is_empty() && !has_faults(found)
 }
 
+fn counts_line(alloc: Global, counts: Counts) -> Result<Line<'static>, AllocError>
+    ensures { IfOk result (λ l. line_seen l ≡ text_line (counts_text counts)) }
+{
+    Ok(Line::of_text(format!(in alloc; "{counts}")?))
+}
+
+// The rows of what was found and of what is told of a certificate, and a last one with the counts.
+fn text_of(
+    alloc: Global,
+    form: Form,
+    found: &[Line<'_>],
+    judged: &[Line<'_>],
+    counts: Counts,
+) -> Result<String, NoMemory>
+    ensures { IfOk result (λ text. string_bytes text
+        ≡ rows form (lines_seen found.now ++ lines_seen judged.now ++ text_line (counts_text counts) ∷ [])) }
+{
+    let mut text = String::new(alloc);
+    push_rows(alloc, form, found, &mut text)?;
+    push_rows(alloc, form, judged, &mut text)?;
+    push_row(alloc, form, &counts_line(alloc, counts)?, &mut text)?;
+    Ok(text)
+}
+
 // The report on a survey and a certificate, by the schema of the survey's package.
 fn written<'s, 'f: 's>(
     alloc: Global,
@@ -192,28 +275,33 @@ fn written<'s, 'f: 's>(
     survey: &'s Survey<'f>,
     schema: &'s Schema,
     certificate: Option<CertificateFile<'_>>,
-    counts: Counts,
+    files: usize,
 ) -> Result<Report, NoMemory>
     ensures clean { IfOk result (λ r. IsTrue r.is_clean → (names_seen unread.now ≡ []) × (survey.now.faults ≡ [])
-        × (all_unusable schema.now survey.now ≡ []) × IsRightIfAny schema.now (bytes_seen certificate.entry)) }
-    ensures promised { IfOk result (λ r. IsTrue r.is_clean → PromisesIfAny schema.now (bytes_seen certificate.entry)) }
+        × (all_unusable schema.now survey.now ≡ []) × IsRightIfAny schema.now (certificate_seen certificate.entry)) }
+    ensures promised { IfOk result (λ r. IsTrue r.is_clean → PromisesIfAny schema.now (certificate_seen certificate.entry)) }
     ensures faulty { IfOk result (λ r. r.is_clean ≡ false → names_seen unread.now ≡ []
-        → survey.now.faults ≡ [] → all_unusable schema.now survey.now ≡ [] → IsRightIfAny schema.now (bytes_seen certificate.entry) → ⊥) }
+        → survey.now.faults ≡ [] → all_unusable schema.now survey.now ≡ [] → IsRightIfAny schema.now (certificate_seen certificate.entry) → ⊥) }
+    ensures told { IfOk result (λ r. IsReport form files (names_seen unread.now) schema.now survey.now
+        (certificate_seen certificate.entry) (string_bytes r.text)) }
 {
     let found = findings(alloc, survey, schema)?;
     let teller = Teller::of(alloc, survey, schema)?;
-    let mut lines = Lines::new(alloc, form);
-    put_each(
-        alloc,
-        &lines_of(alloc, unread, &teller, &found)?,
-        &mut lines,
-    )?;
-    let is_right = put_if_any(alloc, schema, certificate, &mut lines)?;
-    lines.put(alloc, &Line::of_text(format!(in alloc; "{counts}")?))?;
+    let lines = lines_of(alloc, unread, &teller, &found)?;
+    let judged = judge_if_any(alloc, schema, certificate)?;
+    let counts = counts_of(files, survey, schema);
+    let text = text_of(alloc, form, &lines, &judged.lines, counts)?;
     Ok(Report {
-        is_clean: are_clean(unread, &found) && is_right,
-        text: lines.into_text(),
+        is_clean: are_clean(unread, &found) && judged.is_right,
+        text,
     })
+}
+
+// How many files there are, with those that weren't read.
+fn file_count(files: &FolderFiles, unread: &[String]) -> usize
+    ensures { result ≡ length files.now + length (names_seen unread.now) }
+{
+    files.files().len().saturating_add(unread.len())
 }
 
 /// The report on files and a certificate: a line for each file that can't be read or isn't JSON, for each definition that
@@ -226,10 +314,12 @@ pub fn report_on<P: Progress>(
     progress: &mut P,
 ) -> Result<Report, NoMemory>
     ensures clean { IfOk result (λ r. IsTrue r.is_clean
-        → IsFaultless (names_seen subject.entry.unread.now) subject.entry.files.now (bytes_seen subject.entry.certificate)) }
-    ensures promised { IfOk result (λ r. IsTrue r.is_clean → IsPromised subject.entry.files.now (bytes_seen subject.entry.certificate)) }
+        → IsFaultless (names_seen subject.entry.unread.now) subject.entry.files.now (certificate_seen subject.entry.certificate)) }
+    ensures promised { IfOk result (λ r. IsTrue r.is_clean → IsPromised subject.entry.files.now (certificate_seen subject.entry.certificate)) }
     ensures faulty { IfOk result (λ r. r.is_clean ≡ false
-        → IsFaultless (names_seen subject.entry.unread.now) subject.entry.files.now (bytes_seen subject.entry.certificate) → ⊥) }
+        → IsFaultless (names_seen subject.entry.unread.now) subject.entry.files.now (certificate_seen subject.entry.certificate) → ⊥) }
+    ensures told { IfOk result (λ r. IsReportOn form (names_seen subject.entry.unread.now) subject.entry.files.now
+        (certificate_seen subject.entry.certificate) (string_bytes r.text)) }
 {
     surveys();
     all_usable();
@@ -243,6 +333,6 @@ pub fn report_on<P: Progress>(
         certificate,
         ..
     } = subject;
-    let counts = counts_of(count.saturating_add(unread.len()), &survey, &schema);
-    written(alloc, form, unread, &survey, &schema, certificate, counts)
+    let files = file_count(subject.files, unread);
+    written(alloc, form, unread, &survey, &schema, certificate, files)
 }

@@ -78,7 +78,7 @@ fn unsupported(slicing: &SlicingDef) -> Option<&'static str> {
     } else if slicing.discriminators().is_empty() {
         Some("the slicing has no discriminator")
     } else if slicing.discriminators().len() > MAX_DISCRIMINATORS {
-        Some("a slicing by more than 16 discriminators isn't supported")
+        Some("the slicing has more discriminators than are supported")
     } else {
         None
     }

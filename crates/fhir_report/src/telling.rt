@@ -1,5 +1,11 @@
 //! From findings to lines.
 
+ghost use Rattle.std.specs.Prelude.{◌≡◌, IfOk, None, Some};
+ghost use Rattle.fhir_package.specs.SurveyView.{fault_seen};
+ghost use Rattle.fhir_package.specs.declared.survey.FileFault.TheVariants.{NotJson as NotJsonOne, Clash as ClashOne};
+ghost use Rattle.fhir_report.specs.Lines.{line_seen};
+ghost use Rattle.fhir_report.specs.Report.{head, fault_head, unusable_head, TellsFinding};
+
 use crate::causes::Causes;
 use crate::explaining::explain;
 use crate::line::{Line, Number};
@@ -19,10 +25,9 @@ pub struct Teller<'s, 'f> {
     causes: Causes,
 }
 
-fn not_json_line<'s, 'f: 's>(
-    alloc: Global,
-    fault: &'s NotJson<'f>,
-) -> Result<Line<'s>, AllocError> {
+fn not_json_line<'s, 'f: 's>(alloc: Global, fault: &'s NotJson<'f>) -> Result<Line<'s>, AllocError>
+    ensures { IfOk result (λ l. head (line_seen l) ≡ fault_head (fault_seen (NotJsonOne fault.now))) }
+{
     let text = String::from_str(alloc, expected_words(fault.expected))?;
     let number = Number::Json(fault.expected.fault());
     Ok(Line::of_file(fault.file, Some(number), text).at(fault.position))
@@ -36,7 +41,9 @@ fn kind_word(kind: Kind) -> &'static str {
     }
 }
 
-fn clash_line<'s, 'f: 's>(alloc: Global, clash: &'s Clash<'f>) -> Result<Line<'s>, AllocError> {
+fn clash_line<'s, 'f: 's>(alloc: Global, clash: &'s Clash<'f>) -> Result<Line<'s>, AllocError>
+    ensures { IfOk result (λ l. head (line_seen l) ≡ fault_head (fault_seen (ClashOne clash.now))) }
+{
     let kind = kind_word(clash.kind);
     let text = format!(in alloc; "another {kind} of this url stands in {}", clash.first)?;
     let file: &'s str = clash.file;
@@ -45,14 +52,20 @@ fn clash_line<'s, 'f: 's>(alloc: Global, clash: &'s Clash<'f>) -> Result<Line<'s
     Ok(line)
 }
 
-fn file_line<'s, 'f: 's>(alloc: Global, fault: &'s FileFault<'f>) -> Result<Line<'s>, AllocError> {
+fn file_line<'s, 'f: 's>(alloc: Global, fault: &'s FileFault<'f>) -> Result<Line<'s>, AllocError>
+    ensures { IfOk result (λ l. head (line_seen l) ≡ fault_head (fault_seen fault.now)) }
+{
     match fault {
         FileFault::NotJson(fault) => not_json_line(alloc, fault),
         FileFault::Clash(clash) => clash_line(alloc, clash),
     }
 }
 
-fn unread_line<'s>(alloc: Global, unread: &UnreadRule<'s>) -> Result<Line<'s>, AllocError> {
+fn unread_line<'s>(alloc: Global, unread: &UnreadRule<'s>) -> Result<Line<'s>, AllocError>
+    ensures rule { IfOk result (λ l. head (line_seen l)
+        ≡ record { file = Some unread.now.file.now; line = None; column = None; number = None; url = Some unread.now.url.now }) }
+    ensures element { IfOk result (λ l. (line_seen l).id ≡ Some unread.now.id.now) }
+{
     let text = format!(in alloc; "unread {}", unread.rule)?;
     let mut line = Line::of_file(unread.file, None, text);
     line.url = Some(unread.url);
@@ -95,7 +108,9 @@ impl<'s, 'f: 's> Teller<'s, 'f> {
         }
     }
 
-    fn unusable_line(&self, alloc: Global, unusable: &Unusable<'s>) -> Result<Line<'s>, NoMemory> {
+    fn unusable_line(&self, alloc: Global, unusable: &Unusable<'s>) -> Result<Line<'s>, NoMemory>
+        ensures { IfOk result (λ l. head (line_seen l) ≡ unusable_head (unusable.now.file.now, unusable.now.url.now, unusable.now.reason)) }
+    {
         let Why { id, text } = self.why(alloc, unusable)?;
         let mut line = Line::of_file(unusable.file, Some(Number::Unusable(unusable.reason)), text);
         line.url = Some(unusable.url);
@@ -104,7 +119,9 @@ impl<'s, 'f: 's> Teller<'s, 'f> {
     }
 
     /// The line of a finding. The one refusal is want of memory.
-    pub fn line(&self, alloc: Global, finding: &Finding<'s, 'f>) -> Result<Line<'s>, NoMemory> {
+    pub fn line(&self, alloc: Global, finding: &Finding<'s, 'f>) -> Result<Line<'s>, NoMemory>
+        ensures { IfOk result (λ l. TellsFinding finding.now (line_seen l)) }
+    {
         match finding {
             Finding::File(fault) => Ok(file_line(alloc, fault)?),
             Finding::Unusable(unusable) => self.unusable_line(alloc, unusable),

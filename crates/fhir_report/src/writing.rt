@@ -1,5 +1,10 @@
 //! How the lines of a report are written.
 
+ghost use Rattle.std.specs.Prelude.{◌≡◌, ◌<◌, ◌++◌, [], IfOk, OnOk, IsTrue, string_bytes};
+ghost use Rattle.std.specs.Char.{is_control, digit_char};
+ghost use Rattle.fhir_json.specs.Memory.{Gives};
+ghost use Rattle.fhir_report.specs.Lines.{escaped_character, escaped, row_text, row, rows, line_seen, lines_seen};
+
 use crate::line::Line;
 use fhir_json::{NoMemory, write};
 use std::alloc::{AllocError, Global};
@@ -14,9 +19,11 @@ pub enum Form {
 }
 
 // A line without its line feed, as it is, with the control characters of texts from files.
-fn line_text(alloc: Global, form: Form, line: &Line<'_>) -> Result<String, NoMemory> {
+fn row_text(alloc: Global, form: Form, line: &Line<'_>) -> Result<String, NoMemory>
+    ensures { Gives string_bytes result (row_text form (line_seen line.now)) }
+{
     match form {
-        Form::Text => Ok(format!(in alloc; "{line}")?),
+        Form::Text => line.to_text(alloc),
         Form::Json => {
             let bytes = write(alloc, &line.to_json(alloc)?)?;
             Ok(String::from_utf8_lossy(alloc, &bytes)?)
@@ -24,42 +31,68 @@ fn line_text(alloc: Global, form: Form, line: &Line<'_>) -> Result<String, NoMem
     }
 }
 
+fn hex_digit(value: u32) -> char
+    requires { value < 16 }
+    ensures { result ≡ digit_char value }
+{
+    char::from_digit(value, 16).unwrap_or('0')
+}
+
+fn push_escape(character: char, into: &mut String) -> Result<(), AllocError>
+    requires { IsTrue (is_control character) }
+    ensures { OnOk result (string_bytes into.new ≡ string_bytes into.old ++ escaped_character character) }
+{
+    let code = u32::from(character);
+    into.push_str("\\u00")?;
+    into.push(hex_digit(code / 16))?;
+    into.push(hex_digit(code % 16))
+}
+
+fn push_character(character: char, into: &mut String) -> Result<(), AllocError>
+    ensures { OnOk result (string_bytes into.new ≡ string_bytes into.old ++ escaped_character character) }
+{
+    if character.is_control() {
+        push_escape(character, into)
+    } else {
+        into.push(character)
+    }
+}
+
 // Puts in a text with its control characters escaped, as JSON may write them.
-fn put_escaped(alloc: Global, text: &str, into: &mut String) -> Result<(), AllocError> {
+fn push_escaped(text: &str, into: &mut String) -> Result<(), AllocError>
+    ensures { OnOk result (string_bytes into.new ≡ string_bytes into.old ++ escaped text.now) }
+{
     for character in text.chars() {
-        if character.is_control() {
-            let escape = format!(in alloc; "\\u{:04x}", u32::from(character))?;
-            into.push_str(escape.as_str())?;
-        } else {
-            into.push(character)?;
-        }
+        push_character(character, into)?;
     }
     Ok(())
 }
 
-/// The text of a report that is being written.
-#[derive(Drop)]
-pub(crate) struct Lines {
+/// Puts in a line: escaped, and with a line feed behind it.
+pub(crate) fn push_row(
+    alloc: Global,
     form: Form,
-    text: String,
+    line: &Line<'_>,
+    into: &mut String,
+) -> Result<(), NoMemory>
+    ensures { OnOk result (string_bytes into.new ≡ string_bytes into.old ++ row form (line_seen line.now)) }
+{
+    let text = row_text(alloc, form, line)?;
+    push_escaped(text.as_str(), into)?;
+    Ok(into.push('\n')?)
 }
 
-impl Lines {
-    pub(crate) fn new(alloc: Global, form: Form) -> Lines {
-        Lines {
-            form,
-            text: String::new(alloc),
-        }
+/// Puts in a row for each line.
+pub(crate) fn push_rows(
+    alloc: Global,
+    form: Form,
+    lines: &[Line<'_>],
+    into: &mut String,
+) -> Result<(), NoMemory>
+    ensures { OnOk result (string_bytes into.new ≡ string_bytes into.old ++ rows form (lines_seen lines.now)) }
+{
+    for line in lines {
+        push_row(alloc, form, line, into)?;
     }
-
-    /// Puts in a line. Control characters are escaped as `\u` and four hexadecimal digits.
-    pub(crate) fn put(&mut self, alloc: Global, line: &Line<'_>) -> Result<(), NoMemory> {
-        let line = line_text(alloc, self.form, line)?;
-        put_escaped(alloc, line.as_str(), &mut self.text)?;
-        Ok(self.text.push('\n')?)
-    }
-
-    pub(crate) fn into_text(self) -> String {
-        self.text
-    }
+    Ok(())
 }

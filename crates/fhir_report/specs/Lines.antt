@@ -1,0 +1,114 @@
+-- The lines of a report, and how they are written.
+use Rattle.std.specs.Prelude.{ℕ, ◌/◌, ◌%◌, List, [], ◌∷◌, ◌++◌, map, flat_map, Option, None, Some, option_map, if◌then◌else◌, codes, encode_utf8, string_bytes}
+use Rattle.std.specs.Char.{is_control, digit_char}
+use Rattle.std.specs.Fmt.{decimal}
+use Rattle.std.specs.Str.{chars}
+use Rattle.fhir_json.specs.Tree.{Text, Tree, string, number, object, members_of, Property}
+use Rattle.fhir_json.specs.Compact.{compact}
+use Rattle.fhir_json.specs.Faults.{fault_number}
+use Rattle.fhir_elements.specs.Numbers.{reason_number}
+use Rattle.fhir_certificate.specs.Faults.{cert_number}
+use Rattle.fhir_report.specs.declared.line.Line.{Line}
+use Rattle.fhir_report.specs.declared.line.Number.{Number}
+use Rattle.fhir_report.specs.declared.line.Number.TheVariants.{Unread, Clash, Json, Unusable, Certificate}
+use Rattle.fhir_report.specs.declared.writing.Form.{Form}
+use Rattle.fhir_report.specs.declared.writing.Form.TheVariants.{Text as AsText, Json as AsJson}
+
+-- something that was found, and where
+pub record LineValue : Type 0 where
+  pub file : Option Text
+  pub line : Option ℕ
+  pub column : Option ℕ
+  pub number : Option Number
+  pub url : Option Text
+  pub id : Option Text
+  pub text : Text
+
+abbrev pub text_line : Text → LineValue
+text_line text = record { file = None; line = None; column = None; number = None; url = None; id = None; text = text }
+
+-- on a file
+abbrev pub file_line : Text → Option Number → Text → LineValue
+file_line file of_fault text = record (text_line text) { file = Some file; number = of_fault }
+
+-- ---- as a text: FILE:LINE:COLUMN: NUMBER URL ID: TEXT
+
+abbrev pub number_text : Number → Text
+number_text Unread = codes "P1"
+number_text Clash = codes "P3"
+number_text (Json fault) = fault_number fault
+number_text (Unusable reason) = reason_number reason
+number_text (Certificate fault) = cert_number fault
+
+-- what is there
+abbrev pub parts_of : Option Text → List Text
+parts_of None = []
+parts_of (Some text) = text ∷ []
+
+-- parts behind one another, and a colon behind the last
+abbrev pub group : Text → List Text → Text
+group separator [] = []
+group separator (p ∷ ps) = p ++ flat_map (λ q. separator ++ q) ps ++ codes ": "
+
+abbrev pub place_text : LineValue → Text
+place_text l = group (codes ":") (parts_of l.file ++ parts_of (option_map decimal l.line) ++ parts_of (option_map decimal l.column))
+
+abbrev pub name_text : LineValue → Text
+name_text l = group (codes " ") (parts_of (option_map number_text l.number) ++ parts_of l.url ++ parts_of l.id)
+
+abbrev pub line_text : LineValue → Text
+line_text l = place_text l ++ name_text l ++ l.text
+
+-- ---- as a JSON object
+
+abbrev pub text_member : Text → Option Text → List Property
+text_member name None = []
+text_member name (Some text) = (name, string text) ∷ []
+
+abbrev pub count_member : Text → Option ℕ → List Property
+count_member name None = []
+count_member name (Some n) = (name, number (decimal n)) ∷ []
+
+abbrev pub line_tree : LineValue → Tree
+line_tree l =
+    object
+    (members_of
+    (text_member (codes "file") l.file ++ count_member (codes "line") l.line ++ count_member (codes "column") l.column
+    ++ text_member (codes "number") (option_map number_text l.number) ++ text_member (codes "url") l.url ++ text_member (codes "id") l.id
+    ++ text_member (codes "text") (Some l.text)))
+
+-- ---- rows
+
+-- a control character by its code, as JSON may have it, and any other as it is
+abbrev pub escaped_character : ℕ → Text
+escaped_character c = if is_control c then codes "\\u00" ++ digit_char (c / 16) ∷ digit_char (c % 16) ∷ [] else encode_utf8 c
+
+abbrev pub escaped : Text → Text
+escaped text = flat_map escaped_character (chars text)
+
+abbrev pub row_text : Form → LineValue → Text
+row_text AsText l = line_text l
+row_text AsJson l = compact (line_tree l)
+
+abbrev pub row : Form → LineValue → Text
+row form l = escaped (row_text form l) ++ codes "\n"
+
+-- one for each line
+abbrev pub rows : Form → List LineValue → Text
+rows form ls = flat_map (row form) ls
+
+-- ---- what contracts see
+
+abbrev pub line_seen : Line → LineValue
+line_seen l = record {
+  file = option_map (λ t. t.now) l.file;
+  line = l.line;
+  column = l.column;
+  number = l.number;
+  url = option_map (λ t. t.now) l.url;
+  id = option_map (λ t. t.now) l.id;
+  text = string_bytes l.text;
+}
+
+abbrev pub lines_seen : List Line → List LineValue
+lines_seen ls = map line_seen ls

@@ -1,0 +1,143 @@
+-- What a report says.
+use Rattle.std.specs.Prelude.{◌≡◌, ℕ, ◌+◌, length, List, [], ◌∷◌, ◌++◌, map, flat_map, Bool, true, false, Option, None, Some, option_map, Result, Ok, Err, if◌then◌else◌, codes, All}
+use Rattle.std.specs.Option.{option_map_or}
+use Rattle.fhir_json.specs.Tree.{Text}
+use Rattle.fhir_json.specs.Refusals.{fault_of}
+use Rattle.fhir_package.specs.Folder.{Files}
+use Rattle.fhir_package.specs.Surveying.{FileFault, not_json, clash, Surveyed, survey}
+use Rattle.fhir_schema.specs.declared.node.NodeRef.{NodeRef}
+use Rattle.fhir_schema.specs.Schemas.{SchemaValue, schema_of, url_at, id_of_node}
+use Rattle.fhir_certificate.specs.declared.fault.CertFault.{CertFault}
+use Rattle.fhir_certificate.specs.declared.fault.CertFault.TheVariants.{WrongFormat, UnknownNode, TooManyPairs, NoMemory}
+use Rattle.fhir_certificate.specs.declared.pair.Pair.{Pair}
+use Rattle.fhir_certificate.specs.declared.pair.Pair.TheVariants.{Item, Kids}
+use Rattle.fhir_certificate.specs.Reading.{reading}
+use Rattle.fhir_cert_check.specs.Checking.{answer_of}
+use Rattle.fhir_cert_check.specs.Rule.{RuleName}
+use Rattle.fhir_package.specs.SurveyView.{fault_seen}
+use Rattle.fhir_findings.specs.declared.finding.Finding.{Finding}
+use Rattle.fhir_findings.specs.declared.finding.Finding.TheVariants.{File as FileOne, Unusable as UnusableOne, Unread as UnreadOne}
+use Rattle.fhir_findings.specs.Counting.{counts, counts_text}
+use Rattle.fhir_findings.specs.Finding.{UnusableValue, all_unusable}
+use Rattle.fhir_report.specs.declared.line.Number.{Number}
+use Rattle.fhir_report.specs.declared.line.Number.TheVariants.{Unread, Clash, Json, Unusable, Certificate}
+use Rattle.fhir_report.specs.declared.writing.Form.{Form}
+use Rattle.fhir_report.specs.Faultless.{CertificateValue}
+use Rattle.fhir_report.specs.Lines.{LineValue, text_line, file_line, rows}
+
+-- ---- what was found
+
+-- where something was found, and its number: a line without the element's id and the words
+pub record Head : Type 0 where
+  pub file : Option Text
+  pub line : Option ℕ
+  pub column : Option ℕ
+  pub number : Option Number
+  pub url : Option Text
+
+abbrev pub head : LineValue → Head
+head l = record { file = l.file; line = l.line; column = l.column; number = l.number; url = l.url }
+
+-- of a file that can't be read
+abbrev pub unread_head : Text → Head
+unread_head file = record { file = Some file; line = None; column = None; number = Some Unread; url = None }
+
+-- of what is wrong with a file: no text of JSON, with the place, or a second definition of a url
+abbrev pub fault_head : FileFault → Head
+fault_head (not_json file expected position) =
+    record { file = Some file; line = Some position.line; column = Some position.column; number = Some (Json (fault_of expected)); url = None }
+fault_head (clash kind url file first) = record { file = Some file; line = None; column = None; number = Some Clash; url = Some url }
+
+-- of a definition that can't be used
+abbrev pub unusable_head : UnusableValue → Head
+unusable_head u = record { file = Some u.0; line = None; column = None; number = Some (Unusable u.2); url = Some u.1 }
+
+-- ---- the lines of each kind, by their numbers
+
+abbrev pub is_unread : Number → Bool
+is_unread Unread = true
+is_unread _ = false
+
+abbrev pub is_of_file : Number → Bool
+is_of_file Clash = true
+is_of_file (Json fault) = true
+is_of_file _ = false
+
+abbrev pub is_unusable : Number → Bool
+is_unusable (Unusable reason) = true
+is_unusable _ = false
+
+abbrev pub kept : (Number → Bool) → Head → List Head
+kept is h = option_map_or (λ number. if is number then h ∷ [] else []) h.number []
+
+-- those of a kind, in their order
+abbrev pub all_told : (Number → Bool) → List LineValue → List Head
+all_told is ls = flat_map (λ l. kept is (head l)) ls
+
+-- The lines tell each file that can't be read, each fault of the others and each definition that can't be used, once and in
+-- their order, and no other.
+pub record TellsFindings (unread : List Text) (s : SchemaValue) (survey : Surveyed) (ls : List LineValue) : Type 0 where
+  pub of_unread : all_told is_unread ls ≡ map unread_head unread
+  pub of_faults : all_told is_of_file ls ≡ map fault_head survey.faults
+  pub of_unusable : all_told is_unusable ls ≡ map unusable_head (all_unusable s survey)
+
+-- A line tells a finding: of an unread rule it has no number, and the element's id.
+abbrev pub TellsFinding : Finding → LineValue → Type 0
+TellsFinding (FileOne fault) l = head l ≡ fault_head (fault_seen fault.now)
+TellsFinding (UnusableOne u) l = head l ≡ unusable_head (u.file.now, u.url.now, u.reason)
+TellsFinding (UnreadOne u) l =
+    (head l ≡ record { file = Some u.file.now; line = None; column = None; number = None; url = Some u.url.now }) × (l.id ≡ Some u.id.now)
+
+-- ---- what is told of a certificate
+
+-- a node is its definition's url, and its id
+abbrev pub node_text : SchemaValue → NodeRef → Text
+node_text s n = url_at s n.definition ++ codes "#" ++ id_of_node s n
+
+abbrev pub pair_word : Pair → Text
+pair_word (Item p) = codes "item "
+pair_word (Kids p) = codes "kids "
+
+abbrev pub derived_of : Pair → NodeRef
+derived_of (Item p) = p.derived
+derived_of (Kids p) = p.derived
+
+abbrev pub base_of : Pair → NodeRef
+base_of (Item p) = p.base
+base_of (Kids p) = p.base
+
+abbrev pub pair_text : SchemaValue → Pair → Text
+pair_text s pair = pair_word pair ++ node_text s (derived_of pair) ++ codes " " ++ node_text s (base_of pair)
+
+-- a line of a file with one of these numbers
+abbrev pub IsOfCertificate : Text → LineValue → Type 0
+IsOfCertificate file l = (fault : CertFault) × (l.file ≡ Some file) × (l.number ≡ Some (Certificate fault))
+
+-- Of a certificate in a file whose answer is this: a yes; or the pair that fails a rule, with words on the rule; or what is wrong
+-- with its lines.
+abbrev pub TellsAnswer : SchemaValue → Text → Result (Option (Pair × RuleName)) CertFault → List LineValue → Type 0
+TellsAnswer s file (Ok None) ls = ls ≡ file_line file None (codes "yes") ∷ []
+TellsAnswer s file (Ok (Some wrong)) ls =
+    (words : Text) × (ls ≡ file_line file None (codes "no: " ++ pair_text s wrong.0 ++ codes ": " ++ words) ∷ [])
+TellsAnswer s file (Err fault) ls = All (IsOfCertificate file) ls
+
+-- of none nothing is told
+abbrev pub TellsCertificate : SchemaValue → Option CertificateValue → List LineValue → Type 0
+TellsCertificate s None ls = ls ≡ []
+TellsCertificate s (Some c) ls = TellsAnswer s c.0 (answer_of (reading s c.1) s) ls
+
+-- ---- a report
+
+-- The text has a row for each finding, then those on the certificate, and a last one with the counts of a package of so many files.
+pub record IsReport (form : Form) (files : ℕ) (unread : List Text) (s : SchemaValue) (survey : Surveyed) (certificate : Option CertificateValue)
+    (text : Text) : Type 0 where
+  pub found : List LineValue
+  pub judged : List LineValue
+  pub written : text ≡ rows form (found ++ judged ++ text_line (counts_text (counts files survey s)) ∷ [])
+  pub tells_findings : TellsFindings unread s survey found
+  pub tells_certificate : TellsCertificate s certificate judged
+
+-- the same by the survey of files and the schema of its package
+abbrev pub IsReportOn : Form → List Text → Files → Option CertificateValue → Text → Type 0
+IsReportOn form unread files certificate text =
+    IsReport form (length files + length unread) unread (schema_of (survey files).definitions) (survey files) certificate text
