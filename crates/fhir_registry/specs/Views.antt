@@ -1,10 +1,8 @@
 -- What contracts see of the engine's arguments and answers.
-use Rattle.std.specs.Prelude.{Bool, true, false, Option}
+use Rattle.std.specs.Prelude.{Option}
 use Rattle.std.specs.Borrow.{Bor}
 use Rattle.std.specs.Option.{option_map}
 use Rattle.fhir_json.specs.Tree.{Text}
-use Rattle.fhir_report.specs.declared.writing.Form.{Form}
-use Rattle.fhir_report.specs.declared.writing.Form.TheVariants.{Text as TextForm, Json}
 use Rattle.fhir_registry.specs.declared.request.Request.{Request}
 use Rattle.fhir_registry.specs.declared.request.Request.TheVariants.{Certify, Validate}
 use Rattle.fhir_registry.specs.declared.request.CheckRequest.{CheckRequest}
@@ -22,12 +20,8 @@ abbrev pub request_seen : Request → RequestValue
 request_seen (Certify folder file) = certify folder.now file.now
 request_seen (Validate folder profile file) = validate folder.now profile.now file.now
 
-abbrev pub is_json : Form → Bool
-is_json TextForm = false
-is_json Json = true
-
 abbrev pub check_seen : CheckRequest → CheckValue
-check_seen q = record { folder = q.folder.now; certificate = bytes_seen q.certificate; is_json = is_json q.form }
+check_seen q = record { folder = q.folder.now; certificate = bytes_seen q.certificate; form = q.form }
 
 abbrev pub invocation_seen : Invocation → InvocationValue
 invocation_seen (Judge request) = judge (request_seen request)

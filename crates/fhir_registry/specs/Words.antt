@@ -1,8 +1,9 @@
 -- Words that ask for something as they stand. What other words ask, `clap` says.
-use Rattle.std.specs.Prelude.{List, [], ◌∷◌, Bool, false, not, ◌&&◌, nat_eq, Option, None, Some, if◌then◌else◌, codes, option_map}
+use Rattle.std.specs.Prelude.{List, [], ◌∷◌, Bool, not, ◌&&◌, nat_eq, Option, None, Some, if◌then◌else◌, codes, option_map}
 use Rattle.std.specs.List.{starts_with}
 use Rattle.std.specs.Str.{bytes_eq}
 use Rattle.fhir_json.specs.Tree.{Text}
+use Rattle.fhir_report.specs.declared.writing.Form.TheVariants.{Text as AsText}
 use Rattle.fhir_registry.specs.Checking.{CheckValue}
 use Rattle.fhir_registry.specs.Replying.{RequestValue, certify, validate}
 
@@ -37,12 +38,12 @@ plain_request _ = None
 abbrev pub check_request : Text → Text → Option CheckValue
 check_request command folder =
     if bytes_eq command (codes "check") && not (is_option folder)
-    then Some (record { folder = folder; certificate = None; is_json = false }) else None
+    then Some (record { folder = folder; certificate = None; form = AsText }) else None
 
 abbrev pub check_beside : Text → Text → Text → Option CheckValue
 check_beside command folder certificate =
     if bytes_eq command (codes "check") && are_plain folder certificate
-    then Some (record { folder = folder; certificate = Some certificate; is_json = false }) else None
+    then Some (record { folder = folder; certificate = Some certificate; form = AsText }) else None
 
 abbrev pub plain_check : List Text → Option CheckValue
 plain_check (program ∷ command ∷ folder ∷ []) = check_request command folder

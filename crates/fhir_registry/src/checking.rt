@@ -1,8 +1,8 @@
 //! What is answered to the check of a package, before anything is written.
 
 ghost use Rattle.std.specs.Prelude.{◌≡◌, [], false, IfOk, IsTrue};
-ghost use Rattle.fhir_report.specs.Faultless.{IsPromised, bytes_seen as certificate_seen};
-ghost use Rattle.fhir_registry.specs.Checking.{IsAllRight, CheckPromise, IsWrong};
+ghost use Rattle.fhir_report.specs.Faultless.{IsPromised, certificate_seen};
+ghost use Rattle.fhir_registry.specs.Checking.{IsAllRight, CheckPromise, IsWrong, IsReported, IsCheckReply};
 ghost use Rattle.fhir_registry.specs.Ending.{is_fault};
 ghost use Rattle.fhir_registry.specs.Status.{code_of};
 ghost use Rattle.fhir_registry.specs.Views.{bytes_seen, check_seen};
@@ -34,7 +34,7 @@ fn listing_reply<P: Progress>(
     ensures yes { IfOk result (λ r. r.status ≡ 0
         → IsAllRight listing.now (certificate_seen certificate.entry) × IsPromised listing.now.files (certificate_seen certificate.entry)) }
     ensures no { IfOk result (λ r. r.status ≡ 1 → IsAllRight listing.now (certificate_seen certificate.entry) → ⊥) }
-    ensures quiet { IfOk result (λ r. r.err ≡ []) }
+    ensures told { IfOk result (λ r. IsReported form listing.now (certificate_seen certificate.entry) r) }
 {
     let subject = Subject {
         files: &listing.files,
@@ -58,6 +58,7 @@ pub(crate) fn checked<P: Progress>(
     file: Option<&[u8]>,
     progress: &mut P,
 ) -> Result<Reply, NoMemory>
+    ensures told { IfOk result (λ r. IsCheckReply (check_seen request.entry) listing.now (bytes_seen file.entry) r) }
     ensures promised { IfOk result (λ r. r.status ≡ 0 → CheckPromise (check_seen request.entry) listing.now (bytes_seen file.entry)) }
     ensures wrong { IfOk result (λ r. r.status ≡ 1 → IsWrong (check_seen request.entry) listing.now (bytes_seen file.entry)) }
     ensures fault { IfOk result (λ r. IsTrue (is_fault r) → (r.status ≡ 3) × (r.out ≡ [])) }

@@ -3,7 +3,7 @@
 ghost use Rattle.std.specs.Prelude.{◌≡◌, [], false, Err, IsTrue};
 ghost use Rattle.std.specs.Io.KnownBytes.{Appends};
 ghost use Rattle.fhir_package.specs.declared.fault.LoadFault.{LoadFault};
-ghost use Rattle.fhir_registry.specs.Checking.{CheckPromise, IsWrong};
+ghost use Rattle.fhir_registry.specs.Checking.{CheckPromise, IsWrong, IsCheckReply};
 ghost use Rattle.fhir_registry.specs.Replying.{ReplyValue, IsReply, answer_to, Promise};
 ghost use Rattle.fhir_registry.specs.Ending.{HasEnded, is_fault, tells_fault};
 ghost use Rattle.fhir_registry.specs.Status.{words_status};
@@ -98,6 +98,10 @@ pub fn check<W: Write, E: Write, P: Progress>(
     out: &mut W,
     err: &mut E,
 ) -> Status
+    // The report is written, or a fault told.
+    ensures told { (result ≡ Status.NoMemory → ⊥)
+        → (reply : ReplyValue) × IsCheckReply (check_seen request.entry) listing.now (bytes_seen file.entry) reply
+        × HasEnded result (W.contents out.old) (W.contents out.new) reply }
     // What a yes promises, and what a no says.
     ensures promised { result ≡ Status.Yes → CheckPromise (check_seen request.entry) listing.now (bytes_seen file.entry) }
     ensures wrong { result ≡ Status.No → IsWrong (check_seen request.entry) listing.now (bytes_seen file.entry) }

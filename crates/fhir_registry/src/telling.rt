@@ -3,13 +3,14 @@
 ghost use Rattle.std.specs.Prelude.{◌≡◌, ◌++◌, IfOk, Some, codes, string_bytes};
 ghost use Rattle.fhir_cert_check.specs.Views.{rule_name, wrong_in};
 ghost use Rattle.fhir_cert_check.specs.Rule.{subject, rule_text};
-ghost use Rattle.fhir_registry.specs.Telling.{node_text, pair_word, derived_of, base_of, no_text};
+ghost use Rattle.fhir_registry.specs.Telling.{no_text};
 ghost use Rattle.fhir_registry.specs.Replying.{yes_reply, wrong_reply};
 
 use crate::reply::{Reply, Status};
 use fhir_cert_check::{Answer, Rule};
 use fhir_certificate::Pair;
-use fhir_schema::{NodeRef, Schema};
+use fhir_report::pair_text;
+use fhir_schema::Schema;
 use std::alloc::{AllocError, Global};
 
 fn word_and_name(alloc: Global, word: &str, name: &str) -> Result<String, AllocError>
@@ -52,56 +53,13 @@ fn rule_text(alloc: Global, rule: Rule<'_>) -> Result<String, AllocError>
     word_and_name(alloc, rule.word(), subject.as_str())
 }
 
-fn node_text(alloc: Global, schema: &Schema, node: NodeRef) -> Result<String, AllocError>
-    ensures { IfOk result (λ text. string_bytes text ≡ node_text schema.now node) }
-{
-    let (url, id) = schema.name(node);
-    let mut text = String::new(alloc);
-    text.push_str(url)?;
-    text.push_str("#")?;
-    text.push_str(id)?;
-    Ok(text)
-}
-
-fn pair_word(pair: Pair) -> &'static str
-    ensures { result.now ≡ pair_word pair }
-{
-    match pair {
-        Pair::Item(_) => "item ",
-        Pair::Kids(_) => "kids ",
-    }
-}
-
-fn derived_of(pair: Pair) -> NodeRef
-    ensures { result ≡ derived_of pair }
-{
-    match pair {
-        Pair::Item(nodes) => nodes.derived,
-        Pair::Kids(nodes) => nodes.derived,
-    }
-}
-
-fn base_of(pair: Pair) -> NodeRef
-    ensures { result ≡ base_of pair }
-{
-    match pair {
-        Pair::Item(nodes) => nodes.base,
-        Pair::Kids(nodes) => nodes.base,
-    }
-}
-
 fn no_text(alloc: Global, schema: &Schema, pair: Pair, rule: Rule<'_>) -> Result<String, AllocError>
     ensures { IfOk result (λ text. string_bytes text ≡ no_text schema.now pair (rule_name rule.entry)) }
 {
-    let derived = node_text(alloc, schema, derived_of(pair))?;
-    let base = node_text(alloc, schema, base_of(pair))?;
+    let pair = pair_text(alloc, schema, pair)?;
     let rule = rule_text(alloc, rule)?;
-    let mut text = String::new(alloc);
-    text.push_str("no: ")?;
-    text.push_str(pair_word(pair))?;
-    text.push_str(derived.as_str())?;
-    text.push_str(" ")?;
-    text.push_str(base.as_str())?;
+    let mut text = String::from_str(alloc, "no: ")?;
+    text.push_str(pair.as_str())?;
     text.push_str(": ")?;
     text.push_str(rule.as_str())?;
     text.push_str("\n")?;
