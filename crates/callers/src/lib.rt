@@ -2,7 +2,7 @@
 //! against each other.
 #![tactic(auto)]
 
-ghost use Rattle.std.specs.Prelude.{◌≡◌, ◌↔◌, ◌||◌, [], length, false, None, Ok, is_ok, is_some, Option, Result, if◌then◌else◌, IsTrue, IfOk, codes, string_bytes, option_map};
+ghost use Rattle.std.specs.Prelude.{◌≡◌, ◌↔◌, ◌||◌, [], length, get_or, false, None, Ok, is_ok, is_some, Option, Result, if◌then◌else◌, IsTrue, IfOk, codes, string_bytes, option_map};
 ghost use Rattle.std.specs.FinSet as set;
 ghost use Rattle.std.specs.Option.{option_map_or};
 ghost use Rattle.fhir_json.specs.Tree.{Text, Tree};
@@ -25,8 +25,10 @@ ghost use Rattle.fhir_package.specs.Packing.{pack};
 ghost use Rattle.fhir_codes.specs.Concepts.{concept};
 ghost use Rattle.fhir_codes.specs.ValueSets.{concepts_of};
 ghost use Rattle.fhir_elements.specs.Element.{Element, element_of};
-ghost use Rattle.fhir_definition.specs.Definition.{definition_of};
+ghost use Rattle.fhir_definition.specs.Definition.{definition_of, definitions_from};
 ghost use Rattle.fhir_definition.specs.Snapshot.{root_place};
+ghost use Rattle.fhir_nodes.specs.Contents.{slots_at};
+ghost use Rattle.fhir_forms.specs.Forms.{property_of};
 ghost use Rattle.fhir_schema.specs.Schemas.{root, slots};
 ghost use Rattle.std.specs.Str.{bytes_eq};
 ghost use Rattle.fhir_instance.specs.Items.{Item, type_of};
@@ -54,12 +56,14 @@ use fhir_decimal::Decimal;
 use fhir_definition::Definition;
 use fhir_elements::{ElementDef, ElementFault};
 use fhir_facets::{Facet, Pattern, narrower_holds};
+use fhir_forms::NodeForms;
 use fhir_fp_eval::{Env, holds};
 use fhir_fp_syntax::{Expr, Parsed, parse};
 use fhir_instance::{Misfit, Typed, type_resource};
 use fhir_json::{Json, JsonFault, NoMemory};
 use fhir_matching::{json_eq, matches};
 use fhir_names::{ElementId, front_of};
+use fhir_nodes::{Nodes, Table};
 use fhir_package::{FolderFile, FolderFiles, Kind, LoadFault, Package, Survey, pack};
 use fhir_prims::{PrimType, lexical};
 use fhir_registry::{Request, Status, bytes_at, files_at, respond};
@@ -171,6 +175,22 @@ pub fn is_expression(alloc: Global, text: &str) -> Result<bool, NoMemory>
         Parsed::Read(_) => Ok(true),
         Parsed::Unread => Ok(false),
     }
+}
+
+/// How many names the children of a node may have, by the definitions of a package.
+pub fn names_below(alloc: Global, from: &Package, node: NodeRef) -> Result<usize, NoMemory>
+    ensures { IfOk result (λ n. n ≡ length (slots_at (definitions_from 0 from.now.structure_definitions) node)) }
+{
+    let table = Table::of(alloc, from)?;
+    let nodes = Nodes::slots_of(alloc, &table)?;
+    Ok(nodes.slots(node).len())
+}
+
+/// Whether a name is that of a property of a node's children.
+pub fn is_property(forms: &NodeForms, node: NodeRef, name: &str) -> bool
+    ensures { result ≡ is_some (property_of (get_or (get_or forms.now.forms node.definition []) node.element []) name.now) }
+{
+    forms.property(node, name).is_some()
 }
 
 /// The slots of a profile's root, where the profile can be used.

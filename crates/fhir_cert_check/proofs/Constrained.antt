@@ -11,7 +11,7 @@ use Rattle.fhir_json.specs.Tree.{Text}
 use Rattle.fhir_elements.specs.Constraint.{Constraint, must_hold}
 use Rattle.fhir_elements.specs.Element.{Element}
 use Rattle.fhir_elements.specs.Tests.{all_hold}
-use Rattle.fhir_schema.specs.declared.node.NodeRef.{NodeRef}
+use Rattle.fhir_nodes.specs.declared.node.NodeRef.{NodeRef}
 use Rattle.fhir_schema.specs.Schemas.{SchemaValue, element_at, target}
 use Rattle.fhir_schema.specs.Expressions.{constraint_at}
 use Rattle.fhir_instance.specs.Items.{Item}

@@ -11,11 +11,11 @@ use Rattle.fhir_json.specs.Bytes.{is_empty}
 use Rattle.fhir_elements.specs.TypeEntry.{TypeEntry}
 use Rattle.fhir_elements.specs.Element.{Element, required_value_set}
 use Rattle.fhir_elements.specs.Tests.{all_hold}
-use Rattle.fhir_schema.specs.declared.node.NodeRef.{NodeRef}
-use Rattle.fhir_schema.specs.Slots.{Slot}
+use Rattle.fhir_nodes.specs.declared.node.NodeRef.{NodeRef}
+use Rattle.fhir_nodes.specs.Slots.{Slot}
 use Rattle.fhir_schema.specs.Schemas.{SchemaValue, element_at, is_root_node, target, holder, slots, slot_named, entry_of, types, type_root, loaded}
-use Rattle.fhir_schema.specs.Contents.{with_children}
-use Rattle.fhir_schema.specs.Types.{names_resource}
+use Rattle.fhir_nodes.specs.Contents.{with_children}
+use Rattle.fhir_nodes.specs.Types.{names_resource}
 use Rattle.fhir_schema.specs.Covers.{covers, type_at}
 use Rattle.fhir_instance.specs.Items.{Item, item, Kids, no_kids, kid, type_of}
 use Rattle.fhir_facets.specs.Unread.{Meaning}

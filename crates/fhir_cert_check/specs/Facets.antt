@@ -1,7 +1,7 @@
 -- The rules of a pair of items that are about its elements (used by private contracts alone).
 use Rattle.std.specs.Prelude.{List, [], ◌∷◌, Bool}
 use Rattle.fhir_elements.specs.Element.{Element}
-use Rattle.fhir_schema.specs.declared.node.NodeRef.{NodeRef}
+use Rattle.fhir_nodes.specs.declared.node.NodeRef.{NodeRef}
 use Rattle.fhir_schema.specs.Schemas.{SchemaValue}
 use Rattle.fhir_cert_check.specs.Rule.{RuleName, fixed, pattern, range, length_limit, binding}
 use Rattle.fhir_cert_check.specs.Rules.{fixed_answers, pattern_answers, range_answers, length_answers, binding_answers, elements_answer}

@@ -1,7 +1,7 @@
 -- What a right certificate promises.
 use Rattle.std.specs.Prelude.{IsTrue}
 use Rattle.fhir_json.specs.Tree.{Text, Tree}
-use Rattle.fhir_schema.specs.declared.node.NodeRef.{NodeRef}
+use Rattle.fhir_nodes.specs.declared.node.NodeRef.{NodeRef}
 use Rattle.fhir_schema.specs.Schemas.{SchemaValue}
 use Rattle.fhir_instance.specs.Items.{Item}
 use Rattle.fhir_slicing.specs.Conformance.{Interpretation, Around, conforms, IsFairEverywhere, Conforms}

@@ -10,10 +10,10 @@ use Rattle.fhir_elements.specs.TypeEntry.{TypeEntry}
 use Rattle.fhir_elements.specs.Constraint.{Constraint, must_hold}
 use Rattle.fhir_elements.specs.Element.{Element, required_value_set}
 use Rattle.fhir_elements.specs.Tests.{first_of, all_hold}
-use Rattle.fhir_schema.specs.declared.node.NodeRef.{NodeRef}
-use Rattle.fhir_schema.specs.Slots.{Slot}
+use Rattle.fhir_nodes.specs.declared.node.NodeRef.{NodeRef}
+use Rattle.fhir_nodes.specs.Slots.{Slot}
 use Rattle.fhir_schema.specs.Schemas.{SchemaValue, element_at, target, entry_of, is_root_node, slots, slot_named, slices, slice_named, is_closed, holder, types, type_root, loaded}
-use Rattle.fhir_schema.specs.Types.{names_resource}
+use Rattle.fhir_nodes.specs.Types.{names_resource}
 use Rattle.fhir_schema.specs.Covers.{covers, type_at}
 use Rattle.fhir_facets.specs.Values.{fixed_narrower, pattern_narrower, fixed_fits, length_narrower}
 use Rattle.fhir_facets.specs.Ranges.{range_narrower}

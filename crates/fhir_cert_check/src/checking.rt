@@ -2,7 +2,7 @@
 
 ghost use Rattle.std.specs.Prelude.{◌≡◌, ◌↔◌, IsTrue, IfOk, IfErr, Some, None, map, option_map};
 ghost use Rattle.fhir_json.specs.Memory.{Gives, GivesOr};
-ghost use Rattle.fhir_schema.specs.declared.node.NodeRef.{NodeRef};
+ghost use Rattle.fhir_nodes.specs.declared.node.NodeRef.{NodeRef};
 ghost use Rattle.fhir_schema.specs.Schemas.{root};
 ghost use Rattle.fhir_certificate.specs.declared.pair.NodePair.{NodePair};
 ghost use Rattle.fhir_certificate.specs.declared.pair.Pair.TheVariants as variants;

@@ -1,7 +1,7 @@
 //! Laws: what right pairs promise.
 
 ghost use Rattle.std.specs.Prelude.{◌≡◌, Bool, IsTrue};
-ghost use Rattle.fhir_schema.specs.declared.node.NodeRef.{NodeRef};
+ghost use Rattle.fhir_nodes.specs.declared.node.NodeRef.{NodeRef};
 ghost use Rattle.fhir_schema.specs.Schemas.{SchemaValue};
 ghost use Rattle.fhir_certificate.specs.declared.pair.Pair.{Pair};
 ghost use Rattle.fhir_cert_check.specs.Rules.{has_item_pair};

@@ -11,7 +11,7 @@ use Rattle.std.proofs.lemmas.List.{append-nil}
 use Rattle.std.proofs.lemmas.Str.{is_utf8-from_IsUtf8, IsUtf8-from_is_utf8}
 use Rattle.fhir_json.specs.Tree.{Text}
 use Rattle.fhir_json.specs.Memory.{GivesOr}
-use Rattle.fhir_schema.specs.declared.node.NodeRef.{NodeRef}
+use Rattle.fhir_nodes.specs.declared.node.NodeRef.{NodeRef}
 use Rattle.fhir_schema.specs.Schemas.{SchemaValue, has, root, node}
 use Rattle.fhir_certificate.specs.declared.fault.CertFault.{CertFault}
 use Rattle.fhir_certificate.specs.declared.fault.CertFault.TheVariants.{WrongFormat, UnknownNode, TooManyPairs, NoMemory}

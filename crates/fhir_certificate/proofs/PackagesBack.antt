@@ -10,7 +10,7 @@ use Rattle.fhir_json.specs.Tree.{Text}
 use Rattle.fhir_json.specs.Bytes.{is_blank, is_empty}
 use Rattle.fhir_names.specs.Texts.{is_plain}
 use Rattle.fhir_prims.specs.Texts.{is_uri}
-use Rattle.fhir_schema.specs.declared.node.NodeRef.{NodeRef}
+use Rattle.fhir_nodes.specs.declared.node.NodeRef.{NodeRef}
 use Rattle.fhir_schema.specs.Schemas.{SchemaValue, has, root, node, url_at, id_of_node}
 use Rattle.fhir_certificate.specs.declared.pair.NodePair.{NodePair}
 use Rattle.fhir_certificate.specs.Certificate.{CertificateValue, are_nodes, fits}

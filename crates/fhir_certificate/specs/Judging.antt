@@ -2,7 +2,7 @@
 use Rattle.std.specs.Prelude.{◌≡◌, ◌≤◌, ℕ, List, [], ◌∷◌, ◌&&◌, Bool, nat_le, Option, None, Some, is_some, Result, Ok, Err, if◌then◌else◌, length}
 use Rattle.std.specs.Option.{option_map, option_map_or, option_and_then}
 use Rattle.fhir_json.specs.Tree.{Text}
-use Rattle.fhir_schema.specs.declared.node.NodeRef.{NodeRef}
+use Rattle.fhir_nodes.specs.declared.node.NodeRef.{NodeRef}
 use Rattle.fhir_schema.specs.Schemas.{SchemaValue, root, node}
 use Rattle.fhir_certificate.specs.declared.fault.CertFault.{CertFault}
 use Rattle.fhir_certificate.specs.declared.fault.CertFault.TheVariants.{UnknownNode, TooManyPairs}

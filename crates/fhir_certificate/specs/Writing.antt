@@ -1,7 +1,7 @@
 -- How a certificate is written: each node by its name, the items first and then the children.
 use Rattle.std.specs.Prelude.{◌≡◌, ◌++◌, map, Some, All, IsUtf8, IsTrue}
 use Rattle.std.specs.List.{list_all}
-use Rattle.fhir_schema.specs.declared.node.NodeRef.{NodeRef}
+use Rattle.fhir_nodes.specs.declared.node.NodeRef.{NodeRef}
 use Rattle.fhir_schema.specs.Schemas.{SchemaValue, url_at, id_of_node}
 use Rattle.fhir_certificate.specs.declared.pair.NodePair.{NodePair}
 use Rattle.fhir_certificate.specs.Certificate.{CertificateValue}

@@ -11,7 +11,7 @@ use Rattle.fhir_prims.specs.declared.prim.PrimType.{PrimType}
 use Rattle.fhir_prims.specs.declared.prim.PrimType.TheVariants.{Boolean, Integer, UnsignedInt, PositiveInt, Decimal}
 use Rattle.fhir_prims.specs.Values.{prim_of}
 use Rattle.fhir_codes.specs.Concepts.{Concepts, concept, has_code}
-use Rattle.fhir_schema.specs.Types.{is_system}
+use Rattle.fhir_nodes.specs.Types.{is_system}
 use Rattle.fhir_schema.specs.Schemas.{SchemaValue, concepts_at}
 use Rattle.fhir_facets.specs.declared.lookup.Lookup.{Lookup}
 use Rattle.fhir_facets.specs.declared.lookup.Lookup.TheVariants.{ByCode, ByCoding, ByOneCoding}

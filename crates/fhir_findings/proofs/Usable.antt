@@ -9,7 +9,7 @@ use Rattle.fhir_elements.specs.declared.reason.Reason.{Reason}
 use Rattle.fhir_definition.specs.Definition.{definitions_from}
 use Rattle.fhir_package.specs.Surveying.{Surveyed}
 use Rattle.fhir_schema.specs.Settling.{reason_at}
-use Rattle.fhir_schema.specs.Urls.{url_place}
+use Rattle.fhir_nodes.specs.Urls.{url_place}
 use Rattle.fhir_schema.specs.Schemas.{SchemaValue, schema_of, unusable}
 use Rattle.fhir_findings.specs.Clean.{AreUsable}
 use Rattle.fhir_findings.specs.Finding.{UnusableValue, unusable_at, unusable_from, all_unusable}

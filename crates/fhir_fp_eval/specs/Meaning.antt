@@ -8,7 +8,7 @@ use Rattle.fhir_json.specs.Tree.{Text}
 use Rattle.fhir_decimal.specs.Value.{Value, is_same_value}
 use Rattle.fhir_decimal.specs.Whole.{count, is_whole_value}
 use Rattle.fhir_schema.specs.Schemas.{SchemaValue}
-use Rattle.fhir_schema.specs.Forms.{is_choice}
+use Rattle.fhir_forms.specs.Forms.{is_choice}
 use Rattle.fhir_schema.specs.Covers.{derives}
 use Rattle.fhir_instance.specs.Items.{Item, item, Kids, no_kids, kid, type_of, kids_of}
 use Rattle.fhir_fp_syntax.specs.Expression.{Expression, nothing, boolean, this, resource, context, name, child, call, typed, filtered, binary}

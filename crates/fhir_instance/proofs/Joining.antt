@@ -15,10 +15,10 @@ use Rattle.fhir_json.specs.Tree.{Text, Tree, Property, array, names}
 use Rattle.fhir_json.specs.Views.{tree_of, property_of, items_view, members_view, tree_seen, json_step, member_step}
 use Rattle.fhir_prims.specs.declared.prim.PrimType.{PrimType}
 use Rattle.fhir_prims.specs.Values.{lexical}
-use Rattle.fhir_schema.specs.declared.form.Content.{Content}
-use Rattle.fhir_schema.specs.declared.form.Content.TheVariants.{Primitive, System, Resource, Complex}
-use Rattle.fhir_schema.specs.declared.node.NodeRef.{NodeRef}
-use Rattle.fhir_schema.specs.Forms.{Form, is_primitive, companion_name}
+use Rattle.fhir_forms.specs.declared.form.Content.{Content}
+use Rattle.fhir_forms.specs.declared.form.Content.TheVariants.{Primitive, System, Resource, Complex}
+use Rattle.fhir_nodes.specs.declared.node.NodeRef.{NodeRef}
+use Rattle.fhir_forms.specs.Forms.{Form, is_primitive, companion_name}
 use Rattle.fhir_schema.specs.Schemas.{SchemaValue}
 use Rattle.fhir_instance.specs.Items.{Named}
 use Rattle.fhir_instance.specs.Typing.{Frame, Value, Halves, both, joined, value_of, held_of, values_of, if_not_null, where_true, place_items, items_from, form_items, held_by, side_by_side, kids_by, is_null, under, item_with, is_known, object_kids, forms_in}

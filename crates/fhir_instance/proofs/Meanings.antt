@@ -8,8 +8,8 @@ use Rattle.std.specs.Map.{lookup}
 use Rattle.std.specs.Str.{bytes_eq}
 use Rattle.fhir_json.specs.Tree.{Text}
 use Rattle.fhir_json.specs.Sound.{is_among, differ}
-use Rattle.fhir_schema.specs.declared.form.Property.{Property}
-use Rattle.fhir_schema.specs.Forms.{Form, is_primitive, companion_name, spells, spellings_from, property_of, are_apart}
+use Rattle.fhir_forms.specs.declared.form.Property.{Property}
+use Rattle.fhir_forms.specs.Forms.{Form, is_primitive, companion_name, spells, spellings_from, property_of, are_apart}
 use Rattle.fhir_instance.specs.Typing.{is_of_part}
 use Rattle.fhir_instance.specs.Spelled.{where_of_part}
 use Rattle.fhir_instance.specs.declared.frame.Part.{Part}

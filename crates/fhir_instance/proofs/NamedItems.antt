@@ -5,7 +5,7 @@ use Rattle.std.specs.Option.{option_map, option_and_then}
 use Rattle.std.specs.List.{filter, list_all}
 use Rattle.std.specs.Str.{bytes_eq}
 use Rattle.fhir_json.specs.Tree.{Text}
-use Rattle.fhir_schema.specs.Forms.{Form}
+use Rattle.fhir_forms.specs.Forms.{Form}
 use Rattle.fhir_schema.specs.Schemas.{SchemaValue}
 use Rattle.fhir_instance.specs.Items.{Item, Named}
 use Rattle.fhir_instance.specs.Typing.{Frame, Field, Halves, is_known, forms_in, form_items, place_items, places_of, under, both, joined, object_kids, content_item, value_in, companion_in}

@@ -4,8 +4,8 @@ use Rattle.std.proofs.lemmas.Bool.Decides.{nat_tests}
 use Rattle.std.specs.List.{slice_get}
 use Rattle.std.specs.Str.{bytes_eq}
 use Rattle.fhir_json.specs.Tree.{Text}
-use Rattle.fhir_schema.specs.declared.form.Property.{Property}
-use Rattle.fhir_schema.specs.Forms.{Form, is_primitive, companion_name, spells, are_apart}
+use Rattle.fhir_forms.specs.declared.form.Property.{Property}
+use Rattle.fhir_forms.specs.Forms.{Form, is_primitive, companion_name, spells, are_apart}
 use Rattle.fhir_schema.specs.Schemas.{SchemaValue, forms}
 use Rattle.fhir_instance.specs.Typing.{Frame, is_of_part}
 use Rattle.fhir_instance.specs.declared.spelled.Spelled.{Spelled}

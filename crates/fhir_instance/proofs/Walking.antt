@@ -6,7 +6,7 @@ use Rattle.std.specs.List.{filter, slice_get}
 use Rattle.fhir_json.specs.declared.json.Member.{Member}
 use Rattle.fhir_json.specs.Tree.{names}
 use Rattle.fhir_json.specs.Views.{members_view}
-use Rattle.fhir_schema.specs.Forms.{Form, are_apart}
+use Rattle.fhir_forms.specs.Forms.{Form, are_apart}
 use Rattle.fhir_schema.specs.Schemas.{SchemaValue, forms}
 use Rattle.fhir_instance.specs.Items.{Named}
 use Rattle.fhir_instance.specs.Typing.{Frame, is_of_part, forms_in, both, joined, form_items, items_from}

@@ -8,10 +8,10 @@ use Rattle.fhir_json.specs.Views.{tree_of, members_view, tree_seen, property_of}
 use Rattle.fhir_json.specs.declared.json.Json.{Json}
 use Rattle.fhir_json.specs.declared.json.Member.{Member}
 use Rattle.fhir_prims.specs.Values.{lexical}
-use Rattle.fhir_schema.specs.declared.form.Content.{Content}
-use Rattle.fhir_schema.specs.declared.form.Content.TheVariants.{Primitive, System, Resource, Complex}
-use Rattle.fhir_schema.specs.declared.node.NodeRef.{NodeRef}
-use Rattle.fhir_schema.specs.Forms.{Form, is_primitive}
+use Rattle.fhir_forms.specs.declared.form.Content.{Content}
+use Rattle.fhir_forms.specs.declared.form.Content.TheVariants.{Primitive, System, Resource, Complex}
+use Rattle.fhir_nodes.specs.declared.node.NodeRef.{NodeRef}
+use Rattle.fhir_forms.specs.Forms.{Form, is_primitive}
 use Rattle.fhir_schema.specs.Schemas.{SchemaValue}
 use Rattle.fhir_instance.specs.Items.{Item, Named}
 use Rattle.fhir_instance.specs.Typing.{Frame, Value, Held, Field, Halves, value_of, held_of, fields_of, if_not_null, place_items, under, is_null, plain_item}

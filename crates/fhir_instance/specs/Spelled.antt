@@ -4,8 +4,8 @@ use Rattle.std.specs.Option.{option_map, option_and_then}
 use Rattle.std.specs.List.{list_all, filter, find, slice_get}
 use Rattle.std.specs.Str.{bytes_eq}
 use Rattle.fhir_json.specs.Tree.{Text}
-use Rattle.fhir_schema.specs.declared.form.Property.{Property}
-use Rattle.fhir_schema.specs.Forms.{Form, is_primitive, companion_name}
+use Rattle.fhir_forms.specs.declared.form.Property.{Property}
+use Rattle.fhir_forms.specs.Forms.{Form, is_primitive, companion_name}
 use Rattle.fhir_schema.specs.Schemas.{SchemaValue, forms, property}
 use Rattle.fhir_instance.specs.Typing.{Frame, is_of_part, is_known, where_true}
 use Rattle.fhir_instance.specs.declared.frame.Part.{Part}

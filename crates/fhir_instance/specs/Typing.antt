@@ -12,10 +12,10 @@ use Rattle.fhir_json.specs.Tree.{item as one_more}
 use Rattle.fhir_json.specs.Fields.{text_in, text_or_empty}
 use Rattle.fhir_prims.specs.declared.prim.PrimType.{PrimType}
 use Rattle.fhir_prims.specs.Values.{lexical}
-use Rattle.fhir_schema.specs.declared.node.NodeRef.{NodeRef}
-use Rattle.fhir_schema.specs.declared.form.Content.{Content}
-use Rattle.fhir_schema.specs.declared.form.Content.TheVariants.{Primitive, System, Resource, Complex}
-use Rattle.fhir_schema.specs.Forms.{Form, is_primitive, companion_name, spells}
+use Rattle.fhir_nodes.specs.declared.node.NodeRef.{NodeRef}
+use Rattle.fhir_forms.specs.declared.form.Content.{Content}
+use Rattle.fhir_forms.specs.declared.form.Content.TheVariants.{Primitive, System, Resource, Complex}
+use Rattle.fhir_forms.specs.Forms.{Form, is_primitive, companion_name, spells}
 use Rattle.fhir_schema.specs.Schemas.{SchemaValue, forms, resource_root}
 use Rattle.fhir_instance.specs.Items.{Item, item, no_kids, Named, kids_in}
 use Rattle.fhir_instance.specs.declared.frame.Part.{Part}

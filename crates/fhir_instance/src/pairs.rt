@@ -2,7 +2,7 @@
 
 ghost use Rattle.std.specs.Prelude.{◌≡◌, ◌&&◌, ◌==◌, nat_lt, length, map, OnOk, IsTrue, None, Some, if◌then◌else◌};
 ghost use Rattle.std.specs.List.{zip};
-ghost use Rattle.fhir_schema.specs.Forms.{is_primitive};
+ghost use Rattle.fhir_forms.specs.Forms.{is_primitive};
 ghost use Rattle.fhir_instance.specs.Typing.{both, joined, items_from, place_items};
 ghost use Rattle.fhir_instance.specs.Found.{kids_found, held_in_hand, value_in_hand, halves_in_hand, one_items};
 

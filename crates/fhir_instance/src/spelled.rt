@@ -6,7 +6,7 @@ ghost use Rattle.std.specs.List.Sorted.{IsNonDecreasingBy};
 ghost use Rattle.fhir_json.specs.Tree.{names};
 ghost use Rattle.fhir_json.specs.Views.{members_view};
 ghost use Rattle.fhir_json.specs.Views.{property_of as name_and_value};
-ghost use Rattle.fhir_schema.specs.Forms.{spells};
+ghost use Rattle.fhir_forms.specs.Forms.{spells};
 ghost use Rattle.fhir_instance.specs.Typing.{names_type_in, is_of_part, is_known, forms_in};
 ghost use Rattle.fhir_instance.specs.Found.{frame_of, kids_found};
 ghost use Rattle.fhir_instance.specs.Spelled.{meaning, where_of_part, spelled_at, spelled_from, are_known, of_form, count_front, first_form, value_among, companion_among, places_among};

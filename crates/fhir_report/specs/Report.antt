@@ -5,7 +5,7 @@ use Rattle.fhir_json.specs.Tree.{Text}
 use Rattle.fhir_json.specs.Refusals.{fault_of}
 use Rattle.fhir_package.specs.Folder.{Files}
 use Rattle.fhir_package.specs.Surveying.{FileFault, not_json, clash, Surveyed, survey}
-use Rattle.fhir_schema.specs.declared.node.NodeRef.{NodeRef}
+use Rattle.fhir_nodes.specs.declared.node.NodeRef.{NodeRef}
 use Rattle.fhir_schema.specs.Schemas.{SchemaValue, schema_of, url_at, id_of_node}
 use Rattle.fhir_certificate.specs.declared.fault.CertFault.{CertFault}
 use Rattle.fhir_certificate.specs.declared.fault.CertFault.TheVariants.{WrongFormat, UnknownNode, TooManyPairs, NoMemory}

@@ -1,5 +1,5 @@
 -- The reasons that are answered: they are of the definitions that the rounds find, and they apply.
-use Rattle.std.proofs.Common.{◌≡◌, ℕ, ◌<◌, ◌≤◌, List, map, length, get_or, true, false, Bool, refl, ap, sym, subst, ◌∙◌}
+use Rattle.std.proofs.Common.{◌≡◌, ℕ, ◌<◌, ◌≤◌, List, length, true, false, refl, ap, sym, subst, ◌∙◌}
 use Rattle.std.proofs.Common.{Some, None, Option, is_some, IsTrue, ◌⊎◌, inl, inr, arith}
 use Rattle.std.specs.List.{slice_get, Contains}
 use Rattle.std.specs.Option.{option_or}
@@ -8,7 +8,7 @@ use Rattle.std.proofs.lemmas.List.{length-map, get_or_past}
 use Rattle.fhir_elements.specs.declared.reason.Reason.{Reason}
 use Rattle.fhir_elements.specs.Tests.{first_of, all_hold}
 use Rattle.fhir_definition.specs.Definition.{Definition}
-use Rattle.fhir_schema.specs.Tables.{ArePlaced}
+use Rattle.fhir_nodes.specs.Tables.{ArePlaced}
 use Rattle.fhir_schema.specs.Settling.{Reasons, reason_at, tests, no_reasons, found, first_reason, all_reasons}
 use Rattle.fhir_schema.specs.Usability.{AllApply, IsClosed, IsWithin}
 use Rattle.fhir_schema.proofs.Failing.{first_fails, hold_none, fails_some}

@@ -26,11 +26,11 @@ use Rattle.fhir_elements.specs.Element.{Element, fields_of, element_fault, has_r
 use Rattle.fhir_definition.specs.Snapshot.{id_place, is_at, are_first, ids_differ}
 use Rattle.fhir_definition.specs.Definition.{Definition, is_wrong_field, is_min_over_max, is_repeated_type, is_wrong_id}
 use Rattle.fhir_definition.specs.Definition.{element_trees, element_faults, own_tests, definition_of, definitions_from}
-use Rattle.fhir_schema.specs.declared.node.NodeRef.{NodeRef}
-use Rattle.fhir_schema.specs.Tables.{ArePlaced}
+use Rattle.fhir_nodes.specs.declared.node.NodeRef.{NodeRef}
+use Rattle.fhir_nodes.specs.Tables.{ArePlaced}
 use Rattle.fhir_schema.specs.Usability.{IsClosed}
 use Rattle.fhir_schema.specs.Settling.{reason_at, fault_of, all_reasons}
-use Rattle.fhir_schema.specs.Urls.{url_place}
+use Rattle.fhir_nodes.specs.Urls.{url_place}
 use Rattle.fhir_schema.specs.Schemas.{SchemaValue, schema_with, is_usable, elements_at, has, node, node_with, node_in, root, root_in, url_at, id_of_node}
 
 -- ---- lists and tests

@@ -6,7 +6,7 @@ use Rattle.std.specs.Cmp.Lexicographic.{bytes_decides}
 use Rattle.std.proofs.lemmas.Bool.{and_parts, and_from, or_cases, or_left, or_right, eqb-true, false≢true}
 use Rattle.fhir_json.specs.Tree.{Text}
 use Rattle.fhir_definition.specs.Definition.{Definition}
-use Rattle.fhir_schema.specs.Types.{type_place, names_resource}
+use Rattle.fhir_nodes.specs.Types.{type_place, names_resource}
 use Rattle.fhir_schema.specs.Settling.{base_of_place, ends_within}
 use Rattle.fhir_schema.specs.Covers.{meets_within, reaches, reaches_type, covers_in}
 

@@ -6,8 +6,8 @@ use Rattle.std.proofs.lemmas.Option.{slice_get-map}
 use Rattle.fhir_elements.specs.Constraint.{Constraint}
 use Rattle.fhir_elements.specs.Element.{Element}
 use Rattle.fhir_definition.specs.Definition.{Definition}
-use Rattle.fhir_schema.specs.Expressions.{expression_of, expressions_in, expressions_of, all_expressions}
-use Rattle.fhir_schema.specs.Readings.{shared_at, listed_at, found_at}
+use Rattle.fhir_nodes.specs.Expressions.{expression_of, expressions_in, expressions_of, all_expressions}
+use Rattle.fhir_nodes.specs.Readings.{shared_at, listed_at, found_at}
 
 of_constraint : (c : Option Constraint) → option_and_then (λ e. e) (option_map expression_of c) ≡ option_and_then expression_of c
 of_constraint None = refl

@@ -6,9 +6,9 @@ use Rattle.std.proofs.lemmas.Bool.{and_from, lt-ltb}
 use Rattle.std.proofs.lemmas.Option.{none-some, same_Some}
 use Rattle.fhir_json.specs.Tree.{Text}
 use Rattle.fhir_elements.specs.Element.{Element}
-use Rattle.fhir_schema.specs.declared.node.NodeRef.{NodeRef}
+use Rattle.fhir_nodes.specs.declared.node.NodeRef.{NodeRef}
 use Rattle.fhir_definition.specs.Snapshot.{id_place_from, id_place}
-use Rattle.fhir_schema.specs.Urls.{url_place}
+use Rattle.fhir_nodes.specs.Urls.{url_place}
 use Rattle.fhir_schema.specs.Schemas.{SchemaValue, is_usable, elements_at, has, node_with, node}
 
 -- a place that is found is among the elements

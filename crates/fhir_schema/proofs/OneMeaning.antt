@@ -11,9 +11,9 @@ use Rattle.std.proofs.lemmas.Map.Views.{lookup-from_Contains, Contains-from_look
 use Rattle.fhir_json.specs.Tree.{Text}
 use Rattle.fhir_json.specs.Sound.{is_among, differ}
 use Rattle.fhir_definition.specs.Definition.{Definition}
-use Rattle.fhir_schema.specs.declared.form.Property.{Property}
-use Rattle.fhir_schema.specs.Slots.{Slot, slots_of}
-use Rattle.fhir_schema.specs.Forms.{Form, forms_under, if_apart, forms_of, are_apart, is_primitive, companion_name, spells, spellings_from, spellings, property_of}
+use Rattle.fhir_forms.specs.declared.form.Property.{Property}
+use Rattle.fhir_nodes.specs.Slots.{Slot, slots_of}
+use Rattle.fhir_forms.specs.Forms.{Form, forms_under, if_apart, forms_of, are_apart, is_primitive, companion_name, spells, spellings_from, spellings, property_of}
 
 -- ---- the forms of a schema are apart
 

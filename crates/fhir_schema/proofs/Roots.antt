@@ -2,7 +2,7 @@
 use Rattle.std.proofs.Common.{◌≡◌, ℕ, Bool, true, false, Option, Some, None, cond, refl, ap, ◌∙◌, subst, IsTrue, eq-eqb}
 use Rattle.std.specs.Option.{option_map, option_and_then}
 use Rattle.std.proofs.lemmas.Option.{none-some, same_Some}
-use Rattle.fhir_schema.specs.declared.node.NodeRef.{NodeRef}
+use Rattle.fhir_nodes.specs.declared.node.NodeRef.{NodeRef}
 use Rattle.fhir_definition.specs.Snapshot.{is_at}
 use Rattle.fhir_schema.specs.Schemas.{SchemaValue, is_usable, root_element, root_in, is_root_node}
 

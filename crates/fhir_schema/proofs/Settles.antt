@@ -6,15 +6,15 @@ use Rattle.std.specs.Option.{option_map_or}
 use Rattle.std.proofs.lemmas.Bool.Decides.{nat_tests}
 use Rattle.std.proofs.lemmas.List.{length-map}
 use Rattle.std.proofs.lemmas.Option.{slice_get_within}
-use Rattle.fhir_json.specs.Tree.{Text, Tree}
+use Rattle.fhir_json.specs.Tree.{Text}
 use Rattle.fhir_elements.specs.declared.reason.Reason.{Reason}
 use Rattle.fhir_elements.specs.declared.reason.Reason.TheVariants.{UnusableType, NoTree, MissingContent}
 use Rattle.fhir_elements.specs.TypeEntry.{TypeEntry}
 use Rattle.fhir_elements.specs.Element.{Element}
 use Rattle.fhir_elements.specs.Tests.{first_of, all_hold}
 use Rattle.fhir_definition.specs.Snapshot.{is_root}
-use Rattle.fhir_definition.specs.Definition.{Definition, definition_of, definitions_from}
-use Rattle.fhir_schema.specs.Types.{type_place, is_system}
+use Rattle.fhir_definition.specs.Definition.{Definition}
+use Rattle.fhir_nodes.specs.Types.{type_place, is_system}
 use Rattle.fhir_schema.specs.Settling.{Reasons, reason_at, is_usable_type, entry_is_usable, element_is_usable, types_are_usable, target_place, target_is_usable, targets_are_usable}
 use Rattle.fhir_schema.specs.Settling.{fault_of, has_tree, lasting_tests, tests, reason_of, round, rounds, no_reasons, found}
 use Rattle.fhir_schema.specs.Usability.{AllApply, IsClosed, IsWithin}
@@ -68,26 +68,6 @@ extends_same (Some r ∷ xs) (Some s ∷ ys) e h n =
     let same : Some s ≡ Some r = h 0 r refl in
     let fewer : how_many ys ≤ how_many xs = omega arith in
     let rest : ys ≡ xs = extends_same xs ys (omega arith) (λ i r. h (suc i) r) fewer in cc
-
--- ---- places
-
--- each definition knows its place
-Placed : ℕ → List Definition → Type 0
-Placed n ds = (i : ℕ) (d : Definition) → slice_get ds i ≡ Some d → d.place ≡ n + i
-
-placed_from : (n : ℕ) (es : List (Text × Tree)) → Placed n (definitions_from n es)
-unfolding Placed
-placed_from n [] i d h = cc
-placed_from n (e ∷ es) zero d h =
-    let is : Some (definition_of n e.0 e.1) ≡ Some d = h in
-    let same : definition_of n e.0 e.1 ≡ d = cc in
-    sym (ap (λ x. x.place) same) ∙ omega arith
-placed_from n (e ∷ es) (suc i) d h =
-    let rest : d.place ≡ suc n + i = placed_from (suc n) es i d h in omega arith
-
-pub placed : (es : List (Text × Tree)) (place : ℕ) (d : Definition) → slice_get (definitions_from 0 es) place ≡ Some d → d.place ≡ place
-unfolding Placed
-placed es place d h = placed_from 0 es place d h ∙ omega arith
 
 -- ---- what fewer findings leave usable
 

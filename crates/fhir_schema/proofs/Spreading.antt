@@ -5,8 +5,8 @@ use Rattle.std.proofs.Common.{Bool, true, false, ◌&&◌, cond, nat_eq, nat_lt,
 use Rattle.std.specs.List.{Contains, All, list_all, list_any, slice_get}
 use Rattle.std.proofs.lemmas.Bool.{cases_eq, cases_lt, and_parts, and_from, and_cases, or_cases, or_left, or_right}
 use Rattle.std.proofs.lemmas.Bool.{eqb-true, eq-eqb, lt-ltb, ltb-true, false≢true}
-use Rattle.std.proofs.lemmas.Option.{none-some, same_Some, slice_get_within}
-use Rattle.std.proofs.lemmas.List.{length-set, length-map, length_push, get_or_append_left, get_or-set_same, get_or-set_other, get_or_past, ext_get_or}
+use Rattle.std.proofs.lemmas.Option.{none-some, slice_get_within}
+use Rattle.std.proofs.lemmas.List.{length-set, length-map, length_push, get_or_append_left, get_or-set_same, get_or-set_other, get_or_past}
 use Rattle.std.proofs.lemmas.List.Elements.{All-push, All-weaker, All-append, All-nil, All-cons, All-get_or}
 use Rattle.std.proofs.lemmas.List.Elements.{Contains-push, Contains-append_left, Contains-append_right}
 use Rattle.fhir_elements.specs.declared.reason.Reason.{Reason}
@@ -14,10 +14,10 @@ use Rattle.fhir_elements.specs.declared.reason.Reason.TheVariants.{UnusableType,
 use Rattle.fhir_elements.specs.Tests.{first_of, all_hold}
 use Rattle.fhir_definition.specs.Snapshot.{is_at}
 use Rattle.fhir_definition.specs.Definition.{Definition}
-use Rattle.fhir_schema.specs.Tables.{ArePlaced}
+use Rattle.fhir_nodes.specs.Tables.{ArePlaced}
 use Rattle.fhir_schema.specs.Settling.{Reasons, reason_at, fault_of, has_tree, lasting_tests, types_are_usable, targets_are_usable, tests, no_reasons, found, first_reason, all_reasons}
 use Rattle.fhir_schema.specs.Usability.{IsClosed, IsWithin}
-use Rattle.fhir_schema.specs.Resting.{rests_on, users_of, failing, first_reasons, unusable_at, unusable_from}
+use Rattle.fhir_schema.specs.Resting.{rests_on, users_of, first_reasons, unusable_at, unusable_from}
 use Rattle.fhir_schema.specs.Resting.{is_unmarked, marked, queued, marked_all, queued_all}
 use Rattle.fhir_schema.proofs.Failing.{none_fails, both_hold_more, both_hold}
 use Rattle.fhir_schema.proofs.Settles.{closed, least, first_at, first_lasts, iff_same, tests_same}

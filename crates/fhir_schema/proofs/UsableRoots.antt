@@ -12,12 +12,12 @@ use Rattle.fhir_elements.specs.Element.{Element}
 use Rattle.fhir_elements.specs.Tests.{all_hold}
 use Rattle.fhir_definition.specs.Snapshot.{is_root, has_parent, is_tree, root_place}
 use Rattle.fhir_definition.specs.Definition.{Definition, has_snapshot}
-use Rattle.fhir_schema.specs.Tables.{ArePlaced}
+use Rattle.fhir_nodes.specs.Tables.{ArePlaced}
 use Rattle.fhir_schema.specs.Usability.{IsClosed}
 use Rattle.fhir_schema.specs.Settling.{reason_at, types_are_usable, targets_are_usable, fault_of, is_well_formed, has_tree, lasting_tests, tests, all_reasons}
-use Rattle.fhir_schema.specs.Urls.{url_place}
-use Rattle.fhir_schema.specs.Forms.{spells_apart}
-use Rattle.fhir_schema.specs.Criteria.{are_told_apart}
+use Rattle.fhir_nodes.specs.Urls.{url_place}
+use Rattle.fhir_forms.specs.Forms.{spells_apart}
+use Rattle.fhir_forms.specs.Criteria.{are_told_apart}
 use Rattle.fhir_codes.specs.Expanding.{Expansions}
 use Rattle.fhir_schema.specs.Schemas.{schema_with, is_loaded, unusable, root, root_in}
 

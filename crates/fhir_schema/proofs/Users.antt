@@ -12,8 +12,8 @@ use Rattle.fhir_elements.specs.Element.{Element}
 use Rattle.fhir_definition.specs.Snapshot.{is_at, is_root}
 use Rattle.fhir_definition.specs.Definition.{Definition}
 use Rattle.fhir_definition.specs.Gathering.{put_at}
-use Rattle.fhir_schema.specs.Types.{type_place, is_system}
-use Rattle.fhir_schema.specs.Tables.{ArePlaced}
+use Rattle.fhir_nodes.specs.Types.{type_place, is_system}
+use Rattle.fhir_nodes.specs.Tables.{ArePlaced}
 use Rattle.fhir_schema.specs.Settling.{Reasons, reason_at, is_usable_type, entry_is_usable, element_is_usable, types_are_usable, target_place, target_is_usable, targets_are_usable}
 use Rattle.fhir_schema.specs.Resting.{entry_rests_on, element_rests_on, target_rests_on, rests_on, put_under, users_from, users_of}
 

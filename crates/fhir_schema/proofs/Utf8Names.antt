@@ -20,9 +20,9 @@ use Rattle.fhir_package.specs.Packing.{kind_named, resource_type, is_bundle, hel
 use Rattle.fhir_codes.specs.Expanding.{Expansions}
 use Rattle.fhir_elements.specs.Element.{fields_of}
 use Rattle.fhir_definition.specs.Definition.{Definition, element_trees, definition_of, definitions_from}
-use Rattle.fhir_schema.specs.declared.node.NodeRef.{NodeRef}
-use Rattle.fhir_schema.specs.Slots.{id_at}
-use Rattle.fhir_schema.specs.Urls.{url_place}
+use Rattle.fhir_nodes.specs.declared.node.NodeRef.{NodeRef}
+use Rattle.fhir_nodes.specs.Slots.{id_at}
+use Rattle.fhir_nodes.specs.Urls.{url_place}
 use Rattle.fhir_schema.specs.Schemas.{schema_with, root, root_in, url_at, id_of_node}
 
 -- ---- a sound tree's parts

@@ -5,9 +5,9 @@ use Rattle.std.specs.Option.{option_map_or}
 use Rattle.std.specs.List.{slice_get}
 use Rattle.std.specs.Str.{bytes_eq}
 use Rattle.fhir_json.specs.Tree.{Text}
-use Rattle.fhir_schema.specs.declared.node.NodeRef.{NodeRef}
+use Rattle.fhir_nodes.specs.declared.node.NodeRef.{NodeRef}
 use Rattle.fhir_definition.specs.Definition.{Definition}
-use Rattle.fhir_schema.specs.Types.{type_place, names_resource}
+use Rattle.fhir_nodes.specs.Types.{type_place, names_resource}
 use Rattle.fhir_schema.specs.Settling.{base_of_place, ends_within}
 use Rattle.fhir_schema.specs.Schemas.{SchemaValue}
 

@@ -9,7 +9,7 @@ use Rattle.fhir_elements.specs.Tests.{first_of}
 use Rattle.fhir_definition.specs.Snapshot.{is_root}
 use Rattle.fhir_definition.specs.Definition.{Definition}
 use Rattle.fhir_definition.specs.Gathering.{put_at}
-use Rattle.fhir_schema.specs.Types.{type_place, is_system}
+use Rattle.fhir_nodes.specs.Types.{type_place, is_system}
 use Rattle.fhir_schema.specs.Settling.{Reasons, reason_at, target_place, tests, no_reasons}
 
 -- ---- the places of what is asked for

@@ -1,5 +1,5 @@
 -- The schema of a package: its definitions, which of them can be used, the nodes of those, and the concepts of its value sets.
-use Rattle.std.specs.Prelude.{ℕ, List, [], length, get_or, map, Bool, false, not, ◌&&◌, nat_lt, Option, None, Some, is_some, is_none, if◌then◌else◌}
+use Rattle.std.specs.Prelude.{ℕ, List, [], length, get_or, Bool, false, not, ◌&&◌, nat_lt, Option, None, is_some, is_none, if◌then◌else◌}
 use Rattle.std.specs.Option.{option_map, option_map_or, option_and_then}
 use Rattle.std.specs.List.{slice_get, find}
 use Rattle.std.specs.Str.{bytes_eq}
@@ -10,18 +10,18 @@ use Rattle.fhir_codes.specs.Expanding.{Expansions, expansions_of, concepts_in}
 use Rattle.fhir_elements.specs.declared.reason.Reason.{Reason}
 use Rattle.fhir_elements.specs.TypeEntry.{TypeEntry}
 use Rattle.fhir_elements.specs.Element.{Element}
-use Rattle.fhir_schema.specs.declared.node.NodeRef.{NodeRef}
+use Rattle.fhir_nodes.specs.declared.node.NodeRef.{NodeRef}
 use Rattle.fhir_definition.specs.Snapshot.{id_place, is_at, root_place}
 use Rattle.fhir_definition.specs.Definition.{Definition, definitions_from}
-use Rattle.fhir_schema.specs.Types.{type_place, is_resource, type_of_code}
-use Rattle.fhir_schema.specs.Slots.{Slot, id_at, slices_of}
-use Rattle.fhir_schema.specs.Contents as contents
-use Rattle.fhir_schema.specs.Contents.{elements_in, element_of, slots_at}
-use Rattle.fhir_schema.specs.Slicings as slicings
-use Rattle.fhir_schema.specs.Criteria.{Criterion, all_criteria}
-use Rattle.fhir_schema.specs.Forms.{Form, forms_of, property_of}
-use Rattle.fhir_schema.specs.declared.form.Property.{Property}
-use Rattle.fhir_schema.specs.Urls.{url_place, canonical_place}
+use Rattle.fhir_nodes.specs.Types.{type_place, is_resource, type_of_code}
+use Rattle.fhir_nodes.specs.Slots.{Slot, id_at, all_slices}
+use Rattle.fhir_nodes.specs.Contents as contents
+use Rattle.fhir_nodes.specs.Contents.{elements_in, element_of, slots_at}
+use Rattle.fhir_forms.specs.Slicings as slicings
+use Rattle.fhir_forms.specs.Criteria.{Criterion, all_criteria}
+use Rattle.fhir_forms.specs.Forms.{Form, all_forms, property_of}
+use Rattle.fhir_forms.specs.declared.form.Property.{Property}
+use Rattle.fhir_nodes.specs.Urls.{url_place, canonical_place}
 use Rattle.fhir_schema.specs.Settling.{Reasons, all_reasons, reason_at}
 
 pub record SchemaValue : Type 0 where
@@ -115,9 +115,6 @@ slot_named s n name = find (λ slot. bytes_eq name slot.name) (slots s n)
 
 -- ---- the slices of a node's element
 
-abbrev pub all_slices : List Definition → List (List (List Slot))
-all_slices ds = map (λ d. slices_of d.elements) ds
-
 abbrev pub slices : SchemaValue → NodeRef → List Slot
 slices s n = get_or (get_or (all_slices s.definitions) n.definition []) n.element []
 
@@ -147,9 +144,6 @@ abbrev pub types : SchemaValue → NodeRef → List TypeEntry
 types s n = if is_root_node s n then [] else option_map_or (λ e. e.types) (element_at s n) []
 
 -- ---- how the children of an item at a node are spelled in JSON
-
-abbrev pub all_forms : List Definition → List (List (List Form))
-all_forms ds = map (forms_of ds) ds
 
 abbrev pub forms : SchemaValue → NodeRef → List Form
 forms s n = get_or (get_or (all_forms s.definitions) n.definition []) n.element []

@@ -1,5 +1,5 @@
 -- Which definitions can't be used, and why: judged in rounds, each against what the rounds before have found.
-use Rattle.std.specs.Prelude.{ℕ, zero, suc, List, [], ◌∷◌, ◌++◌, map, length, get_or, Bool, true, false, not, ◌&&◌, ◌||◌, Option, None, Some, is_none, if◌then◌else◌}
+use Rattle.std.specs.Prelude.{ℕ, zero, suc, List, [], ◌∷◌, ◌++◌, map, length, get_or, Bool, true, false, not, ◌&&◌, ◌||◌, Option, None, Some, is_none}
 use Rattle.std.specs.Option.{option_map, option_map_or, option_and_then, option_or}
 use Rattle.std.specs.List.{list_all, slice_get}
 use Rattle.fhir_json.specs.Tree.{Text}
@@ -10,11 +10,11 @@ use Rattle.fhir_elements.specs.Element.{Element}
 use Rattle.fhir_elements.specs.Tests.{first_of}
 use Rattle.fhir_definition.specs.Snapshot.{is_root, is_at, is_tree}
 use Rattle.fhir_definition.specs.Definition.{Definition, has_snapshot}
-use Rattle.fhir_schema.specs.Types.{type_place, is_system}
-use Rattle.fhir_schema.specs.Urls.{canonical_place}
-use Rattle.fhir_schema.specs.Contents.{content_target}
-use Rattle.fhir_schema.specs.Forms.{spells_apart}
-use Rattle.fhir_schema.specs.Criteria.{are_told_apart}
+use Rattle.fhir_nodes.specs.Types.{type_place, is_system}
+use Rattle.fhir_nodes.specs.Urls.{canonical_place}
+use Rattle.fhir_nodes.specs.Contents.{content_target}
+use Rattle.fhir_forms.specs.Forms.{spells_apart}
+use Rattle.fhir_forms.specs.Criteria.{are_told_apart}
 
 -- ---- why definitions can't be used, so far as is found, by their places
 

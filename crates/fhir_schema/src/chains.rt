@@ -5,8 +5,8 @@ ghost use Rattle.std.specs.Option.{option_and_then};
 ghost use Rattle.fhir_schema.specs.Settling.{base_place, chain_ends};
 ghost use Rattle.fhir_schema.specs.Chains.{bases_after};
 
-use crate::table::Table;
 use crate::types::base_place;
+use fhir_nodes::Table;
 use std::alloc::{AllocError, Global};
 
 /// The place of each definition's base.

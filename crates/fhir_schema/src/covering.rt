@@ -2,13 +2,12 @@
 
 ghost use Rattle.std.specs.Prelude.{◌≡◌, ℕ};
 ghost use Rattle.std.specs.Option.{option_map_or};
-ghost use Rattle.fhir_schema.specs.Types.{type_place};
+ghost use Rattle.fhir_nodes.specs.Types.{type_place};
 ghost use Rattle.fhir_schema.specs.Covers.{reaches, reaches_type, covers_in, derives_in};
 ghost use Rattle.fhir_schema.specs.Lineages.{IsLineage};
 
-use crate::kinds::names_resource;
 use crate::lineage::Lineage;
-use crate::table::Table;
+use fhir_nodes::{Table, names_resource};
 
 fn reaches(table: &Table, lineage: &Lineage, start: usize, goal: usize) -> bool
     requires { IsLineage table.now lineage.now }

@@ -8,11 +8,11 @@ ghost use Rattle.fhir_definition.specs.Definition.{Definition};
 ghost use Rattle.fhir_schema.specs.Settling.{Reasons};
 ghost use Rattle.fhir_schema.specs.Usability.{AllApply, IsClosed, IsWithin};
 ghost use Rattle.fhir_json.specs.Tree.{Text};
-ghost use Rattle.fhir_schema.specs.declared.node.NodeRef.{NodeRef};
+ghost use Rattle.fhir_nodes.specs.declared.node.NodeRef.{NodeRef};
 ghost use Rattle.fhir_schema.specs.Schemas.{SchemaValue, schema_of, has, node, root, is_root_node, type_root, loaded, forms, concepts_at};
-ghost use Rattle.fhir_schema.specs.declared.form.Property.{Property};
-ghost use Rattle.fhir_schema.specs.Forms.{Form, are_apart, spells, spellings, property_of};
-ghost use Rattle.fhir_schema.specs.Types.{names_resource};
+ghost use Rattle.fhir_forms.specs.declared.form.Property.{Property};
+ghost use Rattle.fhir_forms.specs.Forms.{Form, are_apart, spells, spellings, property_of};
+ghost use Rattle.fhir_nodes.specs.Types.{names_resource};
 ghost use Rattle.fhir_schema.specs.Covers.{covers};
 
 use fhir_codes::resolved;

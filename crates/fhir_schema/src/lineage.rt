@@ -5,7 +5,7 @@ ghost use Rattle.fhir_definition.specs.Snapshot.{is_at};
 ghost use Rattle.fhir_schema.specs.Lineages.{IsLineage, followed, after, climbed, climb, is_between, comes_by};
 
 use crate::chains::{bases_of, followed, place_at};
-use crate::table::Table;
+use fhir_nodes::Table;
 use std::alloc::{AllocError, Global};
 use std::marker::Model;
 

@@ -10,7 +10,7 @@ ghost use Rattle.fhir_prims.specs.Texts.{is_uri};
 ghost use Rattle.fhir_package.specs.Definitions.{Definitions};
 ghost use Rattle.fhir_package.specs.Folder.{Files};
 ghost use Rattle.fhir_package.specs.Packing.{pack};
-ghost use Rattle.fhir_schema.specs.declared.node.NodeRef.{NodeRef};
+ghost use Rattle.fhir_nodes.specs.declared.node.NodeRef.{NodeRef};
 ghost use Rattle.fhir_schema.specs.Schemas.{schema_of, has, node, root, url_at, id_of_node};
 
 use fhir_package::{packages, packing};

@@ -5,11 +5,10 @@ ghost use Rattle.std.specs.List.{flat_map};
 ghost use Rattle.fhir_definition.specs.Views.{lists_in};
 ghost use Rattle.fhir_schema.specs.Resting.{entry_rests_on, element_rests_on, target_rests_on, rests_on, put_under, users_of};
 
-use crate::kinds::is_system;
-use crate::table::Table;
 use crate::types::target_place;
 use fhir_definition::{Definition, empty_lists, is_root, put_at};
 use fhir_elements::{ElementDef, TypeEntry};
+use fhir_nodes::{Table, is_system};
 use std::alloc::{AllocError, Global};
 
 fn push_entry(

@@ -1,38 +1,36 @@
 //! The schema of a package.
 
-ghost use Rattle.std.specs.Prelude.{◌≡◌, false, IsTrue};
+ghost use Rattle.std.specs.Prelude.{◌≡◌, false, IsTrue, IfOk};
 ghost use Rattle.std.specs.Option.{option_copied, option_map, option_map_or};
 ghost use Rattle.fhir_json.specs.Memory.{Gives};
-ghost use Rattle.fhir_schema.specs.Schemas.{schema_of, unusable, is_usable, elements_at, has, element_at, url_at, id_of_node, is_root_node, node_in, root_element, root, node_with, node, slots, slot_named, slices, slice_named, criteria, is_closed, target, holder, types, forms, property, type_root, resource_root, is_concrete, is_loaded, loaded, concepts_at};
-ghost use Rattle.fhir_schema.specs.Settling.{reason_at};
-ghost use Rattle.fhir_schema.specs.Types.{names_resource, type_of_code, type_place};
+ghost use Rattle.fhir_schema.specs.Schemas.{schema_of, schema_with, unusable, is_usable, elements_at, has, element_at, url_at, id_of_node, is_root_node, node_in, root_element, root, node_with, node, slots, slot_named, slices, slice_named, criteria, is_closed, target, holder, types, forms, property, type_root, resource_root, is_concrete, is_loaded, loaded, concepts_at};
+ghost use Rattle.fhir_schema.specs.Settling.{reason_at, all_reasons};
+ghost use Rattle.fhir_nodes.specs.Slots.{all_slots, all_slices};
+ghost use Rattle.fhir_nodes.specs.Expressions.{all_expressions};
+ghost use Rattle.fhir_nodes.specs.Readings.{lists_seen};
+ghost use Rattle.fhir_forms.specs.Criteria.{all_criteria};
+ghost use Rattle.fhir_schema.specs.Lineages.{IsLineage};
+ghost use Rattle.fhir_nodes.specs.Types.{names_resource, type_of_code, type_place};
 ghost use Rattle.fhir_fp_syntax.specs.Expression.{expression_of as tree_of};
 ghost use Rattle.fhir_schema.specs.Expressions.{expression_at};
-ghost use Rattle.fhir_schema.specs.Forms.{are_apart};
-ghost use Rattle.fhir_schema.specs.CriteriaSeen.{criteria_seen};
+ghost use Rattle.fhir_forms.specs.Forms.{are_apart, all_forms};
+ghost use Rattle.fhir_forms.specs.CriteriaSeen.{criteria_seen};
 ghost use Rattle.fhir_schema.specs.Covers.{type_at, covers, derives};
 
-use crate::contents::{elements_in, holder, target};
 use crate::covering::{covers, derives};
-use crate::criteria::Criteria;
-use crate::criterion::Criterion;
-use crate::expressions::Expressions;
-use crate::form::{Form, Property};
-use crate::kinds::{is_resource, names_resource, type_of_code};
 use crate::lineage::Lineage;
-use crate::node::NodeRef;
-use crate::node_forms::NodeForms;
-use crate::nodes::Nodes;
 use crate::settling::all_reasons;
-use crate::slicings::is_closed;
-use crate::slots::Slot;
-use crate::table::Table;
-use crate::types::{canonical_place, reason_at};
+use crate::types::reason_at;
 use fhir_codes::{ConceptSet, ValueSets};
 use fhir_definition::Definition;
 use fhir_elements::{ElementDef, Reason, TypeEntry};
+use fhir_forms::{Criteria, Criterion, Form, NodeForms, Property, is_closed};
 use fhir_fp_syntax::Expr;
 use fhir_json::NoMemory;
+use fhir_nodes::{
+    Expressions, NodeRef, Nodes, Slot, Table, canonical_place, elements_in, holder, is_resource,
+    names_resource, target, type_of_code,
+};
 use fhir_package::Package;
 use std::alloc::Global;
 use std::marker::Model;
@@ -63,17 +61,67 @@ impl Model for Schema {
     ghost coded = { Prim.hlevel (codes, tree_code, concepts_code) };
 
     ghost use Rattle.std.specs.Prelude.{◌≡◌};
-    ghost use Rattle.fhir_schema.specs.Slots.{all_slots};
-    ghost use Rattle.fhir_schema.specs.Schemas.{all_slices, all_forms};
-    ghost use Rattle.fhir_schema.specs.Criteria.{all_criteria};
-    ghost use Rattle.fhir_schema.specs.CriteriaSeen.{all_seen};
-    ghost use Rattle.fhir_schema.specs.Expressions.{all_expressions};
-    ghost use Rattle.fhir_schema.specs.Readings.{lists_seen};
+    ghost use Rattle.fhir_nodes.specs.Slots.{all_slots, all_slices};
+    ghost use Rattle.fhir_forms.specs.Forms.{all_forms};
+    ghost use Rattle.fhir_forms.specs.Criteria.{all_criteria};
+    ghost use Rattle.fhir_nodes.specs.Expressions.{all_expressions};
+    ghost use Rattle.fhir_nodes.specs.Readings.{lists_seen};
     ghost use Rattle.fhir_schema.specs.Lineages.{IsLineage};
 
     ghost view = { λ s. record { definitions = s.table; reasons = s.reasons.items; value_sets = s.value_sets } };
 
-    ghost invariant = { λ s. (s.nodes ≡ all_slots s.table) × (s.slices ≡ all_slices s.table) × (all_seen s.criteria.lists.items ≡ all_criteria s.table) × (s.forms.forms ≡ all_forms s.table) × (lists_seen s.expressions.lists.items ≡ all_expressions s.table) × IsLineage s.table s.lineage };
+    ghost invariant = { λ s. (s.nodes ≡ all_slots s.table) × (s.slices ≡ all_slices s.table) × (s.criteria.criteria ≡ all_criteria s.table) × (s.forms.forms ≡ all_forms s.table) × (lists_seen s.expressions ≡ all_expressions s.table) × IsLineage s.table s.lineage };
+}
+
+// What definitions say of their own nodes, and of one another's bases.
+#[derive(Drop)]
+struct OwnParts {
+    lineage: Lineage,
+    nodes: Nodes,
+    slices: Nodes,
+    expressions: Expressions,
+}
+
+fn own_parts(alloc: Global, table: &Table) -> Result<OwnParts, NoMemory>
+    ensures lineage { IfOk result (λ p. IsLineage table.now p.lineage) }
+    ensures nodes { IfOk result (λ p. p.nodes ≡ all_slots table.now) }
+    ensures slices { IfOk result (λ p. p.slices ≡ all_slices table.now) }
+    ensures expressions { IfOk result (λ p. lists_seen p.expressions ≡ all_expressions table.now) }
+{
+    let lineage = Lineage::of(alloc, table)?;
+    let nodes = Nodes::slots_of(alloc, table)?;
+    let slices = Nodes::slices_of(alloc, table)?;
+    let expressions = Expressions::of(alloc, table)?;
+    Ok(OwnParts {
+        lineage,
+        nodes,
+        slices,
+        expressions,
+    })
+}
+
+// The criteria and the forms of definitions, and why some of them can't be used.
+#[derive(Drop)]
+struct JudgedParts {
+    criteria: Criteria,
+    forms: NodeForms,
+    reasons: Vec<Option<Reason>>,
+}
+
+fn judged_parts(alloc: Global, table: &Table, nodes: &Nodes) -> Result<JudgedParts, NoMemory>
+    requires { nodes.now ≡ all_slots table.now }
+    ensures criteria { IfOk result (λ p. p.criteria.criteria ≡ all_criteria table.now) }
+    ensures forms { IfOk result (λ p. p.forms.forms ≡ all_forms table.now) }
+    ensures reasons { IfOk result (λ p. p.reasons.items ≡ all_reasons table.now) }
+{
+    let criteria = Criteria::of(alloc, table, nodes)?;
+    let forms = NodeForms::of(alloc, table, nodes)?;
+    let reasons = all_reasons(alloc, table, forms.are_apart(), criteria.are_told())?;
+    Ok(JudgedParts {
+        criteria,
+        forms,
+        reasons,
+    })
 }
 
 impl Schema {
@@ -82,24 +130,26 @@ impl Schema {
         ensures { Gives (λ s. s) result (schema_of from.now) }
     {
         let table = Table::of(alloc, from)?;
-        let lineage = Lineage::of(alloc, &table)?;
-        let nodes = Nodes::slots_of(alloc, &table)?;
-        let slices = Nodes::slices_of(alloc, &table)?;
-        let criteria = Criteria::of(alloc, &table, &nodes)?;
-        let forms = NodeForms::of(alloc, &table, &nodes)?;
-        let reasons = all_reasons(alloc, &table, forms.are_apart(), &criteria.are_told)?;
         let value_sets = ValueSets::of(alloc, from)?;
-        let expressions = Expressions::of(alloc, &table)?;
+        Schema::of_table(alloc, table, value_sets)
+    }
+
+    // The schema of a table of definitions, and of value sets.
+    fn of_table(alloc: Global, table: Table, value_sets: ValueSets) -> Result<Schema, NoMemory>
+        ensures { IfOk result (λ s. s ≡ schema_with table value_sets) }
+    {
+        let own = own_parts(alloc, &table)?;
+        let judged = judged_parts(alloc, &table, &own.nodes)?;
         Ok(Schema {
             table,
-            lineage,
-            reasons,
-            nodes,
-            slices,
-            criteria,
-            forms,
+            lineage: own.lineage,
+            reasons: judged.reasons,
+            nodes: own.nodes,
+            slices: own.slices,
+            criteria: judged.criteria,
+            forms: judged.forms,
             value_sets,
-            expressions,
+            expressions: own.expressions,
         })
     }
 

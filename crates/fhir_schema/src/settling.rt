@@ -3,17 +3,17 @@
 ghost use Rattle.std.specs.Prelude.{◌≡◌, ◌++◌, [], map, get_or, IfOk, OnOk};
 ghost use Rattle.fhir_elements.specs.Tests.{first_of};
 ghost use Rattle.fhir_definition.specs.Views.{lists_in};
-ghost use Rattle.fhir_schema.specs.Forms.{spells_apart};
-ghost use Rattle.fhir_schema.specs.Criteria.{are_told_apart};
+ghost use Rattle.fhir_forms.specs.Forms.{spells_apart};
+ghost use Rattle.fhir_forms.specs.Criteria.{are_told_apart};
 ghost use Rattle.fhir_schema.specs.Settling.{chain_ends, tests, no_reasons, first_reason, all_reasons};
 ghost use Rattle.fhir_schema.specs.Resting.{failing, first_reasons, unusable_at, unusable_from, marked, queued, marked_all, queued_all};
 
 use crate::chains::chains_end;
 use crate::resting::users_of;
-use crate::table::Table;
 use crate::types::{is_first_of_type, targets_are_usable, types_are_usable};
 use fhir_definition::Definition;
 use fhir_elements::Reason;
+use fhir_nodes::Table;
 use std::alloc::{AllocError, Global};
 
 // The reason of the first test that a definition fails.

@@ -3,46 +3,12 @@
 ghost use Rattle.std.specs.Prelude.{◌≡◌};
 ghost use Rattle.std.specs.Option.{option_map_or, option_and_then};
 ghost use Rattle.std.specs.List.{list_all, slice_get};
-ghost use Rattle.fhir_schema.specs.Urls.{is_versioned, where_versioned, version_place, canonical_place};
+ghost use Rattle.fhir_nodes.specs.Urls.{canonical_place};
 ghost use Rattle.fhir_schema.specs.Settling.{reason_at, is_usable_type, entry_is_usable, element_is_usable, types_are_usable, target_place, target_is_usable, targets_are_usable, base_place, is_first_of_type};
 
-use crate::contents::content_target;
-use crate::kinds::is_system;
-use crate::table::Table;
 use fhir_definition::{Definition, is_root};
 use fhir_elements::{ElementDef, Reason, TypeEntry};
-use fhir_names::Canonical;
-use fhir_package::has_version;
-
-fn is_versioned(table: &Table, version: &str, place: usize) -> bool
-    ensures { result ≡ is_versioned table.now version.now place }
-{
-    match table.definition(place) {
-        Some(definition) => has_version(version, definition.version()),
-        None => false,
-    }
-}
-
-fn version_place(table: &Table, canonical: &Canonical<'_>) -> Option<usize>
-    ensures { result ≡ version_place table.now canonical.now }
-{
-    let place = table.url_place(canonical.url())?;
-    match canonical.version() {
-        Some(version) if !is_versioned(table, version, place) => None,
-        _ => Some(place),
-    }
-}
-
-/// The place of the definition that a canonical names: that of its url, where it has no version or the one behind `|`.
-/// A text that is no canonical names none.
-pub(crate) fn canonical_place(table: &Table, canonical: &str) -> Option<usize>
-    ensures { result ≡ canonical_place table.now canonical.now }
-{
-    match Canonical::parse(canonical) {
-        Ok(canonical) => version_place(table, &canonical),
-        Err(_) => None,
-    }
-}
+use fhir_nodes::{Table, canonical_place, content_target, is_system};
 
 /// What has been found of the definition at a place.
 pub(crate) fn reason_at(reasons: &[Option<Reason>], place: usize) -> Option<Reason>

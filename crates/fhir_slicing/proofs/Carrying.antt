@@ -11,10 +11,11 @@ use Rattle.fhir_json.specs.Bytes.{is_empty}
 use Rattle.fhir_elements.specs.TypeEntry.{TypeEntry}
 use Rattle.fhir_elements.specs.Constraint.{Constraint, must_hold}
 use Rattle.fhir_elements.specs.Element.{Element, required_value_set}
-use Rattle.fhir_schema.specs.declared.node.NodeRef.{NodeRef}
+use Rattle.fhir_nodes.specs.declared.node.NodeRef.{NodeRef}
 use Rattle.fhir_schema.specs.Schemas.{SchemaValue, element_at, target as content_target, types, loaded}
 use Rattle.fhir_schema.specs.Covers.{covers, type_at}
-use Rattle.fhir_schema.specs.Expressions.{expression_of, constraint_at}
+use Rattle.fhir_nodes.specs.Expressions.{expression_of}
+use Rattle.fhir_schema.specs.Expressions.{constraint_at}
 use Rattle.fhir_instance.specs.Items.{Item, type_of}
 use Rattle.fhir_fp_syntax.specs.Expression.{Expression}
 use Rattle.fhir_fp_eval.specs.Meaning.{is_true}

@@ -7,7 +7,7 @@ use Rattle.fhir_json.specs.Tree.{Text, Tree}
 use Rattle.fhir_elements.specs.Constraint.{Constraint}
 use Rattle.fhir_elements.specs.Element.{Element}
 use Rattle.fhir_json.specs.declared.memory.NoMemory.{NoMemory}
-use Rattle.fhir_schema.specs.declared.node.NodeRef.{NodeRef}
+use Rattle.fhir_nodes.specs.declared.node.NodeRef.{NodeRef}
 use Rattle.fhir_schema.specs.Schemas.{SchemaValue, types, element_at, target}
 use Rattle.fhir_schema.specs.Expressions.{constraint_at}
 use Rattle.fhir_instance.specs.Items.{Item, item, no_kids, kid, kids_of, kids_in, has_kids}

@@ -2,7 +2,7 @@
 use Rattle.std.proofs.Common.{◌≡◌, sym, subst, ◌∙◌, false, Some, IsTrue}
 use Rattle.std.proofs.lemmas.Bool.{false≢true}
 use Rattle.fhir_json.specs.Tree.{Text, Tree}
-use Rattle.fhir_schema.specs.declared.node.NodeRef.{NodeRef}
+use Rattle.fhir_nodes.specs.declared.node.NodeRef.{NodeRef}
 use Rattle.fhir_schema.specs.Schemas.{SchemaValue, root}
 use Rattle.fhir_instance.specs.Items.{Item}
 use Rattle.fhir_instance.specs.Typing.{resource}

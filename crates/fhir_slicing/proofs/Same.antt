@@ -8,7 +8,7 @@ use Rattle.std.proofs.lemmas.Slice.Eq.{bytes_eq-Decides}
 use Rattle.fhir_json.specs.Tree.{Text, Tree}
 use Rattle.fhir_matching.specs.Equality.{equal}
 use Rattle.fhir_matching.specs.Fitting.{fits}
-use Rattle.fhir_schema.specs.Criteria.{Sought, fixed, pattern, present, absent, typed, Criterion}
+use Rattle.fhir_forms.specs.Criteria.{Sought, fixed, pattern, present, absent, typed, Criterion}
 use Rattle.fhir_schema.specs.Schemas.{SchemaValue}
 use Rattle.fhir_instance.specs.Items.{Item, json_of}
 use Rattle.fhir_slicing.specs.Belonging.{items_at, is_value, has_pattern, is_typed, is_found, criterion_holds}

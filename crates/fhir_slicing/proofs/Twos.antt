@@ -7,7 +7,7 @@ use Rattle.std.specs.Str.{bytes_eq}
 use Rattle.std.proofs.lemmas.Bool.{and_parts, and_from}
 use Rattle.std.proofs.lemmas.Slice.Eq.{bytes_eq-Decides}
 use Rattle.fhir_json.specs.Tree.{Text}
-use Rattle.fhir_schema.specs.Slots.{Slot}
+use Rattle.fhir_nodes.specs.Slots.{Slot}
 
 abbrev pub other_from : (Slot → Bool) → Slot → List Slot → Option (Slot × Slot)
 other_from p one xs = option_map (λ other. (one, other)) (find (λ other. p other && not (bytes_eq one.name other.name)) xs)

@@ -5,8 +5,8 @@ use Rattle.std.specs.List.{flat_map, range_with_len}
 use Rattle.std.specs.Option.{option_map_or}
 use Rattle.std.specs.Str.{bytes_eq}
 use Rattle.fhir_json.specs.Tree.{Text}
-use Rattle.fhir_schema.specs.declared.node.NodeRef.{NodeRef}
-use Rattle.fhir_schema.specs.Slots.{Slot}
+use Rattle.fhir_nodes.specs.declared.node.NodeRef.{NodeRef}
+use Rattle.fhir_nodes.specs.Slots.{Slot}
 use Rattle.fhir_elements.specs.TypeEntry.{TypeEntry}
 use Rattle.fhir_json.specs.Bytes.{is_empty}
 use Rattle.fhir_schema.specs.Schemas.{SchemaValue, is_root_node, element_at, target, holder, slots, slices, is_closed, entry_of, type_root, loaded, types as node_types}

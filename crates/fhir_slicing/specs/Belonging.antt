@@ -8,9 +8,9 @@ use Rattle.fhir_json.specs.Tree.{Text, Tree}
 use Rattle.fhir_json.specs.Bytes.{is_empty}
 use Rattle.fhir_matching.specs.Equality.{equal}
 use Rattle.fhir_matching.specs.Fitting.{fits}
-use Rattle.fhir_schema.specs.declared.node.NodeRef.{NodeRef}
-use Rattle.fhir_schema.specs.Criteria.{Sought, fixed, pattern, present, absent, typed, Criterion}
-use Rattle.fhir_schema.specs.Slots.{Slot}
+use Rattle.fhir_nodes.specs.declared.node.NodeRef.{NodeRef}
+use Rattle.fhir_forms.specs.Criteria.{Sought, fixed, pattern, present, absent, typed, Criterion}
+use Rattle.fhir_nodes.specs.Slots.{Slot}
 use Rattle.fhir_schema.specs.Schemas.{SchemaValue, criteria, entry_of, slices}
 use Rattle.fhir_schema.specs.Covers.{covers}
 use Rattle.fhir_instance.specs.Items.{Item, Kids, no_kids, kid, kids_of, type_of, json_of}

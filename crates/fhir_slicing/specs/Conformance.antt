@@ -8,11 +8,12 @@ use Rattle.fhir_json.specs.Bytes.{is_empty}
 use Rattle.fhir_elements.specs.TypeEntry.{TypeEntry}
 use Rattle.fhir_elements.specs.Constraint.{Constraint, must_hold}
 use Rattle.fhir_elements.specs.Element.{Element, required_value_set}
-use Rattle.fhir_schema.specs.declared.node.NodeRef.{NodeRef}
-use Rattle.fhir_schema.specs.Types.{names_resource}
+use Rattle.fhir_nodes.specs.declared.node.NodeRef.{NodeRef}
+use Rattle.fhir_nodes.specs.Types.{names_resource}
 use Rattle.fhir_schema.specs.Schemas.{SchemaValue, element_at, is_root_node, root, types, loaded}
 use Rattle.fhir_schema.specs.Covers.{covers, type_at}
-use Rattle.fhir_schema.specs.Expressions.{expression_of, constraint_at}
+use Rattle.fhir_nodes.specs.Expressions.{expression_of}
+use Rattle.fhir_schema.specs.Expressions.{constraint_at}
 use Rattle.fhir_instance.specs.Items.{Item, item, Kids, no_kids, kid, Place, type_of, json_of, has_kids, kids_of}
 use Rattle.fhir_instance.specs.Typing.{Types}
 use Rattle.fhir_fp_eval.specs.Meaning.{is_true}

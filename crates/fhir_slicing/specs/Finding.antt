@@ -1,6 +1,6 @@
 -- What contracts see of a walk along the names of a criterion.
 use Rattle.std.specs.Prelude.{Bool, true}
-use Rattle.fhir_schema.specs.Criteria.{Sought, fixed, pattern, present, absent, typed}
+use Rattle.fhir_forms.specs.Criteria.{Sought, fixed, pattern, present, absent, typed}
 use Rattle.fhir_schema.specs.Schemas.{SchemaValue}
 use Rattle.fhir_instance.specs.Items.{Item}
 use Rattle.fhir_slicing.specs.Belonging.{is_value, has_pattern, is_typed}

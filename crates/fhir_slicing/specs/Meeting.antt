@@ -5,10 +5,10 @@ use Rattle.std.specs.List.{Contains, flat_map}
 use Rattle.fhir_elements.specs.TypeEntry.{TypeEntry}
 use Rattle.fhir_elements.specs.Constraint.{Constraint, must_hold}
 use Rattle.fhir_elements.specs.Element.{Element, required_value_set}
-use Rattle.fhir_schema.specs.declared.node.NodeRef.{NodeRef}
+use Rattle.fhir_nodes.specs.declared.node.NodeRef.{NodeRef}
 use Rattle.fhir_schema.specs.Schemas.{SchemaValue, element_at, target, types}
 use Rattle.fhir_schema.specs.Covers.{covers}
-use Rattle.fhir_schema.specs.Expressions.{expression_of}
+use Rattle.fhir_nodes.specs.Expressions.{expression_of}
 use Rattle.fhir_instance.specs.Items.{Item, Place, kids_of, type_of}
 use Rattle.fhir_facets.specs.Unread.{Unread}
 use Rattle.fhir_facets.specs.Targets.{has_targets}

@@ -6,8 +6,8 @@ use Rattle.fhir_json.specs.Tree.{Tree}
 use Rattle.fhir_elements.specs.declared.slicing.DiscriminatorType.{DiscriminatorType}
 use Rattle.fhir_elements.specs.declared.slicing.DiscriminatorType.TheVariants.{Value, Exists, Pattern, TypeCode, Profile}
 use Rattle.fhir_matching.specs.Equality.{equal}
-use Rattle.fhir_schema.specs.declared.node.NodeRef.{NodeRef}
-use Rattle.fhir_schema.specs.Criteria.{Sought, fixed, pattern, present, absent, typed, Criterion}
+use Rattle.fhir_nodes.specs.declared.node.NodeRef.{NodeRef}
+use Rattle.fhir_forms.specs.Criteria.{Sought, fixed, pattern, present, absent, typed, Criterion}
 use Rattle.fhir_schema.specs.Schemas.{SchemaValue, criteria}
 
 -- each is equal to the other, which is one thing where names don't stand twice

@@ -5,7 +5,7 @@ ghost use Rattle.std.specs.List.{list_all, list_any};
 ghost use Rattle.std.specs.Option.{option_map};
 ghost use Rattle.std.specs.Str.{bytes_eq};
 ghost use Rattle.fhir_json.specs.Views.{tree_of};
-ghost use Rattle.fhir_schema.specs.CriteriaSeen.{sought_seen, criterion_seen, criteria_seen};
+ghost use Rattle.fhir_forms.specs.CriteriaSeen.{sought_seen, criterion_seen, criteria_seen};
 ghost use Rattle.fhir_schema.specs.Schemas.{entry_of};
 ghost use Rattle.fhir_instance.specs.Items.{type_of};
 ghost use Rattle.fhir_instance.specs.View.{item_of};

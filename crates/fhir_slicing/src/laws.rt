@@ -3,7 +3,7 @@
 ghost use Rattle.std.specs.Prelude.{◌≡◌, List, [], Bool, true, false, IsTrue, codes};
 ghost use Rattle.std.specs.List.{list_all};
 ghost use Rattle.fhir_json.specs.Tree.{Text, Tree, no_members};
-ghost use Rattle.fhir_schema.specs.declared.node.NodeRef.{NodeRef};
+ghost use Rattle.fhir_nodes.specs.declared.node.NodeRef.{NodeRef};
 ghost use Rattle.fhir_schema.specs.Schemas.{SchemaValue};
 ghost use Rattle.fhir_instance.specs.Items.{Item, Place};
 ghost use Rattle.fhir_facets.specs.Unread.{Unread, Meaning};

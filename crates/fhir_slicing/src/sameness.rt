@@ -3,7 +3,7 @@
 ghost use Rattle.std.specs.Prelude.{◌≡◌, map, string_bytes};
 ghost use Rattle.std.specs.Str.{bytes_eq};
 ghost use Rattle.fhir_json.specs.Views.{tree_of};
-ghost use Rattle.fhir_schema.specs.CriteriaSeen.{sought_seen, criterion_seen, criteria_seen};
+ghost use Rattle.fhir_forms.specs.CriteriaSeen.{sought_seen, criterion_seen, criteria_seen};
 ghost use Rattle.fhir_slicing.specs.SameCriteria.{same_value, same_lists, same_sought, same_by, same_criterion, same_criteria};
 
 use fhir_elements::DiscriminatorType;

@@ -4,7 +4,7 @@ use Rattle.std.specs.Prelude.{Result, Ok, Err, IfErr, IsSome}
 use Rattle.std.specs.List.{AllByRecursion}
 use Rattle.std.proofs.lemmas.Bool.{false≢true}
 use Rattle.fhir_json.specs.Tree.{Text, Tree}
-use Rattle.fhir_schema.specs.declared.node.NodeRef.{NodeRef}
+use Rattle.fhir_nodes.specs.declared.node.NodeRef.{NodeRef}
 use Rattle.fhir_schema.specs.Schemas.{SchemaValue, root}
 use Rattle.fhir_instance.specs.Items.{Item, Place}
 use Rattle.fhir_instance.specs.Typing.{Types}

@@ -3,7 +3,7 @@ use Rattle.std.proofs.Common.{◌≡◌, Bool, true, false, refl, sym, ap, cond,
 use Rattle.std.specs.BTreeMap.{BTreeMap, get, is_at, Updates}
 use Rattle.std.specs.Cmp.{both_tied, unsigned_tied}
 use Rattle.std.proofs.lemmas.Bool.{and_parts, eqb-true}
-use Rattle.fhir_schema.specs.declared.node.NodeRef.{NodeRef}
+use Rattle.fhir_nodes.specs.declared.node.NodeRef.{NodeRef}
 use Rattle.fhir_validator.specs.declared.pair.Pair.{Pair}
 use Rattle.fhir_validator.specs.contracts.pair.PairOrd.TheImpl.{cmp-value}
 

@@ -9,7 +9,7 @@ use Rattle.std.proofs.lemmas.List.Elements.{Contains-append_left, Contains-appen
 use Rattle.fhir_json.specs.Tree.{Text}
 use Rattle.fhir_json.specs.Bytes.{is_empty}
 use Rattle.fhir_elements.specs.TypeEntry.{TypeEntry}
-use Rattle.fhir_schema.specs.declared.node.NodeRef.{NodeRef}
+use Rattle.fhir_nodes.specs.declared.node.NodeRef.{NodeRef}
 use Rattle.fhir_schema.specs.Covers.{covers}
 use Rattle.fhir_schema.specs.Schemas.{SchemaValue, element_at, target, loaded, types as node_types}
 use Rattle.fhir_instance.specs.Items.{Item, type_of}

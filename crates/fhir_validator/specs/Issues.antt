@@ -7,7 +7,7 @@ use Rattle.std.specs.List.{Contains}
 use Rattle.fhir_json.specs.Tree.{Text, Tree}
 use Rattle.fhir_elements.specs.declared.max.Max.{Max}
 use Rattle.fhir_elements.specs.Element.{required_value_set}
-use Rattle.fhir_schema.specs.declared.node.NodeRef.{NodeRef}
+use Rattle.fhir_nodes.specs.declared.node.NodeRef.{NodeRef}
 use Rattle.fhir_schema.specs.Schemas.{SchemaValue, element_at, root, url_at, id_of_node}
 use Rattle.fhir_schema.specs.Covers.{type_at}
 use Rattle.fhir_schema.specs.Expressions.{constraint_at}

@@ -1,7 +1,7 @@
 -- Pairs of a node and an item, and what is right of their answers (used by private contracts alone).
 use Rattle.std.specs.Prelude.{◌≡◌, ℕ, Bool, false, Some, Option, IsTrue}
 use Rattle.std.specs.BTreeMap.{get}
-use Rattle.fhir_schema.specs.declared.node.NodeRef.{NodeRef}
+use Rattle.fhir_nodes.specs.declared.node.NodeRef.{NodeRef}
 use Rattle.fhir_schema.specs.Schemas.{SchemaValue, is_root_node}
 use Rattle.fhir_facets.specs.Unread.{Meaning}
 use Rattle.fhir_slicing.specs.Asks.{Ask, own, types, profile, root, child}

@@ -3,7 +3,7 @@ use Rattle.std.specs.Result.{OnOk}
 use Rattle.fhir_json.proofs.Folds.{tree-arr}
 use Rattle.fhir_json.specs.Views.{tree_of}
 use Rattle.std.specs.List.{slice_get}
-use Rattle.fhir_schema.specs.Forms.{Form}
+use Rattle.fhir_forms.specs.Forms.{Form}
 use Rattle.fhir_schema.specs.Schemas.{forms}
 use Rattle.fhir_instance.specs.declared.spelled.Spelled.{Spelled}
 use Rattle.fhir_instance.specs.Spelled.{first_form, count_front}

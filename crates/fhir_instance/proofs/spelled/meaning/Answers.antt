@@ -1,6 +1,6 @@
 use Rattle.std.proofs.Common.{sym, ap, ◌∙◌, List, is_some}
 use Rattle.std.specs.Option.{option_and_then}
-use Rattle.fhir_schema.specs.Forms.{Form}
+use Rattle.fhir_forms.specs.Forms.{Form}
 use Rattle.fhir_schema.specs.Schemas.{forms}
 use Rattle.fhir_instance.specs.Spelled.{where_of_part}
 use Rattle.fhir_instance.proofs.Meanings.{meaning_found}

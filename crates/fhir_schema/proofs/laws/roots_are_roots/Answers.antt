@@ -1,5 +1,5 @@
-use Rattle.fhir_schema.specs.Types.{type_place}
-use Rattle.fhir_schema.specs.Urls.{url_place, canonical_place}
+use Rattle.fhir_nodes.specs.Types.{type_place}
+use Rattle.fhir_nodes.specs.Urls.{url_place, canonical_place}
 use Rattle.fhir_schema.proofs.Roots.{found}
 use Rattle.fhir_schema.proofs.laws.roots_are_roots.Goals as goal
 

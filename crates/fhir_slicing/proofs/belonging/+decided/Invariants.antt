@@ -1,7 +1,7 @@
 use Rattle.std.proofs.Common.{◌≡◌, length, drop, map}
 use Rattle.std.specs.Prelude.{string_bytes}
 use Rattle.std.specs.List.{list_any, flat_map}
-use Rattle.fhir_schema.specs.CriteriaSeen.{sought_seen}
+use Rattle.fhir_forms.specs.CriteriaSeen.{sought_seen}
 use Rattle.fhir_instance.specs.Items.{kids_in}
 use Rattle.fhir_instance.specs.View.{item_of, named_in}
 use Rattle.fhir_slicing.specs.Belonging.{items_at, called}

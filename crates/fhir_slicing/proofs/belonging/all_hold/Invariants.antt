@@ -1,6 +1,6 @@
 use Rattle.std.proofs.Common.{◌≡◌, drop}
 use Rattle.std.specs.List.{list_all}
-use Rattle.fhir_schema.specs.CriteriaSeen.{criteria_seen}
+use Rattle.fhir_forms.specs.CriteriaSeen.{criteria_seen}
 use Rattle.fhir_instance.specs.View.{item_of}
 use Rattle.fhir_slicing.specs.Belonging.{criterion_holds}
 use Rattle.fhir_slicing.proofs.belonging.all_hold.Given as goal

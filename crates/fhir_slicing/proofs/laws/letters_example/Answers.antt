@@ -1,7 +1,7 @@
 use Rattle.std.proofs.Common.{refl, false, Some}
 use Rattle.std.specs.Prelude.{codes}
 use Rattle.fhir_json.specs.Tree.{Text, string, object, Members, no_members, member}
-use Rattle.fhir_schema.specs.declared.node.NodeRef.{NodeRef}
+use Rattle.fhir_nodes.specs.declared.node.NodeRef.{NodeRef}
 use Rattle.fhir_instance.specs.Items.{Item, item, Kids, kid, no_kids}
 use Rattle.fhir_slicing.specs.Conformance.{constant}
 use Rattle.fhir_slicing.specs.Letters.{given, title, from, answering, coded, one_name, three_names}

@@ -1,7 +1,7 @@
 use Rattle.std.proofs.Common.{refl, Some}
 use Rattle.std.specs.Prelude.{codes}
 use Rattle.fhir_json.specs.Tree.{Tree, string, no_members, Members}
-use Rattle.fhir_schema.specs.declared.node.NodeRef.{NodeRef}
+use Rattle.fhir_nodes.specs.declared.node.NodeRef.{NodeRef}
 use Rattle.fhir_instance.specs.Items.{Item, item, Kids, kid, no_kids}
 use Rattle.fhir_slicing.specs.Questions.{questions, questionnaire, one_item, contained, identified, texted, nested, nested_resources}
 use Rattle.fhir_slicing.proofs.Refuted.{refuted_in}

@@ -1,5 +1,5 @@
 use Rattle.std.proofs.Common.{◌≡◌, drop}
-use Rattle.fhir_schema.specs.CriteriaSeen.{criteria_seen}
+use Rattle.fhir_forms.specs.CriteriaSeen.{criteria_seen}
 use Rattle.fhir_slicing.specs.SameCriteria.{same_lists, same_criterion}
 use Rattle.fhir_slicing.proofs.sameness.same_lists.Given as goal
 

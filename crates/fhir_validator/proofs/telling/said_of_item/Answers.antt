@@ -1,6 +1,6 @@
 use Rattle.std.proofs.Common.{Option, [], ap, ◌∙◌}
 use Rattle.std.specs.Option.{option_map_or}
-use Rattle.fhir_schema.specs.Slots.{Slot}
+use Rattle.fhir_nodes.specs.Slots.{Slot}
 use Rattle.fhir_validator.specs.Issues.{in_slices}
 use Rattle.fhir_validator.proofs.telling.said_of_item.Goals as goal
 

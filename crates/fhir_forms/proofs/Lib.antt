@@ -1,0 +1,4 @@
+mod Capitals
+mod Spelled
+mod Meaning
+mod Told

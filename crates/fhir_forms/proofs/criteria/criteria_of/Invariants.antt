@@ -1,0 +1,11 @@
+use Rattle.std.proofs.Common.{◌≡◌, map}
+use Rattle.std.specs.List.{list_all, range_with_len}
+use Rattle.fhir_forms.specs.Criteria.{criteria_in, is_told_apart}
+use Rattle.fhir_forms.specs.CriteriaSeen.{criteria_seen}
+use Rattle.fhir_forms.proofs.criteria.criteria_of.Given as goal
+
+abbrev pub invariant-loop-place : goal.invariant-loop-place
+invariant-loop-place l = record {
+  criteria : map (λ v. criteria_seen v.items) l.lists.items ≡ map (criteria_in l.table l.definition) (range_with_len 0 l.place);
+  all : l.are_told ≡ list_all (is_told_apart l.table l.definition) (range_with_len 0 l.place);
+}

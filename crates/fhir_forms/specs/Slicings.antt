@@ -1,0 +1,57 @@
+-- How an element is sliced (FHIR R4, Profiling, slicing; ElementDefinition, slicing).
+use Rattle.std.specs.Prelude.{ℕ, List, [], ◌∷◌, length, Bool, nat_le, true, false, not, ◌&&◌, ◌||◌, Some, if◌then◌else◌, codes}
+use Rattle.std.specs.Option.{option_map_or, option_and_then}
+use Rattle.std.specs.Str.{bytes_eq}
+use Rattle.fhir_json.specs.Tree.{Text}
+use Rattle.fhir_names.specs.Parents.{name_of}
+use Rattle.fhir_elements.specs.declared.slicing.DiscriminatorType.{DiscriminatorType}
+use Rattle.fhir_elements.specs.declared.slicing.DiscriminatorType.TheVariants.{Value, TypeCode}
+use Rattle.fhir_elements.specs.declared.slicing.SlicingRules.{SlicingRules}
+use Rattle.fhir_elements.specs.declared.slicing.SlicingRules.TheVariants.{Closed, Open, OpenAtEnd}
+use Rattle.fhir_elements.specs.Slicing.{Discriminator}
+use Rattle.fhir_elements.specs.Element.{Element}
+use Rattle.fhir_forms.specs.Forms.{is_choice}
+
+abbrev pub discriminator : DiscriminatorType → Text → Discriminator
+discriminator by path = record { by = Some by; path = Some path }
+
+abbrev pub is_extension : Text → Bool
+is_extension name = bytes_eq name (codes "extension") || bytes_eq name (codes "modifierExtension")
+
+-- Where an element doesn't say how it is sliced, extensions are told apart by their url, and the items of a choice by their
+-- type (FHIR R4, Profiling, slicing).
+abbrev pub implied_discriminators : Text → List Discriminator
+implied_discriminators name =
+    if is_extension name then discriminator Value (codes "url") ∷ []
+    else (if is_choice name then discriminator TypeCode (codes "$this") ∷ [] else [])
+
+-- so many are read; an element that names more counts as one that names none
+abbrev pub max_discriminators : ℕ
+max_discriminators = 16
+
+abbrev pub if_few : List Discriminator → List Discriminator
+if_few ds = if nat_le (length ds) max_discriminators then ds else []
+
+-- what tells an element's slices apart
+abbrev pub discriminators_of : Element → List Discriminator
+discriminators_of e = option_map_or (λ s. if_few s.discriminators) e.slicing (implied_discriminators (name_of e.id))
+
+abbrev pub is_closing : SlicingRules → Bool
+is_closing Closed = true
+is_closing Open = false
+is_closing OpenAtEnd = false
+
+abbrev pub is_ending : SlicingRules → Bool
+is_ending Closed = false
+is_ending Open = false
+is_ending OpenAtEnd = true
+
+-- no item may be in none of the slices
+abbrev pub is_closed : Element → Bool
+is_closed e = option_map_or is_closing (option_and_then (λ s. s.rules) e.slicing) false
+
+-- the items may stand in any order
+abbrev pub is_unordered : Element → Bool
+is_unordered e =
+    not (option_map_or (λ ordered. ordered) (option_and_then (λ s. s.ordered) e.slicing) false)
+    && not (option_map_or is_ending (option_and_then (λ s. s.rules) e.slicing) false)

@@ -1,0 +1,7 @@
+mod Finding
+mod Cuts
+mod Reading
+pub mod Placing
+mod Resolved
+mod Right
+mod SeenThere

@@ -1,6 +1,0 @@
-use Rattle.std.proofs.Common.{◌≡◌, take}
-use Rattle.fhir_schema.specs.CriteriaSeen.{tests_seen}
-use Rattle.fhir_schema.proofs.slicings.named_tests.Given as goal
-
-abbrev pub invariant-loop-discriminator : goal.invariant-loop-discriminator
-invariant-loop-discriminator l = tests_seen l.tests.items ≡ take l.discriminator-index l.discriminators
