@@ -28,7 +28,7 @@ ghost use Rattle.fhir_definition.specs.Definition.{definition_of, definitions_fr
 ghost use Rattle.fhir_definition.specs.Snapshot.{root_place};
 ghost use Rattle.fhir_nodes.specs.Contents.{slots_at};
 ghost use Rattle.fhir_forms.specs.Forms.{property_of};
-ghost use Rattle.fhir_schema.specs.Schemas.{root, slots};
+ghost use Rattle.fhir_schema.specs.Schemas.{root, slots, criteria};
 ghost use Rattle.std.specs.Str.{bytes_eq};
 ghost use Rattle.fhir_instance.specs.Items.{Item, type_of};
 ghost use Rattle.fhir_instance.specs.Typing.{Types};
@@ -38,8 +38,9 @@ ghost use Rattle.fhir_fp_syntax.specs.Reading.{expression_in};
 ghost use Rattle.fhir_fp_eval.specs.Meaning.{is_true};
 ghost use Rattle.fhir_facets.specs.Seen.{Seen};
 ghost use Rattle.fhir_facets.specs.Values.{pattern_holds};
-ghost use Rattle.fhir_slicing.specs.Asks.{asks};
-ghost use Rattle.fhir_slicing.specs.Conformance.{Interpretation, Conforms};
+ghost use Rattle.fhir_slicing.specs.Belonging.{belongs};
+ghost use Rattle.fhir_conformance.specs.Asks.{asks};
+ghost use Rattle.fhir_conformance.specs.Conformance.{Interpretation, Conforms};
 ghost use Rattle.fhir_certificate.specs.Certificate.{CertificateValue};
 ghost use Rattle.fhir_certificate.specs.Judging.{Stands};
 ghost use Rattle.fhir_cert_check.specs.Checking.{SpellsCertificate};
@@ -51,6 +52,7 @@ ghost use Rattle.fhir_registry.specs.Views.{request_seen};
 use fhir_cert_check::{Answer, check_bytes};
 use fhir_certificate::CertFault;
 use fhir_codes::expand;
+use fhir_conformance::{Children, asks};
 use fhir_decimal::Decimal;
 use fhir_definition::Definition;
 use fhir_elements::{ElementDef, ElementFault};
@@ -68,7 +70,7 @@ use fhir_prims::{PrimType, lexical};
 use fhir_registry::{Request, Status, bytes_at, files_at, respond};
 use fhir_report::{Form, Subject};
 use fhir_schema::{NodeRef, Schema, Slot};
-use fhir_slicing::{Children, asks};
+use fhir_slicing::belongs;
 use fhir_validator::{Fault, validate};
 use std::alloc::Global;
 use std::io;
@@ -238,6 +240,13 @@ pub fn asks_for_all(pattern: &Json<'static>, other: &Json<'static>) -> bool
 {
     narrower_holds();
     Pattern(pattern).narrower(&Pattern(other))
+}
+
+/// Whether an item belongs to the slice that a node is.
+pub fn is_in_slice(schema: &Schema, slice: NodeRef, item: &Typed<'_, '_>) -> bool
+    ensures { result ≡ belongs schema.now (criteria schema.now slice) (item_of item.now) }
+{
+    belongs(schema, schema.criteria(slice), item)
 }
 
 /// How many things a node asks of an item.

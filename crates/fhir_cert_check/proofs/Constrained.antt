@@ -16,8 +16,8 @@ use Rattle.fhir_schema.specs.Schemas.{SchemaValue, element_at, target}
 use Rattle.fhir_schema.specs.Expressions.{constraint_at}
 use Rattle.fhir_instance.specs.Items.{Item}
 use Rattle.fhir_facets.specs.Unread.{Meaning}
-use Rattle.fhir_slicing.specs.Asks.{Ask, constraint_ask, own_constraint_asks, constraint_asks}
-use Rattle.fhir_slicing.specs.Conformance.{constraint_holds, constraint_passes}
+use Rattle.fhir_conformance.specs.Asks.{Ask, constraint_ask, own_constraint_asks, constraint_asks}
+use Rattle.fhir_conformance.specs.Conformance.{constraint_holds, constraint_passes}
 use Rattle.fhir_cert_check.specs.Rule.{constraint}
 use Rattle.fhir_cert_check.specs.Rules.{says_same, constraint_answers, constraint_rule, own_constraints, constraints_at, constraint_rules}
 use Rattle.fhir_cert_check.proofs.Answered.{any_with_all, all_map, all_given}

@@ -25,11 +25,11 @@ use Rattle.fhir_facets.specs.Values.{fixed_holds, fixed_narrower, pattern_holds,
 use Rattle.fhir_facets.specs.Ranges.{Range, range_holds, range_narrower}
 use Rattle.fhir_facets.specs.Targets.{targets_hold}
 use Rattle.fhir_facets.specs.Bindings.{binding_to, binding_holds, binding_narrower, IsFair}
-use Rattle.fhir_slicing.specs.Asks.{root_type, fixed, pattern, range, length_limit, binding}
-use Rattle.fhir_slicing.specs.Asks.{Ask, profile as as_profile, places_of, facet_asks, constraint_asks, named_asks, slot_asks, entry_roots, profile_asks, own_root, slots_ask, kids_asks, root_asks}
-use Rattle.fhir_slicing.specs.Conformance.{Interpretation, Around, seen, fixed_at, pattern_at, range_at, length_at, binding_at, is_untyped, entry_allows, entry_holds}
-use Rattle.fhir_slicing.specs.Conformance.{profile_holds, profiles_hold, types_hold, rule_holds, ask_holds, root_holds, inner_holds, item_holds, meaning_at, resource_at}
-use Rattle.fhir_slicing.specs.Conformance.{inside, below, conforms, kid_tests, IsFairEverywhere}
+use Rattle.fhir_conformance.specs.Asks.{root_type, fixed, pattern, range, length_limit, binding}
+use Rattle.fhir_conformance.specs.Asks.{Ask, profile as as_profile, places_of, facet_asks, constraint_asks, named_asks, slot_asks, entry_roots, profile_asks, own_root, slots_ask, kids_asks, root_asks}
+use Rattle.fhir_conformance.specs.Conformance.{Interpretation, Around, seen, fixed_at, pattern_at, range_at, length_at, binding_at, is_untyped, entry_allows, entry_holds}
+use Rattle.fhir_conformance.specs.Conformance.{profile_holds, profiles_hold, types_hold, rule_holds, ask_holds, root_holds, inner_holds, item_holds, meaning_at, resource_at}
+use Rattle.fhir_conformance.specs.Conformance.{inside, below, conforms, kid_tests, IsFairEverywhere}
 use Rattle.fhir_certificate.specs.declared.pair.Pair.{Pair}
 use Rattle.fhir_certificate.specs.declared.pair.Pair.TheVariants.{Item as ItemPair, Kids as KidsPair}
 use Rattle.fhir_cert_check.specs.Rule.{children}

@@ -6,7 +6,7 @@ use Rattle.std.proofs.lemmas.Bool.{false≢true}
 use Rattle.std.proofs.lemmas.Option.{none-some, same_Some}
 use Rattle.fhir_nodes.specs.declared.node.NodeRef.{NodeRef}
 use Rattle.fhir_schema.specs.Schemas.{SchemaValue, root}
-use Rattle.fhir_slicing.specs.Conformance.{outermost}
+use Rattle.fhir_conformance.specs.Conformance.{outermost}
 use Rattle.fhir_certificate.specs.declared.pair.NodePair.{NodePair}
 use Rattle.fhir_certificate.specs.declared.pair.Pair.{Pair}
 use Rattle.fhir_certificate.specs.Certificate.{CertificateValue}

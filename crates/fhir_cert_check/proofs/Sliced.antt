@@ -16,15 +16,16 @@ use Rattle.fhir_elements.specs.Element.{Element}
 use Rattle.fhir_elements.specs.Tests.{all_hold}
 use Rattle.fhir_nodes.specs.declared.node.NodeRef.{NodeRef}
 use Rattle.fhir_nodes.specs.Slots.{Slot}
-use Rattle.fhir_schema.specs.Schemas.{SchemaValue, element_at, entry_of, slices, slice_named, is_closed}
+use Rattle.fhir_schema.specs.Schemas.{SchemaValue, element_at, entry_of, slices, slice_named, is_closed, criteria}
 use Rattle.fhir_instance.specs.Items.{Item, kids_of}
 use Rattle.fhir_facets.specs.Unread.{Meaning}
 use Rattle.fhir_facets.specs.Counts.{are_enough, are_within, count_holds, count_narrower, allows_none, is_forbidden}
-use Rattle.fhir_slicing.specs.Asks.{too_few, too_many, too_few_in, too_many_in}
-use Rattle.fhir_slicing.specs.Asks.{Ask, own, places_of, child_ask, apart_ask, in_slice_ask, slice_asks, sliced_asks, named_asks}
-use Rattle.fhir_slicing.specs.Belonging.{belongs, is_in, is_apart, is_sliced, kid_at, at_kid, members}
+use Rattle.fhir_slicing.specs.Belonging.{belongs, is_in, is_apart, is_sliced}
 use Rattle.fhir_slicing.specs.SameCriteria.{same_criteria}
-use Rattle.fhir_slicing.specs.Conformance.{count_of, count_in, rule_holds, ask_holds}
+use Rattle.fhir_conformance.specs.Asks.{too_few, too_many, too_few_in, too_many_in}
+use Rattle.fhir_conformance.specs.Asks.{Ask, own, places_of, child_ask, apart_ask, in_slice_ask, slice_asks, sliced_asks, named_asks}
+use Rattle.fhir_conformance.specs.Positions.{kid_at, at_kid, members}
+use Rattle.fhir_conformance.specs.Conformance.{count_of, count_in, rule_holds, ask_holds}
 use Rattle.fhir_certificate.specs.declared.pair.Pair.{Pair}
 use Rattle.fhir_cert_check.specs.Rule.{entry, closed}
 use Rattle.fhir_cert_check.specs.Rules.{is_answered, elements_answer, is_forbidden_at, has_item_pair, is_paired, own_slice_rules, slice_rules, is_shared, slices_shared, closed_answers}
@@ -76,7 +77,7 @@ counts_step hold n (Some e) (Some f) answers few many =
 
 -- slices that are told apart by the same have the same items
 abbrev pub BelongAlike : SchemaValue → Type 0
-BelongAlike s = (n k : NodeRef) (x : Item) → IsTrue (same_criteria s n k) → belongs s n x ≡ belongs s k x
+BelongAlike s = (n k : NodeRef) (x : Item) → IsTrue (same_criteria s n k) → belongs s (criteria s n) x ≡ belongs s (criteria s k) x
 
 module _ (s : SchemaValue) (counts_hold : CountsHold) (alike : BelongAlike s) (pairs : Pair → Bool) where
   -- ---- slices of the base, each with the derived one's
@@ -197,10 +198,10 @@ module _ (s : SchemaValue) (counts_hold : CountsHold) (alike : BelongAlike s) (p
 
     -- no item is in a slice where none may be
     not_in_forbidden : (name : Text) (n : NodeRef) (i : ℕ) → IsTrue (is_forbidden_at s n) → IsTrue (rule_holds s m resource x (too_many_in name) n)
-        → Within i (places_of name x) → IsTrue (at_kid false (belongs s n) x i) → ⊥
+        → Within i (places_of name x) → IsTrue (at_kid false (belongs s (criteria s n)) x i) → ⊥
     not_in_forbidden name n i forbidden many there belonging =
         subst (λ is. Within i is) (none_at (element_at s n) (members s x n (places_of name x)) forbidden many)
-        (within_kept (at_kid false (belongs s n) x) (places_of name x) i there belonging)
+        (within_kept (at_kid false (belongs s (criteria s n)) x) (places_of name x) i there belonging)
 
     in_shared : (n k : NodeRef) (y : Item) (a : Slot) → IsTrue (is_shared s n k a) → IsTrue (is_in s n y a) → IsTrue (is_sliced s k y)
     in_shared n k y a shared belonging = go (slice_named s k a.name) refl shared
@@ -233,7 +234,7 @@ module _ (s : SchemaValue) (counts_hold : CountsHold) (alike : BelongAlike s) (p
                 | inl forbidden ↦
                     absurd (not_in_forbidden name (entry_of n a) i forbidden
                     (slice_parts name n a (flat_at holds (slice_asks s x name places n) (slices s n) a at each)).1.1 there
-                    (ap (λ o. option_map_or (belongs s (entry_of n a)) o false) e ∙ belonging))
+                    (ap (λ o. option_map_or (belongs s (criteria s (entry_of n a))) o false) e ∙ belonging))
                 | inr shared ↦ in_shared n k y a shared belonging
               ])
               some

@@ -15,7 +15,7 @@ use Rattle.fhir_facets.specs.Unread.{Meaning}
 use Rattle.fhir_facets.specs.Unread.{profile as unread_profile}
 use Rattle.fhir_facets.specs.Seen.{Seen}
 use Rattle.fhir_facets.specs.Targets.{targets_hold, targets_narrower}
-use Rattle.fhir_slicing.specs.Conformance.{seen, is_untyped, entry_allows, profile_holds, profiles_hold, entry_holds, types_hold}
+use Rattle.fhir_conformance.specs.Conformance.{seen, is_untyped, entry_allows, profile_holds, profiles_hold, entry_holds, types_hold}
 use Rattle.fhir_certificate.specs.declared.pair.Pair.{Pair}
 use Rattle.fhir_cert_check.specs.Lists.{each_answers}
 use Rattle.fhir_cert_check.specs.Rules.{has_item_pair, profile_answers, profiles_answer, entry_answers, types_answer}

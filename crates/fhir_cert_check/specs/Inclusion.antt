@@ -4,7 +4,7 @@ use Rattle.fhir_json.specs.Tree.{Text, Tree}
 use Rattle.fhir_nodes.specs.declared.node.NodeRef.{NodeRef}
 use Rattle.fhir_schema.specs.Schemas.{SchemaValue}
 use Rattle.fhir_instance.specs.Items.{Item}
-use Rattle.fhir_slicing.specs.Conformance.{Interpretation, Around, conforms, IsFairEverywhere, Conforms}
+use Rattle.fhir_conformance.specs.Conformance.{Interpretation, Around, conforms, IsFairEverywhere, Conforms}
 
 -- each item, wherever it stands and whatever unread rules mean that is fair, that conforms to the first node conforms to the
 -- second

@@ -20,12 +20,12 @@ use Rattle.fhir_facets.specs.Ranges.{range_narrower}
 use Rattle.fhir_facets.specs.Targets.{targets_narrower}
 use Rattle.fhir_facets.specs.Bindings.{binding_to, binding_narrower}
 use Rattle.fhir_facets.specs.Counts.{count_narrower, is_forbidden, are_enough}
-use Rattle.fhir_slicing.specs.Conformance.{range_of, is_untyped}
+use Rattle.fhir_slicing.specs.SameCriteria.{same_criteria}
+use Rattle.fhir_conformance.specs.Conformance.{range_of, is_untyped}
 use Rattle.fhir_certificate.specs.declared.pair.Pair.{Pair}
 use Rattle.fhir_certificate.specs.declared.pair.Pair.TheVariants.{Item, Kids}
 use Rattle.fhir_cert_check.specs.Rule.{RuleName, type, fixed, pattern, range, length_limit, binding, constraint, children, slot, cardinality, entry, slice, criteria, bounds, closed}
 use Rattle.fhir_json.specs.Bytes.{is_empty}
-use Rattle.fhir_slicing.specs.SameCriteria.{same_criteria}
 use Rattle.fhir_cert_check.specs.Lists.{each_answers}
 
 -- ---- what an element asks of a value: each of the base's is answered by one of the derived's

@@ -9,7 +9,7 @@ ghost use Rattle.fhir_schema.specs.Schemas.{type_root, loaded};
 ghost use Rattle.fhir_facets.specs.Bindings.{binding_to, binding_narrower};
 ghost use Rattle.fhir_facets.specs.Targets.{targets_narrower};
 ghost use Rattle.fhir_facets.specs.Values.{fixed_fits, pattern_narrower};
-ghost use Rattle.fhir_slicing.specs.Conformance.{is_untyped};
+ghost use Rattle.fhir_conformance.specs.Conformance.{is_untyped};
 ghost use Rattle.fhir_cert_check.specs.Lists.{each_answers};
 ghost use Rattle.fhir_cert_check.specs.Rules.{has_item_pair, profile_answers, profiles_answer, entry_answers, types_answer, roots_answer, type_answers, item_rules};
 ghost use Rattle.fhir_cert_check.specs.Rules.{has_kids_pair, own_children_answer, code_children_answer, profiles_children_answer, entry_children_answer, type_children_answer, children_answer};

@@ -9,9 +9,10 @@ ghost use Rattle.fhir_certificate.specs.Certificate.{CertificateValue};
 ghost use Rattle.fhir_cert_check.specs.Checking.{IsRight, IsCertificate};
 ghost use Rattle.fhir_cert_check.specs.Inclusion.{IncludesItems, Includes};
 
+use fhir_conformance::roots_ask_no_root;
 use fhir_facets::narrower_holds;
 use fhir_schema::{covering_codes, roots_are_roots};
-use fhir_slicing::{equal_criteria, roots_ask_no_root};
+use fhir_slicing::equal_criteria;
 
 /// Where each pair of a set is right by the set, an item that conforms to the derived node of one of its pairs conforms
 /// to the base node, wherever it stands and whatever unread rules mean that is fair.

@@ -5,7 +5,7 @@ use Rattle.fhir_json.specs.Tree.{Text, Tree}
 use Rattle.fhir_json.specs.Compact.{compact}
 use Rattle.fhir_json.specs.Grammar.{Reads}
 use Rattle.fhir_schema.specs.Schemas.{SchemaValue}
-use Rattle.fhir_slicing.specs.Conformance.{Interpretation, Conforms, constant}
+use Rattle.fhir_conformance.specs.Conformance.{Interpretation, Conforms, constant}
 use Rattle.fhir_validator.specs.declared.fault.Fault.{Fault}
 use Rattle.fhir_validator.specs.declared.fault.Fault.TheVariants.{NoMemory}
 use Rattle.fhir_validator.specs.declared.verdict.Verdict.{Verdict}

@@ -2,7 +2,7 @@
 use Rattle.std.specs.Prelude.{false, IsTrue, ◌↔◌}
 use Rattle.fhir_json.specs.Tree.{Text, Tree}
 use Rattle.fhir_schema.specs.Schemas.{SchemaValue}
-use Rattle.fhir_slicing.specs.Conformance.{constant, Conforms}
+use Rattle.fhir_conformance.specs.Conformance.{constant, Conforms}
 use Rattle.fhir_validator.specs.declared.verdict.Verdict.{Verdict}
 use Rattle.fhir_validator.specs.Verdicts.{is_conforming}
 

@@ -10,7 +10,7 @@ ghost use Rattle.fhir_validator.specs.Verdicts.{is_conforming};
 ghost use Rattle.fhir_registry.specs.Agreeing.{IsVerdict};
 
 use fhir_cert_check::certificates_include;
-use fhir_slicing::fair_meanings;
+use fhir_conformance::fair_meanings;
 
 /// No resource conforms to the derived profile of a right certificate and is open, or violates, against its base: where the
 /// verdict against the first is that it conforms, so is the verdict against the second.

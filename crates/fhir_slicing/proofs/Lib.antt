@@ -1,11 +1,3 @@
-pub mod Lists
-pub mod Carrying
-pub mod Asked
-pub mod Stepping
-pub mod Placing
-pub mod Judged
 pub mod Twos
 pub mod Called
 pub mod Same
-pub mod KidAt
-mod Refuted

@@ -1,6 +1,6 @@
 -- When an item belongs to a slice (FHIR R4, Profiling, slicing; ElementDefinition, slicing.discriminator): where each of the
 -- slice's criteria finds what it looks for. No meaning of unread rules enters.
-use Rattle.std.specs.Prelude.{ℕ, zero, suc, List, [], ◌∷◌, ◌++◌, filter, Bool, false, not, ◌&&◌, ◌||◌, Option, None, Some, if◌then◌else◌, codes}
+use Rattle.std.specs.Prelude.{List, [], ◌∷◌, ◌++◌, Bool, false, not, ◌&&◌, ◌||◌, Option, if◌then◌else◌, codes}
 use Rattle.std.specs.Option.{option_map, option_map_or, option_and_then}
 use Rattle.std.specs.List.{list_all, list_any, find, flat_map}
 use Rattle.std.specs.Str.{bytes_eq}
@@ -55,15 +55,15 @@ is_found s (typed codes) xs = list_any (is_typed s codes) xs
 abbrev pub criterion_holds : SchemaValue → Item → Criterion → Bool
 criterion_holds s x c = is_found s c.sought (items_at c.names x)
 
--- the item belongs to the slice that the node is
-abbrev pub belongs : SchemaValue → NodeRef → Item → Bool
-belongs s n x = list_all (criterion_holds s x) (criteria s n)
+-- the item belongs to the slice that has these criteria
+abbrev pub belongs : SchemaValue → List Criterion → Item → Bool
+belongs s cs x = list_all (criterion_holds s x) cs
 
 -- ---- the slices of a node's element
 
 -- the item belongs to a slice of the element
 abbrev pub is_in : SchemaValue → NodeRef → Item → Slot → Bool
-is_in s n x slice = belongs s (entry_of n slice) x
+is_in s n x slice = belongs s (criteria s (entry_of n slice)) x
 
 -- of no two of them, by their names
 abbrev pub is_apart : SchemaValue → NodeRef → Item → Bool
@@ -80,18 +80,3 @@ two_slices s n x =
 
 abbrev pub is_sliced : SchemaValue → NodeRef → Item → Bool
 is_sliced s n x = list_any (is_in s n x) (slices s n)
-
--- ---- children by their positions
-
-abbrev pub kid_at : Kids → ℕ → Option Item
-kid_at no_kids i = None
-kid_at (kid name x kids) zero = Some x
-kid_at (kid name x kids) (suc i) = kid_at kids i
-
--- the child passes a test; what isn't there does so too, or doesn't
-abbrev pub at_kid : Bool → (Item → Bool) → Item → ℕ → Bool
-at_kid otherwise test x i = option_map_or test (kid_at (kids_of x) i) otherwise
-
--- those of these positions whose children belong to a slice
-abbrev pub members : SchemaValue → Item → NodeRef → List ℕ → List ℕ
-members s x slice places = filter (at_kid false (belongs s slice) x) places

@@ -1,11 +1,4 @@
 pub mod Belonging
 pub mod Finding
 pub mod SameCriteria
-pub mod Asks
-pub mod Conformance
-pub mod Meeting
-pub mod Example
-pub mod Letters
 pub mod Parcels
-pub mod Views
-pub mod Questions

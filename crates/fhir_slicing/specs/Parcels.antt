@@ -4,7 +4,7 @@ use Rattle.std.specs.Option.{option_map_or}
 use Rattle.fhir_json.specs.Tree.{Text, Tree, string, array, object, no_items, Members, no_members, member}
 use Rattle.fhir_json.specs.Tree.{item as one_more}
 use Rattle.fhir_package.specs.Definitions.{Definitions}
-use Rattle.fhir_schema.specs.Schemas.{SchemaValue, schema_of, node}
+use Rattle.fhir_schema.specs.Schemas.{SchemaValue, schema_of, node, criteria}
 use Rattle.fhir_instance.specs.Items.{Item, item, Kids, no_kids, kid}
 use Rattle.fhir_instance.specs.TypingExample.{element, definition, of_type, of_types, with_snapshot}
 use Rattle.fhir_slicing.specs.Belonging.{belongs, is_sliced}
@@ -107,7 +107,7 @@ extension url = item (codes "Extension") None (kid (codes "url") (of_code url) n
 -- ---- what they belong to, by the ids of the profile's elements
 
 abbrev pub is_of : Text → Item → Bool
-is_of id x = option_map_or (λ n. belongs parcels n x) (node parcels (codes "urn:parcels") id) false
+is_of id x = option_map_or (λ n. belongs parcels (criteria parcels n) x) (node parcels (codes "urn:parcels") id) false
 
 abbrev pub is_in_a_slice : Text → Item → Bool
 is_in_a_slice id x = option_map_or (λ n. is_sliced parcels n x) (node parcels (codes "urn:parcels") id) false

@@ -1,7 +1,7 @@
 //! To which slices an item belongs (FHIR R4, Profiling, slicing; ElementDefinition, slicing.discriminator).
 
 ghost use Rattle.std.specs.Prelude.{◌≡◌, ◌++◌, codes, map, string_bytes};
-ghost use Rattle.std.specs.List.{list_all, list_any};
+ghost use Rattle.std.specs.List.{list_any};
 ghost use Rattle.std.specs.Option.{option_map};
 ghost use Rattle.std.specs.Str.{bytes_eq};
 ghost use Rattle.fhir_json.specs.Views.{tree_of};
@@ -102,8 +102,10 @@ fn criterion_holds(schema: &Schema, criterion: &Criterion, item: &Typed<'_, '_>)
     }
 }
 
-fn all_hold(schema: &Schema, criteria: &[Criterion], item: &Typed<'_, '_>) -> bool
-    ensures { result ≡ list_all (criterion_holds schema.now (item_of item.now)) (criteria_seen criteria.now) }
+/// Whether an item belongs to the slice that has these criteria: each of them finds what it looks for (FHIR R4,
+/// ElementDefinition, slicing.discriminator). [`Schema::criteria`] has those of a slice. It takes no memory.
+pub fn belongs(schema: &Schema, criteria: &[Criterion], item: &Typed<'_, '_>) -> bool
+    ensures { result ≡ belongs schema.now (criteria_seen criteria.now) (item_of item.now) }
 {
     for criterion in criteria {
         if !criterion_holds(schema, criterion, item) {
@@ -111,14 +113,6 @@ fn all_hold(schema: &Schema, criteria: &[Criterion], item: &Typed<'_, '_>) -> bo
         }
     }
     true
-}
-
-/// Whether an item belongs to the slice that a node is: each of the slice's criteria finds what it looks for (FHIR R4,
-/// ElementDefinition, slicing.discriminator). It takes no memory.
-pub fn belongs(schema: &Schema, node: NodeRef, item: &Typed<'_, '_>) -> bool
-    ensures { result ≡ belongs schema.now node (item_of item.now) }
-{
-    all_hold(schema, schema.criteria(node), item)
 }
 
 // Whether an item belongs to a slice of a node's element.
@@ -129,7 +123,7 @@ fn is_in(schema: &Schema, node: NodeRef, item: &Typed<'_, '_>, slice: &Slot) -> 
         definition: node.definition,
         element: slice.entry(),
     };
-    belongs(schema, entry, item)
+    belongs(schema, schema.criteria(entry), item)
 }
 
 /// The first slice of a node's element to which an item belongs, and the first of another name; none where the item is in no
@@ -157,15 +151,15 @@ pub fn two_slices<'s>(
     None
 }
 
-/// Whether an item is in no two slices of a node's element.
-pub(crate) fn is_apart(schema: &Schema, node: NodeRef, item: &Typed<'_, '_>) -> bool
+/// Whether an item is in no two slices of a node's element, by their names (FHIR R4, Profiling, slicing). It takes no memory.
+pub fn is_apart(schema: &Schema, node: NodeRef, item: &Typed<'_, '_>) -> bool
     ensures { result ≡ is_apart schema.now node (item_of item.now) }
 {
     two_slices(schema, node, item).is_none()
 }
 
-/// Whether an item is in a slice of a node's element.
-pub(crate) fn is_sliced(schema: &Schema, node: NodeRef, item: &Typed<'_, '_>) -> bool
+/// Whether an item is in a slice of a node's element (FHIR R4, ElementDefinition, slicing.rules). It takes no memory.
+pub fn is_sliced(schema: &Schema, node: NodeRef, item: &Typed<'_, '_>) -> bool
     ensures { result ≡ is_sliced schema.now node (item_of item.now) }
 {
     schema

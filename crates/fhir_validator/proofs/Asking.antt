@@ -12,10 +12,10 @@ use Rattle.fhir_schema.specs.Covers.{covers}
 use Rattle.fhir_schema.specs.Schemas.{SchemaValue, element_at, is_root_node, target, holder, slots, slices, is_closed, entry_of, type_root, loaded, types as node_types}
 use Rattle.fhir_instance.specs.Items.{Item, item, type_of}
 use Rattle.fhir_facets.specs.Unread.{Meaning}
-use Rattle.fhir_slicing.specs.Belonging.{members}
-use Rattle.fhir_slicing.specs.Asks.{RuleName, Ask, own, types, profile, root, child, child_ask, apart_ask, in_slice_ask, facet_asks, constraint_ask, own_constraint_asks, constraint_asks, slice_asks, sliced_asks, named_asks, slot_asks, own_root, roots_named, entry_roots, profile_asks, slots_ask, kids_asks, root_asks, inner_asks, asks, places_of}
-use Rattle.fhir_slicing.specs.Asks.{root_type, fixed, pattern, range, length_limit, binding, too_few, too_many, too_few_in, too_many_in, apart, sliced, constraint}
-use Rattle.fhir_slicing.specs.Conformance.{Interpretation, Around, meaning_at, resource_at, inside, profile_holds, profiles_hold, entry_allows, entry_holds, types_hold, is_untyped, ask_holds, ask_conforms, root_holds, conforms, kid_tests}
+use Rattle.fhir_conformance.specs.Positions.{members}
+use Rattle.fhir_conformance.specs.Asks.{RuleName, Ask, own, types, profile, root, child, child_ask, apart_ask, in_slice_ask, facet_asks, constraint_ask, own_constraint_asks, constraint_asks, slice_asks, sliced_asks, named_asks, slot_asks, own_root, roots_named, entry_roots, profile_asks, slots_ask, kids_asks, root_asks, inner_asks, asks, places_of}
+use Rattle.fhir_conformance.specs.Asks.{root_type, fixed, pattern, range, length_limit, binding, too_few, too_many, too_few_in, too_many_in, apart, sliced, constraint}
+use Rattle.fhir_conformance.specs.Conformance.{Interpretation, Around, meaning_at, resource_at, inside, profile_holds, profiles_hold, entry_allows, entry_holds, types_hold, is_untyped, ask_holds, ask_conforms, root_holds, conforms, kid_tests}
 use Rattle.fhir_validator.specs.Judging.{IsOrdered}
 
 -- ---- lists

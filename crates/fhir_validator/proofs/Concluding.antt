@@ -9,7 +9,7 @@ use Rattle.fhir_schema.specs.Schemas.{SchemaValue, root}
 use Rattle.fhir_instance.specs.Items.{Item, Place}
 use Rattle.fhir_instance.specs.Typing.{Types}
 use Rattle.fhir_facets.specs.Unread.{Unread}
-use Rattle.fhir_slicing.specs.Conformance.{Interpretation, Around, Conforms, conforms, constant, outermost}
+use Rattle.fhir_conformance.specs.Conformance.{Interpretation, Around, Conforms, conforms, constant, outermost}
 use Rattle.fhir_validator.specs.declared.issue.Issue.{Issue}
 use Rattle.fhir_validator.specs.declared.issue.Issue.TheVariants.{Misfit, Broken}
 use Rattle.fhir_validator.specs.declared.verdict.Verdict.{Verdict}

@@ -10,11 +10,11 @@ use Rattle.fhir_json.specs.Bytes.{is_empty}
 use Rattle.fhir_nodes.specs.declared.node.NodeRef.{NodeRef}
 use Rattle.fhir_schema.specs.Schemas.{SchemaValue}
 use Rattle.fhir_instance.specs.Items.{Item, Place, kids_of}
-use Rattle.fhir_slicing.specs.Asks.{asks, child}
-use Rattle.fhir_slicing.specs.Conformance.{Interpretation, Around, nearest_to, constant, inside, below, around_of, conforms, kid_tests, ask_conforms}
-use Rattle.fhir_slicing.specs.Belonging.{kid_at}
-use Rattle.fhir_slicing.specs.Views.{ask_seen, asks_seen}
-use Rattle.fhir_slicing.specs.declared.ask.Ask.{Ask}
+use Rattle.fhir_conformance.specs.Asks.{asks, child}
+use Rattle.fhir_conformance.specs.Conformance.{Interpretation, Around, nearest_to, constant, inside, below, around_of, conforms, kid_tests, ask_conforms}
+use Rattle.fhir_conformance.specs.Positions.{kid_at}
+use Rattle.fhir_conformance.specs.Views.{ask_seen, asks_seen}
+use Rattle.fhir_conformance.specs.declared.ask.Ask.{Ask}
 use Rattle.fhir_validator.specs.declared.answer.Answer.{Answer}
 use Rattle.fhir_validator.specs.declared.layout.Layout.{Layout}
 use Rattle.fhir_validator.specs.declared.layout.Stand.{Stand}

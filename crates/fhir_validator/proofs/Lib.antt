@@ -2,7 +2,6 @@ mod Asking
 mod Concluding
 mod Faults
 mod Judged
-mod Kids
 mod Measures
 mod Pairs
 mod Rows

@@ -11,8 +11,8 @@ use Rattle.fhir_nodes.specs.declared.node.NodeRef.{NodeRef}
 use Rattle.fhir_instance.specs.Items.{Item, Kids, no_kids, kid, kids_of, kids_in}
 use Rattle.fhir_instance.specs.View.{named_of, named_in}
 use Rattle.fhir_instance.specs.declared.typed.Kid.{Kid as Child}
-use Rattle.fhir_slicing.specs.Belonging.{kid_at}
-use Rattle.fhir_slicing.specs.Conformance.{Interpretation, Around, nearest_to, is_resource_item, below, conforms, kid_tests}
+use Rattle.fhir_conformance.specs.Positions.{kid_at}
+use Rattle.fhir_conformance.specs.Conformance.{Interpretation, Around, nearest_to, is_resource_item, below, conforms, kid_tests}
 use Rattle.fhir_validator.specs.Layouts.{Spot, spot_of, spots_in, nowhere, numbered, kids_at, AreFrom, AreLaid}
 
 slice_get_left : {A : Type 0} (xs ys : List A) (i : ℕ) → i < length xs → slice_get (xs ++ ys) i ≡ slice_get xs i

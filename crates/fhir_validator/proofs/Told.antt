@@ -12,11 +12,11 @@ use Rattle.fhir_instance.specs.Items.{Item, Place}
 use Rattle.fhir_facets.specs.Views.{unread_seen}
 use Rattle.fhir_facets.specs.declared.unread.Unread.{Unread}
 use Rattle.fhir_facets.specs.Unread.{Unread as UnreadRule}
-use Rattle.fhir_slicing.specs.Asks.{RuleName, Ask, own, asks}
-use Rattle.fhir_slicing.specs.Conformance.{Around, around_of, rule_holds}
-use Rattle.fhir_slicing.specs.Meeting.{Met, unread_at}
-use Rattle.fhir_slicing.specs.Views.{ask_seen, asks_seen}
-use Rattle.fhir_slicing.specs.declared.ask.Ask.{Ask as AskValue}
+use Rattle.fhir_conformance.specs.Asks.{RuleName, Ask, own, asks}
+use Rattle.fhir_conformance.specs.Conformance.{Around, around_of, rule_holds}
+use Rattle.fhir_conformance.specs.Meeting.{Met, unread_at}
+use Rattle.fhir_conformance.specs.Views.{ask_seen, asks_seen}
+use Rattle.fhir_conformance.specs.declared.ask.Ask.{Ask as AskValue}
 use Rattle.fhir_validator.specs.declared.answer.Answer.{Answer}
 use Rattle.fhir_validator.specs.declared.answer.Answer.TheVariants.{Holds, Open, Fails}
 use Rattle.fhir_validator.specs.declared.issue.Finding.{Finding}

@@ -16,9 +16,9 @@ use Rattle.fhir_instance.specs.Items.{Item, type_of}
 use Rattle.fhir_facets.specs.Unread.{Unread, Meaning, profile as unread_profile}
 use Rattle.fhir_facets.specs.Carried.{profile_unread}
 use Rattle.fhir_facets.specs.Targets.{targets_hold}
-use Rattle.fhir_slicing.specs.Asks.{types}
-use Rattle.fhir_slicing.specs.Conformance.{Around, seen, constant, conforms, entry_allows, entry_holds, profile_holds, profiles_hold, is_untyped}
-use Rattle.fhir_slicing.specs.Meeting.{targets_unread, entry_unread, element_unread, constraints_unread, unread_at}
+use Rattle.fhir_conformance.specs.Asks.{types}
+use Rattle.fhir_conformance.specs.Conformance.{Around, seen, constant, conforms, entry_allows, entry_holds, profile_holds, profiles_hold, is_untyped}
+use Rattle.fhir_conformance.specs.Meeting.{targets_unread, entry_unread, element_unread, constraints_unread, unread_at}
 use Rattle.fhir_validator.specs.declared.answer.Answer.{Answer}
 use Rattle.fhir_validator.specs.declared.answer.Answer.TheVariants.{Open}
 use Rattle.fhir_validator.specs.declared.layout.Layout.{Layout}

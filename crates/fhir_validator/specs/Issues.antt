@@ -15,11 +15,12 @@ use Rattle.fhir_instance.specs.Items.{Item, Place, kids_of}
 use Rattle.fhir_instance.specs.Typing.{Types}
 use Rattle.fhir_facets.specs.Counts.{least_of}
 use Rattle.fhir_facets.specs.Views.{unread_seen}
-use Rattle.fhir_slicing.specs.Asks as asked
-use Rattle.fhir_slicing.specs.Asks.{RuleName, Ask, own, asks}
-use Rattle.fhir_slicing.specs.Belonging.{two_slices, kid_at}
-use Rattle.fhir_slicing.specs.Conformance.{count_of, count_in, constant, around_of, ask_conforms}
-use Rattle.fhir_slicing.specs.Meeting.{Met, unread_at}
+use Rattle.fhir_slicing.specs.Belonging.{two_slices}
+use Rattle.fhir_conformance.specs.Asks as asked
+use Rattle.fhir_conformance.specs.Asks.{RuleName, Ask, own, asks}
+use Rattle.fhir_conformance.specs.Positions.{kid_at}
+use Rattle.fhir_conformance.specs.Conformance.{count_of, count_in, constant, around_of, ask_conforms}
+use Rattle.fhir_conformance.specs.Meeting.{Met, unread_at}
 use Rattle.fhir_validator.specs.declared.rule.Rule.{Rule}
 use Rattle.fhir_validator.specs.declared.rule.Rule.TheVariants.{RootType, Types as OfTypes, Fixed, Pattern, Range, Length, Binding, TooFew, TooMany, InSlices, InNoSlice, Constraint}
 use Rattle.fhir_validator.specs.declared.issue.Finding.{Finding}

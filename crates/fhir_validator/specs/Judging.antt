@@ -4,8 +4,8 @@ use Rattle.std.specs.BTreeMap.{get}
 use Rattle.fhir_nodes.specs.declared.node.NodeRef.{NodeRef}
 use Rattle.fhir_schema.specs.Schemas.{SchemaValue, is_root_node}
 use Rattle.fhir_facets.specs.Unread.{Meaning}
-use Rattle.fhir_slicing.specs.Asks.{Ask, own, types, profile, root, child}
-use Rattle.fhir_slicing.specs.Conformance.{Around, resource_at, constant, ask_conforms, conforms}
+use Rattle.fhir_conformance.specs.Asks.{Ask, own, types, profile, root, child}
+use Rattle.fhir_conformance.specs.Conformance.{Around, resource_at, constant, ask_conforms, conforms}
 use Rattle.fhir_validator.specs.declared.answer.Answer.{Answer}
 use Rattle.fhir_validator.specs.declared.known.Known.{Known}
 use Rattle.fhir_validator.specs.declared.layout.Layout.{Layout}

@@ -5,8 +5,8 @@ use Rattle.std.specs.List.{slice_get, AllByRecursion}
 use Rattle.fhir_schema.specs.Schemas.{SchemaValue}
 use Rattle.fhir_instance.specs.Items.{Item, item, Kids, no_kids, kid, kids_of}
 use Rattle.fhir_instance.specs.View.{item_of}
-use Rattle.fhir_slicing.specs.Conformance.{nearest_to}
-use Rattle.fhir_slicing.specs.Views.{IsIndexOf}
+use Rattle.fhir_conformance.specs.Conformance.{nearest_to}
+use Rattle.fhir_conformance.specs.Views.{IsIndexOf}
 use Rattle.fhir_validator.specs.declared.layout.Layout.{Layout}
 use Rattle.fhir_validator.specs.declared.layout.Stand.{Stand}
 

@@ -8,9 +8,9 @@ use Rattle.fhir_schema.specs.Schemas.{SchemaValue}
 use Rattle.fhir_instance.specs.Items.{Item, Place}
 use Rattle.fhir_instance.specs.Typing.{Types}
 use Rattle.fhir_facets.specs.Unread.{Unread, Meaning}
-use Rattle.fhir_slicing.specs.Asks.{Ask, profile as as_profile, asks}
-use Rattle.fhir_slicing.specs.Conformance.{Around, outermost, constant, ask_conforms, conforms}
-use Rattle.fhir_slicing.specs.Meeting.{Met, unread_at}
+use Rattle.fhir_conformance.specs.Asks.{Ask, profile as as_profile, asks}
+use Rattle.fhir_conformance.specs.Conformance.{Around, outermost, constant, ask_conforms, conforms}
+use Rattle.fhir_conformance.specs.Meeting.{Met, unread_at}
 use Rattle.fhir_validator.specs.declared.answer.Answer.{Answer}
 use Rattle.fhir_validator.specs.declared.answer.Answer.TheVariants as answers
 use Rattle.fhir_validator.specs.declared.issue.Issue.{Issue}

@@ -2,8 +2,8 @@
 
 ghost use Rattle.std.specs.Prelude.{◌≡◌, ◌<◌, Bool, false, length, OnOk, IfOk, IsTrue};
 ghost use Rattle.fhir_schema.specs.Schemas.{is_root_node};
-ghost use Rattle.fhir_slicing.specs.Asks.{types, profile, child};
-ghost use Rattle.fhir_slicing.specs.Views.{ask_seen};
+ghost use Rattle.fhir_conformance.specs.Asks.{types, profile, child};
+ghost use Rattle.fhir_conformance.specs.Views.{ask_seen};
 ghost use Rattle.fhir_validator.specs.Layouts.{IsLayout};
 ghost use Rattle.fhir_validator.specs.Judging.{IsRight, IsRightOf, AreRight, IsOrdered};
 ghost use Rattle.fhir_validator.specs.Listing.{IsFilled, IsMarked, AskIsAllowed, PairIsAllowed, AskIsTold, PairIsTold, IsAskedBy, KeepsFound};
@@ -16,9 +16,9 @@ use crate::layout::Layout;
 use crate::listing::Listing;
 use crate::pair::Pair;
 use crate::rules::{list_misfit, list_rule};
+use fhir_conformance::{Ask, asks};
 use fhir_json::NoMemory;
 use fhir_schema::{NodeRef, roots_are_roots};
-use fhir_slicing::{Ask, asks};
 use std::alloc::Global;
 
 fn types_fail(

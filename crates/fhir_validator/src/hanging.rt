@@ -6,8 +6,8 @@ ghost use Rattle.fhir_schema.specs.Covers.{covers};
 ghost use Rattle.fhir_schema.specs.Schemas.{is_root_node, loaded, types as node_types};
 ghost use Rattle.fhir_instance.specs.Items.{type_of};
 ghost use Rattle.fhir_facets.specs.Unread.{profile as unread_profile};
-ghost use Rattle.fhir_slicing.specs.Asks.{types, profile};
-ghost use Rattle.fhir_slicing.specs.Conformance.{entry_holds, profile_holds, profiles_hold};
+ghost use Rattle.fhir_conformance.specs.Asks.{types, profile};
+ghost use Rattle.fhir_conformance.specs.Conformance.{entry_holds, profile_holds, profiles_hold};
 ghost use Rattle.fhir_validator.specs.declared.listing.Listing.{Listing as AnyListing};
 ghost use Rattle.fhir_validator.specs.Layouts.{IsLayout, item_at};
 ghost use Rattle.fhir_validator.specs.Judging.{IsRightOf, IsRightOn, AreRight};
@@ -20,11 +20,11 @@ use crate::layout::Layout;
 use crate::listing::Listing;
 use crate::pair::Pair;
 use crate::rules::put_site;
+use fhir_conformance::judge_entry;
 use fhir_elements::TypeEntry;
 use fhir_facets::{Holding, Unread};
 use fhir_json::NoMemory;
 use fhir_schema::NodeRef;
-use fhir_slicing::judge_entry;
 use std::alloc::Global;
 
 // Puts a root that the pair names as a profile behind the others, if it is open.

@@ -2,9 +2,9 @@
 
 ghost use Rattle.std.specs.Prelude.{◌≡◌, ◌<◌, Bool, false, length, map, string_bytes, IfOk, OnOk};
 ghost use Rattle.fhir_schema.specs.Schemas.{is_root_node};
-ghost use Rattle.fhir_slicing.specs.Asks.{own, types, child};
-ghost use Rattle.fhir_slicing.specs.Conformance.{entry_allows, entry_holds, profile_holds, profiles_hold};
-ghost use Rattle.fhir_slicing.specs.Views.{ask_seen, rule_name};
+ghost use Rattle.fhir_conformance.specs.Asks.{own, types, child};
+ghost use Rattle.fhir_conformance.specs.Conformance.{entry_allows, entry_holds, profile_holds, profiles_hold};
+ghost use Rattle.fhir_conformance.specs.Views.{ask_seen, rule_name};
 ghost use Rattle.fhir_validator.specs.Answers.{under};
 ghost use Rattle.fhir_validator.specs.Layouts.{IsLayout, item_at};
 ghost use Rattle.fhir_validator.specs.Judging.{IsRight, IsRightOf, IsRightOn, AreRight, IsOrdered};
@@ -13,10 +13,10 @@ use crate::answer::Answer;
 use crate::known::Known;
 use crate::layout::Layout;
 use crate::pair::Pair;
+use fhir_conformance::{Ask, Rule, asks, judge, judge_entry};
 use fhir_elements::TypeEntry;
 use fhir_json::NoMemory;
 use fhir_schema::{NodeRef, roots_are_roots};
-use fhir_slicing::{Ask, Rule, asks, judge, judge_entry};
 use std::alloc::Global;
 
 // The answer to a rule that a pair asks for.

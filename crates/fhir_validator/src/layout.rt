@@ -5,15 +5,15 @@ ghost use Rattle.std.specs.Option.{option_and_then};
 ghost use Rattle.std.specs.List.{slice_get};
 ghost use Rattle.fhir_instance.specs.View.{item_of};
 ghost use Rattle.fhir_instance.specs.Items.{kids_of};
-ghost use Rattle.fhir_slicing.specs.Conformance.{nearest_to};
-ghost use Rattle.fhir_slicing.specs.Belonging.{kid_at};
-ghost use Rattle.fhir_slicing.specs.Views.{IsIndexOf};
+ghost use Rattle.fhir_conformance.specs.Conformance.{nearest_to};
+ghost use Rattle.fhir_conformance.specs.Positions.{kid_at};
+ghost use Rattle.fhir_conformance.specs.Views.{IsIndexOf};
 ghost use Rattle.fhir_validator.specs.Layouts.{spot_in, spot_of, spots_in, spot_at, item_at, resource_of, number_of, IsStand, AreStands, IsLayout};
 
+use fhir_conformance::Children;
 use fhir_instance::Typed;
 use fhir_json::NoMemory;
 use fhir_schema::Schema;
-use fhir_slicing::Children;
 use std::alloc::Global;
 
 // An item, and where it stands.

@@ -3,9 +3,9 @@
 ghost use Rattle.std.specs.Prelude.{◌≡◌, ◌<◌, length, OnOk};
 ghost use Rattle.std.specs.List.{Contains};
 ghost use Rattle.fhir_facets.specs.Views.{unread_seen};
-ghost use Rattle.fhir_slicing.specs.Asks.{own, types};
-ghost use Rattle.fhir_slicing.specs.Meeting.{unread_at};
-ghost use Rattle.fhir_slicing.specs.Views.{rule_name};
+ghost use Rattle.fhir_conformance.specs.Asks.{own, types};
+ghost use Rattle.fhir_conformance.specs.Meeting.{unread_at};
+ghost use Rattle.fhir_conformance.specs.Views.{rule_name};
 ghost use Rattle.fhir_validator.specs.Layouts.{IsLayout, item_at};
 ghost use Rattle.fhir_validator.specs.Judging.{IsRightOf};
 ghost use Rattle.fhir_validator.specs.Listing.{IsFilled, IsMarked, AskIsAllowed, AskIsTold, IsAskedBy, KeepsFound, IsHanging};
@@ -16,10 +16,10 @@ use crate::layout::Layout;
 use crate::listing::Listing;
 use crate::pair::Pair;
 use crate::telling::{finding_of, misfit_of, site_of};
+use fhir_conformance::{Rule, judge};
 use fhir_facets::{Holding, Unread};
 use fhir_json::NoMemory;
 use fhir_schema::NodeRef;
-use fhir_slicing::{Rule, judge};
 use std::alloc::Global;
 
 /// Lists an unread rule that a node carries to the item of a pair, where something that the pair asks hangs on it.

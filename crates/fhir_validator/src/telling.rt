@@ -1,11 +1,11 @@
 //! Findings and sites: what is said of a rule.
 
-ghost use Rattle.std.specs.Prelude.{◌≡◌, ◌<◌, false, length, Some, IfOk};
-ghost use Rattle.std.specs.Option.{option_map, option_map_or, option_and_then};
+ghost use Rattle.std.specs.Prelude.{◌≡◌, ◌<◌, length, Some, IfOk};
+ghost use Rattle.std.specs.Option.{option_map_or, option_and_then};
 ghost use Rattle.fhir_schema.specs.Schemas.{element_at};
 ghost use Rattle.fhir_facets.specs.Counts.{least_of};
-ghost use Rattle.fhir_slicing.specs.Belonging.{belongs, kid_at, at_kid, members};
-ghost use Rattle.fhir_slicing.specs.Views.{rule_name, IsIndexOf};
+ghost use Rattle.fhir_conformance.specs.Positions.{kid_at};
+ghost use Rattle.fhir_conformance.specs.Views.{rule_name, IsIndexOf};
 ghost use Rattle.fhir_instance.specs.Items.{Item, kids_of};
 ghost use Rattle.fhir_instance.specs.View.{item_of};
 ghost use Rattle.fhir_validator.specs.Issues.{rule_said, types, too_few, too_many, says, slices_said, set_at, key_at, IsNamed};
@@ -15,12 +15,13 @@ use crate::issue::{Finding, Site};
 use crate::layout::Layout;
 use crate::place::Place;
 use crate::rule::Rule;
+use fhir_conformance::{Children, Rule as Asked, count_in, kid_at};
 use fhir_elements::Max;
 use fhir_facets::Unread;
 use fhir_instance::Typed;
 use fhir_json::NoMemory;
 use fhir_schema::{NodeRef, Schema};
-use fhir_slicing::{Children, Rule as Asked, belongs, two_slices};
+use fhir_slicing::two_slices;
 use std::alloc::Global;
 
 // How many items of a node there must be.
@@ -81,41 +82,6 @@ fn key_of(schema: &Schema, node: NodeRef, position: usize) -> &str
     }
 }
 
-// The child of an item at a position, if it has one.
-fn kid_at<'t, 'a, 'j>(item: &'t Typed<'a, 'j>, position: usize) -> Option<&'t Typed<'a, 'j>>
-    ensures { option_map (λ kid. item_of kid.now) result ≡ kid_at (kids_of (item_of item.now)) position }
-{
-    let kids = item.kids();
-    if position < kids.len() {
-        Some(kids[position].item())
-    } else {
-        None
-    }
-}
-
-// Whether the child at a position belongs to the slice that a node is.
-fn is_member(schema: &Schema, item: &Typed<'_, '_>, node: NodeRef, position: usize) -> bool
-    ensures { result ≡ at_kid false (belongs schema.now node) (item_of item.now) position }
-{
-    match kid_at(item, position) {
-        Some(kid) => belongs(schema, node, kid),
-        None => false,
-    }
-}
-
-// How many of the children at these positions belong to the slice that a node is.
-fn count_in(schema: &Schema, item: &Typed<'_, '_>, places: &[usize], node: NodeRef) -> usize
-    ensures { result ≡ length (members schema.now (item_of item.now) node places.now) }
-{
-    let mut count = 0;
-    for place in places {
-        if is_member(schema, item, node, *place) {
-            count += 1;
-        }
-    }
-    count
-}
-
 // Two slices of a node's element that an item is in.
 fn said_of_item<'s>(schema: &'s Schema, item: &Typed<'_, '_>, node: NodeRef) -> Rule<'s>
     ensures { rule_said result ≡ slices_said schema.now node (Some (item_of item.now)) }
@@ -162,18 +128,10 @@ fn said<'s>(
         Asked::TooFew(name) => too_few(schema, node, children.places(name).len()),
         Asked::TooMany(name) => too_many(schema, node, children.places(name).len()),
         Asked::TooFewIn(name) => {
-            too_few(
-                schema,
-                node,
-                count_in(schema, item, children.places(name), node),
-            )
+            too_few(schema, node, count_in(schema, item, children, node, name))
         }
         Asked::TooManyIn(name) => {
-            too_many(
-                schema,
-                node,
-                count_in(schema, item, children.places(name), node),
-            )
+            too_many(schema, node, count_in(schema, item, children, node, name))
         }
         Asked::Apart(position) => said_of_kid(schema, item, position, node),
         Asked::Sliced(_position) => Rule::InNoSlice,

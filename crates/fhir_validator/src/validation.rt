@@ -7,7 +7,7 @@ ghost use Rattle.fhir_json.specs.Grammar.{Reads};
 ghost use Rattle.fhir_json.specs.Views.{tree_of};
 ghost use Rattle.fhir_schema.specs.Schemas.{root};
 ghost use Rattle.fhir_instance.specs.View.{item_of, is_no_memory};
-ghost use Rattle.fhir_slicing.specs.Conformance.{Interpretation, Conforms, constant};
+ghost use Rattle.fhir_conformance.specs.Conformance.{Interpretation, Conforms, constant};
 ghost use Rattle.fhir_validator.specs.Verdicts.{is_conforming, is_violating, IsExplained, Means};
 ghost use Rattle.fhir_validator.specs.Layouts.{IsLayout, item_at, resource_of};
 ghost use Rattle.fhir_validator.specs.Judging.{IsRight, AreRight};
@@ -23,10 +23,10 @@ use crate::layout::Layout;
 use crate::listing::Listing;
 use crate::pair::Pair;
 use crate::verdict::Verdict;
+use fhir_conformance::positive;
 use fhir_instance::{Misfit, MisfitKind, Typed, type_resource};
 use fhir_json::{JsonFault, NoMemory, one_tree};
 use fhir_schema::{NodeRef, Schema};
-use fhir_slicing::positive;
 use std::alloc::Global;
 
 // What a pair of the outermost item rests on, which has that answer.

@@ -1,5 +1,5 @@
 use Rattle.std.proofs.Common.{false}
-use Rattle.fhir_slicing.specs.Conformance.{constant}
+use Rattle.fhir_conformance.specs.Conformance.{constant}
 use Rattle.fhir_registry.proofs.laws.verdicts_agree.Goals as goal
 
 pub returns : goal.returns

@@ -3,10 +3,10 @@ use Rattle.std.specs.Prelude.{OnOk}
 use Rattle.std.specs.List.{list_all, AllByRecursion}
 use Rattle.std.proofs.lemmas.List.Folds.{list_all-map}
 use Rattle.std.specs.Prelude.{Result, Ok, Err}
-use Rattle.fhir_slicing.specs.Asks.{asks, types, profile, child}
-use Rattle.fhir_slicing.specs.Conformance.{constant, conforms, inside, below, ask_conforms}
-use Rattle.fhir_slicing.specs.Meeting.{at_item, at_profile, at_child}
-use Rattle.fhir_slicing.specs.Views.{ask_seen, asks_seen}
+use Rattle.fhir_conformance.specs.Asks.{asks, types, profile, child}
+use Rattle.fhir_conformance.specs.Conformance.{constant, conforms, inside, below, ask_conforms}
+use Rattle.fhir_conformance.specs.Meeting.{at_item, at_profile, at_child}
+use Rattle.fhir_conformance.specs.Views.{ask_seen, asks_seen}
 use Rattle.fhir_validator.specs.declared.answer.Answer.TheVariants.{Open}
 use Rattle.fhir_validator.specs.declared.pair.Pair.{Pair}
 use Rattle.fhir_validator.specs.Answers.{under}

@@ -1,7 +1,7 @@
 use Rattle.std.proofs.Common.{◌+◌, ◌*◌, ◌<◌, length, take, IsTrue, ◌⊎◌}
 use Rattle.std.specs.List.{list_all}
-use Rattle.fhir_slicing.specs.Views.{ask_seen}
-use Rattle.fhir_slicing.specs.Conformance.{Around, constant, ask_conforms}
+use Rattle.fhir_conformance.specs.Views.{ask_seen}
+use Rattle.fhir_conformance.specs.Conformance.{Around, constant, ask_conforms}
 use Rattle.fhir_validator.specs.Layouts.{item_at}
 use Rattle.fhir_validator.specs.Judging.{IsThere, AreRight}
 use Rattle.fhir_validator.specs.Listing.{side, IsFilled, IsMarked, KeepsFound}

@@ -1,9 +1,9 @@
 use Rattle.std.proofs.Common.{refl, sym, ap, ◌∙◌, subst}
 use Rattle.fhir_instance.specs.Items.{Item}
 use Rattle.fhir_facets.specs.Views.{unread_seen, holding_under, IsCarried}
-use Rattle.fhir_slicing.specs.Asks.{types}
-use Rattle.fhir_slicing.specs.Conformance.{entry_allows, entry_holds, profiles_hold}
-use Rattle.fhir_slicing.specs.Meeting.{entry_unread}
+use Rattle.fhir_conformance.specs.Asks.{types}
+use Rattle.fhir_conformance.specs.Conformance.{entry_allows, entry_holds, profiles_hold}
+use Rattle.fhir_conformance.specs.Meeting.{entry_unread}
 use Rattle.fhir_validator.specs.Issues as issues
 use Rattle.fhir_validator.specs.Layouts.{item_at}
 use Rattle.fhir_validator.specs.Listing.{IsSettled}

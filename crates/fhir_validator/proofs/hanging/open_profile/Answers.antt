@@ -1,5 +1,5 @@
 use Rattle.std.proofs.Common.{sym}
-use Rattle.fhir_slicing.specs.Conformance.{profile_holds}
+use Rattle.fhir_conformance.specs.Conformance.{profile_holds}
 use Rattle.fhir_validator.specs.Layouts.{item_at}
 use Rattle.fhir_validator.specs.declared.answer.Answer.TheVariants.{Open}
 use Rattle.fhir_validator.specs.Listing.{IsFilled, IsSettled}

@@ -1,8 +1,8 @@
 use Rattle.std.proofs.Common.{string_bytes, refl, sym, subst}
 use Rattle.std.specs.List.{Contains}
 use Rattle.std.proofs.lemmas.List.Elements.{Contains-get_or}
-use Rattle.fhir_slicing.specs.Asks.{types}
-use Rattle.fhir_slicing.specs.Conformance.{profile_holds}
+use Rattle.fhir_conformance.specs.Asks.{types}
+use Rattle.fhir_conformance.specs.Conformance.{profile_holds}
 use Rattle.fhir_validator.specs.Issues as issues
 use Rattle.fhir_validator.specs.Layouts.{item_at}
 use Rattle.fhir_validator.specs.Listing.{IsSettled}

@@ -1,6 +1,6 @@
 use Rattle.std.proofs.Common.{take, string_bytes}
 use Rattle.std.specs.List.{list_any}
-use Rattle.fhir_slicing.specs.Conformance.{profile_holds}
+use Rattle.fhir_conformance.specs.Conformance.{profile_holds}
 use Rattle.fhir_validator.specs.Layouts.{item_at}
 use Rattle.fhir_validator.specs.Judging.{AreRight}
 use Rattle.fhir_validator.specs.Listing.{Grows, IsSettled}

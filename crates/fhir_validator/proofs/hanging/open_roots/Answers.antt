@@ -1,7 +1,7 @@
 use Rattle.std.proofs.Common.{[], sym, subst}
 use Rattle.std.specs.List.{Contains}
 use Rattle.std.proofs.lemmas.List.Elements.{Contains-get_or}
-use Rattle.fhir_slicing.specs.Conformance.{entry_holds}
+use Rattle.fhir_conformance.specs.Conformance.{entry_holds}
 use Rattle.fhir_validator.specs.Layouts.{item_at}
 use Rattle.fhir_validator.proofs.Judged.{standing, stands_there}
 use Rattle.fhir_validator.proofs.Unsettled.{grows_more, settled_more, led_at_last}

@@ -1,5 +1,5 @@
 use Rattle.std.proofs.Common.{map, string_bytes, refl, subst}
-use Rattle.fhir_slicing.specs.Conformance.{profiles_hold}
+use Rattle.fhir_conformance.specs.Conformance.{profiles_hold}
 use Rattle.fhir_validator.specs.declared.answer.Answer.TheVariants.{Holds, Fails}
 use Rattle.fhir_validator.specs.Layouts.{item_at}
 use Rattle.fhir_validator.specs.Judging.{IsRightOn}

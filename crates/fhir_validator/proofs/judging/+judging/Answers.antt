@@ -3,9 +3,9 @@ use Rattle.std.specs.List.{list_any}
 use Rattle.fhir_json.specs.Bytes.{is_empty}
 use Rattle.fhir_elements.specs.TypeEntry.{TypeEntry}
 use Rattle.fhir_schema.specs.Schemas.{is_root_node}
-use Rattle.fhir_slicing.specs.Asks.{asks, child}
-use Rattle.fhir_slicing.specs.Conformance.{constant, conforms, entry_holds, profile_holds, ask_conforms}
-use Rattle.fhir_slicing.specs.Views.{ask_seen, asks_seen}
+use Rattle.fhir_conformance.specs.Asks.{asks, child}
+use Rattle.fhir_conformance.specs.Conformance.{constant, conforms, entry_holds, profile_holds, ask_conforms}
+use Rattle.fhir_conformance.specs.Views.{ask_seen, asks_seen}
 use Rattle.fhir_validator.specs.declared.pair.Pair.{Pair}
 use Rattle.fhir_validator.specs.Answers.{under}
 use Rattle.fhir_validator.specs.Layouts.{IsLayout, item_at}

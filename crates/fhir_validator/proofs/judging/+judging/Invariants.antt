@@ -1,7 +1,7 @@
 use Rattle.std.proofs.Common.{◌≡◌, ◌+◌, ◌*◌, Bool, take, string_bytes}
 use Rattle.std.specs.List.{list_all, list_any}
-use Rattle.fhir_slicing.specs.Views.{ask_seen}
-use Rattle.fhir_slicing.specs.Conformance.{Around, constant, conforms, entry_holds, profile_holds, ask_conforms}
+use Rattle.fhir_conformance.specs.Views.{ask_seen}
+use Rattle.fhir_conformance.specs.Conformance.{Around, constant, conforms, entry_holds, profile_holds, ask_conforms}
 use Rattle.fhir_validator.specs.Answers.{under}
 use Rattle.fhir_validator.specs.Layouts.{item_at}
 use Rattle.fhir_validator.specs.Judging.{IsThere, AreRight}

@@ -1,7 +1,7 @@
 use Rattle.std.proofs.Common.{ap, ap₂, sym, ◌∙◌}
 use Rattle.fhir_instance.specs.Items.{Item}
-use Rattle.fhir_slicing.specs.Views.{rule_name}
-use Rattle.fhir_slicing.specs.Conformance.{rule_holds}
+use Rattle.fhir_conformance.specs.Views.{rule_name}
+use Rattle.fhir_conformance.specs.Conformance.{rule_holds}
 use Rattle.fhir_validator.specs.Layouts.{item_at}
 use Rattle.fhir_validator.proofs.judging.rule_answer.Goals as goal
 

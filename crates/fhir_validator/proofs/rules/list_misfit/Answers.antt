@@ -1,7 +1,7 @@
 use Rattle.std.proofs.Common.{true, refl, sym, subst}
 use Rattle.std.specs.List.{AllByRecursion}
-use Rattle.fhir_slicing.specs.Asks.{types}
-use Rattle.fhir_slicing.specs.Conformance.{constant, ask_conforms}
+use Rattle.fhir_conformance.specs.Asks.{types}
+use Rattle.fhir_conformance.specs.Conformance.{constant, ask_conforms}
 use Rattle.fhir_validator.specs.declared.issue.Issue.TheVariants.{Broken}
 use Rattle.fhir_validator.specs.Issues as issues
 use Rattle.fhir_validator.specs.Layouts.{item_at}

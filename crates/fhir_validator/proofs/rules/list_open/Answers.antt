@@ -1,7 +1,7 @@
 use Rattle.std.proofs.Common.{refl, sym, ◌∙◌}
-use Rattle.fhir_slicing.specs.Asks.{own}
-use Rattle.fhir_slicing.specs.Conformance.{constant, ask_conforms}
-use Rattle.fhir_slicing.specs.Views.{rule_name}
+use Rattle.fhir_conformance.specs.Asks.{own}
+use Rattle.fhir_conformance.specs.Conformance.{constant, ask_conforms}
+use Rattle.fhir_conformance.specs.Views.{rule_name}
 use Rattle.fhir_validator.specs.declared.answer.Answer.TheVariants.{Open}
 use Rattle.fhir_validator.specs.Issues.{says}
 use Rattle.fhir_validator.specs.Layouts.{item_at}

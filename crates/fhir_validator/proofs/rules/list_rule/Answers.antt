@@ -1,8 +1,8 @@
 use Rattle.std.proofs.Common.{sym, ap, ap₂, ◌∙◌, inl}
 use Rattle.fhir_instance.specs.Items.{Item}
 use Rattle.fhir_facets.specs.Views.{holding_under}
-use Rattle.fhir_slicing.specs.Conformance.{rule_holds}
-use Rattle.fhir_slicing.specs.Views.{rule_name}
+use Rattle.fhir_conformance.specs.Conformance.{rule_holds}
+use Rattle.fhir_conformance.specs.Views.{rule_name}
 use Rattle.fhir_validator.specs.declared.answer.Answer.TheVariants.{Holds, Open, Fails}
 use Rattle.fhir_validator.specs.Listing.{side}
 use Rattle.fhir_validator.proofs.Told.{judged_there}

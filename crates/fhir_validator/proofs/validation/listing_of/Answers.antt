@@ -1,6 +1,6 @@
 use Rattle.std.proofs.Common.{[], refl, sym, subst}
 use Rattle.std.specs.List.{AllByRecursion}
-use Rattle.fhir_slicing.specs.Meeting.{first}
+use Rattle.fhir_conformance.specs.Meeting.{first}
 use Rattle.fhir_validator.specs.Issues.{IsOpenAt}
 use Rattle.fhir_validator.specs.Layouts.{item_at}
 use Rattle.fhir_validator.specs.Listing.{IsFound}

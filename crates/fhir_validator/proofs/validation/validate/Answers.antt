@@ -1,5 +1,5 @@
 use Rattle.std.proofs.Common.{◌↔◌, true, false, IsTrue, sym}
-use Rattle.fhir_slicing.specs.Conformance.{Interpretation, Conforms, constant}
+use Rattle.fhir_conformance.specs.Conformance.{Interpretation, Conforms, constant}
 use Rattle.fhir_validator.specs.Verdicts.{is_conforming, is_violating, IsExplained, Means}
 use Rattle.fhir_validator.specs.Listing.{IsVerdictOn, IsOfBytes}
 use Rattle.fhir_validator.proofs.Concluding.{concluded, explained, of_bytes, err_weaker}

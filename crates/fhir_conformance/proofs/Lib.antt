@@ -1,0 +1,8 @@
+pub mod Lists
+pub mod Carrying
+pub mod Asked
+pub mod Stepping
+pub mod Placing
+pub mod Judged
+pub mod KidAt
+mod Refuted

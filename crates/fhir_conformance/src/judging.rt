@@ -1,0 +1,290 @@
+//! Whether a rule holds of an item.
+
+ghost use Rattle.std.specs.Prelude.{◌≡◌, Bool, [], IfOk, IsTrue};
+ghost use Rattle.std.specs.Option.{option_copied, option_map, option_map_or};
+ghost use Rattle.fhir_elements.specs.Constraint.{must_hold};
+ghost use Rattle.fhir_fp_syntax.specs.Expression.{expression_of as tree_of};
+ghost use Rattle.fhir_nodes.specs.Expressions.{expression_of};
+ghost use Rattle.fhir_schema.specs.Expressions.{constraint_at};
+ghost use Rattle.fhir_schema.specs.Schemas.{element_at};
+ghost use Rattle.fhir_instance.specs.View.{item_of};
+ghost use Rattle.fhir_facets.specs.Carried.{range_unread};
+ghost use Rattle.fhir_facets.specs.Counts.{are_enough, are_within};
+ghost use Rattle.fhir_facets.specs.Views.{unread_seen, view_seen, holding_under, IsCarried};
+ghost use Rattle.fhir_conformance.specs.Conformance.{seen, unread_constraint, constraint_passes, constraint_holds, fixed_at, pattern_at, range_at, length_at, binding_at, at_element, entry_allows, count_in, rule_holds};
+ghost use Rattle.fhir_conformance.specs.Asks.{constraint as constraint_rule};
+ghost use Rattle.fhir_conformance.specs.Meeting.{entry_unread, set_unread, constraint_unread, unread_at};
+ghost use Rattle.fhir_conformance.specs.Views.{rule_name, IsIndexOf};
+
+use crate::ask::Rule;
+use crate::children::Children;
+use crate::members::{count_in, is_apart_at, is_sliced_at};
+use fhir_elements::{ConstraintDef, ElementDef, TypeEntry};
+use fhir_facets::{
+    Binding, Facet, Fixed, Holding, Length, Pattern, Range, Targets, Unread, View, are_enough,
+    are_within,
+};
+use fhir_fp_eval::{Env, holds};
+use fhir_fp_syntax::Expr;
+use fhir_instance::Typed;
+use fhir_json::NoMemory;
+use fhir_schema::{NodeRef, Schema};
+use std::alloc::Global;
+
+fn view_of<'t, 'j>(item: &'t Typed<'_, 'j>) -> View<'t, 'j>
+    ensures { view_seen result ≡ seen (item_of item.now) }
+{
+    View {
+        code: item.code(),
+        json: item.json(),
+        has_kids: !item.kids().is_empty(),
+    }
+}
+
+fn judged<'s>(holds: bool) -> Holding<'s>
+    ensures exact { (b : Bool) → holding_under b result ≡ holds }
+    ensures decided { IsCarried [] result }
+{
+    if holds {
+        Holding::Holds
+    } else {
+        Holding::Fails
+    }
+}
+
+/// Whether an item is of the type of a type entry, and its reference's target one of the entry's (FHIR R4, ElementDefinition,
+/// type and type.targetProfile). The profiles that the entry names are no part of it. Where unread rules decide it, it answers
+/// one of the entry's.
+pub fn judge_entry<'s>(
+    schema: &'s Schema,
+    item: &Typed<'_, '_>,
+    entry: &'s TypeEntry,
+) -> Holding<'s>
+    ensures exact { (b : Bool) → holding_under b result
+        ≡ entry_allows schema.now (λ unread. b) (item_of item.now) entry.now }
+    ensures carried { IsCarried (entry_unread schema.now (item_of item.now) entry.now) result }
+{
+    if schema.covers(entry.code(), item.code()) {
+        Targets { schema, entry }.holds(&view_of(item))
+    } else {
+        Holding::Fails
+    }
+}
+
+fn judge_fixed<'s>(schema: &'s Schema, item: &Typed<'_, '_>, node: NodeRef) -> Holding<'s>
+    ensures exact { (b : Bool) → holding_under b result
+        ≡ at_element schema.now (fixed_at (item_of item.now)) node }
+    ensures decided { IsCarried [] result }
+{
+    let Some(element) = schema.element(node) else {
+        return Holding::Holds;
+    };
+    match element.fixed() {
+        Some(fixed) => Fixed(&fixed.value).holds(&view_of(item)),
+        None => Holding::Holds,
+    }
+}
+
+fn judge_pattern<'s>(schema: &'s Schema, item: &Typed<'_, '_>, node: NodeRef) -> Holding<'s>
+    ensures exact { (b : Bool) → holding_under b result
+        ≡ at_element schema.now (pattern_at (item_of item.now)) node }
+    ensures decided { IsCarried [] result }
+{
+    let Some(element) = schema.element(node) else {
+        return Holding::Holds;
+    };
+    match element.pattern() {
+        Some(pattern) => Pattern(&pattern.value).holds(&view_of(item)),
+        None => Holding::Holds,
+    }
+}
+
+fn judge_range<'s>(schema: &'s Schema, item: &Typed<'_, '_>, node: NodeRef) -> Holding<'s>
+    ensures exact { (b : Bool) → holding_under b result
+        ≡ at_element schema.now (range_at (λ unread. b) (item_of item.now)) node }
+    ensures carried { IsCarried (option_map_or range_unread (element_at schema.now node) []) result }
+{
+    match schema.element(node) {
+        Some(element) => Range::of(element).holds(&view_of(item)),
+        None => Holding::Holds,
+    }
+}
+
+fn judge_length<'s>(schema: &'s Schema, item: &Typed<'_, '_>, node: NodeRef) -> Holding<'s>
+    ensures exact { (b : Bool) → holding_under b result
+        ≡ at_element schema.now (length_at (item_of item.now)) node }
+    ensures decided { IsCarried [] result }
+{
+    let Some(element) = schema.element(node) else {
+        return Holding::Holds;
+    };
+    match element.max_length() {
+        Some(most) => Length(most).holds(&view_of(item)),
+        None => Holding::Holds,
+    }
+}
+
+fn judge_set<'s>(schema: &'s Schema, item: &Typed<'_, '_>, element: &'s ElementDef) -> Holding<'s>
+    ensures exact { (b : Bool) → holding_under b result
+        ≡ binding_at schema.now (λ unread. b) (item_of item.now) element.now }
+    ensures carried { IsCarried (set_unread schema.now (item_of item.now) element.now) result }
+{
+    match element.required_value_set() {
+        Some(canonical) => Binding::of(schema, canonical).holds(&view_of(item)),
+        None => Holding::Holds,
+    }
+}
+
+fn judge_binding<'s>(schema: &'s Schema, item: &Typed<'_, '_>, node: NodeRef) -> Holding<'s>
+    ensures exact { (b : Bool) → holding_under b result
+        ≡ at_element schema.now (binding_at schema.now (λ unread. b) (item_of item.now)) node }
+    ensures carried { IsCarried (option_map_or (set_unread schema.now (item_of item.now)) (element_at schema.now node) []) result }
+{
+    match schema.element(node) {
+        Some(element) => judge_set(schema, item, element),
+        None => Holding::Holds,
+    }
+}
+
+// The rule that a constraint is, where its expression can't be read.
+fn unread_of(constraint: &ConstraintDef) -> Unread<'_>
+    ensures { unread_seen result ≡ unread_constraint constraint.now }
+{
+    match constraint.expression() {
+        Some(text) => Unread::Expression(text),
+        None => Unread::Constraint(constraint.key()),
+    }
+}
+
+fn constraint_of(schema: &Schema, node: NodeRef, position: usize) -> Option<&ConstraintDef>
+    ensures { option_copied result ≡ constraint_at schema.now node position }
+{
+    schema.element(node)?.constraints().get(position)
+}
+
+// Whether a constraint that must hold does, by its expression, if that can be read.
+fn judge_expression<'s, 't, 'a, 'j>(
+    alloc: Global,
+    schema: &'t Schema,
+    resource: &'t Typed<'a, 'j>,
+    item: &'t Typed<'a, 'j>,
+    constraint: &'s ConstraintDef,
+    expression: Option<&'t Expr>,
+) -> Result<Holding<'s>, NoMemory>
+    requires { option_map (λ e. tree_of e.now) expression ≡ expression_of constraint.now }
+    ensures exact { IfOk result (λ h. (b : Bool) → holding_under b h
+        ≡ constraint_holds schema.now (λ unread. b) (item_of resource.now) (item_of item.now) constraint.now) }
+    ensures carried { IfOk result (λ h. IsTrue (must_hold constraint.now) → IsCarried (constraint_unread constraint.now) h) }
+{
+    let Some(expression) = expression else {
+        return Ok(Holding::Unread(unread_of(constraint)));
+    };
+    let env = Env {
+        schema,
+        resource,
+        context: item,
+    };
+    Ok(judged(holds(alloc, expression, &env, item)?))
+}
+
+fn judge_constraint<'s, 't, 'a, 'j>(
+    alloc: Global,
+    schema: &'s Schema,
+    resource: &'t Typed<'a, 'j>,
+    item: &'t Typed<'a, 'j>,
+    node: NodeRef,
+    position: usize,
+) -> Result<Holding<'s>, NoMemory>
+    ensures exact { IfOk result (λ h. (b : Bool) → holding_under b h
+        ≡ rule_holds schema.now (λ unread. b) (item_of resource.now) (item_of item.now) (constraint_rule position) node) }
+    ensures carried { IfOk result (λ h. IsCarried (option_map_or constraint_unread (constraint_at schema.now node position) []) h) }
+{
+    let Some(constraint) = constraint_of(schema, node, position) else {
+        return Ok(Holding::Holds);
+    };
+    if !constraint.must_hold() {
+        return Ok(Holding::Holds);
+    }
+    let expression = schema.expression(node, position);
+    judge_expression(alloc, schema, resource, item, constraint, expression)
+}
+
+fn has_enough(schema: &Schema, node: NodeRef, count: usize) -> bool
+    ensures { result ≡ at_element schema.now (λ e. are_enough e count) node }
+{
+    match schema.element(node) {
+        Some(element) => are_enough(element, count),
+        None => true,
+    }
+}
+
+fn has_no_more(schema: &Schema, node: NodeRef, count: usize) -> bool
+    ensures { result ≡ at_element schema.now (λ e. are_within e count) node }
+{
+    match schema.element(node) {
+        Some(element) => are_within(element, count),
+        None => true,
+    }
+}
+
+fn has_enough_in(
+    schema: &Schema,
+    item: &Typed<'_, '_>,
+    children: &Children<'_>,
+    node: NodeRef,
+    name: &str,
+) -> bool
+    requires { IsIndexOf (item_of item.now) children.now }
+    ensures { result ≡ at_element schema.now (λ e. are_enough e (count_in schema.now node name.now (item_of item.now))) node }
+{
+    has_enough(schema, node, count_in(schema, item, children, node, name))
+}
+
+fn has_no_more_in(
+    schema: &Schema,
+    item: &Typed<'_, '_>,
+    children: &Children<'_>,
+    node: NodeRef,
+    name: &str,
+) -> bool
+    requires { IsIndexOf (item_of item.now) children.now }
+    ensures { result ≡ at_element schema.now (λ e. are_within e (count_in schema.now node name.now (item_of item.now))) node }
+{
+    has_no_more(schema, node, count_in(schema, item, children, node, name))
+}
+
+/// Whether a rule of a node's element holds of an item, of which these are the children, and that the nearest resource at
+/// or around it (FHIR R4, ElementDefinition). Where unread rules decide it, it answers one of the node's. The one refusal is
+/// want of memory.
+pub fn judge<'s, 't, 'a, 'j>(
+    alloc: Global,
+    schema: &'s Schema,
+    resource: &'t Typed<'a, 'j>,
+    item: &'t Typed<'a, 'j>,
+    children: &Children<'_>,
+    rule: Rule<'s>,
+    node: NodeRef,
+) -> Result<Holding<'s>, NoMemory>
+    requires { IsIndexOf (item_of item.now) children.now }
+    ensures exact { IfOk result (λ h. (b : Bool) → holding_under b h
+        ≡ rule_holds schema.now (λ unread. b) (item_of resource.now) (item_of item.now) (rule_name rule.entry) node) }
+    ensures carried { IfOk result (λ h. IsCarried (unread_at schema.now (item_of item.now) node) h) }
+{
+    match rule {
+        Rule::RootType => Ok(judged(schema.covers(schema.type_code(node), item.code()))),
+        Rule::Fixed => Ok(judge_fixed(schema, item, node)),
+        Rule::Pattern => Ok(judge_pattern(schema, item, node)),
+        Rule::Range => Ok(judge_range(schema, item, node)),
+        Rule::Length => Ok(judge_length(schema, item, node)),
+        Rule::Binding => Ok(judge_binding(schema, item, node)),
+        Rule::TooFew(name) => Ok(judged(has_enough(schema, node, children.places(name).len()))),
+        Rule::TooMany(name) => Ok(judged(has_no_more(schema, node, children.places(name).len()))),
+        Rule::TooFewIn(name) => Ok(judged(has_enough_in(schema, item, children, node, name))),
+        Rule::TooManyIn(name) => Ok(judged(has_no_more_in(schema, item, children, node, name))),
+        Rule::Apart(position) => Ok(judged(is_apart_at(schema, item, node, position))),
+        Rule::Sliced(position) => Ok(judged(is_sliced_at(schema, item, node, position))),
+        Rule::Constraint(position) => {
+            judge_constraint(alloc, schema, resource, item, node, position)
+        }
+    }
+}

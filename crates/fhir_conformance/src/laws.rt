@@ -1,0 +1,114 @@
+//! Laws: what the definitions say of one another.
+
+ghost use Rattle.std.specs.Prelude.{◌≡◌, List, [], Bool, true, false, IsTrue, codes};
+ghost use Rattle.std.specs.List.{list_all};
+ghost use Rattle.fhir_json.specs.Tree.{Text, Tree, no_members};
+ghost use Rattle.fhir_nodes.specs.declared.node.NodeRef.{NodeRef};
+ghost use Rattle.fhir_schema.specs.Schemas.{SchemaValue};
+ghost use Rattle.fhir_instance.specs.Items.{Item, Place};
+ghost use Rattle.fhir_facets.specs.Unread.{Unread, Meaning};
+ghost use Rattle.fhir_conformance.specs.Asks.{root_asks};
+ghost use Rattle.fhir_conformance.specs.Conformance.{Interpretation, constant, Around, outermost, ask_holds, conforms, IsFairEverywhere, Conforms};
+ghost use Rattle.fhir_conformance.specs.Meeting.{Met, unread_at};
+ghost use Rattle.fhir_conformance.specs.Example.{schema, bare, noted, unknown};
+ghost use Rattle.fhir_conformance.specs.Questions.{questions, identified, texted, nested, nested_resources};
+ghost use Rattle.fhir_conformance.specs.Letters.{letters, given, title, from, answering, coded, counted, memo, one_name, three_names};
+
+use fhir_schema::roots_are_roots;
+
+/// Where unread rules mean more, no less conforms.
+pub fn positive()
+    ensures items { (s : SchemaValue) (less more : Interpretation)
+        → ((u : Unread) (o : Item) (p : Place) → IsTrue (less u o p) → IsTrue (more u o p))
+        → (around : Around) (x : Item) (n : NodeRef)
+        → IsTrue (conforms s less around x n) → IsTrue (conforms s more around x n) }
+    ensures resources { (s : SchemaValue) (less more : Interpretation)
+        → ((u : Unread) (o : Item) (p : Place) → IsTrue (less u o p) → IsTrue (more u o p))
+        → (profile : Text) (t : Tree) → Conforms s less profile t → Conforms s more profile t }
+{
+    roots_are_roots();
+}
+
+/// Meanings by which each unread rule holds everywhere, or none does anywhere, are fair.
+pub fn fair_meanings()
+    ensures { (s : SchemaValue) (b : Bool) → IsFairEverywhere s (constant b) }
+{}
+
+/// Where no pair of node and item that is met carries an unread rule, all meanings agree.
+pub fn decided()
+    ensures { (s : SchemaValue) (x : Item) (n : NodeRef)
+        → ((place : Place) (r y : Item) (m : NodeRef) → Met s x n place r y m → unread_at s y m ≡ [])
+        → (one other : Interpretation)
+        → conforms s one (outermost x) x n ≡ conforms s other (outermost x) x n }
+{
+    roots_are_roots();
+}
+
+/// A root asks for no root, no types and no profile: whether all that it asks holds doesn't hang on which roots the item conforms to.
+pub fn roots_ask_no_root()
+    ensures { (s : SchemaValue) (meaning : Meaning) (resource x : Item) (kids : List (NodeRef → Bool))
+        → (some others : NodeRef → Bool) (r : NodeRef)
+        → list_all (ask_holds s meaning resource x kids some) (root_asks s x r)
+        ≡ list_all (ask_holds s meaning resource x kids others) (root_asks s x r) }
+{}
+
+/// The definitions at work, on a resource that may have a note, and profiles of it. One with a note conforms to a profile
+/// that asks for one. One without a note conforms to its type's own definition, and not to that profile. One with a
+/// property that the type doesn't have doesn't conform to the type's definition. `resourceType` is no element: a resource
+/// doesn't conform to a profile that asks for such an element.
+pub fn example()
+    ensures noted { (meaning : Interpretation) → Conforms schema meaning (codes "urn:noted") noted }
+    ensures own { (meaning : Interpretation) → Conforms schema meaning (codes "urn:Thing") bare }
+    ensures bare { (meaning : Interpretation) → ¬ Conforms schema meaning (codes "urn:noted") bare }
+    ensures named { (meaning : Interpretation) → ¬ Conforms schema meaning (codes "urn:named") bare }
+    ensures unknown { (meaning : Interpretation) → ¬ Conforms schema meaning (codes "urn:Thing") unknown }
+{}
+
+/// The definitions at work on letters, whose sender has one given name or two, and perhaps a title. The definition of letters
+/// says less of the names than that of their type, which is asked all the same: a sender with one name conforms (`own`), without
+/// one (`nameless`) and with three (`many`) not. A profile that asks for a title is asked of the sender itself (`titled`,
+/// `untitled`). A letter may answer a letter (`answer`), and what the rule of a profile that isn't there says (`other`, `open`). Its
+/// kind is a code of a value set that isn't there, and so hangs on what that rule says (`kind`, `open_kind`); its mood is only
+/// preferred to be one, and any conforms (`mood`).
+pub fn letters_example()
+    ensures own { (meaning : Interpretation) → Conforms letters meaning (codes "urn:Letter") (from (given one_name no_members)) }
+    ensures nameless { (meaning : Interpretation) → ¬ Conforms letters meaning (codes "urn:Letter") (from title) }
+    ensures many { (meaning : Interpretation) → ¬ Conforms letters meaning (codes "urn:Letter") (from (given three_names no_members)) }
+    ensures titled { (meaning : Interpretation) → Conforms letters meaning (codes "urn:titled") (from (given one_name title)) }
+    ensures untitled { (meaning : Interpretation) → ¬ Conforms letters meaning (codes "urn:titled") (from (given one_name no_members)) }
+    ensures answer { (meaning : Interpretation) → Conforms letters meaning (codes "urn:Letter") (answering (codes "Letter/1")) }
+    ensures other { ¬ Conforms letters (constant false) (codes "urn:Letter") (answering (codes "Person/1")) }
+    ensures open { Conforms letters (constant true) (codes "urn:Letter") (answering (codes "Person/1")) }
+    ensures kind { ¬ Conforms letters (constant false) (codes "urn:Letter") (coded (codes "kind") (codes "c")) }
+    ensures open_kind { Conforms letters (constant true) (codes "urn:Letter") (coded (codes "kind") (codes "c")) }
+    ensures mood { (meaning : Interpretation) → Conforms letters meaning (codes "urn:Letter") (coded (codes "mood") (codes "c")) }
+{}
+
+/// The definitions at work on letters with one value. A greeting fits the pattern `dear` (`greeting`, `rude`), the language is the
+/// fixed `en` (`language`, `foreign`), a farewell has at most three characters (`farewell`, `wordy`), there is a page at least
+/// (`pages`, `empty`) and at most nine copies (`copies`, `crowd`). What isn't a letter doesn't conform to their definition (`memo`).
+pub fn values_example()
+    ensures greeting { (meaning : Interpretation) → Conforms letters meaning (codes "urn:Letter") (coded (codes "greeting") (codes "dear")) }
+    ensures rude { (meaning : Interpretation) → ¬ Conforms letters meaning (codes "urn:Letter") (coded (codes "greeting") (codes "you")) }
+    ensures language { (meaning : Interpretation) → Conforms letters meaning (codes "urn:Letter") (coded (codes "language") (codes "en")) }
+    ensures foreign { (meaning : Interpretation) → ¬ Conforms letters meaning (codes "urn:Letter") (coded (codes "language") (codes "fr")) }
+    ensures farewell { (meaning : Interpretation) → Conforms letters meaning (codes "urn:Letter") (coded (codes "farewell") (codes "bye")) }
+    ensures wordy { (meaning : Interpretation) → ¬ Conforms letters meaning (codes "urn:Letter") (coded (codes "farewell") (codes "adieu")) }
+    ensures pages { (meaning : Interpretation) → Conforms letters meaning (codes "urn:Letter") (counted (codes "pages") (codes "1")) }
+    ensures empty { (meaning : Interpretation) → ¬ Conforms letters meaning (codes "urn:Letter") (counted (codes "pages") (codes "0")) }
+    ensures copies { (meaning : Interpretation) → Conforms letters meaning (codes "urn:Letter") (counted (codes "copies") (codes "9")) }
+    ensures crowd { (meaning : Interpretation) → ¬ Conforms letters meaning (codes "urn:Letter") (counted (codes "copies") (codes "10")) }
+    ensures memo { (meaning : Interpretation) → ¬ Conforms letters meaning (codes "urn:Letter") memo }
+{}
+
+/// The definitions at work on what is recursive: questionnaires whose items have items, as an item refers to the items of the
+/// questionnaire for its content, and which may contain questionnaires. Each item has to have an id, at any depth (`nested`,
+/// `nameless`), also in a questionnaire in a questionnaire in a questionnaire (`contained`, `nameless_within`).
+pub fn questions_example()
+    ensures nested { (meaning : Interpretation) → Conforms questions meaning (codes "urn:Questionnaire") (nested (identified no_members)) }
+    ensures nameless { (meaning : Interpretation) → ¬ Conforms questions meaning (codes "urn:Questionnaire") (nested texted) }
+    ensures contained { (meaning : Interpretation)
+        → Conforms questions meaning (codes "urn:Questionnaire") (nested_resources (identified no_members)) }
+    ensures nameless_within { (meaning : Interpretation)
+        → ¬ Conforms questions meaning (codes "urn:Questionnaire") (nested_resources texted) }
+{}
