@@ -10,6 +10,7 @@ ghost use Rattle.fhir_json.specs.Views.{tree_of};
 ghost use Rattle.fhir_json.specs.Fields.{text_in};
 ghost use Rattle.fhir_json.specs.Grammar.{Reads};
 ghost use Rattle.fhir_json.specs.Memory.{Gives};
+ghost use Rattle.fhir_json.specs.Compact.{compact};
 ghost use Rattle.fhir_decimal.specs.Text.{Parts, IsDecimal};
 ghost use Rattle.fhir_decimal.specs.Value.{value_of, is_same_value};
 ghost use Rattle.fhir_names.specs.Ids.{read_id};
@@ -46,8 +47,9 @@ ghost use Rattle.fhir_certificate.specs.Judging.{Stands};
 ghost use Rattle.fhir_cert_check.specs.Checking.{SpellsCertificate};
 ghost use Rattle.fhir_findings.specs.Finding.{all_unusable};
 ghost use Rattle.fhir_report.specs.Faultless.{IsFaultless};
-ghost use Rattle.fhir_registry.specs.Replying.{Promise};
-ghost use Rattle.fhir_registry.specs.Views.{request_seen};
+ghost use Rattle.fhir_registry.specs.Outcomes.{IsOutcome, is_explained};
+ghost use Rattle.fhir_engine.specs.Replying.{Promise};
+ghost use Rattle.fhir_engine.specs.Views.{request_seen};
 
 use fhir_cert_check::{Answer, check_bytes};
 use fhir_certificate::CertFault;
@@ -55,22 +57,23 @@ use fhir_codes::expand;
 use fhir_decimal::Decimal;
 use fhir_definition::Definition;
 use fhir_elements::{ElementDef, ElementFault};
+use fhir_engine::{Request, Status, bytes_at, files_at, respond};
 use fhir_facets::{Facet, Pattern, narrower_holds};
 use fhir_forms::NodeForms;
 use fhir_fp_eval::{Env, holds};
 use fhir_fp_syntax::{Expr, Parsed, parse};
 use fhir_instance::{Misfit, Typed, type_resource};
-use fhir_json::{Json, JsonFault, NoMemory};
+use fhir_json::{Json, JsonFault, NoMemory, write};
 use fhir_matching::{json_eq, matches};
 use fhir_names::{ElementId, front_of};
 use fhir_nodes::{Nodes, Table};
 use fhir_package::{FolderFile, FolderFiles, Kind, LoadFault, Package, Survey, pack};
 use fhir_prims::{PrimType, lexical};
-use fhir_registry::{Request, Status, bytes_at, files_at, respond};
+use fhir_registry::outcome;
 use fhir_report::{Form, Silent, Subject};
 use fhir_schema::{NodeRef, Schema, Slot};
 use fhir_slicing::{Children, asks};
-use fhir_validator::{Fault, validate};
+use fhir_validator::{Fault, Verdict, validate};
 use std::alloc::Global;
 use std::io;
 use std::io::Write;
@@ -307,6 +310,19 @@ pub fn is_clean(alloc: Global, files: &FolderFiles) -> Result<bool, NoMemory>
     };
     let report = fhir_report::report_on(alloc, Form::Text, subject, &mut Silent)?;
     Ok(report.is_clean)
+}
+
+/// The outcome of a validation against the profile at a url, as a JSON text.
+pub fn outcome_text(
+    alloc: Global,
+    profile: &str,
+    validated: &Result<Verdict<'_>, Fault>,
+) -> Result<Vec<u8>, NoMemory>
+    ensures { IsTrue (is_explained validated.now)
+        → IfOk result (λ text. (t : Tree) × IsOutcome t × (text.items ≡ compact t)) }
+{
+    let outcome = outcome(alloc, profile, validated)?;
+    write(alloc, &outcome)
 }
 
 /// Answers a request, and gives the status.

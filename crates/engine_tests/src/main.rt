@@ -11,7 +11,7 @@
 //!   there as it is, without its line feed.
 #![tactic(auto)]
 
-use fhir_registry::{
+use fhir_engine::{
     CheckRequest, Invocation, Request, Status, bytes_at, check, files_at, invocation_of,
     listing_at, refuse, respond, tell_version,
 };

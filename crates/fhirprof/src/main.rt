@@ -3,15 +3,15 @@
 
 ghost use Rattle.std.specs.Prelude.{◌≡◌};
 ghost use Rattle.std.specs.Process.{exit_status};
-ghost use Rattle.fhir_registry.specs.Replying.{ReplyValue, IsReply, answer_to, Promise};
-ghost use Rattle.fhir_registry.specs.Checking.{CheckPromise, IsWrong};
-ghost use Rattle.fhir_registry.specs.Views.{bytes_seen, check_seen, request_seen};
+ghost use Rattle.fhir_engine.specs.Replying.{ReplyValue, IsReply, answer_to, Promise};
+ghost use Rattle.fhir_engine.specs.Checking.{CheckPromise, IsWrong};
+ghost use Rattle.fhir_engine.specs.Views.{bytes_seen, check_seen, request_seen};
 
-use fhir_package::{FolderFiles, LoadFault};
-use fhir_registry::{
+use fhir_engine::{
     CheckRequest, Invocation, Listing, Meter, Request, WordsFault, bytes_at, check, files_at,
     invocation_of, listing_at, refuse, respond, tell_version,
 };
+use fhir_package::{FolderFiles, LoadFault};
 use fhir_report::Progress;
 use std::alloc::Global;
 use std::io::{ErrorKind, IsTerminal, Write};
