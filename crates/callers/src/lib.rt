@@ -20,8 +20,7 @@ ghost use Rattle.fhir_matching.specs.Equality.{equal};
 ghost use Rattle.fhir_matching.specs.Fitting.{fits};
 ghost use Rattle.fhir_package.specs.Definitions.{Definitions};
 ghost use Rattle.fhir_package.specs.FilesView.{folder_files};
-ghost use Rattle.fhir_package.specs.Folder.{Files};
-ghost use Rattle.fhir_package.specs.declared.fault.LoadFault.{LoadFault};
+ghost use Rattle.fhir_package.specs.declared.folder.FolderFault.{FolderFault};
 ghost use Rattle.fhir_package.specs.Packing.{pack};
 ghost use Rattle.fhir_codes.specs.Concepts.{concept};
 ghost use Rattle.fhir_codes.specs.ValueSets.{concepts_of};
@@ -48,8 +47,10 @@ ghost use Rattle.fhir_cert_check.specs.Checking.{SpellsCertificate};
 ghost use Rattle.fhir_findings.specs.Finding.{all_unusable};
 ghost use Rattle.fhir_report.specs.Faultless.{IsFaultless};
 ghost use Rattle.fhir_registry.specs.Outcomes.{IsOutcome, is_explained};
-ghost use Rattle.fhir_engine.specs.Replying.{Promise};
-ghost use Rattle.fhir_engine.specs.Views.{request_seen};
+ghost use Rattle.fhir_engine.specs.declared.directory.Listing.{Listing};
+ghost use Rattle.fhir_engine.specs.declared.request.WordsFault.{WordsFault};
+ghost use Rattle.fhir_engine.specs.Promising.{Promise};
+ghost use Rattle.fhir_engine.specs.Requests.{InvocationValue};
 
 use fhir_cert_check::{Answer, check_bytes};
 use fhir_certificate::CertFault;
@@ -57,7 +58,7 @@ use fhir_codes::expand;
 use fhir_decimal::Decimal;
 use fhir_definition::Definition;
 use fhir_elements::{ElementDef, ElementFault};
-use fhir_engine::{Request, Status, bytes_at, files_at, respond};
+use fhir_engine::{Opened, Status, invocation_of, open_asked, run};
 use fhir_facets::{Facet, Pattern, narrower_holds};
 use fhir_forms::NodeForms;
 use fhir_fp_eval::{Env, holds};
@@ -75,7 +76,6 @@ use fhir_schema::{NodeRef, Schema, Slot};
 use fhir_slicing::{Children, asks};
 use fhir_validator::{Fault, Verdict, validate};
 use std::alloc::Global;
-use std::io;
 use std::io::Write;
 use std::rt::Files;
 
@@ -319,23 +319,28 @@ pub fn outcome_text(
     validated: &Result<Verdict<'_>, Fault>,
 ) -> Result<Vec<u8>, NoMemory>
     ensures { IsTrue (is_explained validated.now)
-        → IfOk result (λ text. (t : Tree) × IsOutcome t × (text.items ≡ compact t)) }
+        → IfOk result (λ text. (t : Tree) × IsOutcome validated.now t × (text.items ≡ compact t)) }
 {
     let outcome = outcome(alloc, profile, validated)?;
     write(alloc, &outcome)
 }
 
-/// Answers a request, and gives the status.
+/// Does what words ask, of which the first is the program's name, and gives the status.
 pub fn status_of<R: Files + AllocGlobal + Clone + Drop, W: Write, E: Write>(
     rt: &R,
-    request: Request<'_>,
+    words: &[String],
     out: &mut W,
     err: &mut E,
-) -> io::Result<Status>
-    ensures { IfOk result (λ status. status ≡ Status.Yes
-        → (files : Result Files LoadFault) × (file : Option Text) × Promise (request_seen request.entry) files file) }
+) -> Status
+    ensures { result ≡ Status.Yes → (asked : Result InvocationValue WordsFault)
+        × (folder : Result Listing FolderFault) × (file : Option Text) × Promise asked folder file }
 {
-    let files = files_at(rt, request.folder());
-    let file = bytes_at(rt, request.file())?;
-    Ok(respond(rt.alloc(), request, &files, file.as_deref(), out, err))
+    let asked = invocation_of(rt.alloc(), words);
+    let Opened {
+        asked,
+        listing,
+        file,
+    } = open_asked(rt, asked, &mut Silent);
+    let bytes = file.as_deref();
+    run(rt.alloc(), &asked, &listing, bytes, &mut Silent, out, err)
 }

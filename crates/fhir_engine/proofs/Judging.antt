@@ -1,8 +1,7 @@
--- What the reply on a resource says, from what was validated.
-use Rattle.std.proofs.Common.{◌≡◌, ◌<◌, ◌++◌, ◌↔◌, [], true, false, length, Result, Ok, Err, IfOk, IfErr, IsTrue, codes, refl, sym, ◌∙◌, ap, ℕ, rules}
+-- What a reply on a resource says, from what was validated.
+use Rattle.std.proofs.Common.{◌≡◌, ◌<◌, ◌↔◌, true, false, length, Result, Ok, Err, IfOk, IfErr, IsTrue, refl, sym, ◌∙◌, ap, rules}
 use Rattle.std.proofs.lemmas.Bool.{false≢true}
 use Rattle.fhir_json.specs.Tree.{Text, Tree}
-use Rattle.fhir_json.specs.Compact.{compact}
 use Rattle.fhir_json.specs.Grammar.{Reads}
 use Rattle.fhir_schema.specs.Schemas.{SchemaValue}
 use Rattle.fhir_slicing.specs.Conformance.{Interpretation, Conforms, constant}
@@ -11,9 +10,9 @@ use Rattle.fhir_validator.specs.declared.fault.Fault.TheVariants.{NoMemory}
 use Rattle.fhir_validator.specs.declared.verdict.Verdict.{Verdict}
 use Rattle.fhir_validator.specs.declared.verdict.Verdict.TheVariants as verdicts
 use Rattle.fhir_validator.specs.Verdicts.{is_conforming, is_violating, IsExplained, Means}
-use Rattle.fhir_registry.specs.Outcomes.{IsOutcome, is_explained}
-use Rattle.fhir_engine.specs.Replying.{ReplyValue, IsJudged}
-use Rattle.fhir_engine.specs.Standing.{AlwaysConforms, NeverConforms, HangsOnUnread, IsNotJudged}
+use Rattle.fhir_registry.specs.Outcomes.{is_explained}
+use Rattle.fhir_engine.specs.Replying.{ReplyValue, written, status_of}
+use Rattle.fhir_engine.specs.Standing.{AlwaysConforms, Stands}
 use Rattle.fhir_engine.specs.Status.{code_of, verdict_status}
 
 -- what is known of a validation
@@ -26,36 +25,24 @@ pub record IsValidated (s : SchemaValue) (profile bytes : Text) (v : Result Verd
   pub read : IfOk v (λ v. (t : Tree) × Reads bytes t)
   pub refused : IfErr v (λ fault. Means s profile bytes fault)
 
--- what a number says of how the resource stands with the profile
-abbrev Says : SchemaValue → Text → Text → ℕ → Type 0
-Says s profile bytes n =
-    (n ≡ 0 → AlwaysConforms s profile bytes) × (n ≡ 1 → NeverConforms s profile bytes)
-    × (n ≡ 2 → HangsOnUnread s profile bytes) × (n ≡ 3 → IsNotJudged s profile bytes)
-
-says : (s : SchemaValue) (profile bytes : Text) (v : Result Verdict Fault) → IsValidated s profile bytes v → (v ≡ Err NoMemory → ⊥)
-    → Says s profile bytes (code_of (verdict_status v))
-says s profile bytes (Ok verdicts.Conforms) known memory = (
-  λ e. (known.read.0, known.read.1, known.always known.read.0 known.read.1 refl),
-  λ e. absurd cc,
-  λ e. absurd cc,
-  λ e. absurd cc,
-)
-says s profile bytes (Ok (verdicts.Violates issues)) known memory = (
-  λ e. absurd cc,
-  λ e. (known.read.0, known.read.1, known.never known.read.0 known.read.1 refl),
-  λ e. absurd cc,
-  λ e. absurd cc,
-)
-says s profile bytes (Ok (verdicts.Open sites)) known memory =
+-- the resource stands as it says
+pub stands : (s : SchemaValue) (profile bytes : Text) (v : Result Verdict Fault) → IsValidated s profile bytes v → (v ≡ Err NoMemory → ⊥)
+    → Stands s profile bytes v
+stands s profile bytes (Ok verdicts.Conforms) known memory =
+    let t = known.read.0 in
+    let reads = known.read.1 in (t, reads, known.always t reads refl, known.explained t reads)
+stands s profile bytes (Ok (verdicts.Violates issues)) known memory =
+    let t = known.read.0 in
+    let reads = known.read.1 in (t, reads, known.never t reads refl, known.explained t reads)
+stands s profile bytes (Ok (verdicts.Open sites)) known memory =
     let t = known.read.0 in
     let reads = known.read.1 in (
-      λ e. absurd cc,
-      λ e. absurd cc,
-      λ e. (t, reads, (λ holds. false≢true ((known.conforms t reads).1 holds)), (λ fails. false≢true ((known.violates t reads).1 fails))),
-      λ e. absurd cc,
+      t,
+      reads,
+      ((λ holds. false≢true ((known.conforms t reads).1 holds)), (λ fails. false≢true ((known.violates t reads).1 fails))),
+      known.explained t reads,
     )
-says s profile bytes (Err fault) known memory =
-    (λ e. absurd cc, λ e. absurd cc, λ e. absurd cc, λ e. (fault, known.refused, λ same. memory (ap Err same)))
+stands s profile bytes (Err fault) known memory = (known.refused, λ same. memory (ap Err same))
 
 -- it lists something, where it lists
 pub is_listed : (s : SchemaValue) (profile bytes : Text) (v : Result Verdict Fault) → IsValidated s profile bytes v → IsTrue (is_explained v)
@@ -66,17 +53,10 @@ is_listed s profile bytes (Ok (verdicts.Open sites)) known =
     let some : 0 < length sites.items = (known.explained known.read.0 known.read.1).some in search rules
 is_listed s profile bytes (Err fault) known = refl
 
-pub judged_so : (s : SchemaValue) (profile bytes : Text) (v : Result Verdict Fault) (json : Tree) (reply : ReplyValue)
-    → IsValidated s profile bytes v → (v ≡ Err NoMemory → ⊥) → IsOutcome json
-    → reply.status ≡ code_of (verdict_status v) → reply.out ≡ compact json ++ codes "\n" → reply.err ≡ []
-    → IsJudged s profile bytes reply
-judged_so s profile bytes v json reply known memory outcome status out err =
-    let number = says s profile bytes v known memory in
-    record {
-      outcome = (json, outcome, out);
-      quiet = err;
-      conforms = λ e. number.0 (sym status ∙ e);
-      violates = λ e. number.1 (sym status ∙ e);
-      hangs = λ e. number.2 (sym status ∙ e);
-      refused = λ e. number.3 (sym status ∙ e);
-    }
+-- where the status of the reply is 0, the resource conforms
+pub always_by : (s : SchemaValue) (profile bytes : Text) (v : Result Verdict Fault) → Stands s profile bytes v → code_of (verdict_status v) ≡ 0
+    → AlwaysConforms s profile bytes
+always_by s profile bytes (Ok verdicts.Conforms) so zero = (so.0, so.1, so.2)
+always_by s profile bytes (Ok (verdicts.Violates issues)) so zero = absurd cc
+always_by s profile bytes (Ok (verdicts.Open sites)) so zero = absurd cc
+always_by s profile bytes (Err fault) so zero = absurd cc

@@ -1,3 +1,3 @@
-pub mod Checks
-pub mod FaultsEnd
+pub mod Ends
 pub mod Judging
+pub mod Promises

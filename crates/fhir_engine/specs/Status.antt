@@ -1,5 +1,5 @@
 -- The numbers of the statuses.
-use Rattle.std.specs.Prelude.{ℕ, Result, Ok, Err}
+use Rattle.std.specs.Prelude.{ℕ, Bool, true, false, Result, Ok, Err}
 use Rattle.fhir_validator.specs.declared.fault.Fault.{Fault as NotJudged}
 use Rattle.fhir_validator.specs.declared.verdict.Verdict.{Verdict}
 use Rattle.fhir_validator.specs.declared.verdict.Verdict.TheVariants as verdicts
@@ -27,3 +27,8 @@ verdict_status (Ok verdicts.Conforms) = Yes
 verdict_status (Ok (verdicts.Violates issues)) = No
 verdict_status (Ok (verdicts.Open sites)) = Open
 verdict_status (Err fault) = Fault
+
+-- the status of a report, by whether nothing is wrong
+abbrev pub report_status : Bool → Status
+report_status true = Yes
+report_status false = No

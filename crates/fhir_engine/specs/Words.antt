@@ -4,8 +4,7 @@ use Rattle.std.specs.List.{starts_with}
 use Rattle.std.specs.Str.{bytes_eq}
 use Rattle.fhir_json.specs.Tree.{Text}
 use Rattle.fhir_report.specs.declared.writing.Form.TheVariants.{Text as AsText}
-use Rattle.fhir_engine.specs.Checking.{CheckValue}
-use Rattle.fhir_engine.specs.Replying.{RequestValue, certify, validate}
+use Rattle.fhir_engine.specs.Requests.{RequestValue, certify, validate, check, InvocationValue, request}
 
 abbrev pub is_option : Text → Bool
 is_option word = starts_with nat_eq word (codes "-")
@@ -24,8 +23,22 @@ validate_request command first second third =
     if bytes_eq command (codes "validate") && not (is_option first) && are_plain second third
     then Some (validate first second third) else None
 
+-- the check of a folder, and the same with a certificate
+abbrev pub check_request : Text → Text → Option RequestValue
+check_request command folder =
+    if bytes_eq command (codes "check") && not (is_option folder) then Some (check folder None AsText) else None
+
+abbrev pub check_beside : Text → Text → Text → Option RequestValue
+check_beside command folder certificate =
+    if bytes_eq command (codes "check") && are_plain folder certificate then Some (check folder (Some certificate) AsText) else None
+
+abbrev pub first_some : {A : Type 0} → Option A → Option A → Option A
+first_some (Some x) other = Some x
+first_some None other = other
+
 abbrev pub command_request : Text → List Text → Option RequestValue
-command_request command (first ∷ second ∷ []) = certify_request command first second
+command_request command (first ∷ []) = check_request command first
+command_request command (first ∷ second ∷ []) = first_some (certify_request command first second) (check_beside command first second)
 command_request command (first ∷ second ∷ third ∷ []) = validate_request command first second third
 command_request command _ = None
 
@@ -34,31 +47,5 @@ abbrev pub plain_request : List Text → Option RequestValue
 plain_request (program ∷ command ∷ words) = command_request command words
 plain_request _ = None
 
--- the check of a folder, and the same with a certificate
-abbrev pub check_request : Text → Text → Option CheckValue
-check_request command folder =
-    if bytes_eq command (codes "check") && not (is_option folder)
-    then Some (record { folder = folder; certificate = None; form = AsText }) else None
-
-abbrev pub check_beside : Text → Text → Text → Option CheckValue
-check_beside command folder certificate =
-    if bytes_eq command (codes "check") && are_plain folder certificate
-    then Some (record { folder = folder; certificate = Some certificate; form = AsText }) else None
-
-abbrev pub plain_check : List Text → Option CheckValue
-plain_check (program ∷ command ∷ folder ∷ []) = check_request command folder
-plain_check (program ∷ command ∷ folder ∷ certificate ∷ []) = check_beside command folder certificate
-plain_check _ = None
-
--- what words ask for
-pub data InvocationValue : Type 0 where
-  judge : RequestValue → InvocationValue
-  check : CheckValue → InvocationValue
-  version : InvocationValue
-
-abbrev pub first_some : {A : Type 0} → Option A → Option A → Option A
-first_some (Some x) other = Some x
-first_some None other = other
-
 abbrev pub plain_invocation : List Text → Option InvocationValue
-plain_invocation words = first_some (option_map judge (plain_request words)) (option_map check (plain_check words))
+plain_invocation words = option_map request (plain_request words)

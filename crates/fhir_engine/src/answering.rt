@@ -1,25 +1,20 @@
-//! What is answered to a request, before anything is written.
+//! What is answered of a file, by a schema.
 
-ghost use Rattle.std.specs.Prelude.{◌≡◌, [], IfOk, Result, Ok, Option, codes};
-ghost use Rattle.fhir_json.specs.Tree.{Text};
+ghost use Rattle.std.specs.Prelude.{◌≡◌, IfOk};
 ghost use Rattle.fhir_json.specs.Memory.{Gives};
-ghost use Rattle.fhir_package.specs.Definitions.{Definitions};
-ghost use Rattle.fhir_package.specs.Packing.{Refusal, pack_files};
-ghost use Rattle.fhir_package.specs.Faults.{IsRefused, failures_told};
-ghost use Rattle.fhir_schema.specs.Schemas.{schema_of};
-ghost use Rattle.fhir_engine.specs.Replying.{RequestValue, certify, certificate_reply, load_fault_reply, IsJudged, IsReply, bytes_answer, file_answer, package_answer, answer_to, Promised, FilePromised, Promise};
+ghost use Rattle.fhir_report.specs.Faultless.{Promises};
+ghost use Rattle.fhir_engine.specs.Answering.{IsJudged, IsReply, certify_answer, validate_answer};
+ghost use Rattle.fhir_engine.specs.Promising.{Certified, Validated};
+ghost use Rattle.fhir_engine.specs.Replying.{reply_seen, status_of, certificate_reply};
 ghost use Rattle.fhir_engine.specs.Standing.{AlwaysConforms};
 ghost use Rattle.fhir_engine.specs.Status.{verdict_status};
-ghost use Rattle.fhir_engine.specs.Telling.{load_subject};
-ghost use Rattle.fhir_engine.specs.Views.{bytes_seen, request_seen};
+ghost use Rattle.fhir_engine.specs.Views.{bytes_seen};
 
-use crate::reply::{Reply, Status, fault_reply};
-use crate::request::Request;
+use crate::reply::{Reply, Status, fault_reply, unread_reply};
 use crate::telling::wrong_reply;
 use fhir_cert_check::check_bytes;
 use fhir_certificate::CertFault;
 use fhir_json::{NoMemory, write};
-use fhir_package::{FolderFiles, LoadFault, Package, pack};
 use fhir_registry::outcome;
 use fhir_schema::Schema;
 use fhir_validator::{Fault, Verdict, validate};
@@ -31,8 +26,8 @@ fn certificate_reply(
     schema: &Schema,
     bytes: &[u8],
 ) -> Result<Reply, NoMemory>
-    ensures told { Gives (λ r. r) result (certificate_reply name.now schema.now bytes.now) }
-    ensures promised { (folder : Text) → IfOk result (λ r. r.status ≡ 0 → Promised (certify folder name.now) schema.now bytes.now) }
+    ensures told { Gives reply_seen result (certificate_reply name.now schema.now bytes.now) }
+    ensures promised { IfOk result (λ r. status_of (reply_seen r) ≡ 0 → Promises schema.now bytes.now) }
 {
     match check_bytes(alloc, schema, bytes) {
         Ok(answer) => Ok(wrong_reply(alloc, schema, answer)?),
@@ -58,125 +53,48 @@ fn resource_reply(
     schema: &Schema,
     bytes: &[u8],
 ) -> Result<Reply, NoMemory>
-    ensures told { IfOk result (λ r. IsJudged schema.now profile.now bytes.now r) }
-    ensures promised { IfOk result (λ r. r.status ≡ 0 → AlwaysConforms schema.now profile.now bytes.now) }
+    ensures told { IfOk result (λ r. IsJudged schema.now profile.now bytes.now (reply_seen r)) }
+    ensures promised { IfOk result (λ r. status_of (reply_seen r) ≡ 0 → AlwaysConforms schema.now profile.now bytes.now) }
 {
     let validated = validate(alloc, schema, profile, bytes);
     let outcome = outcome(alloc, profile, &validated)?;
     let mut out = write(alloc, &outcome)?;
     out.push(b'\n')?;
-    Ok(Reply {
+    Ok(Reply::Answer {
         status: status_of(&validated),
         out,
-        err: String::new(alloc),
     })
 }
 
-fn bytes_reply(
+/// What is answered of the certificate in a file of that name, by its bytes, or by none where it can't be read.
+pub(crate) fn certify(
     alloc: Global,
-    request: Request<'_>,
     schema: &Schema,
-    bytes: &[u8],
-) -> Result<Reply, NoMemory>
-    ensures told { IfOk result (λ r. IsReply (bytes_answer (request_seen request.entry) schema.now bytes.now) r) }
-    ensures promised { IfOk result (λ r. r.status ≡ 0 → Promised (request_seen request.entry) schema.now bytes.now) }
-{
-    match request {
-        Request::Certify { file, .. } => certificate_reply(alloc, file, schema, bytes),
-        Request::Validate { profile, .. } => resource_reply(alloc, profile, schema, bytes),
-    }
-}
-
-fn file_reply(
-    alloc: Global,
-    request: Request<'_>,
-    schema: &Schema,
+    name: &str,
     file: Option<&[u8]>,
 ) -> Result<Reply, NoMemory>
-    ensures told { IfOk result (λ r. IsReply (file_answer (request_seen request.entry) schema.now (bytes_seen file.entry)) r) }
-    ensures promised { IfOk result (λ r. r.status ≡ 0 → FilePromised (request_seen request.entry) schema.now (bytes_seen file.entry)) }
+    ensures told { IfOk result (λ r. IsReply (certify_answer schema.now name.now (bytes_seen file.entry)) (reply_seen r)) }
+    ensures promised { IfOk result (λ r. status_of (reply_seen r) ≡ 0 → Certified schema.now (bytes_seen file.entry)) }
 {
     match file {
-        Some(bytes) => bytes_reply(alloc, request, schema, bytes),
-        None => Ok(fault_reply(alloc, "read", request.file())?),
+        Some(bytes) => certificate_reply(alloc, name, schema, bytes),
+        None => Ok(unread_reply(alloc, name)?),
     }
 }
 
-fn package_reply(
+/// What is answered of the resource in a file of that name and a profile, by the file's bytes, or by none where it can't be read.
+pub(crate) fn validate_file(
     alloc: Global,
-    request: Request<'_>,
-    loaded: &Package<'_>,
+    schema: &Schema,
+    profile: &str,
+    name: &str,
     file: Option<&[u8]>,
 ) -> Result<Reply, NoMemory>
-    ensures told { IfOk result (λ r. IsReply (file_answer (request_seen request.entry) (schema_of loaded.now) (bytes_seen file.entry)) r) }
-    ensures promised { IfOk result (λ r. r.status ≡ 0
-        → FilePromised (request_seen request.entry) (schema_of loaded.now) (bytes_seen file.entry)) }
+    ensures told { IfOk result (λ r. IsReply (validate_answer schema.now profile.now name.now (bytes_seen file.entry)) (reply_seen r)) }
+    ensures promised { IfOk result (λ r. status_of (reply_seen r) ≡ 0 → Validated schema.now profile.now (bytes_seen file.entry)) }
 {
-    let schema = Schema::build(alloc, loaded)?;
-    file_reply(alloc, request, &schema, file)
-}
-
-fn load_subject<'f>(folder: &'f str, fault: &'f LoadFault) -> &'f str
-    ensures { result.now ≡ load_subject folder.now fault.now }
-{
-    match fault {
-        LoadFault::Unlisted | LoadFault::NoMemory => folder,
-        LoadFault::Unread(name) | LoadFault::NotJson(name) => name.as_str(),
-        LoadFault::Clash(url) => url.as_str(),
-    }
-}
-
-pub(crate) fn load_fault_reply(
-    alloc: Global,
-    folder: &str,
-    fault: &LoadFault,
-) -> Result<Reply, NoMemory>
-    ensures told { Gives (λ r. r) result (load_fault_reply folder.now fault.now) }
-    ensures memory { IfOk result (λ r. fault.now ≡ LoadFault.NoMemory → ⊥) }
-{
-    if let LoadFault::NoMemory = fault {
-        return Err(NoMemory);
-    }
-    Ok(fault_reply(alloc, fault.number(), load_subject(folder, fault))?)
-}
-
-// What is answered where files are no package.
-fn refusal_reply(alloc: Global, fault: &LoadFault) -> Result<Reply, NoMemory>
-    ensures told { (answer : Result Definitions Refusal) (request : RequestValue) (file : Option Text)
-        → failures_told fault.now ≡ 0 → IsRefused fault.now answer → IfOk result (λ r. IsReply (package_answer request answer file) r) }
-    ensures fault { IfOk result (λ r. r.status ≡ 3) }
-{
-    load_fault_reply(alloc, "", fault)
-}
-
-fn files_reply(
-    alloc: Global,
-    request: Request<'_>,
-    files: &FolderFiles,
-    file: Option<&[u8]>,
-) -> Result<Reply, NoMemory>
-    ensures told { IfOk result (λ r. IsReply (package_answer (request_seen request.entry) (pack_files files.now) (bytes_seen file.entry)) r) }
-    ensures promised { IfOk result (λ r. r.status ≡ 0 → Promise (request_seen request.entry) (Ok files.now) (bytes_seen file.entry)) }
-{
-    match pack(alloc, files) {
-        Ok(package) => package_reply(alloc, request, &package, file),
-        Err(fault) => refusal_reply(alloc, &fault),
-    }
-}
-
-/// The answer to a request, of the files of the folder and the bytes of the file that it names. The folder's files are these, or
-/// the fault says why there are none; where the file can't be read it has no bytes.
-pub fn answer(
-    alloc: Global,
-    request: Request<'_>,
-    files: &Result<FolderFiles, LoadFault>,
-    file: Option<&[u8]>,
-) -> Result<Reply, NoMemory>
-    ensures told { IfOk result (λ r. IsReply (answer_to (request_seen request.entry) files.now (bytes_seen file.entry)) r) }
-    ensures promised { IfOk result (λ r. r.status ≡ 0 → Promise (request_seen request.entry) files.now (bytes_seen file.entry)) }
-{
-    match files {
-        Ok(files) => files_reply(alloc, request, files, file),
-        Err(fault) => load_fault_reply(alloc, request.folder(), fault),
+    match file {
+        Some(bytes) => resource_reply(alloc, profile, schema, bytes),
+        None => Ok(unread_reply(alloc, name)?),
     }
 }

@@ -1,11 +1,13 @@
 //! Files of a file system.
 
-ghost use Rattle.std.specs.Prelude.{◌≡◌, IfErr};
+ghost use Rattle.std.specs.Prelude.{◌≡◌, ◌⊎◌, IfErr, Err};
 ghost use Rattle.std.specs.IoError.{error_kind};
-ghost use Rattle.fhir_package.specs.Faults.{IsOfDevice};
+ghost use Rattle.fhir_engine.specs.Views.{asked_seen};
 
-use fhir_package::{FolderFile, FolderFiles, LoadFault, is_json_name};
-use fhir_report::{Progress, Silent, Stage};
+use crate::request::{Invocation, Request, WordsFault};
+use fhir_json::NoMemory;
+use fhir_package::{FolderFault, FolderFile, FolderFiles, is_json_name};
+use fhir_report::{Progress, Stage};
 use std::alloc::Global;
 use std::collections::BTreeMap;
 use std::fs::DirEntry;
@@ -99,31 +101,14 @@ pub fn listing_at<R: Files + AllocGlobal + Clone + Drop, P: Progress>(
     rt: &R,
     path: &str,
     progress: &mut P,
-) -> Result<Listing, LoadFault>
-    ensures { IfErr result IsOfDevice }
-{
+) -> Result<Listing, FolderFault> {
     match found_at(rt, path, progress) {
-        Ok(Found { files, unread }) => {
-            let files = FolderFiles::of(rt.alloc(), files)?;
-            Ok(Listing { files, unread })
-        }
-        Err(error) if error.kind() == ErrorKind::OutOfMemory => Err(LoadFault::NoMemory),
-        Err(_) => Err(LoadFault::Unlisted),
-    }
-}
-
-/// The regular files of the directory at a path whose names end in `.json`. A file whose name isn't UTF-8 is passed over. Of
-/// files that the device doesn't give the fault names the first in the order of their names.
-pub fn files_at<R: Files + AllocGlobal + Clone + Drop>(
-    rt: &R,
-    path: &str,
-) -> Result<FolderFiles, LoadFault>
-    ensures { IfErr result IsOfDevice }
-{
-    let Listing { files, unread } = listing_at(rt, path, &mut Silent)?;
-    match unread.into_iter().next() {
-        Some(name) => Err(LoadFault::Unread(name)),
-        None => Ok(files),
+        Ok(Found { files, unread }) => match FolderFiles::of(rt.alloc(), files) {
+            Ok(files) => Ok(Listing { files, unread }),
+            Err(_) => Err(FolderFault::NoMemory),
+        },
+        Err(error) if error.kind() == ErrorKind::OutOfMemory => Err(FolderFault::NoMemory),
+        Err(_) => Err(FolderFault::Device),
     }
 }
 
@@ -148,5 +133,57 @@ pub fn bytes_at<R: Files + AllocGlobal>(rt: &R, path: &str) -> io::Result<Option
         Ok(bytes) => Ok(Some(bytes)),
         Err(error) if error.kind() == ErrorKind::OutOfMemory => Err(error),
         Err(_) => Ok(None),
+    }
+}
+
+/// What words ask for, with what they name.
+#[derive(Debug, Drop)]
+pub struct Opened<'w> {
+    /// What they ask for.
+    pub asked: Result<Invocation<'w>, WordsFault>,
+    /// What the folder holds, or why it isn't listed.
+    pub listing: Result<Listing, FolderFault>,
+    /// The bytes of the file, or none where none is named or it can't be read.
+    pub file: Option<Vec<u8>>,
+}
+
+// The file that is asked about, if one is and it can be read.
+fn file_of<R: Files + AllocGlobal>(
+    rt: &R,
+    request: &Request<'_>,
+) -> Result<Option<Vec<u8>>, NoMemory> {
+    match request.file() {
+        Some(path) => bytes_at(rt, path).map_err(|_| NoMemory),
+        None => Ok(None),
+    }
+}
+
+/// Opens what words name. Where they name no folder, none is listed. Where memory runs out, they ask for nothing.
+pub fn open_asked<'w, R: Files + AllocGlobal + Clone + Drop, P: Progress>(
+    rt: &R,
+    asked: Result<Invocation<'w>, WordsFault>,
+    progress: &mut P,
+) -> Opened<'w>
+    ensures { (asked_seen result.asked ≡ asked_seen asked.entry) ⊎ (asked_seen result.asked ≡ Err WordsFault.NoMemory) }
+{
+    let Ok(Invocation::Request(request)) = asked else {
+        return Opened {
+            asked,
+            listing: Err(FolderFault::Device),
+            file: None,
+        };
+    };
+    let listing = listing_at(rt, request.folder(), progress);
+    match file_of(rt, &request) {
+        Ok(file) => Opened {
+            asked,
+            listing,
+            file,
+        },
+        Err(NoMemory) => Opened {
+            asked: Err(WordsFault::NoMemory),
+            listing,
+            file: None,
+        },
     }
 }

@@ -1,22 +1,22 @@
-//! The engine: it does what is asked, and writes what is answered.
+//! The engine: it does what words ask, and writes what is answered.
 
-ghost use Rattle.std.specs.Prelude.{◌≡◌, [], false, Err, IsTrue};
+ghost use Rattle.std.specs.Prelude.{◌≡◌, false, Ok, IfOk, IfErr, IsTrue};
 ghost use Rattle.std.specs.Io.KnownBytes.{Appends};
-ghost use Rattle.fhir_package.specs.declared.fault.LoadFault.{LoadFault};
-ghost use Rattle.fhir_engine.specs.Checking.{CheckPromise, IsWrong, IsCheckReply};
-ghost use Rattle.fhir_engine.specs.Replying.{ReplyValue, IsReply, answer_to, Promise};
-ghost use Rattle.fhir_engine.specs.Ending.{HasEnded, is_fault, tells_fault};
-ghost use Rattle.fhir_engine.specs.Status.{words_status};
-ghost use Rattle.fhir_engine.specs.Views.{bytes_seen, check_seen, request_seen};
+ghost use Rattle.fhir_engine.specs.Answering.{IsReply, answer_by, answer_to, answer_for};
+ghost use Rattle.fhir_engine.specs.Ending.{HasEnded, told_status};
+ghost use Rattle.fhir_engine.specs.Promising.{FolderPromise, Promise};
+ghost use Rattle.fhir_engine.specs.Replying.{ReplyValue, written, reply_seen, status_of, is_told};
+ghost use Rattle.fhir_engine.specs.Session.{session_of};
+ghost use Rattle.fhir_engine.specs.Status.{code_of, words_status};
+ghost use Rattle.fhir_engine.specs.Views.{bytes_seen, request_seen, asked_seen};
 
-use crate::answering::answer;
-use crate::checking::checked;
 use crate::directory::Listing;
-use crate::reply::{Reply, Status};
-use crate::request::{CheckRequest, Request, WordsFault};
+use crate::reply::{Reply, Status, fault_reply};
+use crate::request::{Invocation, Request, WordsFault};
+use crate::session::Session;
 use crate::version::VERSION;
 use fhir_json::NoMemory;
-use fhir_package::{FolderFiles, LoadFault};
+use fhir_package::{FolderFault, surveys};
 use fhir_report::Progress;
 use std::alloc::Global;
 use std::io::Write;
@@ -27,24 +27,7 @@ fn is_written<W: Write>(end: &mut W, bytes: &[u8]) -> bool
     end.write_all(bytes).is_ok()
 }
 
-// Writes a reply: a fault to standard error, which may fail, and all else to standard output.
-fn write_reply<W: Write, E: Write>(reply: &Reply, out: &mut W, err: &mut E) -> Status
-    requires { IsTrue (is_fault reply.now) → (reply.now.status ≡ 3) × (reply.now.out ≡ []) }
-    ensures ended { HasEnded result (W.contents out.old) (W.contents out.new) reply.now }
-    ensures fault { IsTrue (is_fault reply.now) → (result ≡ Status.Fault) × (out.new ≡ out.old) }
-    ensures answer { is_fault reply.now ≡ false → err.new ≡ err.old }
-{
-    if !reply.err.is_empty() {
-        return end_with(err, reply.err.as_str(), Status::Fault);
-    }
-    if is_written(out, &reply.out) {
-        reply.status
-    } else {
-        Status::Unwritten
-    }
-}
-
-// Says what can't be answered, and ends with that status.
+// Says something to standard error, which may fail, and ends with that status.
 fn end_with<E: Write>(err: &mut E, text: &str, status: Status) -> Status
     ensures { result ≡ status }
 {
@@ -52,61 +35,81 @@ fn end_with<E: Write>(err: &mut E, text: &str, status: Status) -> Status
     status
 }
 
-/// Does what a request asks, of the files of the folder and the bytes of the file that it names, and writes what is answered at
-/// once: a fault to standard error, and all else to standard output. An output that fails is a fault; a failure of standard
-/// error changes nothing.
-pub fn respond<W: Write, E: Write>(
-    alloc: Global,
-    request: Request<'_>,
-    files: &Result<FolderFiles, LoadFault>,
-    file: Option<&[u8]>,
-    out: &mut W,
-    err: &mut E,
-) -> Status
-    // The answer is the one that is stated, or one of those that are.
-    ensures told { (result ≡ Status.NoMemory → ⊥)
-        → (reply : ReplyValue) × IsReply (answer_to (request_seen request.entry) files.now (bytes_seen file.entry)) reply
-        × HasEnded result (W.contents out.old) (W.contents out.new) reply }
-    // A fault is answered as such, and nothing is written to standard output; of any other answer nothing is written to
-    // standard error.
-    ensures fault { (result ≡ Status.NoMemory → ⊥)
-        → IsTrue (tells_fault (answer_to (request_seen request.entry) files.now (bytes_seen file.entry)))
-        → (result ≡ Status.Fault) × (out.new ≡ out.old) }
-    ensures answer { (result ≡ Status.NoMemory → ⊥)
-        → tells_fault (answer_to (request_seen request.entry) files.now (bytes_seen file.entry)) ≡ false
-        → err.new ≡ err.old }
-    // Where the folder gave no files, the answer says so.
-    ensures device { (fault : LoadFault) → files.now ≡ Err fault → (result ≡ Status.NoMemory → ⊥)
-        → (result ≡ Status.Fault) × (out.new ≡ out.old) }
-    // What a yes promises.
-    ensures promised { result ≡ Status.Yes → Promise (request_seen request.entry) files.now (bytes_seen file.entry) }
+// Writes bytes to standard output, and ends with that status.
+fn put<W: Write>(out: &mut W, bytes: &[u8], status: Status) -> Status
+    ensures { HasEnded result (W.contents out.old) (W.contents out.new) (written (code_of status) bytes.now) }
 {
-    match answer(alloc, request, files, file) {
-        Ok(reply) => write_reply(&reply, out, err),
-        Err(NoMemory) => end_with(err, "no memory\n", Status::NoMemory),
+    if is_written(out, bytes) {
+        status
+    } else {
+        Status::Unwritten
     }
 }
 
-/// Reports on what a folder holds and on the bytes of a certificate's file, and writes the report at once: a fault to standard
-/// error, and all else to standard output. How far the work is, is told to `progress`. An output that fails is a fault.
-pub fn check<W: Write, E: Write, P: Progress>(
+fn write_reply<W: Write, E: Write>(reply: &Reply, out: &mut W, err: &mut E) -> Status
+    ensures ended { HasEnded result (W.contents out.old) (W.contents out.new) (reply_seen reply.now) }
+    ensures fault { IsTrue (is_told (reply_seen reply.now)) → (result ≡ Status.Fault) × (out.new ≡ out.old) }
+    ensures answer { is_told (reply_seen reply.now) ≡ false → err.new ≡ err.old }
+{
+    match reply {
+        Reply::Answer { status, out: bytes } => put(out, bytes, *status),
+        Reply::Fault(text) => end_with(err, text.as_str(), Status::Fault),
+    }
+}
+
+// The answer to a request.
+fn answer<P: Progress>(
     alloc: Global,
-    request: CheckRequest<'_>,
-    listing: &Result<Listing, LoadFault>,
+    request: Request<'_>,
+    folder: &Result<Listing, FolderFault>,
+    file: Option<&[u8]>,
+    progress: &mut P,
+) -> Result<Reply, NoMemory>
+    ensures told { IfOk result (λ r. IsReply (answer_to (request_seen request.entry) folder.now (bytes_seen file.entry)) (reply_seen r)) }
+    ensures promised { IfOk result (λ r. status_of (reply_seen r) ≡ 0
+        → FolderPromise (request_seen request.entry) folder.now (bytes_seen file.entry)) }
+{
+    match folder {
+        Ok(listing) => answer_listed(alloc, request, listing, file, progress),
+        Err(FolderFault::Device) => Ok(fault_reply(alloc, "P1", request.folder())?),
+        Err(FolderFault::NoMemory) => Err(NoMemory),
+    }
+}
+
+// The same of a folder that was listed.
+fn answer_listed<P: Progress>(
+    alloc: Global,
+    request: Request<'_>,
+    listing: &Listing,
+    file: Option<&[u8]>,
+    progress: &mut P,
+) -> Result<Reply, NoMemory>
+    ensures told { IfOk result (λ r. IsReply (answer_by (request_seen request.entry) (session_of listing.now) (bytes_seen file.entry)) (reply_seen r)) }
+    ensures promised { IfOk result (λ r. status_of (reply_seen r) ≡ 0
+        → FolderPromise (request_seen request.entry) (Ok listing.now) (bytes_seen file.entry)) }
+{
+    surveys();
+    let session = Session::of(alloc, listing, progress)?;
+    session.answer(alloc, request, file)
+}
+
+// Answers a request.
+fn respond<W: Write, E: Write, P: Progress>(
+    alloc: Global,
+    request: Request<'_>,
+    folder: &Result<Listing, FolderFault>,
     file: Option<&[u8]>,
     progress: &mut P,
     out: &mut W,
     err: &mut E,
 ) -> Status
-    // The report is written, or a fault told.
-    ensures told { (result ≡ Status.NoMemory → ⊥)
-        → (reply : ReplyValue) × IsCheckReply (check_seen request.entry) listing.now (bytes_seen file.entry) reply
-        × HasEnded result (W.contents out.old) (W.contents out.new) reply }
-    // What a yes promises, and what a no says.
-    ensures promised { result ≡ Status.Yes → CheckPromise (check_seen request.entry) listing.now (bytes_seen file.entry) }
-    ensures wrong { result ≡ Status.No → IsWrong (check_seen request.entry) listing.now (bytes_seen file.entry) }
+    ensures told { (result ≡ Status.NoMemory → ⊥) → (reply : ReplyValue)
+        × IsReply (answer_to (request_seen request.entry) folder.now (bytes_seen file.entry)) reply
+        × HasEnded result (W.contents out.old) (W.contents out.new) reply
+        × (IsTrue (is_told reply) → (result ≡ Status.Fault) × (out.new ≡ out.old)) × (is_told reply ≡ false → err.new ≡ err.old) }
+    ensures promised { result ≡ Status.Yes → FolderPromise (request_seen request.entry) folder.now (bytes_seen file.entry) }
 {
-    let reply = checked(alloc, request, listing, file, progress);
+    let reply = answer(alloc, request, folder, file, progress);
     progress.end();
     match reply {
         Ok(reply) => write_reply(&reply, out, err),
@@ -114,21 +117,48 @@ pub fn check<W: Write, E: Write, P: Progress>(
     }
 }
 
-/// Writes the version to standard output.
-pub fn tell_version<W: Write>(out: &mut W) -> Status {
-    if write!(out, "fhirprof {VERSION}\n").is_ok() {
-        Status::Yes
-    } else {
-        Status::Unwritten
-    }
-}
-
-/// Says to standard error why words ask for nothing, which may fail, and gives the status.
-pub fn refuse<E: Write>(fault: WordsFault, err: &mut E) -> Status
+// Says why words ask for nothing.
+fn refuse<E: Write>(fault: WordsFault, err: &mut E) -> Status
     ensures { result ≡ words_status fault }
 {
     match fault {
         WordsFault::Usage => end_with(err, "usage: fhirprof COMMAND ..\n", Status::Usage),
         WordsFault::NoMemory => end_with(err, "no memory\n", Status::NoMemory),
+    }
+}
+
+/// Does what words ask, of the files of the folder and the bytes of the file that they name, and writes what is answered at once:
+/// what can't be answered to standard error, and all else to standard output. Of a folder that isn't listed the fault says why; a
+/// file that can't be read has no bytes. How far the work is, is told to `progress`. An output that fails is a fault; a failure of
+/// standard error changes nothing.
+pub fn run<W: Write, E: Write, P: Progress>(
+    alloc: Global,
+    asked: &Result<Invocation<'_>, WordsFault>,
+    folder: &Result<Listing, FolderFault>,
+    file: Option<&[u8]>,
+    progress: &mut P,
+    out: &mut W,
+    err: &mut E,
+) -> Status
+    // The reply is the one that is stated, or one of those that are. What can't be answered has its status, and nothing is written
+    // to standard output; of any other reply nothing is written to standard error.
+    ensures told { (result ≡ Status.NoMemory → ⊥) → (reply : ReplyValue)
+        × IsReply (answer_for (asked_seen asked.now) folder.now (bytes_seen file.entry)) reply
+        × HasEnded result (W.contents out.old) (W.contents out.new) reply
+        × (IsTrue (is_told reply) → (result ≡ told_status (asked_seen asked.now)) × (out.new ≡ out.old))
+        × (is_told reply ≡ false → err.new ≡ err.old) }
+    ensures words { IfErr asked.now (λ fault. result ≡ words_status fault) }
+    // What a yes promises.
+    ensures promised { result ≡ Status.Yes → Promise (asked_seen asked.now) folder.now (bytes_seen file.entry) }
+{
+    match asked {
+        Ok(Invocation::Request(request)) => {
+            respond(alloc, *request, folder, file, progress, out, err)
+        }
+        Ok(Invocation::Version) => put(out, VERSION.as_bytes(), Status::Yes),
+        Err(fault) => {
+            progress.end();
+            refuse(*fault, err)
+        }
     }
 }

@@ -1,41 +1,47 @@
 //! The engine of the program: from words, the files of a folder and the bytes of a file to a status and what is written.
 //!
 //! ```
-//! /// Answers a request, and gives the status.
+//! /// Does what words ask, of which the first is the program's name, and gives the status.
 //! pub fn status_of<R: Files + AllocGlobal + Clone + Drop, W: Write, E: Write>(
 //!     rt: &R,
-//!     request: Request<'_>,
+//!     words: &[String],
 //!     out: &mut W,
 //!     err: &mut E,
-//! ) -> io::Result<Status>
-//!     ensures { IfOk result (λ status. status ≡ Status.Yes
-//!         → (files : Result Files LoadFault) × (file : Option Text) × Promise (request_seen request.entry) files file) }
+//! ) -> Status
+//!     ensures { result ≡ Status.Yes → (asked : Result InvocationValue WordsFault)
+//!         × (folder : Result Listing FolderFault) × (file : Option Text) × Promise asked folder file }
 //! {
-//!     let files = files_at(rt, request.folder());
-//!     let file = bytes_at(rt, request.file())?;
-//!     Ok(respond(rt.alloc(), request, &files, file.as_deref(), out, err))
+//!     let asked = invocation_of(rt.alloc(), words);
+//!     let Opened {
+//!         asked,
+//!         listing,
+//!         file,
+//!     } = open_asked(rt, asked, &mut Silent);
+//!     let bytes = file.as_deref();
+//!     run(rt.alloc(), &asked, &listing, bytes, &mut Silent, out, err)
 //! }
 //! ```
 //!
-//! The contract to read first is that of [`respond`]. What is answered, and what status 0 promises, stands in
-//! `specs/Replying.antt` (`answer_to`, `Promise`).
+//! The contract to read first is that of [`run`]. What is answered stands in `specs/Answering.antt` (`answer_for`), and what
+//! status 0 promises in `specs/Promising.antt` (`Promise`).
 #![tactic(auto)]
 
 mod answering;
-mod checking;
 mod directory;
 mod engine;
 mod laws;
 mod meter;
 mod reply;
 mod request;
+mod session;
 mod telling;
 mod version;
 
-pub use answering::answer;
-pub use directory::{Listing, bytes_at, files_at, listing_at};
-pub use engine::{check, refuse, respond, tell_version};
+pub use directory::{Listing, Opened, bytes_at, listing_at, open_asked};
+pub use engine::run;
 pub use laws::verdicts_agree;
 pub use meter::Meter;
 pub use reply::{Reply, Status};
-pub use request::{CheckRequest, Invocation, Request, WordsFault, invocation_of};
+pub use request::{Invocation, Request, WordsFault, invocation_of};
+pub use session::Session;
+pub use version::VERSION;

@@ -1,11 +1,10 @@
 //! What the program answers.
 
-ghost use Rattle.std.specs.Prelude.{◌≡◌, [], codes, IfOk};
-ghost use Rattle.fhir_engine.specs.Replying.{fault_reply};
+ghost use Rattle.std.specs.Prelude.{◌≡◌, IfOk};
+ghost use Rattle.fhir_engine.specs.Replying.{reply_seen, fault_reply, unread_reply};
 ghost use Rattle.fhir_engine.specs.Status.{code_of};
 
 use std::alloc::{AllocError, Global};
-use std::marker::Model;
 use std::process::ExitCode;
 
 /// How the program ends.
@@ -56,36 +55,35 @@ impl From<Status> for ExitCode {
     }
 }
 
-/// What the program answers: its status, and what it writes to standard output and to standard error.
+/// What is answered to a request.
 #[derive(Debug, Drop)]
-pub struct Reply {
-    pub(crate) status: Status,
-    pub(crate) out: Vec<u8>,
-    pub(crate) err: String,
-}
-
-impl Model for Reply {
-    ghost use Rattle.std.specs.Prelude.{string_bytes};
-    ghost use Rattle.fhir_engine.specs.Status.{code_of};
-    ghost use Rattle.fhir_engine.specs.Replying.{ReplyValue};
-
-    ghost Value = { ReplyValue };
-
-    ghost view = { λ r. record { status = code_of r.status; out = r.out.items; err = string_bytes r.err } };
+pub enum Reply {
+    /// An answer, which is written to standard output.
+    Answer {
+        /// The status.
+        status: Status,
+        /// What is written.
+        out: Vec<u8>,
+    },
+    /// A fault of the input, which is told on standard error.
+    Fault(String),
 }
 
 // A fault of the input: its number, and what it is about.
 pub(crate) fn fault_reply(alloc: Global, number: &str, subject: &str) -> Result<Reply, AllocError>
-    ensures { IfOk result (λ r. r ≡ fault_reply number.now subject.now) }
+    ensures { IfOk result (λ r. reply_seen r ≡ fault_reply number.now subject.now) }
 {
     let mut err = String::new(alloc);
     err.push_str(number)?;
     err.push_str(" ")?;
     err.push_str(subject)?;
     err.push_str("\n")?;
-    Ok(Reply {
-        status: Status::Fault,
-        out: Vec::new(alloc),
-        err,
-    })
+    Ok(Reply::Fault(err))
+}
+
+// That a file of that name can't be read.
+pub(crate) fn unread_reply(alloc: Global, name: &str) -> Result<Reply, AllocError>
+    ensures { IfOk result (λ r. reply_seen r ≡ unread_reply name.now) }
+{
+    fault_reply(alloc, "read", name)
 }

@@ -4,10 +4,9 @@ ghost use Rattle.std.specs.Prelude.{◌≡◌, ◌↔◌, Some, map, string_byte
 ghost use Rattle.std.specs.Result.{result_ok};
 ghost use Rattle.clap.specs.declared.error.kind.ErrorKind.TheVariants as kind;
 ghost use Rattle.fhir_engine.specs.declared.request.WordsFault.TheVariants as faults;
-ghost use Rattle.fhir_engine.specs.Replying.{RequestValue, folder_of, file_of};
-ghost use Rattle.fhir_engine.specs.Checking.{CheckValue};
-ghost use Rattle.fhir_engine.specs.Words.{InvocationValue, is_option, are_plain, certify_request, validate_request, command_request, plain_request, check_request, check_beside, plain_check, plain_invocation};
-ghost use Rattle.fhir_engine.specs.Views.{request_seen, check_seen, invocation_seen};
+ghost use Rattle.fhir_engine.specs.Requests.{InvocationValue, folder_of, file_of};
+ghost use Rattle.fhir_engine.specs.Words.{is_option, are_plain, certify_request, validate_request, check_request, check_beside, first_some, command_request, plain_request, plain_invocation};
+ghost use Rattle.fhir_engine.specs.Views.{bytes_seen, request_seen, invocation_seen};
 
 use crate::version::VERSION;
 use clap::error::ErrorKind;
@@ -15,7 +14,7 @@ use clap::{Arg, ArgAction, ArgMatches, Command};
 use fhir_report::Form;
 use std::alloc::{AllocError, Global};
 
-/// A question with a yes or a no.
+/// What is asked.
 #[derive(Clone, Copy, Debug, PartialEq, Eq)]
 pub enum Request<'w> {
     /// Whether the certificate in a file is right, over the definitions in a folder.
@@ -34,6 +33,15 @@ pub enum Request<'w> {
         /// The file.
         file: &'w str,
     },
+    /// What is wrong with the files of a folder.
+    Check {
+        /// The folder.
+        folder: &'w str,
+        /// The file of a certificate over the folder's definitions, if that is asked about too.
+        certificate: Option<&'w str>,
+        /// How the answer is written.
+        form: Form,
+    },
 }
 
 impl<'w> Request<'w> {
@@ -42,38 +50,28 @@ impl<'w> Request<'w> {
         ensures { result.now ≡ folder_of (request_seen self.now) }
     {
         match self {
-            Request::Certify { folder, .. } | Request::Validate { folder, .. } => *folder,
+            Request::Certify { folder, .. }
+            | Request::Validate { folder, .. }
+            | Request::Check { folder, .. } => *folder,
         }
     }
 
-    /// The file that is asked about.
-    pub fn file(&self) -> &'w str
-        ensures { result.now ≡ file_of (request_seen self.now) }
+    /// The file that is asked about, if one is.
+    pub fn file(&self) -> Option<&'w str>
+        ensures { bytes_seen result ≡ file_of (request_seen self.now) }
     {
         match self {
-            Request::Certify { file, .. } | Request::Validate { file, .. } => *file,
+            Request::Certify { file, .. } | Request::Validate { file, .. } => Some(*file),
+            Request::Check { certificate, .. } => *certificate,
         }
     }
-}
-
-/// What is wrong with a package.
-#[derive(Clone, Copy, Debug, PartialEq, Eq)]
-pub struct CheckRequest<'w> {
-    /// The folder of its files.
-    pub folder: &'w str,
-    /// The file of a certificate over its definitions, if that is asked about too.
-    pub certificate: Option<&'w str>,
-    /// How the answer is written.
-    pub form: Form,
 }
 
 /// What the words ask for.
 #[derive(Clone, Copy, Debug, PartialEq, Eq)]
 pub enum Invocation<'w> {
-    /// An answer to a question.
-    Judge(Request<'w>),
-    /// A report on a package.
-    Check(CheckRequest<'w>),
+    /// An answer to a request.
+    Request(Request<'w>),
     /// The program's version.
     Version,
 }
@@ -183,11 +181,50 @@ fn validate_request<'w>(
     }
 }
 
+fn check_request<'w>(command: &str, folder: &'w str) -> Option<Request<'w>>
+    ensures { option_map request_seen result ≡ check_request command.now folder.now }
+{
+    if command == "check" && !is_option(folder) {
+        Some(Request::Check {
+            folder,
+            certificate: None,
+            form: Form::Text,
+        })
+    } else {
+        None
+    }
+}
+
+fn check_beside<'w>(command: &str, folder: &'w str, certificate: &'w str) -> Option<Request<'w>>
+    ensures { option_map request_seen result ≡ check_beside command.now folder.now certificate.now }
+{
+    if command == "check" && are_plain(folder, certificate) {
+        Some(Request::Check {
+            folder,
+            certificate: Some(certificate),
+            form: Form::Text,
+        })
+    } else {
+        None
+    }
+}
+
+fn certify_or_check<'w>(command: &str, first: &'w str, second: &'w str) -> Option<Request<'w>>
+    ensures { option_map request_seen result
+        ≡ first_some (certify_request command.now first.now second.now) (check_beside command.now first.now second.now) }
+{
+    match certify_request(command, first, second) {
+        Some(request) => Some(request),
+        None => check_beside(command, first, second),
+    }
+}
+
 fn command_request<'w>(command: &str, words: &'w [String]) -> Option<Request<'w>>
     ensures { option_map request_seen result ≡ command_request command.now (map string_bytes words.now) }
 {
     match words {
-        [first, second] => certify_request(command, first.as_str(), second.as_str()),
+        [first] => check_request(command, first.as_str()),
+        [first, second] => certify_or_check(command, first.as_str(), second.as_str()),
         [first, second, third] => {
             validate_request(command, first.as_str(), second.as_str(), third.as_str())
         }
@@ -204,62 +241,6 @@ fn plain_request(words: &[String]) -> Option<Request<'_>>
     }
 }
 
-fn check_request<'w>(command: &str, folder: &'w str) -> Option<CheckRequest<'w>>
-    ensures { option_map check_seen result ≡ check_request command.now folder.now }
-{
-    if command == "check" && !is_option(folder) {
-        Some(CheckRequest {
-            folder,
-            certificate: None,
-            form: Form::Text,
-        })
-    } else {
-        None
-    }
-}
-
-fn check_beside<'w>(
-    command: &str,
-    folder: &'w str,
-    certificate: &'w str,
-) -> Option<CheckRequest<'w>>
-    ensures { option_map check_seen result ≡ check_beside command.now folder.now certificate.now }
-{
-    if command == "check" && are_plain(folder, certificate) {
-        Some(CheckRequest {
-            folder,
-            certificate: Some(certificate),
-            form: Form::Text,
-        })
-    } else {
-        None
-    }
-}
-
-fn plain_check(words: &[String]) -> Option<CheckRequest<'_>>
-    ensures { option_map check_seen result ≡ plain_check (map string_bytes words.now) }
-{
-    match words {
-        [_, command, folder] => check_request(command.as_str(), folder.as_str()),
-        [_, command, folder, certificate] => {
-            check_beside(command.as_str(), folder.as_str(), certificate.as_str())
-        }
-        _ => None,
-    }
-}
-
-fn plain_invocation(words: &[String]) -> Option<Invocation<'_>>
-    ensures { option_map invocation_seen result ≡ plain_invocation (map string_bytes words.now) }
-{
-    if let Some(request) = plain_request(words) {
-        return Some(Invocation::Judge(request));
-    }
-    match plain_check(words) {
-        Some(request) => Some(Invocation::Check(request)),
-        None => None,
-    }
-}
-
 fn word<'a>(matches: &ArgMatches<'a>, id: &str) -> Result<&'a str, WordsFault> {
     matches.get_str(id).ok_or(WordsFault::Usage)
 }
@@ -271,8 +252,8 @@ pub fn invocation_of<'w>(alloc: Global, words: &'w [String]) -> Result<Invocatio
     ensures plain { (asked : InvocationValue) → plain_invocation (map string_bytes words.now) ≡ Some asked
         → option_map invocation_seen (result_ok result) ≡ Some asked }
 {
-    match plain_invocation(words) {
-        Some(asked) => Ok(asked),
+    match plain_request(words) {
+        Some(request) => Ok(Invocation::Request(request)),
         None => other_invocation(alloc, words),
     }
 }
@@ -286,9 +267,9 @@ fn other_invocation<'w>(alloc: Global, words: &'w [String]) -> Result<Invocation
         return Err(WordsFault::Usage);
     };
     match name {
-        "certify" => Ok(Invocation::Judge(certify_matched(matches)?)),
-        "validate" => Ok(Invocation::Judge(validate_matched(matches)?)),
-        "check" => Ok(Invocation::Check(check_matched(matches)?)),
+        "certify" => Ok(Invocation::Request(certify_matched(matches)?)),
+        "validate" => Ok(Invocation::Request(validate_matched(matches)?)),
+        "check" => Ok(Invocation::Request(check_matched(matches)?)),
         _ => Err(WordsFault::Usage),
     }
 }
@@ -308,8 +289,8 @@ fn validate_matched<'w>(matches: &ArgMatches<'w>) -> Result<Request<'w>, WordsFa
     })
 }
 
-fn check_matched<'w>(matches: &ArgMatches<'w>) -> Result<CheckRequest<'w>, WordsFault> {
-    Ok(CheckRequest {
+fn check_matched<'w>(matches: &ArgMatches<'w>) -> Result<Request<'w>, WordsFault> {
+    Ok(Request::Check {
         folder: word(matches, "PACKAGE")?,
         certificate: matches.get_str("CERTIFICATE"),
         form: if matches.get_flag("json") {

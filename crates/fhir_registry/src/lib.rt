@@ -8,7 +8,7 @@
 //!     validated: &Result<Verdict<'_>, Fault>,
 //! ) -> Result<Vec<u8>, NoMemory>
 //!     ensures { IsTrue (is_explained validated.now)
-//!         → IfOk result (λ text. (t : Tree) × IsOutcome t × (text.items ≡ compact t)) }
+//!         → IfOk result (λ text. (t : Tree) × IsOutcome validated.now t × (text.items ≡ compact t)) }
 //! {
 //!     let outcome = outcome(alloc, profile, validated)?;
 //!     write(alloc, &outcome)

@@ -22,6 +22,7 @@
 mod causes;
 mod certificates;
 mod explaining;
+mod failing;
 mod fields;
 mod laws;
 mod line;
@@ -37,10 +38,11 @@ mod wording;
 mod writing;
 
 pub use certificates::{flaw_line, no_line, pair_text};
+pub use failing::{no_text, rule_text};
 pub use laws::rows_are_lines;
 pub use line::{Line, Number};
 pub use narrowing::rule_words;
 pub use progress::{Progress, Silent, Stage};
-pub use reporting::{CertificateFile, Report, Subject, report_on};
+pub use reporting::{CertificateFile, Report, Subject, report_on, surveyed, written};
 pub use telling::Teller;
 pub use writing::Form;

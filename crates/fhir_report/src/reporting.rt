@@ -54,8 +54,8 @@ pub struct Report {
     pub text: String,
 }
 
-// A survey of files, whose progress is told.
-fn surveyed<'r, P: Progress>(
+/// A survey of files, whose progress is told.
+pub fn surveyed<'r, P: Progress>(
     alloc: Global,
     files: &'r FolderFiles,
     progress: &mut P,
@@ -267,8 +267,8 @@ fn text_of(
     Ok(text)
 }
 
-// The report on a survey and a certificate, by the schema of the survey's package.
-fn written<'s, 'f: 's>(
+/// The report on a survey and a certificate, by the schema of the survey's package.
+pub fn written<'s, 'f: 's>(
     alloc: Global,
     form: Form,
     unread: &'s [String],
