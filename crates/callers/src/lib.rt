@@ -19,8 +19,7 @@ ghost use Rattle.fhir_prims.specs.Values.{prim_of, lexical};
 ghost use Rattle.fhir_matching.specs.Equality.{equal};
 ghost use Rattle.fhir_matching.specs.Fitting.{fits};
 ghost use Rattle.fhir_package.specs.Definitions.{Definitions};
-ghost use Rattle.fhir_package.specs.FilesView.{folder_files};
-ghost use Rattle.fhir_package.specs.declared.folder.FolderFault.{FolderFault};
+ghost use Rattle.fhir_package.specs.Folder.{Files};
 ghost use Rattle.fhir_package.specs.Packing.{pack};
 ghost use Rattle.fhir_codes.specs.Concepts.{concept};
 ghost use Rattle.fhir_codes.specs.ValueSets.{concepts_of};
@@ -47,7 +46,6 @@ ghost use Rattle.fhir_cert_check.specs.Checking.{SpellsCertificate};
 ghost use Rattle.fhir_findings.specs.Finding.{all_unusable};
 ghost use Rattle.fhir_report.specs.Faultless.{IsFaultless};
 ghost use Rattle.fhir_registry.specs.Outcomes.{IsOutcome, is_explained};
-ghost use Rattle.fhir_engine.specs.declared.directory.Listing.{Listing};
 ghost use Rattle.fhir_engine.specs.declared.request.WordsFault.{WordsFault};
 ghost use Rattle.fhir_engine.specs.Promising.{Promise};
 ghost use Rattle.fhir_engine.specs.Requests.{InvocationValue};
@@ -68,10 +66,10 @@ use fhir_json::{Json, JsonFault, NoMemory, write};
 use fhir_matching::{json_eq, matches};
 use fhir_names::{ElementId, front_of};
 use fhir_nodes::{Nodes, Table};
-use fhir_package::{FolderFile, FolderFiles, Kind, LoadFault, Package, Survey, pack};
+use fhir_package::{Folder, FolderFiles, Kind, LoadFault, Package, Silent, Survey, load};
 use fhir_prims::{PrimType, lexical};
 use fhir_registry::outcome;
-use fhir_report::{Form, Silent, Subject};
+use fhir_report::{Form, Subject};
 use fhir_schema::{NodeRef, Schema, Slot};
 use fhir_slicing::{Children, asks};
 use fhir_validator::{Fault, Verdict, validate};
@@ -128,12 +126,11 @@ pub fn is_or_has(value: &Json<'_>, other: &Json<'_>) -> bool
     json_eq(value, other) || matches(value, other)
 }
 
-/// How many profiles and types the files have, or why they are no package.
-pub fn count_of(alloc: Global, files: Vec<FolderFile>) -> Result<usize, LoadFault>
-    ensures { IfOk result (λ n. (p : Definitions) × (pack (folder_files files.items) ≡ Ok p) × (n ≡ length p.structure_definitions)) }
+/// How many profiles and types a folder has, or why it is no package.
+pub fn count_of<F: Folder>(alloc: Global, folder: &mut F) -> Result<usize, LoadFault>
+    ensures { IfOk result (λ n. (p : Definitions) × (pack (F.files folder.old) ≡ Ok p) × (n ≡ length p.structure_definitions)) }
 {
-    let files = FolderFiles::of(alloc, files)?;
-    let package = pack(alloc, &files)?;
+    let package = load(alloc, folder)?;
     Ok(package.len(Kind::StructureDefinition))
 }
 
@@ -301,14 +298,18 @@ pub fn are_usable<'r>(
 
 /// Whether nothing is wrong with files, and each of their definitions can be used.
 pub fn is_clean(alloc: Global, files: &FolderFiles) -> Result<bool, NoMemory>
-    ensures { IfOk result (λ is_clean. IsTrue is_clean → IsFaultless [] files.now None) }
+    ensures { IfOk result (λ is_clean. IsTrue is_clean → IsFaultless files.now None) }
 {
+    fhir_report::reports();
+    let survey = Survey::of(alloc, files, &mut Silent)?;
+    let schema = Schema::build(alloc, survey.package())?;
     let subject = Subject {
-        files,
-        unread: &[],
+        survey: &survey,
+        schema: &schema,
+        files: files.files().len(),
         certificate: None,
     };
-    let report = fhir_report::report_on(alloc, Form::Text, subject, &mut Silent)?;
+    let report = fhir_report::report_on(alloc, Form::Text, subject)?;
     Ok(report.is_clean)
 }
 
@@ -333,14 +334,14 @@ pub fn status_of<R: Files + AllocGlobal + Clone + Drop, W: Write, E: Write>(
     err: &mut E,
 ) -> Status
     ensures { result ≡ Status.Yes → (asked : Result InvocationValue WordsFault)
-        × (folder : Result Listing FolderFault) × (file : Option Text) × Promise asked folder file }
+        × (files : Files) × (file : Option Text) × Promise asked files file }
 {
     let asked = invocation_of(rt.alloc(), words);
     let Opened {
         asked,
-        listing,
+        folder,
         file,
     } = open_asked(rt, asked, &mut Silent);
     let bytes = file.as_deref();
-    run(rt.alloc(), &asked, &listing, bytes, &mut Silent, out, err)
+    run(rt.alloc(), &asked, folder, bytes, &mut Silent, out, err)
 }

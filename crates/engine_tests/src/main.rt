@@ -12,7 +12,7 @@
 #![tactic(auto)]
 
 use fhir_engine::{Opened, Status, invocation_of, open_asked, run};
-use fhir_report::Silent;
+use fhir_package::Silent;
 use std::alloc::{AllocError, Global};
 use std::io::Write;
 use std::rt::Files;
@@ -56,11 +56,11 @@ fn done<R: Files + AllocGlobal + Clone + Drop, W: Write>(
 ) -> Status {
     let Opened {
         asked,
-        listing,
+        folder,
         file,
     } = open_asked(rt, invocation_of(rt.alloc(), words), &mut Silent);
     let bytes = file.as_deref();
-    run(rt.alloc(), &asked, &listing, bytes, &mut Silent, out, err)
+    run(rt.alloc(), &asked, folder, bytes, &mut Silent, out, err)
 }
 
 fn line_of(alloc: Global, status: Status, out: &[u8], err: &[u8]) -> Result<String, AllocError> {

@@ -3,20 +3,21 @@ use Rattle.std.specs.Prelude.{◌≡◌, ◌↔◌, List, ℕ, ◌++◌, Bool, I
 use Rattle.fhir_json.specs.Tree.{Text, Tree}
 use Rattle.fhir_json.specs.Compact.{compact}
 use Rattle.fhir_package.specs.declared.folder.FolderFault.{FolderFault}
+use Rattle.fhir_package.specs.ReadFiles.{ReadFiles}
+use Rattle.fhir_package.specs.Surveying.{FileFault, refusal}
 use Rattle.fhir_schema.specs.Schemas.{SchemaValue}
 use Rattle.fhir_validator.specs.declared.fault.Fault.{Fault}
 use Rattle.fhir_validator.specs.declared.verdict.Verdict.{Verdict}
 use Rattle.fhir_registry.specs.Outcomes.{IsOutcome}
 use Rattle.fhir_report.specs.declared.writing.Form.{Form}
 use Rattle.fhir_report.specs.Faultless.{CertificateValue}
-use Rattle.fhir_engine.specs.declared.directory.Listing.{Listing}
 use Rattle.fhir_engine.specs.declared.request.WordsFault.{WordsFault}
 use Rattle.fhir_engine.specs.declared.request.WordsFault.TheVariants.{Usage, NoMemory}
 use Rattle.fhir_engine.specs.declared.version.TheConstants.{VERSION}
-use Rattle.fhir_engine.specs.Replying.{ReplyValue, written, told, fault_reply, unread_reply, certificate_reply}
+use Rattle.fhir_engine.specs.Replying.{ReplyValue, written, told, fault_reply, refused_reply, unread_reply, certificate_reply}
 use Rattle.fhir_engine.specs.Reporting.{IsAllRight, IsReportOf}
 use Rattle.fhir_engine.specs.Requests.{RequestValue, certify, validate, check, folder_of, InvocationValue, request, version}
-use Rattle.fhir_engine.specs.Session.{SessionValue, session_of, schema_in, refusal_in}
+use Rattle.fhir_engine.specs.Session.{SessionValue, session_of, schema_in}
 use Rattle.fhir_engine.specs.Standing.{Stands}
 use Rattle.fhir_engine.specs.Status.{code_of, verdict_status, report_status, words_status}
 
@@ -56,10 +57,10 @@ abbrev pub file_answer : (Text → AnswerValue) → Text → Option Text → Ans
 file_answer answer name None = stated (unread_reply name)
 file_answer answer name (Some bytes) = answer bytes
 
--- where a session has a package
-abbrev pub package_answer : Option (Text × Text) → AnswerValue → AnswerValue
+-- where there is a package, and else the fault for which there is none
+abbrev pub package_answer : Option FileFault → AnswerValue → AnswerValue
 package_answer None answer = answer
-package_answer (Some refusal) answer = stated (fault_reply refusal.0 refusal.1)
+package_answer (Some fault) answer = stated (refused_reply fault)
 
 abbrev pub certify_answer : SchemaValue → Text → Option Text → AnswerValue
 certify_answer s name file = file_answer (λ bytes. stated (certificate_reply name s bytes)) name file
@@ -73,13 +74,13 @@ check_answer form s (Some name) file = file_answer (λ bytes. reported form s (S
 
 -- of a session, and of the bytes of the file that is asked about
 abbrev pub answer_by : RequestValue → SessionValue → Option Text → AnswerValue
-answer_by (certify folder name) s file = package_answer (refusal_in s) (certify_answer (schema_in s) name file)
-answer_by (validate folder profile name) s file = package_answer (refusal_in s) (validate_answer (schema_in s) profile name file)
+answer_by (certify folder name) s file = package_answer (refusal s.survey) (certify_answer (schema_in s) name file)
+answer_by (validate folder profile name) s file = package_answer (refusal s.survey) (validate_answer (schema_in s) profile name file)
 answer_by (check folder certificate form) s file = check_answer form s certificate file
 
--- of a folder that was listed, or wasn't
-abbrev pub answer_to : RequestValue → Result Listing FolderFault → Option Text → AnswerValue
-answer_to request (Ok listing) file = answer_by request (session_of listing) file
+-- of the files that were read of a folder, or of a folder that wasn't listed
+abbrev pub answer_to : RequestValue → Result ReadFiles FolderFault → Option Text → AnswerValue
+answer_to request (Ok files) file = answer_by request (session_of files) file
 answer_to request (Err fault) file = stated (fault_reply (codes "P1") (folder_of request))
 
 -- ---- the answer to words
@@ -88,7 +89,7 @@ abbrev pub words_text : WordsFault → Text
 words_text Usage = codes "usage: fhirprof COMMAND ..\n"
 words_text NoMemory = codes "no memory\n"
 
-abbrev pub answer_for : Result InvocationValue WordsFault → Result Listing FolderFault → Option Text → AnswerValue
-answer_for (Ok (request asked)) folder file = answer_to asked folder file
-answer_for (Ok version) folder file = stated (written 0 VERSION.now)
-answer_for (Err fault) folder file = stated (told (code_of (words_status fault)) (words_text fault))
+abbrev pub answer_for : Result InvocationValue WordsFault → Result ReadFiles FolderFault → Option Text → AnswerValue
+answer_for (Ok (request asked)) read file = answer_to asked read file
+answer_for (Ok version) read file = stated (written 0 VERSION.now)
+answer_for (Err fault) read file = stated (told (code_of (words_status fault)) (words_text fault))

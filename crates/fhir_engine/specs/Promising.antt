@@ -3,11 +3,12 @@ use Rattle.std.specs.Prelude.{◌≡◌, [], Option, Some, Result, Ok, Err}
 use Rattle.fhir_json.specs.Tree.{Text}
 use Rattle.fhir_package.specs.declared.folder.FolderFault.{FolderFault}
 use Rattle.fhir_package.specs.Definitions.{Definitions}
-use Rattle.fhir_package.specs.Packing.{pack_files}
+use Rattle.fhir_package.specs.Folder.{Files}
+use Rattle.fhir_package.specs.Packing.{pack}
+use Rattle.fhir_package.specs.ReadFiles.{ReadFiles, pack_given}
 use Rattle.fhir_schema.specs.Schemas.{SchemaValue, schema_of}
 use Rattle.fhir_findings.specs.Clean.{AreUsable}
-use Rattle.fhir_report.specs.Faultless.{CertificateValue, Promises, IsRightIfAny, PromisesIfAny, names_seen}
-use Rattle.fhir_engine.specs.declared.directory.Listing.{Listing}
+use Rattle.fhir_report.specs.Faultless.{CertificateValue, Promises, IsRightIfAny, PromisesIfAny}
 use Rattle.fhir_engine.specs.declared.request.WordsFault.{WordsFault}
 use Rattle.fhir_engine.specs.Reporting.{asked}
 use Rattle.fhir_engine.specs.Requests.{RequestValue, certify, validate, check, InvocationValue, request, version}
@@ -34,18 +35,26 @@ Promised (certify folder name) s file = Certified s file
 Promised (validate folder profile name) s file = Validated s profile file
 Promised (check folder certificate form) s file = Checked s certificate file
 
--- of a session: each file was read and nothing is wrong with any, and the same of the schema
+-- of a session: nothing is wrong with any file, and the same of the schema
 abbrev pub SessionPromise : RequestValue → SessionValue → Option Text → Type 0
-SessionPromise request s file = (s.unread ≡ []) × (s.survey.faults ≡ []) × Promised request (schema_in s) file
+SessionPromise request s file = (s.survey.faults ≡ []) × Promised request (schema_in s) file
 
--- of a folder: it was listed, each file was read, the files are a package, and the same of its schema
-abbrev pub FolderPromise : RequestValue → Result Listing FolderFault → Option Text → Type 0
-FolderPromise request (Ok listing) file =
-    (p : Definitions) × (names_seen listing.unread.items ≡ []) × (pack_files listing.files ≡ Ok p) × Promised request (schema_of p) file
-FolderPromise request (Err fault) file = ⊥
+-- of what was read of a folder: it was listed, each file was given, the files are a package, and the same of its schema
+abbrev pub ReadPromise : RequestValue → Result ReadFiles FolderFault → Option Text → Type 0
+ReadPromise request (Ok files) file = (p : Definitions) × (pack_given files ≡ Some (Ok p)) × Promised request (schema_of p) file
+ReadPromise request (Err fault) file = ⊥
+
+abbrev pub WordsPromise : Result InvocationValue WordsFault → Result ReadFiles FolderFault → Option Text → Type 0
+WordsPromise (Ok (request asked)) read file = ReadPromise asked read file
+WordsPromise (Ok version) read file = Unit {0}
+WordsPromise (Err fault) read file = ⊥
+
+-- of a folder's files: they are a package, and the same of its schema
+abbrev pub FolderPromise : RequestValue → Files → Option Text → Type 0
+FolderPromise request files file = (p : Definitions) × (pack files ≡ Ok p) × Promised request (schema_of p) file
 
 -- of words: they ask for something, and of a request the same
-abbrev pub Promise : Result InvocationValue WordsFault → Result Listing FolderFault → Option Text → Type 0
-Promise (Ok (request asked)) folder file = FolderPromise asked folder file
-Promise (Ok version) folder file = Unit {0}
-Promise (Err fault) folder file = ⊥
+abbrev pub Promise : Result InvocationValue WordsFault → Files → Option Text → Type 0
+Promise (Ok (request asked)) files file = FolderPromise asked files file
+Promise (Ok version) files file = Unit {0}
+Promise (Err fault) files file = ⊥

@@ -1,6 +1,8 @@
 -- What the program writes, and with which status it ends.
 use Rattle.std.specs.Prelude.{ℕ, List, [], ◌++◌, Bool, true, false, Option, None, Some, Result, Ok, Err, codes, string_bytes}
 use Rattle.fhir_json.specs.Tree.{Text}
+use Rattle.fhir_package.specs.Faults.{fault_number, fault_subject}
+use Rattle.fhir_package.specs.Surveying.{FileFault}
 use Rattle.fhir_schema.specs.Schemas.{SchemaValue}
 use Rattle.fhir_certificate.specs.declared.fault.CertFault.{CertFault}
 use Rattle.fhir_certificate.specs.declared.pair.Pair.{Pair}
@@ -39,6 +41,10 @@ is_told (told status err) = true
 -- a fault of the input: its number, and what it is about
 abbrev pub fault_reply : Text → Text → ReplyValue
 fault_reply number subject = told 3 (number ++ codes " " ++ subject ++ codes "\n")
+
+-- the fault for which files are no package
+abbrev pub refused_reply : FileFault → ReplyValue
+refused_reply fault = fault_reply (fault_number fault) (fault_subject fault)
 
 -- that a file of that name can't be read
 abbrev pub unread_reply : Text → ReplyValue

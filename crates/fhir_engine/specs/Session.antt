@@ -1,42 +1,27 @@
 -- What is held between two answers.
-use Rattle.std.specs.Prelude.{ℕ, ◌+◌, length, List, [], ◌∷◌, Option, None, Some, codes}
-use Rattle.fhir_json.specs.Tree.{Text}
-use Rattle.fhir_package.specs.Surveying.{FileFault, Surveyed, survey, refusal_of}
-use Rattle.fhir_package.specs.Packing.{Refusal, not_json, clash}
-use Rattle.fhir_package.specs.Faults.{refusal_number}
+use Rattle.std.specs.Prelude.{◌≡◌, ℕ, length, All, Result, Ok, Err}
+use Rattle.std.specs.Map.{keys_of}
+use Rattle.fhir_package.specs.declared.folder.FolderFault.{FolderFault}
+use Rattle.fhir_package.specs.Folder.{Files}
+use Rattle.fhir_package.specs.Packing.{json_names}
+use Rattle.fhir_package.specs.ReadFiles.{ReadFiles, IsFrom}
+use Rattle.fhir_package.specs.Surveying.{Surveyed, survey}
 use Rattle.fhir_schema.specs.Schemas.{SchemaValue, schema_of}
-use Rattle.fhir_report.specs.Faultless.{names_seen}
-use Rattle.fhir_engine.specs.declared.directory.Listing.{Listing}
 
--- the survey of a folder's files, the names of those that weren't read, and how many there are with these
+-- What may have been read of a folder with these files: all that are JSON files, in the order of their names, each with its bytes
+-- where the device gave them; or nothing, where it didn't list the folder.
+abbrev pub IsReadOf : Files → Result ReadFiles FolderFault → Type 0
+IsReadOf folder (Ok files) = (keys_of files ≡ json_names (keys_of folder)) × All (IsFrom folder) files
+IsReadOf folder (Err fault) = Unit {0}
+
+-- the survey of a folder's files, and how many there are
 pub record SessionValue : Type 0 where
   pub survey : Surveyed
-  pub unread : List Text
   pub files : ℕ
 
-abbrev pub session_of : Listing → SessionValue
-session_of l =
-    record {
-      survey = survey l.files;
-      unread = names_seen l.unread.items;
-      files = length l.files + length (names_seen l.unread.items);
-    }
+abbrev pub session_of : ReadFiles → SessionValue
+session_of files = record { survey = survey files; files = length files }
 
 -- the schema of the package of all that is right
 abbrev pub schema_in : SessionValue → SchemaValue
 schema_in s = schema_of s.survey.definitions
-
--- ---- why the files are no package
-
-abbrev pub refusal_subject : Refusal → Text
-refusal_subject (not_json name) = name
-refusal_subject (clash url) = url
-
--- the number and what it is about: of a file that wasn't read first, or else of the first fault
-abbrev pub first_refusal : List Text → List FileFault → Option (Text × Text)
-first_refusal (name ∷ names) faults = Some (codes "P1", name)
-first_refusal [] (fault ∷ faults) = Some (refusal_number (refusal_of fault), refusal_subject (refusal_of fault))
-first_refusal [] [] = None
-
-abbrev pub refusal_in : SessionValue → Option (Text × Text)
-refusal_in s = first_refusal s.unread s.survey.faults

@@ -1,28 +1,17 @@
 //! Files of a file system.
 
-ghost use Rattle.std.specs.Prelude.{◌≡◌, ◌⊎◌, IfErr, Err};
-ghost use Rattle.std.specs.IoError.{error_kind};
+ghost use Rattle.std.specs.Prelude.{◌≡◌, ◌⊎◌, Err};
 ghost use Rattle.fhir_engine.specs.Views.{asked_seen};
 
 use crate::request::{Invocation, Request, WordsFault};
 use fhir_json::NoMemory;
-use fhir_package::{FolderFault, FolderFile, FolderFiles, is_json_name};
-use fhir_report::{Progress, Stage};
+use fhir_package::{FolderFile, MemoryFolder, Progress, Stage, is_json_name};
 use std::alloc::Global;
 use std::collections::BTreeMap;
 use std::fs::DirEntry;
 use std::io::{ErrorKind, Read};
 use std::rt::Files;
 use std::{fs, io};
-
-/// What a directory holds whose names end in `.json`.
-#[derive(Debug, Drop)]
-pub struct Listing {
-    /// The files that were read.
-    pub files: FolderFiles,
-    /// The names of those that weren't, in their order.
-    pub unread: Vec<String>,
-}
 
 // Puts in the name and the path of an entry of a directory, if its name is UTF-8 and ends in `.json`. An error is of the
 // listing, or of memory.
@@ -56,62 +45,6 @@ fn paths_at<R: Files + AllocGlobal + Clone + Drop>(
     Ok(paths)
 }
 
-// The files that were read, and the names of those that weren't.
-#[derive(Drop)]
-struct Found {
-    files: Vec<FolderFile>,
-    unread: Vec<String>,
-}
-
-impl Found {
-    fn take<R: Files + AllocGlobal + Clone + Drop>(
-        &mut self,
-        rt: &R,
-        name: String,
-        path: &str,
-    ) -> io::Result<()> {
-        match bytes_at(rt, path)? {
-            Some(bytes) => Ok(self.files.push(FolderFile { name, bytes })?),
-            None => Ok(self.unread.push(name)?),
-        }
-    }
-}
-
-fn found_at<R: Files + AllocGlobal + Clone + Drop, P: Progress>(
-    rt: &R,
-    path: &str,
-    progress: &mut P,
-) -> io::Result<Found> {
-    let mut found = Found {
-        files: Vec::new(rt.alloc()),
-        unread: Vec::new(rt.alloc()),
-    };
-    let paths = paths_at(rt, path)?;
-    let count = paths.len();
-    for (place, (name, path)) in paths.into_iter().enumerate() {
-        found.take(rt, name, path.as_str())?;
-        progress.tell(Stage::Reading, place.saturating_add(1), count);
-    }
-    Ok(found)
-}
-
-/// What the directory at a path holds whose names end in `.json`: the regular files, and the names of what the device doesn't
-/// give, or is no regular file. A file whose name isn't UTF-8 is passed over. How many are read is told to `progress`.
-pub fn listing_at<R: Files + AllocGlobal + Clone + Drop, P: Progress>(
-    rt: &R,
-    path: &str,
-    progress: &mut P,
-) -> Result<Listing, FolderFault> {
-    match found_at(rt, path, progress) {
-        Ok(Found { files, unread }) => match FolderFiles::of(rt.alloc(), files) {
-            Ok(files) => Ok(Listing { files, unread }),
-            Err(_) => Err(FolderFault::NoMemory),
-        },
-        Err(error) if error.kind() == ErrorKind::OutOfMemory => Err(FolderFault::NoMemory),
-        Err(_) => Err(FolderFault::Device),
-    }
-}
-
 // The bytes of a regular file: neither a directory, nor a device or a pipe, whose end may never come.
 fn regular_bytes<R: Files + AllocGlobal>(rt: &R, path: &str) -> io::Result<Vec<u8>> {
     let metadata = fs::metadata(rt, path)?;
@@ -124,25 +57,54 @@ fn regular_bytes<R: Files + AllocGlobal>(rt: &R, path: &str) -> io::Result<Vec<u
     Ok(bytes)
 }
 
-/// The bytes of the regular file at a path, or none where there is none or the device doesn't give them. An error is of
-/// memory alone.
-pub fn bytes_at<R: Files + AllocGlobal>(rt: &R, path: &str) -> io::Result<Option<Vec<u8>>>
-    ensures { IfErr result (λ e. error_kind e ≡ ErrorKind.OutOfMemory) }
-{
+/// The bytes of the regular file at a path, or none where there is none or the device doesn't give them. The one refusal is want
+/// of memory.
+pub fn bytes_at<R: Files + AllocGlobal>(rt: &R, path: &str) -> Result<Option<Vec<u8>>, NoMemory> {
     match regular_bytes(rt, path) {
         Ok(bytes) => Ok(Some(bytes)),
-        Err(error) if error.kind() == ErrorKind::OutOfMemory => Err(error),
+        Err(error) if error.kind() == ErrorKind::OutOfMemory => Err(NoMemory),
         Err(_) => Ok(None),
     }
 }
 
+// The folder of the files at these paths, each under its name.
+fn folder_of<R: Files + AllocGlobal, P: Progress>(
+    rt: &R,
+    paths: BTreeMap<String, String>,
+    progress: &mut P,
+) -> Result<MemoryFolder, NoMemory> {
+    let count = paths.len();
+    let mut files = Vec::with_capacity(rt.alloc(), count)?;
+    for (place, (name, path)) in paths.into_iter().enumerate() {
+        let bytes = bytes_at(rt, path.as_str())?;
+        files.push(FolderFile { name, bytes })?;
+        progress.tell(Stage::Reading, place.saturating_add(1), count);
+    }
+    MemoryFolder::new(rt.alloc(), files)
+}
+
+/// The folder of what the directory at a path holds whose names end in `.json`. A file that the device doesn't give, or that is no
+/// regular one, has no bytes, and one whose name isn't UTF-8 is passed over. Where the directory isn't listed, nor is the folder.
+/// How many are read is told to `progress`. The one refusal is want of memory.
+pub fn directory_at<R: Files + AllocGlobal + Clone + Drop, P: Progress>(
+    rt: &R,
+    path: &str,
+    progress: &mut P,
+) -> Result<MemoryFolder, NoMemory> {
+    match paths_at(rt, path) {
+        Ok(paths) => folder_of(rt, paths, progress),
+        Err(error) if error.kind() == ErrorKind::OutOfMemory => Err(NoMemory),
+        Err(_) => Ok(MemoryFolder::unlisted(rt.alloc())),
+    }
+}
+
 /// What words ask for, with what they name.
-#[derive(Debug, Drop)]
+#[derive(Drop)]
 pub struct Opened<'w> {
     /// What they ask for.
     pub asked: Result<Invocation<'w>, WordsFault>,
-    /// What the folder holds, or why it isn't listed.
-    pub listing: Result<Listing, FolderFault>,
+    /// The folder.
+    pub folder: MemoryFolder,
     /// The bytes of the file, or none where none is named or it can't be read.
     pub file: Option<Vec<u8>>,
 }
@@ -153,8 +115,29 @@ fn file_of<R: Files + AllocGlobal>(
     request: &Request<'_>,
 ) -> Result<Option<Vec<u8>>, NoMemory> {
     match request.file() {
-        Some(path) => bytes_at(rt, path).map_err(|_| NoMemory),
+        Some(path) => bytes_at(rt, path),
         None => Ok(None),
+    }
+}
+
+fn found<R: Files + AllocGlobal + Clone + Drop, P: Progress>(
+    rt: &R,
+    request: &Request<'_>,
+    progress: &mut P,
+) -> Result<(MemoryFolder, Option<Vec<u8>>), NoMemory> {
+    let folder = directory_at(rt, request.folder(), progress)?;
+    let file = file_of(rt, request)?;
+    Ok((folder, file))
+}
+
+// Those where nothing is opened.
+fn unopened<'w>(alloc: Global, asked: Result<Invocation<'w>, WordsFault>) -> Opened<'w>
+    ensures { asked_seen result.asked ≡ asked_seen asked.entry }
+{
+    Opened {
+        asked,
+        folder: MemoryFolder::unlisted(alloc),
+        file: None,
     }
 }
 
@@ -167,23 +150,14 @@ pub fn open_asked<'w, R: Files + AllocGlobal + Clone + Drop, P: Progress>(
     ensures { (asked_seen result.asked ≡ asked_seen asked.entry) ⊎ (asked_seen result.asked ≡ Err WordsFault.NoMemory) }
 {
     let Ok(Invocation::Request(request)) = asked else {
-        return Opened {
-            asked,
-            listing: Err(FolderFault::Device),
-            file: None,
-        };
+        return unopened(rt.alloc(), asked);
     };
-    let listing = listing_at(rt, request.folder(), progress);
-    match file_of(rt, &request) {
-        Ok(file) => Opened {
+    match found(rt, &request, progress) {
+        Ok((folder, file)) => Opened {
             asked,
-            listing,
+            folder,
             file,
         },
-        Err(NoMemory) => Opened {
-            asked: Err(WordsFault::NoMemory),
-            listing,
-            file: None,
-        },
+        Err(NoMemory) => unopened(rt.alloc(), Err(WordsFault::NoMemory)),
     }
 }

@@ -9,16 +9,16 @@
 //!     err: &mut E,
 //! ) -> Status
 //!     ensures { result ≡ Status.Yes → (asked : Result InvocationValue WordsFault)
-//!         × (folder : Result Listing FolderFault) × (file : Option Text) × Promise asked folder file }
+//!         × (files : Files) × (file : Option Text) × Promise asked files file }
 //! {
 //!     let asked = invocation_of(rt.alloc(), words);
 //!     let Opened {
 //!         asked,
-//!         listing,
+//!         folder,
 //!         file,
 //!     } = open_asked(rt, asked, &mut Silent);
 //!     let bytes = file.as_deref();
-//!     run(rt.alloc(), &asked, &listing, bytes, &mut Silent, out, err)
+//!     run(rt.alloc(), &asked, folder, bytes, &mut Silent, out, err)
 //! }
 //! ```
 //!
@@ -37,7 +37,7 @@ mod session;
 mod telling;
 mod version;
 
-pub use directory::{Listing, Opened, bytes_at, listing_at, open_asked};
+pub use directory::{Opened, bytes_at, directory_at, open_asked};
 pub use engine::run;
 pub use laws::verdicts_agree;
 pub use meter::Meter;

@@ -1,6 +1,6 @@
 //! A line that shows how far the work is.
 
-use fhir_report::{Progress, Stage};
+use fhir_package::{Progress, Stage};
 use std::io::Write;
 use std::time::{Clock, Duration, Instant};
 

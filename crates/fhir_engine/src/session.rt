@@ -1,28 +1,26 @@
 //! What is held between two answers, and what it answers.
 
-ghost use Rattle.std.specs.Prelude.{◌≡◌, [], IfOk, option_map};
+ghost use Rattle.std.specs.Prelude.{◌≡◌, [], None, Some, IfOk, IfErr};
 ghost use Rattle.fhir_json.specs.Memory.{Gives};
-ghost use Rattle.fhir_package.specs.Faults.{refusal_number};
-ghost use Rattle.fhir_package.specs.Surveying.{refusal_of};
-ghost use Rattle.fhir_package.specs.SurveyView.{fault_seen, faults_seen};
-ghost use Rattle.fhir_report.specs.Faultless.{PromisesIfAny, names_seen, certificate_seen};
+ghost use Rattle.fhir_package.specs.Surveying.{refusal};
+ghost use Rattle.fhir_package.specs.SurveyView.{fault_seen};
+ghost use Rattle.fhir_report.specs.Faultless.{PromisesIfAny, certificate_seen};
 ghost use Rattle.fhir_engine.specs.Answering.{IsReported, IsReply, package_answer, certify_answer, validate_answer, check_answer, answer_by};
 ghost use Rattle.fhir_engine.specs.Promising.{Certified, Validated, Checked, SessionPromise};
-ghost use Rattle.fhir_engine.specs.Replying.{reply_seen, status_of};
-ghost use Rattle.fhir_engine.specs.Session.{refusal_subject, first_refusal, session_of, schema_in, refusal_in};
+ghost use Rattle.fhir_engine.specs.Replying.{reply_seen, status_of, refused_reply};
+ghost use Rattle.fhir_engine.specs.Session.{session_of, schema_in};
 ghost use Rattle.fhir_engine.specs.Status.{report_status};
 ghost use Rattle.fhir_engine.specs.Views.{bytes_seen, request_seen};
 
 use crate::answering::{certify, validate_file};
-use crate::directory::Listing;
 use crate::reply::{Reply, Status, fault_reply, unread_reply};
 use crate::request::Request;
 use fhir_findings::all_usable;
 use fhir_json::NoMemory;
-use fhir_package::{FileFault, Survey};
-use fhir_report::{CertificateFile, Form, Progress, Stage, surveyed, written};
+use fhir_package::{FileFault, FolderFiles, Progress, Stage, Survey};
+use fhir_report::{CertificateFile, Form, Subject, report_on};
 use fhir_schema::Schema;
-use std::alloc::Global;
+use std::alloc::{AllocError, Global};
 use std::marker::Model;
 
 /// What is held between two answers: the survey of a folder's files, and the schema of the package of all that is right.
@@ -30,7 +28,7 @@ use std::marker::Model;
 pub struct Session<'f> {
     survey: Survey<'f>,
     schema: Schema,
-    listing: &'f Listing,
+    files: usize,
 }
 
 impl<'f> Model for Session<'f> {
@@ -43,42 +41,19 @@ impl<'f> Model for Session<'f> {
 
     ghost coded = { Prim.hlevel (codes, tree_code) };
 
-    ghost use Rattle.std.specs.Prelude.{◌≡◌, ◌+◌, length};
-    ghost use Rattle.fhir_report.specs.Faultless.{names_seen};
+    ghost use Rattle.std.specs.Prelude.{◌≡◌};
     ghost use Rattle.fhir_schema.specs.Schemas.{schema_of};
 
-    ghost view = { λ s. record {
-      survey = s.survey;
-      unread = names_seen s.listing.now.unread.items;
-      files = length s.listing.now.files + length (names_seen s.listing.now.unread.items);
-    } };
+    ghost view = { λ s. record { survey = s.survey; files = s.files } };
 
     ghost invariant = { λ s. s.schema ≡ schema_of s.survey.definitions };
 }
 
-fn fault_refusal<'s>(fault: &'s FileFault<'_>) -> (&'s str, &'s str)
-    ensures number { result.0.now ≡ refusal_number (refusal_of (fault_seen fault.now)) }
-    ensures subject { result.1.now ≡ refusal_subject (refusal_of (fault_seen fault.now)) }
+// What is answered where files are no package, by the fault for which they are none.
+fn refused(alloc: Global, fault: &FileFault<'_>) -> Result<Reply, AllocError>
+    ensures { IfOk result (λ r. reply_seen r ≡ refused_reply (fault_seen fault.now)) }
 {
-    match fault {
-        FileFault::NotJson(fault) => ("P2", fault.file),
-        FileFault::Clash(clash) => ("P3", clash.url.as_str()),
-    }
-}
-
-fn first_refusal<'s>(
-    unread: &'s [String],
-    faults: &'s [FileFault<'_>],
-) -> Option<(&'s str, &'s str)>
-    ensures { option_map (λ r. (r.0.now, r.1.now)) result ≡ first_refusal (names_seen unread.now) (faults_seen faults.now) }
-{
-    match unread {
-        [name, ..] => Some(("P1", name.as_str())),
-        [] => match faults {
-            [fault, ..] => Some(fault_refusal(fault)),
-            [] => None,
-        },
-    }
+    fault_reply(alloc, fault.number(), fault.subject())
 }
 
 fn report_status(is_clean: bool) -> Status
@@ -91,19 +66,19 @@ impl<'f> Session<'f> {
     /// That of a folder's files. How far the work is, is told to `progress`. The one refusal is want of memory.
     pub fn of<P: Progress>(
         alloc: Global,
-        listing: &'f Listing,
+        files: &'f FolderFiles,
         progress: &mut P,
     ) -> Result<Session<'f>, NoMemory>
-        ensures { Gives (λ s. s) result (session_of listing.now) }
+        ensures { Gives (λ s. s) result (session_of files.now) }
     {
-        let survey = surveyed(alloc, &listing.files, progress)?;
+        let survey = Survey::of(alloc, files, progress)?;
         let schema = Schema::build(alloc, survey.package())?;
-        let count = listing.files.files().len();
-        progress.tell(Stage::Surveying, count, count);
+        let files = files.files().len();
+        progress.tell(Stage::Surveying, files, files);
         Ok(Session {
             survey,
             schema,
-            listing,
+            files,
         })
     }
 
@@ -111,6 +86,17 @@ impl<'f> Session<'f> {
         ensures { result.now ≡ schema_in self.now }
     {
         &self.schema
+    }
+
+    // The schema of the package that the files are, or the fault for which they are none.
+    fn package(&self) -> Result<&Schema, &FileFault<'f>>
+        ensures found { IfOk result (λ s. (refusal self.now.survey ≡ None) × (s.now ≡ schema_in self.now)) }
+        ensures refused { IfErr result (λ fault. refusal self.now.survey ≡ Some (fault_seen fault.now)) }
+    {
+        match self.survey.refusal() {
+            Some(fault) => Err(fault),
+            None => Ok(&self.schema),
+        }
     }
 
     /// What is answered to a request, of the bytes of the file that it names; where it names none or the file can't be read, of
@@ -140,22 +126,15 @@ impl<'f> Session<'f> {
         }
     }
 
-    // Why the files are no package: the number, and what it is about.
-    fn refusal(&self) -> Option<(&str, &str)>
-        ensures { option_map (λ r. (r.0.now, r.1.now)) result ≡ refusal_in self.now }
-    {
-        first_refusal(&self.listing.unread, self.survey.faults())
-    }
-
     fn certify(&self, alloc: Global, name: &str, file: Option<&[u8]>) -> Result<Reply, NoMemory>
         ensures told { IfOk result (λ r. IsReply
-            (package_answer (refusal_in self.now) (certify_answer (schema_in self.now) name.now (bytes_seen file.entry))) (reply_seen r)) }
+            (package_answer (refusal self.now.survey) (certify_answer (schema_in self.now) name.now (bytes_seen file.entry))) (reply_seen r)) }
         ensures promised { IfOk result (λ r. status_of (reply_seen r) ≡ 0
-            → (self.now.unread ≡ []) × (self.now.survey.faults ≡ []) × Certified (schema_in self.now) (bytes_seen file.entry)) }
+            → (self.now.survey.faults ≡ []) × Certified (schema_in self.now) (bytes_seen file.entry)) }
     {
-        match self.refusal() {
-            Some((number, subject)) => Ok(fault_reply(alloc, number, subject)?),
-            None => certify(alloc, self.schema(), name, file),
+        match self.package() {
+            Ok(schema) => certify(alloc, schema, name, file),
+            Err(fault) => Ok(refused(alloc, fault)?),
         }
     }
 
@@ -167,13 +146,13 @@ impl<'f> Session<'f> {
         file: Option<&[u8]>,
     ) -> Result<Reply, NoMemory>
         ensures told { IfOk result (λ r. IsReply
-            (package_answer (refusal_in self.now) (validate_answer (schema_in self.now) profile.now name.now (bytes_seen file.entry))) (reply_seen r)) }
+            (package_answer (refusal self.now.survey) (validate_answer (schema_in self.now) profile.now name.now (bytes_seen file.entry))) (reply_seen r)) }
         ensures promised { IfOk result (λ r. status_of (reply_seen r) ≡ 0
-            → (self.now.unread ≡ []) × (self.now.survey.faults ≡ []) × Validated (schema_in self.now) profile.now (bytes_seen file.entry)) }
+            → (self.now.survey.faults ≡ []) × Validated (schema_in self.now) profile.now (bytes_seen file.entry)) }
     {
-        match self.refusal() {
-            Some((number, subject)) => Ok(fault_reply(alloc, number, subject)?),
-            None => validate_file(alloc, self.schema(), profile, name, file),
+        match self.package() {
+            Ok(schema) => validate_file(alloc, schema, profile, name, file),
+            Err(fault) => Ok(refused(alloc, fault)?),
         }
     }
 
@@ -187,18 +166,13 @@ impl<'f> Session<'f> {
         ensures promised { IfOk result (λ r. status_of (reply_seen r) ≡ 0 → PromisesIfAny (schema_in self.now) (certificate_seen certificate.entry)) }
     {
         all_usable();
-        let Listing { files, unread } = self.listing;
-        let count = files.files().len().saturating_add(unread.len());
-        let schema = self.schema();
-        let report = written(
-            alloc,
-            form,
-            unread,
-            &self.survey,
-            schema,
+        let subject = Subject {
+            survey: &self.survey,
+            schema: self.schema(),
+            files: self.files,
             certificate,
-            count,
-        )?;
+        };
+        let report = report_on(alloc, form, subject)?;
         Ok(Reply::Answer {
             status: report_status(report.is_clean),
             out: report.text.into_bytes(),
@@ -213,7 +187,7 @@ impl<'f> Session<'f> {
         file: Option<&[u8]>,
     ) -> Result<Reply, NoMemory>
         ensures told { IfOk result (λ r. IsReply (check_answer form self.now (bytes_seen certificate.entry) (bytes_seen file.entry)) (reply_seen r)) }
-        ensures promised { IfOk result (λ r. status_of (reply_seen r) ≡ 0 → (self.now.unread ≡ []) × (self.now.survey.faults ≡ [])
+        ensures promised { IfOk result (λ r. status_of (reply_seen r) ≡ 0 → (self.now.survey.faults ≡ [])
             × Checked (schema_in self.now) (bytes_seen certificate.entry) (bytes_seen file.entry)) }
     {
         match (certificate, file) {

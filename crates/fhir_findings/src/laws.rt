@@ -1,7 +1,7 @@
 //! Laws: what the findings of a package say of it.
 
 ghost use Rattle.std.specs.Prelude.{◌≡◌, []};
-ghost use Rattle.fhir_package.specs.Folder.{Files};
+ghost use Rattle.fhir_package.specs.ReadFiles.{ReadFiles};
 ghost use Rattle.fhir_package.specs.Surveying.{Surveyed, survey};
 ghost use Rattle.fhir_schema.specs.Schemas.{schema_of};
 ghost use Rattle.fhir_findings.specs.Clean.{AreUsable, IsClean};
@@ -17,11 +17,11 @@ pub fn all_usable()
         → all_unusable (schema_of survey.definitions) survey ≡ [] }
 {}
 
-/// Files are clean exactly where nothing is listed of them.
+/// Files are clean, which they are only where the device gave each of them, exactly where nothing is listed of them.
 pub fn clean_files()
-    ensures clean { (files : Files) → (survey files).faults ≡ []
+    ensures clean { (files : ReadFiles) → (survey files).faults ≡ []
         → all_unusable (schema_of (survey files).definitions) (survey files) ≡ [] → IsClean files }
-    ensures listed { (files : Files) → IsClean files
+    ensures listed { (files : ReadFiles) → IsClean files
         → ((survey files).faults ≡ []) × (all_unusable (schema_of (survey files).definitions) (survey files) ≡ []) }
 {
     surveys();

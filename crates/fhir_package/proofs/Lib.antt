@@ -11,7 +11,7 @@ pub mod Files
 pub mod Sounds
 pub mod Rising
 pub mod Holding
-pub mod ByName
-pub mod Once
 pub mod Lists
+pub mod Given
 pub mod Surveyings
+pub mod Loads

@@ -1,5 +1,5 @@
 -- Names put among others in the order of their bytes.
-use Rattle.std.proofs.Common.{Ordering, Less, Equal, Greater, ◌≡◌, true, false, List, [], ◌∷◌, map, String, string_bytes, refl, ap}
+use Rattle.std.proofs.Common.{Ordering, Less, Equal, Greater, ◌≡◌, true, List, [], ◌∷◌, map, String, string_bytes, refl, ap}
 use Rattle.std.specs.Prelude.{filter}
 use Rattle.std.specs.Cmp.Lexicographic.{slice_cmp}
 use Rattle.std.specs.Ordering.{match_ordering, nat_cmp}
@@ -27,11 +27,7 @@ module _ {Y : Type 0} where
       by Equal rest = refl
       by Greater rest = rest
 
--- a name that is put in, and one that is passed over
+-- a name that is put in
 pub names_taken : (ordered : List Text) (n : Text) (ns : List Text) → is_json_name n ≡ true
     → ordered_with ordered (filter is_json_name (n ∷ ns)) ≡ ordered_with (insert_key (slice_cmp nat_cmp) ordered n) (filter is_json_name ns)
 names_taken ordered n ns is = rw is refl
-
-pub names_passed : (ordered : List Text) (n : Text) (ns : List Text) → is_json_name n ≡ false
-    → ordered_with ordered (filter is_json_name (n ∷ ns)) ≡ ordered_with ordered (filter is_json_name ns)
-names_passed ordered n ns isnt = rw isnt refl

@@ -11,7 +11,7 @@ use Rattle.fhir_json.specs.Tree.{Text}
 use Rattle.fhir_package.specs.Packing.{is_json_name, ordered_with, json_names}
 use Rattle.fhir_package.proofs.Among.{among-contained, contained-among, among-json_names, json_names-among}
 
-abbrev pub by_bytes : Text → Text → Ordering
+abbrev by_bytes : Text → Text → Ordering
 by_bytes = slice_cmp nat_cmp
 
 abbrev put : List Text → Text → List Text
@@ -31,7 +31,7 @@ all_above : (k y : Text) (ys : List Text) → by_bytes k y ≡ Less → AllByRec
 all_above k y [] less h = tt
 all_above k y (z ∷ zs) less h = (nat_list_cmp_total.trans k y z less h.0, all_above k y zs less h.1)
 
-pub rises_put : (xs : List Text) (k : Text) → IsStrictlySortedBy by_bytes xs → IsStrictlySortedBy by_bytes (put xs k)
+rises_put : (xs : List Text) (k : Text) → IsStrictlySortedBy by_bytes xs → IsStrictlySortedBy by_bytes (put xs k)
 unfolding IsStrictlySortedBy
 rises_put [] k h = (tt, tt)
 rises_put (y ∷ ys) k h = by (by_bytes k y) refl (rises_put ys k h.1)
@@ -46,7 +46,7 @@ rises_with : (xs ns : List Text) → IsStrictlySortedBy by_bytes xs → IsStrict
 rises_with xs [] h = h
 rises_with xs (n ∷ ns) h = rises_with (put xs n) ns (rises_put xs n h)
 
-pub none_rises : IsStrictlySortedBy by_bytes []
+none_rises : IsStrictlySortedBy by_bytes []
 unfolding IsStrictlySortedBy
 none_rises = tt
 

@@ -1,13 +1,10 @@
 -- Look-ups in entries, by the places at which their names first stand.
-use Rattle.std.proofs.Common.{◌≡◌, ℕ, ◌+◌, Bool, true, false, cond, List, [], ◌∷◌, ◌++◌, Option, None, Some, refl, ap, ◌∙◌, add-one, Ok}
+use Rattle.std.proofs.Common.{◌≡◌, ℕ, ◌+◌, Bool, true, false, cond, List, [], ◌∷◌, Option, None, Some, refl, ap, ◌∙◌, add-one}
 use Rattle.std.specs.Option.{option_map, option_and_then}
 use Rattle.std.specs.List.{position_from, slice_get}
 use Rattle.std.specs.Map.{keys_of, lookup}
 use Rattle.std.specs.Str.{bytes_eq}
-use Rattle.fhir_json.specs.Tree.{Tree}
 use Rattle.fhir_names.specs.Places.{Places, place_of, Finds}
-use Rattle.fhir_package.specs.Definitions.{Definitions, of_kind, with_kind, at_url}
-use Rattle.fhir_package.specs.Packing.{Definition, join, joined, or_clash}
 
 -- places that are counted from one more
 position-shift : (t : List ℕ → Bool) (i : ℕ) (xs : List (List ℕ)) → position_from t (i + 1) xs ≡ option_map (λ p. p + 1) (position_from t i xs)
@@ -39,7 +36,3 @@ module _ {V : Type 0} where
 pub found : {V : Type 0} (places : Places) (es : List (List ℕ × V)) (name : List ℕ) (r : Option ℕ) → Finds places (keys_of es) → r ≡ place_of places name
     → value_at es r ≡ lookup (bytes_eq name) es
 found places es name r h e = ap (value_at es) (e ∙ h name) ∙ value-first (bytes_eq name) es
-
-pub join-new : (d : Definition) (p : Definitions) → at_url d.kind d.url p ≡ None
-    → or_clash (join d p) ≡ Ok (with_kind d.kind (of_kind d.kind p ++ (d.url, d.tree) ∷ []) p)
-join-new d p none = ap (λ (t : Option Tree). or_clash (joined t d p)) none

@@ -1,35 +1,37 @@
 -- What the answer of a loading says: the package that a folder is, or its refusal. A failure of the device and want of
 -- memory decide nothing.
-use Rattle.std.specs.Prelude.{◌≡◌, ℕ, Result, Ok, Err, codes, string_bytes}
+use Rattle.std.specs.Prelude.{◌≡◌, ◌+◌, ◌<◌, ◌≤◌, ℕ, Option, None, Some, Result, Ok, Err, codes, string_bytes}
+use Rattle.std.specs.Option.{option_and_then}
 use Rattle.fhir_json.specs.Tree.{Text}
 use Rattle.fhir_package.specs.declared.fault.LoadFault.{LoadFault}
 use Rattle.fhir_package.specs.declared.fault.LoadFault.TheVariants.{Unlisted, Unread, NotJson, Clash, NoMemory}
 use Rattle.fhir_package.specs.Definitions.{Definitions}
 use Rattle.fhir_package.specs.Packing.{Refusal, not_json, clash}
+use Rattle.fhir_package.specs.Surveying.{FileFault, unread, not_json as not_text, clash as two_of, Surveyed, refusal, refusal_of}
 
 -- ---- numbers
 
-abbrev pub refusal_number : Refusal → Text
-refusal_number (not_json name) = codes "P2"
-refusal_number (clash url) = codes "P3"
+-- the number that is printed of a file's fault
+abbrev pub fault_number : FileFault → Text
+fault_number (unread file) = codes "P1"
+fault_number (not_text file expected position) = codes "P2"
+fault_number (two_of kind url file first) = codes "P3"
 
--- the number that is printed
+-- the file's name, or of a clash the url
+abbrev pub fault_subject : FileFault → Text
+fault_subject (unread file) = file
+fault_subject (not_text file expected position) = file
+fault_subject (two_of kind url file first) = url
+
+-- the number that is printed of a loading's
 abbrev pub load_number : LoadFault → Text
 load_number Unlisted = codes "P1"
 load_number (Unread name) = codes "P1"
-load_number (NotJson name) = refusal_number (not_json (string_bytes name))
-load_number (Clash url) = refusal_number (clash (string_bytes url))
+load_number (NotJson name) = codes "P2"
+load_number (Clash url) = codes "P3"
 load_number NoMemory = codes "P4"
 
 -- ---- what is answered
-
--- the device failed, or memory ran out: not one of the files is to blame
-abbrev pub IsOfDevice : LoadFault → Type 0
-IsOfDevice Unlisted = Unit {0}
-IsOfDevice (Unread name) = Unit {0}
-IsOfDevice (NotJson name) = ⊥
-IsOfDevice (Clash url) = ⊥
-IsOfDevice NoMemory = Unit {0}
 
 -- the fault is the answer's refusal, or decides nothing
 abbrev pub IsRefused : LoadFault → Result Definitions Refusal → Type 0
@@ -44,20 +46,27 @@ abbrev pub IsPacked : Result Definitions LoadFault → Result Definitions Refusa
 IsPacked (Ok p) answer = answer ≡ Ok p
 IsPacked (Err fault) answer = IsRefused fault answer
 
--- the same of a call that changes a package into p
-abbrev pub IsTaken : {X : Type 0} → Result X LoadFault → Definitions → Result Definitions Refusal → Type 0
-IsTaken (Ok x) p answer = answer ≡ Ok p
-IsTaken (Err fault) p answer = IsRefused fault answer
+-- How often the device has failed behind a loading, from how often it had before it: it is blamed exactly where it failed. Where
+-- memory ran out, no failure is forgotten.
+abbrev pub CountsLoading : {X : Type 0} → ℕ → ℕ → Result X LoadFault → Type 0
+CountsLoading old new (Ok x) = new ≡ old
+CountsLoading old new (Err Unlisted) = new ≡ old + 1
+CountsLoading old new (Err (Unread name)) = old < new
+CountsLoading old new (Err (NotJson name)) = new ≡ old
+CountsLoading old new (Err (Clash url)) = new ≡ old
+CountsLoading old new (Err NoMemory) = old ≤ new
 
--- one for a failure of the device
-abbrev pub failures_told : LoadFault → ℕ
-failures_told Unlisted = 1
-failures_told (Unread name) = 1
-failures_told (NotJson name) = 0
-failures_told (Clash url) = 0
-failures_told NoMemory = 0
+-- ---- the same by a survey
 
--- the same of what a call answers
-abbrev pub failed_loading : {X : Type 0} → Result X LoadFault → ℕ
-failed_loading (Ok x) = 0
-failed_loading (Err fault) = failures_told fault
+-- A loading's fault tells the one for which files are no package, if there is one. Want of memory tells nothing.
+abbrev pub Tells : LoadFault → Option FileFault → Type 0
+Tells Unlisted refusal = ⊥
+Tells (Unread name) refusal = refusal ≡ Some (unread (string_bytes name))
+Tells (NotJson name) refusal = option_and_then refusal_of refusal ≡ Some (not_json (string_bytes name))
+Tells (Clash url) refusal = option_and_then refusal_of refusal ≡ Some (clash (string_bytes url))
+Tells NoMemory refusal = Unit {0}
+
+-- of files with this survey the package, or the fault for which they are none
+abbrev pub IsLoaded : Result Definitions LoadFault → Surveyed → Type 0
+IsLoaded (Ok p) s = (refusal s ≡ None) × (p ≡ s.definitions)
+IsLoaded (Err fault) s = Tells fault (refusal s)

@@ -1,17 +1,12 @@
--- What contracts see of files that were read: names with bytes.
-use Rattle.std.specs.Prelude.{ℕ, List, map, String, Vec, string_bytes}
-use Rattle.std.specs.declared.alloc.Global.{Global}
-use Rattle.std.specs.BTreeMap.{BTreeMap}
+-- What contracts see of files that were read: names, each with its bytes where there are some.
+use Rattle.std.specs.Prelude.{ℕ, List, map, Option, string_bytes}
+use Rattle.std.specs.Option.{option_map}
 use Rattle.fhir_json.specs.Tree.{Text}
 use Rattle.fhir_package.specs.declared.folder_files.FolderFile.{FolderFile}
-use Rattle.fhir_package.specs.Folder.{Files}
+use Rattle.fhir_package.specs.ReadFiles.{ReadFiles}
 
-abbrev pub folder_file : FolderFile → Text × List ℕ
-folder_file f = (string_bytes f.name, f.bytes.items)
+abbrev pub folder_file : FolderFile → Text × Option (List ℕ)
+folder_file f = (string_bytes f.name, option_map (λ bytes. bytes.items) f.bytes)
 
-abbrev pub folder_files : List FolderFile → Files
+abbrev pub folder_files : List FolderFile → ReadFiles
 folder_files fs = map folder_file fs
-
--- the same of files that are kept by their names
-abbrev pub by_name_seen : BTreeMap (String Global) (Vec ℕ Global) → Files
-by_name_seen m = map (λ e. (string_bytes e.0, e.1.items)) m.entries

@@ -1,7 +1,7 @@
 -- What a folder over memory means: its files are those that are kept, and it has none where it gives no listing.
 use Rattle.std.specs.Prelude.{ℕ, List, [], map, Option, Some, None, Vec, string_bytes}
 use Rattle.std.specs.declared.alloc.Global.{Global}
-use Rattle.fhir_package.specs.declared.memory.MemoryFile.{MemoryFile}
+use Rattle.fhir_package.specs.declared.folder_files.FolderFile.{FolderFile}
 use Rattle.fhir_package.specs.Folder.{Files}
 
 -- a folder's files, and how many calls on it have failed
@@ -14,13 +14,13 @@ abbrev pub given_bytes : Option (Vec ℕ Global) → List ℕ
 given_bytes None = []
 given_bytes (Some bytes) = bytes.items
 
-abbrev pub memory_file : MemoryFile → List ℕ × List ℕ
+abbrev pub memory_file : FolderFile → List ℕ × List ℕ
 memory_file f = (string_bytes f.name, given_bytes f.bytes)
 
-abbrev pub memory_files : List MemoryFile → Files
+abbrev pub memory_files : List FolderFile → Files
 memory_files fs = map memory_file fs
 
-abbrev pub listed : Option (Vec MemoryFile Global) → Files
+abbrev pub listed : Option (Vec FolderFile Global) → Files
 listed None = []
 listed (Some fs) = memory_files fs.items
 

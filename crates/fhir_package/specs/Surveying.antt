@@ -1,6 +1,7 @@
 -- What is wrong with the files of a folder, in their order, and the package of all that is right: the reading goes on behind each
 -- fault. Of two different definitions of one kind and url the first is kept.
-use Rattle.std.specs.Prelude.{ℕ, ◌-◌, List, [], ◌∷◌, ◌++◌, length, Option, None, Some, Result, Ok, Err, if◌then◌else◌, get_or}
+use Rattle.std.specs.Prelude.{ℕ, ◌-◌, List, [], ◌∷◌, ◌++◌, length, find, slice_get, Bool, true, false, Option, None, Some, Result, Ok, Err, if◌then◌else◌, get_or}
+use Rattle.std.specs.Option.{option_map, option_or}
 use Rattle.fhir_json.specs.Tree.{Text, Tree}
 use Rattle.fhir_json.specs.declared.position.Position.{Position}
 use Rattle.fhir_json.specs.declared.refusal.Expected.{Expected}
@@ -11,11 +12,13 @@ use Rattle.fhir_matching.specs.Equality.{equal}
 use Rattle.fhir_package.specs.declared.kind.Kind.{Kind}
 use Rattle.fhir_package.specs.declared.kind.Kind.TheVariants.{StructureDefinition, ValueSet, CodeSystem}
 use Rattle.fhir_package.specs.Definitions.{Definitions, no_definitions, at_url, place_in}
-use Rattle.fhir_package.specs.Folder.{Files}
+use Rattle.fhir_package.specs.ReadFiles.{ReadFiles}
 use Rattle.fhir_package.specs.Packing.{Refusal, not_json as not_text, clash as two_of, Definition, definitions_in, with_definition}
 
 -- what is wrong with a file
 pub data FileFault : Type 0 where
+  -- the device didn't give the file of that name
+  unread : Text → FileFault
   -- the file of that name is no text of JSON: what was expected, and where
   not_json : Text → Expected → Position → FileFault
   -- of that kind and url are two different definitions, in the file of the first name and, before it, in that of the second
@@ -85,23 +88,39 @@ abbrev pub survey_tree : Text → Text → Result Tree JsonRefusal → Surveyed 
 survey_tree file bytes (Ok t) s = put_each file (definitions_in t) s
 survey_tree file bytes (Err refusal) s = with_fault (not_json file refusal.expected (position_in bytes refusal)) s
 
-abbrev pub survey_each : Files → Surveyed → Surveyed
-survey_each [] s = s
-survey_each (f ∷ fs) s = survey_each fs (survey_tree f.0 f.1 (placed_reading f.1) s)
+-- the definitions of a file, or why it has none
+abbrev pub survey_file : Text → Option Text → Surveyed → Surveyed
+survey_file file None s = with_fault (unread file) s
+survey_file file (Some bytes) s = survey_tree file bytes (placed_reading bytes) s
 
-abbrev pub survey : Files → Surveyed
+abbrev pub survey_each : ReadFiles → Surveyed → Surveyed
+survey_each [] s = s
+survey_each (f ∷ fs) s = survey_each fs (survey_file f.0 f.1 s)
+
+abbrev pub survey : ReadFiles → Surveyed
 survey files = survey_each files nothing_surveyed
 
 -- ---- what a survey says of the package
 
-abbrev pub refusal_of : FileFault → Refusal
-refusal_of (not_json file expected position) = not_text file
-refusal_of (clash kind url file first) = two_of url
+abbrev pub is_unread : FileFault → Bool
+is_unread (unread file) = true
+is_unread (not_json file expected position) = false
+is_unread (clash kind url file first) = false
 
--- the package of files of which nothing is wrong, or else the first fault as a refusal
-abbrev pub told_by : List FileFault → Definitions → Result Definitions Refusal
-told_by [] p = Ok p
-told_by (fault ∷ faults) p = Err (refusal_of fault)
+-- the first fault by which files are no package: of the device, or else the first of all
+abbrev pub refusal : Surveyed → Option FileFault
+refusal s = option_or (find is_unread s.faults) (slice_get s.faults 0)
 
-abbrev pub packed_by : Surveyed → Result Definitions Refusal
-packed_by s = told_by s.faults s.definitions
+-- why files are no package, by a fault of theirs; one of the device doesn't say it
+abbrev pub refusal_of : FileFault → Option Refusal
+refusal_of (unread file) = None
+refusal_of (not_json file expected position) = Some (not_text file)
+refusal_of (clash kind url file first) = Some (two_of url)
+
+-- The package of files of which nothing is wrong, or else why they are none; neither where the device didn't give each.
+abbrev pub told_by : Option FileFault → Definitions → Option (Result Definitions Refusal)
+told_by None p = Some (Ok p)
+told_by (Some fault) p = option_map Err (refusal_of fault)
+
+abbrev pub packed_by : Surveyed → Option (Result Definitions Refusal)
+packed_by s = told_by (refusal s) s.definitions

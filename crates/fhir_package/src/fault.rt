@@ -4,7 +4,7 @@ ghost use Rattle.std.specs.Prelude.{◌≡◌};
 ghost use Rattle.fhir_package.specs.declared.fault.LoadFault.TheVariants as faults;
 ghost use Rattle.fhir_package.specs.Faults.{load_number};
 
-use std::alloc::{AllocError, AllocFailed};
+use fhir_json::NoMemory;
 use thiserror::Error;
 
 /// Why a folder could not be loaded: the first fault of the device, or else the first in the order of the files.
@@ -41,26 +41,10 @@ impl LoadFault {
     }
 }
 
-impl From<AllocError> for LoadFault {
+impl From<NoMemory> for LoadFault {
     ghost from_gives = { λ _ e. e ≡ faults.NoMemory };
 
-    fn from(_error: AllocError) -> LoadFault {
-        LoadFault::NoMemory
-    }
-}
-
-impl<T: Drop> From<AllocFailed<T>> for LoadFault {
-    ghost from_gives = { λ _ e. e ≡ faults.NoMemory };
-
-    fn from(_error: AllocFailed<T>) -> LoadFault {
-        LoadFault::NoMemory
-    }
-}
-
-impl From<fhir_json::NoMemory> for LoadFault {
-    ghost from_gives = { λ _ e. e ≡ faults.NoMemory };
-
-    fn from(_error: fhir_json::NoMemory) -> LoadFault {
+    fn from(_error: NoMemory) -> LoadFault {
         LoadFault::NoMemory
     }
 }

@@ -6,6 +6,7 @@ ghost use Rattle.std.specs.Str.{bytes_eq};
 ghost use Rattle.fhir_package.specs.declared.folder.FolderFault.TheVariants as faults;
 ghost use Rattle.fhir_package.specs.Folder.{failed};
 
+use fhir_json::NoMemory;
 use std::alloc::{AllocError, AllocFailed, Global};
 
 /// Why a folder gave nothing.
@@ -29,6 +30,14 @@ impl<T: Drop> From<AllocFailed<T>> for FolderFault {
     ghost from_gives = { λ _ e. e ≡ faults.NoMemory };
 
     fn from(_error: AllocFailed<T>) -> FolderFault {
+        FolderFault::NoMemory
+    }
+}
+
+impl From<NoMemory> for FolderFault {
+    ghost from_gives = { λ _ e. e ≡ faults.NoMemory };
+
+    fn from(_error: NoMemory) -> FolderFault {
         FolderFault::NoMemory
     }
 }

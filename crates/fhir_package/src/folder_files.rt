@@ -1,30 +1,24 @@
 //! The files of a folder that a package is made of.
 
-ghost use Rattle.std.specs.Prelude.{◌≡◌, ◌+◌, map, string_bytes, is_some, IfOk, IfErr, OnOk, if◌then◌else◌};
-ghost use Rattle.std.specs.Map.{keys_of, lookup};
-ghost use Rattle.std.specs.Str.{bytes_eq};
-ghost use Rattle.std.specs.Cmp.Lexicographic.{slice_cmp};
-ghost use Rattle.std.specs.Ordering.{nat_cmp};
-ghost use Rattle.std.specs.BTreeMap.{insert_entry};
-ghost use Rattle.fhir_json.specs.Memory.{Gives};
-ghost use Rattle.fhir_package.specs.Packing.{is_json_name, json_names, json_files, bytes_at};
-ghost use Rattle.fhir_package.specs.Faults.{IsOfDevice, failed_loading};
-ghost use Rattle.fhir_package.specs.FilesView.{folder_file, folder_files, by_name_seen};
+ghost use Rattle.std.specs.Prelude.{◌≡◌, ◌+◌, ◌≤◌, [], ◌∷◌, map, length, string_bytes, All, IfOk};
+ghost use Rattle.std.specs.Map.{keys_of};
+ghost use Rattle.fhir_package.specs.Packing.{is_json_name, json_names};
+ghost use Rattle.fhir_package.specs.ReadFiles.{IsFrom, unread_names, CountsReading};
+ghost use Rattle.fhir_package.specs.FilesView.{folder_file, folder_files};
 
-use crate::fault::LoadFault;
 use crate::folder::{Folder, FolderFault};
 use fhir_json::NoMemory;
 use std::alloc::Global;
-use std::collections::{BTreeMap, BTreeSet};
+use std::collections::BTreeSet;
 use std::marker::Model;
 
-/// A file: its name in its folder, and its bytes.
+/// A file of a folder: its name, and its bytes, or none where the device doesn't give them.
 #[derive(Debug, Drop)]
 pub struct FolderFile {
     /// The name.
     pub name: String,
-    /// The bytes.
-    pub bytes: Vec<u8>,
+    /// The bytes, if the device gives them.
+    pub bytes: Option<Vec<u8>>,
 }
 
 /// The files of a folder whose names end in `.json`, in the order of their names' bytes, each name once.
@@ -34,10 +28,10 @@ pub struct FolderFiles {
 }
 
 impl Model for FolderFiles {
-    ghost use Rattle.fhir_package.specs.Folder.{Files};
+    ghost use Rattle.fhir_package.specs.ReadFiles.{ReadFiles};
     ghost use Rattle.fhir_package.specs.FilesView.{folder_files};
 
-    ghost Value = { Files };
+    ghost Value = { ReadFiles };
 
     ghost view = { λ f. folder_files f.files.items };
 }
@@ -62,85 +56,39 @@ fn json_names(alloc: Global, names: Vec<String>) -> Result<BTreeSet<String>, NoM
     Ok(ordered)
 }
 
-fn read_file<F: Folder>(
-    alloc: Global,
-    folder: &mut F,
-    name: String,
-) -> Result<FolderFile, LoadFault>
-    ensures read { IfOk result (λ f. folder_file f ≡ (string_bytes name, bytes_at (F.files folder.old) (string_bytes name))) }
-    ensures device { IfErr result IsOfDevice }
+// Reads a file, without its bytes where the device doesn't give them.
+fn read_file<F: Folder>(alloc: Global, folder: &mut F, name: String) -> Result<FolderFile, NoMemory>
+    ensures name { IfOk result (λ f. (folder_file f).0 ≡ string_bytes name) }
+    ensures bytes { IfOk result (λ f. IsFrom (F.files folder.old) (folder_file f)) }
     ensures files { F.files folder.new ≡ F.files folder.old }
-    ensures counted { F.failed_calls folder.new ≡ F.failed_calls folder.old + failed_loading result }
+    ensures counted { IfOk result (λ f. F.failed_calls folder.new ≡ F.failed_calls folder.old + length (unread_names (folder_file f ∷ []))) }
+    ensures none_forgotten { F.failed_calls folder.old ≤ F.failed_calls folder.new }
 {
     match folder.read(alloc, name.as_str()) {
-        Ok(bytes) => Ok(FolderFile { name, bytes }),
-        Err(FolderFault::Device) => Err(LoadFault::Unread(name)),
-        Err(FolderFault::NoMemory) => Err(LoadFault::NoMemory),
+        Ok(bytes) => Ok(FolderFile {
+            name,
+            bytes: Some(bytes),
+        }),
+        Err(FolderFault::Device) => Ok(FolderFile { name, bytes: None }),
+        Err(FolderFault::NoMemory) => Err(NoMemory),
     }
-}
-
-// Puts a file among others, unless one of its name is there.
-fn put_first(others: &mut BTreeMap<String, Vec<u8>>, file: FolderFile) -> Result<(), NoMemory>
-    ensures { OnOk result (by_name_seen others.new ≡
-        (if is_some (lookup (bytes_eq (string_bytes file.name)) (by_name_seen others.old)) then by_name_seen others.old
-        else insert_entry (slice_cmp nat_cmp) (by_name_seen others.old) (string_bytes file.name) file.bytes.items)) }
-{
-    if !others.contains_key(file.name.as_str()) {
-        others.insert(file.name, file.bytes)?;
-    }
-    Ok(())
-}
-
-// The files whose names end in `.json`, by their names; of two of one name the first.
-fn by_name(alloc: Global, files: Vec<FolderFile>) -> Result<BTreeMap<String, Vec<u8>>, NoMemory>
-    ensures { IfOk result (λ m. by_name_seen m ≡ json_files (folder_files files.items)) }
-{
-    let mut all = BTreeMap::new(alloc);
-    for file in files {
-        if is_json_name(file.name.as_str()) {
-            put_first(&mut all, file)?;
-        }
-    }
-    Ok(all)
-}
-
-fn in_order(alloc: Global, files: BTreeMap<String, Vec<u8>>) -> Result<Vec<FolderFile>, NoMemory>
-    ensures { IfOk result (λ v. folder_files v.items ≡ by_name_seen files) }
-{
-    let mut all = Vec::with_capacity(alloc, files.len())?;
-    for (name, bytes) in files {
-        all.push(FolderFile { name, bytes })?;
-    }
-    Ok(all)
 }
 
 impl FolderFiles {
-    /// Reads them from a folder, in their order, as far as the device gives them.
-    pub fn read<F: Folder>(alloc: Global, folder: &mut F) -> Result<FolderFiles, LoadFault>
-        ensures read { IfOk result (λ f. f ≡ json_files (F.files folder.old)) }
-        ensures device { IfErr result IsOfDevice }
+    /// Reads them from a folder, and goes on behind a file that the device doesn't give. The one fault of the device that ends the
+    /// reading is that of the listing.
+    pub fn read<F: Folder>(alloc: Global, folder: &mut F) -> Result<FolderFiles, FolderFault>
+        ensures names { IfOk result (λ f. keys_of f ≡ json_names (keys_of (F.files folder.old))) }
+        ensures bytes { IfOk result (All (IsFrom (F.files folder.old))) }
         ensures files { F.files folder.new ≡ F.files folder.old }
-        // The device is blamed exactly where it failed in this call, and then once.
-        ensures counted { F.failed_calls folder.new ≡ F.failed_calls folder.old + failed_loading result }
+        ensures counted { CountsReading (F.failed_calls folder.old) (F.failed_calls folder.new) result }
     {
-        let names = match folder.list(alloc) {
-            Ok(names) => names,
-            Err(FolderFault::Device) => return Err(LoadFault::Unlisted),
-            Err(FolderFault::NoMemory) => return Err(LoadFault::NoMemory),
-        };
+        let names = folder.list(alloc)?;
         let mut files = Vec::new(alloc);
         for name in json_names(alloc, names)? {
             let file = read_file(alloc, folder, name)?;
             files.push(file)?;
         }
-        Ok(FolderFiles { files })
-    }
-
-    /// Those among files that were read otherwise; of two of one name the first. No bytes are copied.
-    pub fn of(alloc: Global, files: Vec<FolderFile>) -> Result<FolderFiles, NoMemory>
-        ensures { Gives (λ f. f) result (json_files (folder_files files.items)) }
-    {
-        let files = in_order(alloc, by_name(alloc, files)?)?;
         Ok(FolderFiles { files })
     }
 

@@ -1,6 +1,6 @@
 //! Laws: what the definitions say of a folder and its package.
 
-ghost use Rattle.std.specs.Prelude.{◌≡◌, ◌≤◌, ◌↔◌, List, Ok, Err, Some, false, All, Contains, IsTrue, codes};
+ghost use Rattle.std.specs.Prelude.{◌≡◌, ◌≢◌, ◌≤◌, ◌↔◌, List, [], ◌∷◌, map, filter, Ok, Err, None, Some, false, All, Contains, IsTrue, codes};
 ghost use Rattle.std.specs.List.{IsDistinct, flat_map};
 ghost use Rattle.std.specs.List.Sorted.{IsStrictlySortedBy};
 ghost use Rattle.std.specs.Cmp.Lexicographic.{slice_cmp};
@@ -15,8 +15,9 @@ ghost use Rattle.fhir_matching.specs.Equality.{equal};
 ghost use Rattle.fhir_package.specs.declared.kind.Kind.{Kind};
 ghost use Rattle.fhir_package.specs.Definitions.{Definitions, of_kind, at_url};
 ghost use Rattle.fhir_package.specs.Folder.{Files};
-ghost use Rattle.fhir_package.specs.Packing.{Definition, not_json, clash, is_bundle, definitions_in, is_json_name, json_names, bytes_at, pack_files, pack};
-ghost use Rattle.fhir_package.specs.Surveying.{survey, packed_by};
+ghost use Rattle.fhir_package.specs.Packing.{Definition, not_json, clash, is_bundle, definitions_in, is_json_name, json_names, json_files, bytes_at, pack};
+ghost use Rattle.fhir_package.specs.ReadFiles.{ReadFiles, IsFrom, unread_names, given, all_given, pack_given};
+ghost use Rattle.fhir_package.specs.Surveying.{unread, is_unread, survey, refusal, packed_by};
 ghost use Rattle.fhir_package.specs.Found.{IsInFolder, Clashes, itself, in_resource};
 
 use fhir_json::reading_agrees;
@@ -56,9 +57,23 @@ pub fn packages()
     equivalence();
 }
 
-/// Files of which a survey finds nothing wrong are the package that it has, and all others are refused for its first fault.
+/// Files of which a survey finds nothing wrong are the package that it has, and all others are refused for its first fault. Where
+/// the device didn't give each of them, the survey has a fault for each that it didn't give, in their order; the first of these
+/// is then the refusal, and the survey says nothing of a package.
 pub fn surveys()
-    ensures { (files : Files) → pack_files files ≡ packed_by (survey files) }
+    ensures packed { (files : ReadFiles) → packed_by (survey files) ≡ pack_given files }
+    ensures unread { (files : ReadFiles) → filter is_unread (survey files).faults ≡ map unread (unread_names files) }
+    ensures first { (files : ReadFiles) (name : Text) (names : List Text) → unread_names files ≡ name ∷ names
+        → refusal (survey files) ≡ Some (unread name) }
+{}
+
+/// Files were all given exactly where none of them is unread. Read from a folder, they are then its JSON files.
+pub fn given_files()
+    ensures given { (files : Files) → all_given (given files) ≡ Some files }
+    ensures only { (read : ReadFiles) (files : Files) → all_given read ≡ Some files → read ≡ given files }
+    ensures missing { (read : ReadFiles) → (all_given read ≡ None) ↔ (unread_names read ≢ []) }
+    ensures of_folder { (folder : Files) (read : ReadFiles) (files : Files) → keys_of read ≡ json_names (keys_of folder)
+        → All (IsFrom folder) read → all_given read ≡ Some files → files ≡ json_files folder }
 {}
 
 /// The names of the files that are read rise by their bytes, and they are those of the folder that end in `.json`.

@@ -1,18 +1,18 @@
 //! Packages: the definitions of a folder of FHIR R4 files.
 //!
 //! ```
-//! /// How many profiles and types the files have, or why they are no package.
-//! pub fn count_of(alloc: Global, files: Vec<FolderFile>) -> Result<usize, LoadFault>
-//!     ensures { IfOk result (λ n. (p : Definitions) × (pack (folder_files files.items) ≡ Ok p) × (n ≡ length p.structure_definitions)) }
+//! /// How many profiles and types a folder has, or why it is no package.
+//! pub fn count_of<F: Folder>(alloc: Global, folder: &mut F) -> Result<usize, LoadFault>
+//!     ensures { IfOk result (λ n. (p : Definitions) × (pack (F.files folder.old) ≡ Ok p) × (n ≡ length p.structure_definitions)) }
 //! {
-//!     let files = FolderFiles::of(alloc, files)?;
-//!     let package = pack(alloc, &files)?;
+//!     let package = load(alloc, folder)?;
 //!     Ok(package.len(Kind::StructureDefinition))
 //! }
 //! ```
 //!
-//! The contract to read first is that of [`pack`]. Which package files are stands in `specs/Packing.antt` (`pack_files`);
-//! the laws [`packages`] and [`packing`] say what that means for the files.
+//! The contracts to read first are those of [`load`] and [`Survey::of`]. Which package files are stands in `specs/Packing.antt`
+//! (`pack_files`), and what is wrong with files in `specs/Surveying.antt` (`survey`); the laws [`packages`] and [`packing`] say
+//! what the first means for the files, and [`surveys`] that a survey finds the package.
 #![tactic(auto)]
 
 mod canonical;
@@ -26,6 +26,7 @@ mod loading;
 mod memory;
 mod package;
 mod parts;
+mod progress;
 mod survey;
 mod url_map;
 
@@ -34,8 +35,9 @@ pub use fault::LoadFault;
 pub use folder::{Folder, FolderFault};
 pub use folder_files::{FolderFile, FolderFiles, is_json_name};
 pub use kind::Kind;
-pub use laws::{bundles, ordered_names, packages, packing, surveys};
-pub use loading::{load, pack};
-pub use memory::{MemoryFile, MemoryFolder};
+pub use laws::{bundles, given_files, ordered_names, packages, packing, surveys};
+pub use loading::load;
+pub use memory::MemoryFolder;
 pub use package::{Names, Package};
+pub use progress::{Progress, Silent, Stage};
 pub use survey::{Clash, FileFault, NotJson, Survey};

@@ -1,6 +1,6 @@
 //! A folder over memory.
 
-ghost use Rattle.std.specs.Prelude.{◌≡◌, ◌+◌, [], Some, option_map, string_bytes, map, IfOk, IfSome, OnOk};
+ghost use Rattle.std.specs.Prelude.{◌≡◌, ◌+◌, [], Some, option_map, string_bytes, map, IfOk, IfSome};
 ghost use Rattle.std.specs.Option.{option_copied};
 ghost use Rattle.std.specs.List.{slice_get};
 ghost use Rattle.std.specs.Map.{keys_of, lookup};
@@ -10,24 +10,16 @@ ghost use Rattle.fhir_package.specs.Folder.{failures_in, failed};
 ghost use Rattle.fhir_package.specs.Memory.{given_bytes, memory_file, memory_files, listed, files_of, failures_of};
 
 use crate::folder::{Folder, FolderFault};
+use crate::folder_files::FolderFile;
 use fhir_json::NoMemory;
 use fhir_names::Index;
 use std::alloc::{AllocError, Global};
 use std::marker::Model;
 
-/// A file of a folder over memory: its name, and its bytes, or none where the device fails to give them.
-#[derive(Debug, Drop)]
-pub struct MemoryFile {
-    /// The file's name in its folder.
-    pub name: String,
-    /// Its bytes, if the device gives them.
-    pub bytes: Option<Vec<u8>>,
-}
-
 /// A folder whose files are in memory, or whose listing the device fails to give.
 #[derive(Drop)]
 pub struct MemoryFolder {
-    files: Option<Vec<MemoryFile>>,
+    files: Option<Vec<FolderFile>>,
     names: Index,
     failures: u64,
 }
@@ -45,7 +37,7 @@ impl Model for MemoryFolder {
     ghost invariant = { λ m. Finds m.names (keys_of (listed m.files)) };
 }
 
-fn index_of(alloc: Global, files: &[MemoryFile]) -> Result<Index, AllocError>
+fn index_of(alloc: Global, files: &[FolderFile]) -> Result<Index, AllocError>
     ensures { IfOk result (λ names. Finds names (keys_of (memory_files files.now))) }
 {
     let mut names = Index::new(alloc);
@@ -57,7 +49,7 @@ fn index_of(alloc: Global, files: &[MemoryFile]) -> Result<Index, AllocError>
 
 impl MemoryFolder {
     /// A folder of these files. Of files of one name the first is read. The one refusal is want of memory.
-    pub fn new(alloc: Global, files: Vec<MemoryFile>) -> Result<MemoryFolder, NoMemory>
+    pub fn new(alloc: Global, files: Vec<FolderFile>) -> Result<MemoryFolder, NoMemory>
         ensures files { IfOk result (λ folder. files_of folder ≡ memory_files files.items) }
         ensures failures { IfOk result (λ folder. failures_of folder ≡ 0) }
     {
@@ -82,13 +74,13 @@ impl MemoryFolder {
     }
 }
 
-fn file_at(files: &[MemoryFile], place: usize) -> Option<&MemoryFile>
+fn file_at(files: &[FolderFile], place: usize) -> Option<&FolderFile>
     ensures { option_map memory_file (option_copied result) ≡ slice_get (memory_files files.now) place }
 {
     files.get(place)
 }
 
-fn file_of<'f>(files: &'f [MemoryFile], names: &Index, name: &str) -> Option<&'f MemoryFile>
+fn file_of<'f>(files: &'f [FolderFile], names: &Index, name: &str) -> Option<&'f FolderFile>
     requires { Finds names.now (keys_of (memory_files files.now)) }
     ensures { option_map (λ f. given_bytes f.bytes) (option_copied result)
         ≡ lookup (bytes_eq name.now) (memory_files files.now) }
@@ -100,7 +92,7 @@ fn file_of<'f>(files: &'f [MemoryFile], names: &Index, name: &str) -> Option<&'f
 }
 
 // The bytes of a name, where the device gives them.
-fn bytes_of<'f>(files: &'f Option<Vec<MemoryFile>>, names: &Index, name: &str) -> Option<&'f [u8]>
+fn bytes_of<'f>(files: &'f Option<Vec<FolderFile>>, names: &Index, name: &str) -> Option<&'f [u8]>
     requires { Finds names.now (keys_of (listed files.now)) }
     ensures { IfSome result (λ bytes. lookup (bytes_eq name.now) (listed files.now) ≡ Some bytes.now) }
 {
@@ -109,7 +101,7 @@ fn bytes_of<'f>(files: &'f Option<Vec<MemoryFile>>, names: &Index, name: &str) -
     };
     match file_of(files, names, name) {
         Some(
-            MemoryFile {
+            FolderFile {
                 bytes: Some(bytes),
                 ..
             },
@@ -118,7 +110,7 @@ fn bytes_of<'f>(files: &'f Option<Vec<MemoryFile>>, names: &Index, name: &str) -
     }
 }
 
-fn names_of(alloc: Global, files: &[MemoryFile]) -> Result<Vec<String>, FolderFault>
+fn names_of(alloc: Global, files: &[FolderFile]) -> Result<Vec<String>, FolderFault>
     ensures names { IfOk result (λ v. map string_bytes v.items ≡ keys_of (memory_files files.now)) }
     ensures counted { failed result ≡ 0 }
 {

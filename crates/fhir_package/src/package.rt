@@ -1,23 +1,19 @@
 //! The definitions of a package.
 
-ghost use Rattle.std.specs.Prelude.{◌≡◌, [], ◌∷◌, ◌++◌, length, slice_get, Ok, Err, OnOk};
-ghost use Rattle.std.specs.Map.{keys_of, lookup};
+ghost use Rattle.std.specs.Prelude.{◌≡◌, length, slice_get, OnOk};
+ghost use Rattle.std.specs.Map.{keys_of};
 ghost use Rattle.std.specs.Option.{option_map};
-ghost use Rattle.std.specs.Str.{bytes_eq};
 ghost use Rattle.fhir_json.specs.Views.{tree_of, tree_seen};
 ghost use Rattle.fhir_json.specs.Memory.{Gives};
 ghost use Rattle.fhir_package.specs.Definitions.{no_definitions, of_kind, at_url, place_in};
 ghost use Rattle.fhir_package.specs.Canonical.{at_version, named_by};
-ghost use Rattle.fhir_package.specs.Packing.{with_definition, join, or_clash};
-ghost use Rattle.fhir_package.specs.Faults.{IsRefused, IsTaken, failures_told, failed_loading};
+ghost use Rattle.fhir_package.specs.Packing.{with_definition};
 
 use crate::canonical::is_of_version;
 use crate::definitions::Held;
-use crate::fault::LoadFault;
 use crate::kind::Kind;
 use crate::url_map::{UrlEntry, UrlMap};
 use fhir_json::{Json, NoMemory};
-use fhir_matching::json_eq_in;
 use fhir_names::Canonical;
 use std::alloc::Global;
 use std::marker::Model;
@@ -138,31 +134,6 @@ impl<'a> Package<'a> {
             Kind::StructureDefinition => self.structure_definitions.push(alloc, url.as_str(), tree),
             Kind::ValueSet => self.value_sets.push(alloc, url.as_str(), tree),
             Kind::CodeSystem => self.code_systems.push(alloc, url.as_str(), tree),
-        }
-    }
-
-    // The same, as a definition that was not there.
-    fn push_definition(&mut self, alloc: Global, definition: Held<'a>) -> Result<(), LoadFault>
-        ensures taken { IsTaken result self.new (Ok (with_definition definition.entry self.old)) }
-        ensures blameless { failed_loading result ≡ 0 }
-    {
-        Ok(self.push(alloc, definition)?)
-    }
-
-    /// Puts a definition behind the others of its kind, unless an equal one is there. Another one there is a clash.
-    pub(crate) fn join(&mut self, alloc: Global, definition: Held<'a>) -> Result<(), LoadFault>
-        ensures taken { IsTaken result self.new (or_clash (join definition.entry self.old)) }
-        ensures blameless { failed_loading result ≡ 0 }
-    {
-        match self.at_url(definition.kind, definition.url.as_str()) {
-            None => self.push_definition(alloc, definition),
-            Some(there) => {
-                if json_eq_in(alloc, there, &definition.tree)? {
-                    Ok(())
-                } else {
-                    Err(LoadFault::Clash(definition.url))
-                }
-            }
         }
     }
 

@@ -1,18 +1,19 @@
 //! What is wrong with the files of a folder.
 
-ghost use Rattle.std.specs.Prelude.{◌≡◌, [], ◌∷◌, ◌++◌, map, get_or, length, OnOk, IfOk, string_bytes};
-ghost use Rattle.fhir_json.specs.Views.{tree_of};
+ghost use Rattle.std.specs.Prelude.{◌≡◌, [], ◌∷◌, ◌++◌, map, find, get_or, OnOk};
+ghost use Rattle.std.specs.Option.{option_copied, option_map};
 ghost use Rattle.fhir_json.specs.Memory.{Gives};
 ghost use Rattle.fhir_json.specs.Reading.{placed_reading};
-ghost use Rattle.fhir_package.specs.FilesView.{folder_files};
-ghost use Rattle.fhir_package.specs.Packing.{definitions_in};
-ghost use Rattle.fhir_package.specs.Surveying.{no_sources, sources_of, with_sources, nothing_surveyed, source_of, not_json, position_in, with_fault, clash, with_new, put, put_each, survey_tree, survey_each, survey};
+ghost use Rattle.fhir_package.specs.FilesView.{folder_file, folder_files};
+ghost use Rattle.fhir_package.specs.Faults.{fault_number, fault_subject};
+ghost use Rattle.fhir_package.specs.Surveying.{no_sources, sources_of, with_sources, nothing_surveyed, source_of, not_json, position_in, with_fault, clash, with_new, put, put_each, survey_tree, survey_file, survey_each, survey, is_unread, refusal};
 ghost use Rattle.fhir_package.specs.SurveyView.{fault_seen, faults_seen};
 
 use crate::definitions::{Held, definitions_in};
 use crate::folder_files::{FolderFile, FolderFiles};
 use crate::kind::Kind;
 use crate::package::Package;
+use crate::progress::{Progress, Stage};
 use fhir_json::{Expected, NoMemory, Position, Refusal, position_of, read_or_place};
 use fhir_matching::json_eq_in;
 use std::alloc::{AllocError, Global};
@@ -45,21 +46,59 @@ pub struct NotJson<'f> {
 /// What is wrong with a file.
 #[derive(Debug, Drop)]
 pub enum FileFault<'f> {
+    /// The device doesn't give the file of this name.
+    Unread(&'f str),
     /// It is no JSON text.
     NotJson(NotJson<'f>),
     /// A definition of it differs from one of the same kind and url that was read before it.
     Clash(Clash<'f>),
 }
 
+impl<'f> FileFault<'f> {
+    /// The number that stands before its subject where it is printed.
+    pub fn number(&self) -> &'static str
+        ensures { result.now ≡ fault_number (fault_seen self.now) }
+    {
+        match self {
+            FileFault::Unread(_) => "P1",
+            FileFault::NotJson(_) => "P2",
+            FileFault::Clash(_) => "P3",
+        }
+    }
+
+    /// The name of the file; of a clash the url.
+    pub fn subject(&self) -> &str
+        ensures { result.now ≡ fault_subject (fault_seen self.now) }
+    {
+        match self {
+            FileFault::Unread(file) => *file,
+            FileFault::NotJson(fault) => fault.file,
+            FileFault::Clash(clash) => clash.url.as_str(),
+        }
+    }
+}
+
 // The fault of a file whose bytes are refused.
-fn not_json(file: &FolderFile, refusal: Refusal) -> FileFault<'_>
-    ensures { fault_seen result ≡ not_json (string_bytes file.now.name) refusal.expected (position_in file.now.bytes.items refusal) }
+fn not_json<'f>(file: &'f str, bytes: &[u8], refusal: Refusal) -> FileFault<'f>
+    ensures { fault_seen result ≡ not_json file.now refusal.expected (position_in bytes.now refusal) }
 {
     FileFault::NotJson(NotJson {
-        file: file.name.as_str(),
+        file,
         expected: refusal.expected,
-        position: position_of(&file.bytes, file.bytes.len().saturating_sub(refusal.left)),
+        position: position_of(bytes, bytes.len().saturating_sub(refusal.left)),
     })
+}
+
+// The first fault of the device.
+fn first_unread<'s, 'f>(faults: &'s [FileFault<'f>]) -> Option<&'s FileFault<'f>>
+    ensures { option_map fault_seen (option_copied result) ≡ find is_unread (faults_seen faults.now) }
+{
+    for fault in faults {
+        if matches!(fault, FileFault::Unread(_)) {
+            return Some(fault);
+        }
+    }
+    None
 }
 
 // Of each kind the file of each definition.
@@ -148,8 +187,8 @@ impl<'f> Model for Survey<'f> {
 }
 
 impl<'f> Survey<'f> {
-    /// A survey of no files.
-    pub fn new(alloc: Global) -> Survey<'f>
+    // A survey of no files.
+    fn new(alloc: Global) -> Survey<'f>
         ensures { result ≡ nothing_surveyed }
     {
         Survey {
@@ -178,6 +217,16 @@ impl<'f> Survey<'f> {
         ensures { result.now ≡ get_or (sources_of kind self.now.sources) place [] }
     {
         self.sources.at(kind, place)
+    }
+
+    /// The first fault by which the files are no package: of the device, or else the first of all.
+    pub fn refusal(&self) -> Option<&FileFault<'f>>
+        ensures { option_map fault_seen (option_copied result) ≡ refusal self.now }
+    {
+        match first_unread(&self.faults) {
+            Some(fault) => Some(fault),
+            None => self.faults.first(),
+        }
     }
 
     // The file of the definition at a url.
@@ -258,41 +307,62 @@ impl<'f> Survey<'f> {
         Ok(())
     }
 
-    /// Goes on with a file. Taken one after the other, in the order of their names, files are surveyed as by [`Survey::of`]. The one
-    /// refusal is want of memory.
-    pub fn take_file(&mut self, alloc: Global, file: &'f FolderFile) -> Result<(), NoMemory>
-        ensures { OnOk result (self.new
-            ≡ survey_tree (string_bytes file.now.name) file.now.bytes.items (placed_reading file.now.bytes.items) self.old) }
+    // The definitions of a file with these bytes, or why it has none.
+    fn take_bytes(&mut self, alloc: Global, file: &'f str, bytes: &'f [u8]) -> Result<(), NoMemory>
+        ensures { OnOk result (self.new ≡ survey_tree file.now bytes.now (placed_reading bytes.now) self.old) }
     {
-        let name = file.name.as_str();
-        match read_or_place(alloc, &file.bytes) {
-            Ok(json) => self.put_each(alloc, name, definitions_in(alloc, json)?),
+        match read_or_place(alloc, bytes) {
+            Ok(json) => self.put_each(alloc, file, definitions_in(alloc, json)?),
             Err(
                 Refusal {
                     expected: Expected::Memory,
                     ..
                 },
             ) => Err(NoMemory),
-            Err(refusal) => Ok(self.push_fault(not_json(file, refusal))?),
+            Err(refusal) => Ok(self.push_fault(not_json(file, bytes, refusal))?),
         }
     }
 
-    fn take_each(&mut self, alloc: Global, files: &'f [FolderFile]) -> Result<(), NoMemory>
+    fn take_file(&mut self, alloc: Global, file: &'f FolderFile) -> Result<(), NoMemory>
+        ensures { OnOk result (self.new ≡ survey_file (folder_file file.now).0 (folder_file file.now).1 self.old) }
+    {
+        let name = file.name.as_str();
+        match &file.bytes {
+            Some(bytes) => self.take_bytes(alloc, name, bytes),
+            None => Ok(self.push_fault(FileFault::Unread(name))?),
+        }
+    }
+
+    // Takes files, one after the other, and tells how many are done.
+    fn take_each<P: Progress>(
+        &mut self,
+        alloc: Global,
+        files: &'f [FolderFile],
+        progress: &mut P,
+    ) -> Result<(), NoMemory>
         ensures { OnOk result (self.new ≡ survey_each (folder_files files.now) self.old) }
     {
+        let mut done = 0_usize;
         for file in files {
             self.take_file(alloc, file)?;
+            done = done.saturating_add(1);
+            progress.tell(Stage::Surveying, done, files.len());
         }
         Ok(())
     }
 
     /// What is wrong with files, each of them, and the package of all that is right: the definitions of the files that are
-    /// JSON texts, of two different ones of one kind and url the first. The one refusal is want of memory.
-    pub fn of(alloc: Global, files: &'f FolderFiles) -> Result<Survey<'f>, NoMemory>
+    /// JSON texts, of two different ones of one kind and url the first. `progress` is told behind each file how many are done. The
+    /// one refusal is want of memory.
+    pub fn of<P: Progress>(
+        alloc: Global,
+        files: &'f FolderFiles,
+        progress: &mut P,
+    ) -> Result<Survey<'f>, NoMemory>
         ensures { Gives (λ s. s) result (survey files.now) }
     {
         let mut survey = Survey::new(alloc);
-        survey.take_each(alloc, files.files())?;
+        survey.take_each(alloc, files.files(), progress)?;
         Ok(survey)
     }
 }

@@ -1,16 +1,16 @@
 -- What it is that nothing is wrong with the files of a folder and with a certificate.
-use Rattle.std.specs.Prelude.{◌≡◌, List, [], Option, None, Some, Ok, String, string_bytes, map, option_map}
-use Rattle.std.specs.declared.alloc.Global.{Global}
+use Rattle.std.specs.Prelude.{◌≡◌, [], Option, None, Some, Ok, option_map}
 use Rattle.fhir_json.specs.Tree.{Text}
 use Rattle.fhir_package.specs.Definitions.{Definitions}
-use Rattle.fhir_package.specs.Folder.{Files}
-use Rattle.fhir_package.specs.Packing.{pack_files}
+use Rattle.fhir_package.specs.ReadFiles.{ReadFiles, pack_given}
+use Rattle.fhir_package.specs.Surveying.{Surveyed, survey}
 use Rattle.fhir_schema.specs.Schemas.{SchemaValue, schema_of}
 use Rattle.fhir_certificate.specs.Format.{Written, Spells}
 use Rattle.fhir_certificate.specs.Reading.{reading}
 use Rattle.fhir_cert_check.specs.Checking.{answer_of}
 use Rattle.fhir_cert_check.specs.Inclusion.{Includes}
 use Rattle.fhir_findings.specs.Clean.{AreUsable}
+use Rattle.fhir_findings.specs.Finding.{all_unusable}
 use Rattle.fhir_report.specs.declared.reporting.CertificateFile.{CertificateFile}
 
 -- a certificate: the name of its file, and its bytes
@@ -34,20 +34,26 @@ abbrev pub PromisesIfAny : SchemaValue → Option CertificateValue → Type 0
 PromisesIfAny s None = Unit {0}
 PromisesIfAny s (Some c) = Promises s c.1
 
--- No file is unread, the files that were read are a package, each of its definitions can be used, and the certificate, if there
--- is one, is right.
-abbrev pub IsFaultless : List Text → Files → Option CertificateValue → Type 0
-IsFaultless unread files certificate =
-    (unread ≡ []) × (p : Definitions) × (pack_files files ≡ Ok p) × AreUsable (schema_of p) × IsRightIfAny (schema_of p) certificate
+-- nothing is wrong with what was surveyed, nor with the certificate, if there is one
+abbrev pub IsRightBy : SchemaValue → Surveyed → Option CertificateValue → Type 0
+IsRightBy s sv certificate = (sv.faults ≡ []) × (all_unusable s sv ≡ []) × IsRightIfAny s certificate
+
+-- ---- the same of files
+
+-- a survey of files, and the schema of its package
+abbrev pub AreOf : ReadFiles → Surveyed → SchemaValue → Type 0
+AreOf files sv s = (sv ≡ survey files) × (s ≡ schema_of sv.definitions)
+
+-- The files were all given and are a package, each of its definitions can be used, and the certificate, if there is one, is right.
+abbrev pub IsFaultless : ReadFiles → Option CertificateValue → Type 0
+IsFaultless files certificate =
+    (p : Definitions) × (pack_given files ≡ Some (Ok p)) × AreUsable (schema_of p) × IsRightIfAny (schema_of p) certificate
 
 -- what that promises
-abbrev pub IsPromised : Files → Option CertificateValue → Type 0
-IsPromised files certificate = (p : Definitions) × (pack_files files ≡ Ok p) × PromisesIfAny (schema_of p) certificate
+abbrev pub IsPromised : ReadFiles → Option CertificateValue → Type 0
+IsPromised files certificate = (p : Definitions) × (pack_given files ≡ Some (Ok p)) × PromisesIfAny (schema_of p) certificate
 
 -- ---- what contracts see
-
-abbrev pub names_seen : List (String Global) → List Text
-names_seen names = map string_bytes names
 
 abbrev pub certificate_seen : Option CertificateFile → Option CertificateValue
 certificate_seen certificate = option_map (λ c. (c.name.now, c.bytes.now)) certificate

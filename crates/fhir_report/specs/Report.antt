@@ -1,10 +1,10 @@
 -- What a report says.
-use Rattle.std.specs.Prelude.{◌≡◌, ℕ, ◌+◌, length, List, [], ◌∷◌, ◌++◌, map, flat_map, Bool, true, false, Option, None, Some, option_map, Result, Ok, Err, if◌then◌else◌, codes, All}
+use Rattle.std.specs.Prelude.{◌≡◌, ℕ, length, List, [], ◌∷◌, ◌++◌, map, flat_map, Bool, true, false, Option, None, Some, option_map, Result, Ok, Err, if◌then◌else◌, codes, All}
 use Rattle.std.specs.Option.{option_map_or}
 use Rattle.fhir_json.specs.Tree.{Text}
 use Rattle.fhir_json.specs.Refusals.{fault_of}
-use Rattle.fhir_package.specs.Folder.{Files}
-use Rattle.fhir_package.specs.Surveying.{FileFault, not_json, clash, Surveyed, survey}
+use Rattle.fhir_package.specs.ReadFiles.{ReadFiles}
+use Rattle.fhir_package.specs.Surveying.{FileFault, unread, not_json, clash, Surveyed, survey}
 use Rattle.fhir_nodes.specs.declared.node.NodeRef.{NodeRef}
 use Rattle.fhir_schema.specs.Schemas.{SchemaValue, schema_of, url_at, id_of_node}
 use Rattle.fhir_certificate.specs.declared.fault.CertFault.{CertFault}
@@ -38,12 +38,9 @@ pub record Head : Type 0 where
 abbrev pub head : LineValue → Head
 head l = record { file = l.file; line = l.line; column = l.column; number = l.number; url = l.url }
 
--- of a file that can't be read
-abbrev pub unread_head : Text → Head
-unread_head file = record { file = Some file; line = None; column = None; number = Some Unread; url = None }
-
--- of what is wrong with a file: no text of JSON, with the place, or a second definition of a url
+-- of what is wrong with a file: it can't be read, is no text of JSON, with the place, or has a second definition of a url
 abbrev pub fault_head : FileFault → Head
+fault_head (unread file) = record { file = Some file; line = None; column = None; number = Some Unread; url = None }
 fault_head (not_json file expected position) =
     record { file = Some file; line = Some position.line; column = Some position.column; number = Some (Json (fault_of expected)); url = None }
 fault_head (clash kind url file first) = record { file = Some file; line = None; column = None; number = Some Clash; url = Some url }
@@ -54,11 +51,8 @@ unusable_head u = record { file = Some u.0; line = None; column = None; number =
 
 -- ---- the lines of each kind, by their numbers
 
-abbrev pub is_unread : Number → Bool
-is_unread Unread = true
-is_unread _ = false
-
 abbrev pub is_of_file : Number → Bool
+is_of_file Unread = true
 is_of_file Clash = true
 is_of_file (Json fault) = true
 is_of_file _ = false
@@ -74,10 +68,8 @@ kept is h = option_map_or (λ number. if is number then h ∷ [] else []) h.numb
 abbrev pub all_told : (Number → Bool) → List LineValue → List Head
 all_told is ls = flat_map (λ l. kept is (head l)) ls
 
--- The lines tell each file that can't be read, each fault of the others and each definition that can't be used, once and in
--- their order, and no other.
-pub record TellsFindings (unread : List Text) (s : SchemaValue) (survey : Surveyed) (ls : List LineValue) : Type 0 where
-  pub of_unread : all_told is_unread ls ≡ map unread_head unread
+-- The lines tell each fault of a file and each definition that can't be used, once and in their order, and no other.
+pub record TellsFindings (s : SchemaValue) (survey : Surveyed) (ls : List LineValue) : Type 0 where
   pub of_faults : all_told is_of_file ls ≡ map fault_head survey.faults
   pub of_unusable : all_told is_unusable ls ≡ map unusable_head (all_unusable s survey)
 
@@ -129,15 +121,14 @@ TellsCertificate s (Some c) ls = TellsAnswer s c.0 (answer_of (reading s c.1) s)
 -- ---- a report
 
 -- The text has a row for each finding, then those on the certificate, and a last one with the counts of a package of so many files.
-pub record IsReport (form : Form) (files : ℕ) (unread : List Text) (s : SchemaValue) (survey : Surveyed) (certificate : Option CertificateValue)
-    (text : Text) : Type 0 where
+pub record IsReport (form : Form) (files : ℕ) (s : SchemaValue) (survey : Surveyed) (certificate : Option CertificateValue) (text : Text) : Type 0 where
   pub found : List LineValue
   pub judged : List LineValue
   pub written : text ≡ rows form (found ++ judged ++ text_line (counts_text (counts files survey s)) ∷ [])
-  pub tells_findings : TellsFindings unread s survey found
+  pub tells_findings : TellsFindings s survey found
   pub tells_certificate : TellsCertificate s certificate judged
 
 -- the same by the survey of files and the schema of its package
-abbrev pub IsReportOn : Form → List Text → Files → Option CertificateValue → Text → Type 0
-IsReportOn form unread files certificate text =
-    IsReport form (length files + length unread) unread (schema_of (survey files).definitions) (survey files) certificate text
+abbrev pub IsReportOn : Form → ReadFiles → Option CertificateValue → Text → Type 0
+IsReportOn form files certificate text =
+    IsReport form (length files) (schema_of (survey files).definitions) (survey files) certificate text

@@ -1,11 +1,35 @@
-//! Laws: how the text of a report is read.
+//! Laws: what a report says of files, and how its text is read.
 
-ghost use Rattle.std.specs.Prelude.{◌≡◌, List, length, filter, replicate, All, IsUtf8};
+ghost use Rattle.std.specs.Prelude.{◌≡◌, ◌↔◌, List, Option, length, filter, replicate, All, IsUtf8};
 ghost use Rattle.std.specs.Char.{is_control};
 ghost use Rattle.std.specs.Str.{chars};
 ghost use Rattle.fhir_json.specs.Bytes.{line_feed};
+ghost use Rattle.fhir_json.specs.Tree.{Text};
+ghost use Rattle.fhir_package.specs.ReadFiles.{ReadFiles};
+ghost use Rattle.fhir_package.specs.Surveying.{Surveyed};
+ghost use Rattle.fhir_schema.specs.Schemas.{SchemaValue};
+ghost use Rattle.fhir_report.specs.Faultless.{CertificateValue, PromisesIfAny, IsRightBy, AreOf, IsFaultless, IsPromised};
 ghost use Rattle.fhir_report.specs.Lines.{LineValue, row_text, rows};
+ghost use Rattle.fhir_report.specs.Report.{IsReport, IsReportOn};
 ghost use Rattle.fhir_report.specs.declared.writing.Form.{Form};
+
+use fhir_findings::{all_usable, clean_files};
+use fhir_package::surveys;
+
+/// What is right by the survey of files and the schema of its package is right of the files and promised of them, and a report by
+/// these is one on the files.
+pub fn reports()
+    ensures faultless { (files : ReadFiles) (survey : Surveyed) (s : SchemaValue) (certificate : Option CertificateValue)
+        → AreOf files survey s → IsRightBy s survey certificate ↔ IsFaultless files certificate }
+    ensures promised { (files : ReadFiles) (survey : Surveyed) (s : SchemaValue) (certificate : Option CertificateValue)
+        → AreOf files survey s → IsRightBy s survey certificate → PromisesIfAny s certificate → IsPromised files certificate }
+    ensures told { (form : Form) (files : ReadFiles) (survey : Surveyed) (s : SchemaValue) (certificate : Option CertificateValue) (text : Text)
+        → AreOf files survey s → IsReport form (length files) s survey certificate text → IsReportOn form files certificate text }
+{
+    surveys();
+    all_usable();
+    clean_files();
+}
 
 /// Of the control characters the rows of lines have one line feed for each, and no other, where the lines are texts of UTF-8.
 #[tactic(auto, using(crate::proofs::Shown::rows_clean))]

@@ -3,20 +3,24 @@
 //! ```
 //! /// Whether nothing is wrong with files, and each of their definitions can be used.
 //! pub fn is_clean(alloc: Global, files: &FolderFiles) -> Result<bool, NoMemory>
-//!     ensures { IfOk result (λ is_clean. IsTrue is_clean → IsFaultless [] files.now None) }
+//!     ensures { IfOk result (λ is_clean. IsTrue is_clean → IsFaultless files.now None) }
 //! {
+//!     fhir_report::reports();
+//!     let survey = Survey::of(alloc, files, &mut Silent)?;
+//!     let schema = Schema::build(alloc, survey.package())?;
 //!     let subject = Subject {
-//!         files,
-//!         unread: &[],
+//!         survey: &survey,
+//!         schema: &schema,
+//!         files: files.files().len(),
 //!         certificate: None,
 //!     };
-//!     let report = fhir_report::report_on(alloc, Form::Text, subject, &mut Silent)?;
+//!     let report = fhir_report::report_on(alloc, Form::Text, subject)?;
 //!     Ok(report.is_clean)
 //! }
 //! ```
 //!
-//! The contract to read first is that of [`report_on`]. What a report says stands in `specs/Report.antt`, and how its lines are
-//! written in `specs/Lines.antt`.
+//! The contract to read first is that of [`report_on`]; the law [`reports`] says what it means for the files. What a report says
+//! stands in `specs/Report.antt`, and how its lines are written in `specs/Lines.antt`.
 #![tactic(auto)]
 
 mod causes;
@@ -27,7 +31,6 @@ mod fields;
 mod laws;
 mod line;
 mod narrowing;
-mod progress;
 mod reporting;
 mod slicings;
 mod telling;
@@ -39,10 +42,9 @@ mod writing;
 
 pub use certificates::{flaw_line, no_line, pair_text};
 pub use failing::{no_text, rule_text};
-pub use laws::rows_are_lines;
+pub use laws::{reports, rows_are_lines};
 pub use line::{Line, Number};
 pub use narrowing::rule_words;
-pub use progress::{Progress, Silent, Stage};
-pub use reporting::{CertificateFile, Report, Subject, report_on, surveyed, written};
+pub use reporting::{CertificateFile, Report, Subject, report_on};
 pub use telling::Teller;
 pub use writing::Form;

@@ -1,6 +1,7 @@
 //! From findings to lines.
 
 ghost use Rattle.std.specs.Prelude.{◌≡◌, IfOk, None, Some};
+ghost use Rattle.fhir_package.specs.Surveying.{unread};
 ghost use Rattle.fhir_package.specs.SurveyView.{fault_seen};
 ghost use Rattle.fhir_package.specs.declared.survey.FileFault.TheVariants.{NotJson as NotJsonOne, Clash as ClashOne};
 ghost use Rattle.fhir_report.specs.Lines.{line_seen};
@@ -23,6 +24,13 @@ pub struct Teller<'s, 'f> {
     survey: &'s Survey<'f>,
     schema: &'s Schema,
     causes: Causes,
+}
+
+fn no_bytes_line<'s>(alloc: Global, file: &'s str) -> Result<Line<'s>, AllocError>
+    ensures { IfOk result (λ l. head (line_seen l) ≡ fault_head (unread file.now)) }
+{
+    let text = String::from_str(alloc, "it can't be read, or is no regular file")?;
+    Ok(Line::of_file(file, Some(Number::Unread), text))
 }
 
 fn not_json_line<'s, 'f: 's>(alloc: Global, fault: &'s NotJson<'f>) -> Result<Line<'s>, AllocError>
@@ -56,6 +64,7 @@ fn file_line<'s, 'f: 's>(alloc: Global, fault: &'s FileFault<'f>) -> Result<Line
     ensures { IfOk result (λ l. head (line_seen l) ≡ fault_head (fault_seen fault.now)) }
 {
     match fault {
+        FileFault::Unread(file) => no_bytes_line(alloc, *file),
         FileFault::NotJson(fault) => not_json_line(alloc, fault),
         FileFault::Clash(clash) => clash_line(alloc, clash),
     }

@@ -3,14 +3,15 @@
 
 ghost use Rattle.std.specs.Prelude.{◌≡◌};
 ghost use Rattle.std.specs.Process.{exit_status};
+ghost use Rattle.fhir_package.specs.ReadFiles.{ReadFiles};
 ghost use Rattle.fhir_engine.specs.Answering.{IsReply, answer_for};
 ghost use Rattle.fhir_engine.specs.Promising.{Promise};
 ghost use Rattle.fhir_engine.specs.Replying.{ReplyValue, status_of};
+ghost use Rattle.fhir_engine.specs.Session.{IsReadOf};
 ghost use Rattle.fhir_engine.specs.Views.{bytes_seen, asked_seen};
 
-use fhir_engine::{Invocation, Listing, Meter, Opened, WordsFault, invocation_of, open_asked, run};
-use fhir_package::FolderFault;
-use fhir_report::Progress;
+use fhir_engine::{Invocation, Meter, Opened, WordsFault, invocation_of, open_asked, run};
+use fhir_package::{Folder, FolderFault, Progress};
 use std::alloc::Global;
 use std::io::{ErrorKind, IsTerminal, Write};
 use std::process::ExitCode;
@@ -30,14 +31,14 @@ fn main(rt: HostRuntime) -> ExitCode {
     };
     let Opened {
         asked,
-        listing,
+        folder,
         file,
     } = open_asked(&rt, asked, &mut meter);
     let bytes = file.as_deref();
     code_of(
         rt.alloc(),
         &asked,
-        &listing,
+        folder,
         bytes,
         &mut meter,
         &mut out,
@@ -55,18 +56,19 @@ fn words_of<R: Env + AllocGlobal>(rt: &R) -> Result<Vec<String>, WordsFault> {
 }
 
 // What the engine does, as the code with which the process ends.
-fn code_of<W: Write, E: Write, P: Progress>(
+fn code_of<F: Folder + Drop, W: Write, E: Write, P: Progress>(
     alloc: Global,
     asked: &Result<Invocation<'_>, WordsFault>,
-    folder: &Result<Listing, FolderFault>,
+    folder: F,
     file: Option<&[u8]>,
     progress: &mut P,
     out: &mut W,
     err: &mut E,
 ) -> ExitCode
-    ensures promised { exit_status result ≡ 0 → Promise (asked_seen asked.now) folder.now (bytes_seen file.entry) }
-    ensures no { exit_status result ≡ 1 → (reply : ReplyValue)
-        × IsReply (answer_for (asked_seen asked.now) folder.now (bytes_seen file.entry)) reply × (status_of reply ≡ 1) }
+    ensures promised { exit_status result ≡ 0 → Promise (asked_seen asked.now) (F.files folder.entry) (bytes_seen file.entry) }
+    ensures no { exit_status result ≡ 1 → (read : Result ReadFiles FolderFault) × (reply : ReplyValue)
+        × IsReadOf (F.files folder.entry) read
+        × IsReply (answer_for (asked_seen asked.now) read (bytes_seen file.entry)) reply × (status_of reply ≡ 1) }
 {
     ExitCode::from(run(alloc, asked, folder, file, progress, out, err))
 }

@@ -15,7 +15,7 @@
 //! In a line that begins with `|` or `?` signs stand for what can't be seen; `spelling` says which.
 
 use crate::spelling::{spell, spelled};
-use fhir_package::MemoryFile;
+use fhir_package::FolderFile;
 use std::alloc::{AllocError, AllocFailed, Global};
 use std::rt::Files;
 use std::{fs, io};
@@ -124,7 +124,7 @@ pub(crate) struct Case<'l> {
     alloc: Global,
     name: &'l str,
     is_asked: bool,
-    files: Vec<MemoryFile>,
+    files: Vec<FolderFile>,
     text: Vec<u8>,
     block: Block,
 }
@@ -151,7 +151,7 @@ impl<'l> Case<'l> {
     }
 
     /// The files of the package.
-    pub(crate) fn files(&self) -> &[MemoryFile] {
+    pub(crate) fn files(&self) -> &[FolderFile] {
         &self.files
     }
 
@@ -211,7 +211,7 @@ impl<'l> Case<'l> {
                 files.push(file)?;
             }
         }
-        files.push(MemoryFile {
+        files.push(FolderFile {
             name: String::from_str(self.alloc, name)?,
             bytes: Some(Vec::new(self.alloc)),
         })?;
@@ -226,7 +226,7 @@ impl<'l> Case<'l> {
         match block {
             Block::File => {
                 if let Some(
-                    MemoryFile {
+                    FolderFile {
                         bytes: Some(bytes),
                         ..
                     },
@@ -263,11 +263,11 @@ fn put_line(alloc: Global, bytes: &mut Vec<u8>, piece: &str) -> Result<(), Fault
 fn files_in<R: Files + AllocGlobal + Clone + Drop>(
     rt: &R,
     folder: &str,
-) -> Result<Vec<MemoryFile>, Fault> {
+) -> Result<Vec<FolderFile>, Fault> {
     let mut files = Vec::new(rt.alloc());
     for entry in fs::read_dir(rt, folder)? {
         let entry = entry?;
-        files.push(MemoryFile {
+        files.push(FolderFile {
             name: String::from_str(rt.alloc(), entry.file_name())?,
             bytes: Some(fs::read(rt, entry.path().as_str())?),
         })?;

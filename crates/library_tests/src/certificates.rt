@@ -3,7 +3,7 @@
 use crate::packages::package_of;
 use fhir_cert_check::{Answer, Rule, check, check_bytes, first_failing};
 use fhir_certificate::{Certificate, NodePair, Pair, fits, read, write};
-use fhir_package::{MemoryFile, Package};
+use fhir_package::{FolderFile, Package};
 use fhir_schema::{NodeRef, Schema};
 use std::alloc::{AllocError, Global};
 
@@ -36,7 +36,7 @@ fn call_of(name: &str) -> Option<Call> {
 /// The answer of a call on a certificate over the schema of a package; of `without` for a pair.
 pub(crate) fn answer(
     alloc: Global,
-    files: &[MemoryFile],
+    files: &[FolderFile],
     bytes: &[u8],
     call: &str,
     pair: &str,

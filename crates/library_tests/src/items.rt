@@ -5,14 +5,14 @@ use crate::json::written;
 use crate::packages::package_of;
 use fhir_instance::{Kid, Typed, type_resource};
 use fhir_json::{Json, MAX_DEPTH, read};
-use fhir_package::{MemoryFile, Package};
+use fhir_package::{FolderFile, Package};
 use fhir_schema::Schema;
 use std::alloc::{AllocError, Global};
 
 /// The answer of a call on a tree, over the schema of a package.
 pub(crate) fn answer(
     alloc: Global,
-    files: &[MemoryFile],
+    files: &[FolderFile],
     text: &[u8],
     call: &str,
     argument: &str,

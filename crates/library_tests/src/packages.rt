@@ -2,16 +2,16 @@
 //! `!` where the device fails to give them.
 
 use fhir_package::{
-    FileFault, Folder, FolderFile, FolderFiles, Kind, LoadFault, MemoryFile, MemoryFolder, Package,
-    Survey, load, pack,
+    FileFault, Folder, FolderFile, FolderFiles, Kind, LoadFault, MemoryFolder, Package, Silent,
+    Survey, load,
 };
 use std::alloc::{AllocError, Global};
 
 #[derive(Clone, Copy)]
 enum Call {
     Load,
-    Pack,
     Survey,
+    Refusal,
     List,
     Read,
     Get,
@@ -24,8 +24,8 @@ enum Call {
 fn call_of(name: &str) -> Option<Call> {
     match name {
         "load" => Some(Call::Load),
-        "pack" => Some(Call::Pack),
         "survey" => Some(Call::Survey),
+        "refusal" => Some(Call::Refusal),
         "list" => Some(Call::List),
         "read" => Some(Call::Read),
         "get" => Some(Call::Get),
@@ -61,8 +61,7 @@ fn answer_of_call(
         Call::NoDefinitions => places_of(alloc, &Package::new(alloc), Kind::ValueSet),
         Call::Unlisted => answer_of_unlisted(alloc),
         Call::NoMemory => format!(in alloc; "{}", LoadFault::NoMemory),
-        Call::Pack => answer_of_pack(alloc, text),
-        Call::Survey => answer_of_survey(alloc, text),
+        Call::Survey | Call::Refusal => answer_of_survey(alloc, &mut folder, call),
         Call::Get | Call::Places => answer_of_loaded(alloc, &mut folder, call, argument),
         Call::Load | Call::List | Call::Read => {
             answer_of_folder(alloc, &mut folder, call, argument)
@@ -71,7 +70,7 @@ fn answer_of_call(
 }
 
 // A file's name, a blank and its bytes, or `!` where the device fails to give them.
-fn file_of(alloc: Global, line: &str) -> Result<MemoryFile, AllocError> {
+fn file_of(alloc: Global, line: &str) -> Result<FolderFile, AllocError> {
     let (name, text) = line.split_once(' ').unwrap_or((line, ""));
     let bytes = if text == "!" {
         None
@@ -79,7 +78,7 @@ fn file_of(alloc: Global, line: &str) -> Result<MemoryFile, AllocError> {
         Some(text.as_bytes().to_vec(alloc)?)
     };
     let name = String::from_str(alloc, name)?;
-    Ok(MemoryFile { name, bytes })
+    Ok(FolderFile { name, bytes })
 }
 
 fn folder_of_lines(alloc: Global, text: &[u8]) -> Result<MemoryFolder, AllocError> {
@@ -91,19 +90,19 @@ fn folder_of_lines(alloc: Global, text: &[u8]) -> Result<MemoryFolder, AllocErro
     MemoryFolder::new(alloc, files).map_err(|_| AllocError)
 }
 
-fn copy_of(alloc: Global, file: &MemoryFile) -> Result<MemoryFile, AllocError> {
+fn copy_of(alloc: Global, file: &FolderFile) -> Result<FolderFile, AllocError> {
     let bytes = match &file.bytes {
         Some(bytes) => Some(bytes.to_vec(alloc)?),
         None => None,
     };
     let name = String::from_str(alloc, file.name.as_str())?;
-    Ok(MemoryFile { name, bytes })
+    Ok(FolderFile { name, bytes })
 }
 
 /// What files are loaded as.
 pub(crate) fn package_of(
     alloc: Global,
-    files: &[MemoryFile],
+    files: &[FolderFile],
 ) -> Result<Result<Package<'static>, LoadFault>, AllocError> {
     let mut copies = Vec::new(alloc);
     for file in files {
@@ -147,29 +146,9 @@ fn loaded(alloc: Global, folder: &mut MemoryFolder) -> Result<String, AllocError
     }
 }
 
-fn files_of_lines(alloc: Global, text: &[u8]) -> Result<FolderFiles, AllocError> {
-    let text = String::from_utf8_lossy(alloc, text)?;
-    let mut files = Vec::new(alloc);
-    for line in text.lines() {
-        let MemoryFile { name, bytes } = file_of(alloc, line)?;
-        if let Some(bytes) = bytes {
-            files.push(FolderFile { name, bytes })?;
-        }
-    }
-    FolderFiles::of(alloc, files).map_err(|_| AllocError)
-}
-
-// What files that were read otherwise are packed as: the urls, or the fault's text.
-fn answer_of_pack(alloc: Global, text: &[u8]) -> Result<String, AllocError> {
-    let files = files_of_lines(alloc, text)?;
-    match pack(alloc, &files) {
-        Ok(package) => names_of(alloc, &package),
-        Err(fault) => format!(in alloc; "{fault}"),
-    }
-}
-
 fn fault_text(alloc: Global, fault: &FileFault<'_>) -> Result<String, AllocError> {
     match fault {
+        FileFault::Unread(file) => format!(in alloc; "{file} unread"),
         FileFault::NotJson(fault) => {
             let place = fault.position;
             format!(in alloc;
@@ -195,12 +174,24 @@ fn faults_text(alloc: Global, survey: &Survey<'_>) -> Result<String, AllocError>
     Ok(text)
 }
 
-// What a survey of files says: the urls of the package, and each fault.
-fn answer_of_survey(alloc: Global, text: &[u8]) -> Result<String, AllocError> {
-    let files = files_of_lines(alloc, text)?;
-    match Survey::of(alloc, &files) {
-        Ok(survey) => faults_text(alloc, &survey),
-        Err(fault) => format!(in alloc; "{fault}"),
+fn refusal_text(alloc: Global, survey: &Survey<'_>) -> Result<String, AllocError> {
+    match survey.refusal() {
+        Some(fault) => format!(in alloc; "{} {}", fault.number(), fault.subject()),
+        None => String::from_str(alloc, "none"),
+    }
+}
+
+// What a survey of a folder's files says: the urls of the package, and each fault; or what the files are refused for.
+fn answer_of_survey(
+    alloc: Global,
+    folder: &mut MemoryFolder,
+    call: Call,
+) -> Result<String, AllocError> {
+    let files = FolderFiles::read(alloc, folder).map_err(|_| AllocError)?;
+    let survey = Survey::of(alloc, &files, &mut Silent).map_err(|_| AllocError)?;
+    match call {
+        Call::Refusal => refusal_text(alloc, &survey),
+        _ => faults_text(alloc, &survey),
     }
 }
 

@@ -5,7 +5,7 @@
 use crate::json::written;
 use crate::packages::package_of;
 use fhir_elements::TypeEntry;
-use fhir_package::{MemoryFile, Package};
+use fhir_package::{FolderFile, Package};
 use fhir_schema::{Criterion, Form, NodeRef, Property, Schema, Slot, Sought};
 use std::alloc::{AllocError, Global};
 
@@ -15,7 +15,7 @@ const PROFILE: &str = "http://example.org/flat/one";
 /// The answer of a call on the schema of a package.
 pub(crate) fn answer(
     alloc: Global,
-    files: &[MemoryFile],
+    files: &[FolderFile],
     call: &str,
     argument: &str,
 ) -> Result<Option<String>, AllocError> {

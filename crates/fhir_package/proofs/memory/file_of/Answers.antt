@@ -1,11 +1,11 @@
 use Rattle.std.proofs.Common.{◌≡◌, List, ℕ, Option, Some, None, refl, sym, ap, ◌∙◌}
 use Rattle.std.specs.Option.{option_map, option_copied}
-use Rattle.fhir_package.specs.declared.memory.MemoryFile.{MemoryFile}
+use Rattle.fhir_package.specs.declared.folder_files.FolderFile.{FolderFile}
 use Rattle.fhir_package.specs.Memory.{given_bytes, memory_file, memory_files}
 use Rattle.fhir_package.proofs.Seen.{found}
 use Rattle.fhir_package.proofs.memory.file_of.Goals as goal
 
-bytes_seen : (file : Option MemoryFile) → option_map (λ f. given_bytes f.bytes) file ≡ option_map (λ e. e.1) (option_map memory_file file)
+bytes_seen : (file : Option FolderFile) → option_map (λ f. given_bytes f.bytes) file ≡ option_map (λ e. e.1) (option_map memory_file file)
 bytes_seen None = refl
 bytes_seen (Some file) = refl
 

@@ -1,4 +1,4 @@
-//! How far the work on a report is.
+//! How far the work on a folder's files is.
 
 /// What is done with each file of a folder.
 #[derive(Clone, Copy, Debug, PartialEq, Eq)]
