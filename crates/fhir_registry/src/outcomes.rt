@@ -294,7 +294,8 @@ fn resource(alloc: Global, issues: Vec<Json<'static>>) -> Result<Json<'static>, 
 }
 
 /// The OperationOutcome (FHIR R4) of what was answered on a resource and the profile at a url: its issues in their order, each
-/// once, with the severity of the answer. It takes time near linear in their number. The one refusal is want of memory, also where the answer is that.
+/// once, and as severe as the answer. It takes time near linear in their number. The one refusal is want of memory, also where
+/// the answer is that.
 pub fn outcome(
     alloc: Global,
     profile: &str,
