@@ -2,6 +2,7 @@ pub mod Cuts
 pub mod Pairs
 pub mod Taken
 pub mod Again
+pub mod Flawed
 pub mod Judging
 pub mod WrittenBack
 pub mod Utf8Written

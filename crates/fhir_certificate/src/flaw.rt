@@ -1,5 +1,17 @@
 //! What is wrong with the text of a certificate, line by line.
 
+ghost use Rattle.std.specs.Prelude.{◌≡◌, [], true, false, not, ◌&&◌, ◌||◌, Some, is_some, is_none, codes, IfOk, OnOk, IsTrue};
+ghost use Rattle.std.specs.Str.{bytes_eq};
+ghost use Rattle.fhir_json.specs.Bytes.{is_empty};
+ghost use Rattle.fhir_schema.specs.Schemas.{root, node};
+ghost use Rattle.fhir_certificate.specs.Format.{Written};
+ghost use Rattle.fhir_certificate.specs.Judging.{node_of, certificate_of};
+ghost use Rattle.fhir_certificate.specs.Reading.{lines_of, pair_lines, pairs_at, written_of, reading};
+ghost use Rattle.fhir_certificate.specs.Lines.{pair_in, are_known};
+ghost use Rattle.fhir_certificate.specs.Views.{name_seen, line_seen};
+ghost use Rattle.fhir_certificate.specs.Flaws.{flaw_fault, is_of_format, any_of_format, fault_of_flaws, fault_of_lines};
+
+use crate::fault::CertFault;
 use crate::format::{NameText, PairLine, behind_line, field_line, next_pair};
 use fhir_json::{NoMemory, position_of};
 use fhir_names::Index;
@@ -36,6 +48,18 @@ pub enum FlawKind<'a> {
     Element(&'a str, &'a str),
 }
 
+impl FlawKind<'_> {
+    /// The fault of a text with such a line.
+    pub fn fault(&self) -> CertFault
+        ensures { result ≡ flaw_fault self.now }
+    {
+        match self {
+            FlawKind::Expected(_) => CertFault::WrongFormat,
+            FlawKind::Definition(_) | FlawKind::Element(_, _) => CertFault::UnknownNode,
+        }
+    }
+}
+
 /// Something that is wrong with a line of a certificate.
 #[derive(Clone, Copy, Debug, PartialEq, Eq)]
 pub struct Flaw<'a> {
@@ -53,7 +77,10 @@ struct FlawList<'a> {
 }
 
 impl<'a> FlawList<'a> {
-    fn put(&mut self, line: usize, kind: FlawKind<'a>) -> Result<(), NoMemory> {
+    fn put(&mut self, line: usize, kind: FlawKind<'a>) -> Result<(), NoMemory>
+        ensures format { OnOk result (any_of_format self.new.found.items ≡ (any_of_format self.old.found.items || is_of_format kind.entry)) }
+        ensures some { OnOk result (is_empty self.new.found.items ≡ false) }
+    {
         Ok(self.found.push(Flaw { line, kind })?)
     }
 
@@ -64,8 +91,12 @@ impl<'a> FlawList<'a> {
         line: usize,
         name: &str,
         kind: FlawKind<'a>,
-    ) -> Result<(), NoMemory> {
-        if self.told.get(name).is_some() {
+    ) -> Result<(), NoMemory>
+        requires { is_of_format kind ≡ false }
+        ensures format { OnOk result (any_of_format self.new.found.items ≡ any_of_format self.old.found.items) }
+        ensures some { OnOk result (is_empty self.new.found.items ≡ false) }
+    {
+        if !self.found.is_empty() && self.told.get(name).is_some() {
             return Ok(());
         }
         self.told.put(alloc, name, line)?;
@@ -78,11 +109,34 @@ impl<'a> FlawList<'a> {
         schema: &Schema,
         line: usize,
         url: &'a str,
-    ) -> Result<(), NoMemory> {
+    ) -> Result<(), NoMemory>
+        ensures format { OnOk result (any_of_format self.new.found.items ≡ any_of_format self.old.found.items) }
+        ensures none { OnOk result (is_empty self.new.found.items
+            ≡ (is_empty self.old.found.items && is_some (root schema.now url.now))) }
+    {
         if schema.root(url).is_some() {
             return Ok(());
         }
         self.put_new(alloc, line, url, FlawKind::Definition(url))
+    }
+
+    // An element that isn't known, or its definition.
+    fn put_unknown(
+        &mut self,
+        alloc: Global,
+        schema: &Schema,
+        line: usize,
+        name: NameText<'a>,
+    ) -> Result<(), NoMemory>
+        ensures format { OnOk result (any_of_format self.new.found.items ≡ any_of_format self.old.found.items) }
+        ensures some { OnOk result (is_empty self.new.found.items ≡ false) }
+    {
+        if schema.root(name.url).is_none() {
+            return self.put_new(alloc, line, name.url, FlawKind::Definition(name.url));
+        }
+        let both = format!(in alloc; "{}\t{}", name.url, name.id)?;
+        let kind = FlawKind::Element(name.url, name.id);
+        self.put_new(alloc, line, both.as_str(), kind)
     }
 
     fn take_name(
@@ -91,16 +145,15 @@ impl<'a> FlawList<'a> {
         schema: &Schema,
         line: usize,
         name: NameText<'a>,
-    ) -> Result<(), NoMemory> {
-        if schema.root(name.url).is_none() {
-            return self.take_url(alloc, schema, line, name.url);
-        }
+    ) -> Result<(), NoMemory>
+        ensures format { OnOk result (any_of_format self.new.found.items ≡ any_of_format self.old.found.items) }
+        ensures none { OnOk result (is_empty self.new.found.items
+            ≡ (is_empty self.old.found.items && is_some (node_of schema.now (name_seen name.entry)))) }
+    {
         if schema.node(name.url, name.id).is_some() {
             return Ok(());
         }
-        let both = format!(in alloc; "{}\t{}", name.url, name.id)?;
-        let kind = FlawKind::Element(name.url, name.id);
-        self.put_new(alloc, line, both.as_str(), kind)
+        self.put_unknown(alloc, schema, line, name)
     }
 
     fn take_pair(
@@ -109,20 +162,29 @@ impl<'a> FlawList<'a> {
         schema: &Schema,
         line: usize,
         pair: PairLine<'a>,
-    ) -> Result<(), NoMemory> {
-        match pair {
-            PairLine::Item(derived, base) | PairLine::Kids(derived, base) => {
-                self.take_name(alloc, schema, line, derived)?;
-                self.take_name(alloc, schema, line, base)
-            }
-        }
+    ) -> Result<(), NoMemory>
+        ensures format { OnOk result (any_of_format self.new.found.items ≡ any_of_format self.old.found.items) }
+        ensures none { OnOk result (is_empty self.new.found.items
+            ≡ (is_empty self.old.found.items && is_some (pair_in schema.now (line_seen pair.entry)))) }
+    {
+        let (derived, base) = match pair {
+            PairLine::Item(derived, base) | PairLine::Kids(derived, base) => (derived, base),
+        };
+        self.take_name(alloc, schema, line, derived)?;
+        self.take_name(alloc, schema, line, base)
     }
 
     // What stands behind the pairs, from a line on.
-    fn take_end(&mut self, line: usize, text: &str) -> Result<(), NoMemory> {
+    fn take_end(&mut self, line: usize, text: &str) -> Result<(), NoMemory>
+        ensures format { OnOk result (any_of_format self.new.found.items
+            ≡ (any_of_format self.old.found.items || not (bytes_eq text.now (codes "end\n")))) }
+        ensures none { bytes_eq text.now (codes "end\n") ≡ true
+            → OnOk result (self.new.found.items ≡ self.old.found.items) }
+    {
         if text == "end\n" {
-            Ok(())
-        } else if text == "end" {
+            return Ok(());
+        }
+        if text == "end" {
             self.put(line, FlawKind::Expected(Part::LineFeed))
         } else if text.as_bytes().starts_with(b"end\n") {
             self.put(line.saturating_add(1), FlawKind::Expected(Part::Nothing))
@@ -131,12 +193,12 @@ impl<'a> FlawList<'a> {
         }
     }
 
-    fn take_pairs(
-        &mut self,
-        alloc: Global,
-        schema: &Schema,
-        text: &'a str,
-    ) -> Result<(), NoMemory> {
+    fn take_pairs(&mut self, alloc: Global, schema: &Schema, text: &'a str) -> Result<(), NoMemory>
+        ensures format { OnOk result (any_of_format self.new.found.items
+            ≡ (any_of_format self.old.found.items || is_none (pairs_at text.now))) }
+        ensures none { IsTrue (is_some (pairs_at text.now)) → OnOk result (is_empty self.new.found.items
+            ≡ (is_empty self.old.found.items && are_known schema.now (pair_lines (lines_of text.now)))) }
+    {
         let mut line = 4_usize;
         let mut rest = text;
         while let Some((pair, behind)) = next_pair(rest) {
@@ -147,7 +209,12 @@ impl<'a> FlawList<'a> {
         self.take_end(line, rest)
     }
 
-    fn take_text(&mut self, alloc: Global, schema: &Schema, text: &'a str) -> Result<(), NoMemory> {
+    fn take_text(&mut self, alloc: Global, schema: &Schema, text: &'a str) -> Result<(), NoMemory>
+        requires { self.old.found.items ≡ [] }
+        ensures format { OnOk result (any_of_format self.new.found.items ≡ is_none (written_of text.now)) }
+        ensures none { (w : Written) → written_of text.now ≡ Some w
+            → OnOk result (is_empty self.new.found.items ≡ is_some (certificate_of schema.now w)) }
+    {
         let Some(rest) = behind_line("fhirprof-certificate 1", text) else {
             return self.put(1, FlawKind::Expected(Part::FirstLine));
         };
@@ -166,11 +233,10 @@ impl<'a> FlawList<'a> {
 /// What is wrong with the bytes of a certificate, in the order of their lines: each definition and each element that isn't
 /// known, at the first line that names it, and the first line that isn't written as it should be, with which it ends. The one
 /// refusal is want of memory.
-pub fn flaws<'a>(
-    alloc: Global,
-    schema: &Schema,
-    bytes: &'a [u8],
-) -> Result<Vec<Flaw<'a>>, NoMemory> {
+pub fn flaws<'a>(alloc: Global, schema: &Schema, bytes: &'a [u8]) -> Result<Vec<Flaw<'a>>, NoMemory>
+    // Something is wrong with a line exactly where reading fails for its lines, and by the same fault.
+    ensures { IfOk result (λ flaws. fault_of_flaws flaws.items ≡ fault_of_lines (reading schema.now bytes.now)) }
+{
     let mut flaws = FlawList {
         found: Vec::new(alloc),
         told: Index::new(alloc),
