@@ -10,6 +10,7 @@ ghost use Rattle.fhir_json.specs.Views.{tree_of};
 ghost use Rattle.fhir_json.specs.Fields.{text_in};
 ghost use Rattle.fhir_json.specs.Grammar.{Reads};
 ghost use Rattle.fhir_json.specs.Memory.{Gives};
+ghost use Rattle.fhir_json.specs.Compact.{compact};
 ghost use Rattle.fhir_decimal.specs.Text.{Parts, IsDecimal};
 ghost use Rattle.fhir_decimal.specs.Value.{value_of, is_same_value};
 ghost use Rattle.fhir_names.specs.Ids.{read_id};
@@ -19,7 +20,6 @@ ghost use Rattle.fhir_matching.specs.Equality.{equal};
 ghost use Rattle.fhir_matching.specs.Fitting.{fits};
 ghost use Rattle.fhir_package.specs.Definitions.{Definitions};
 ghost use Rattle.fhir_package.specs.Folder.{Files};
-ghost use Rattle.fhir_package.specs.declared.fault.LoadFault.{LoadFault};
 ghost use Rattle.fhir_package.specs.Packing.{pack};
 ghost use Rattle.fhir_codes.specs.Concepts.{concept};
 ghost use Rattle.fhir_codes.specs.ValueSets.{concepts_of};
@@ -46,8 +46,10 @@ ghost use Rattle.fhir_certificate.specs.Judging.{Stands};
 ghost use Rattle.fhir_cert_check.specs.Checking.{SpellsCertificate};
 ghost use Rattle.fhir_findings.specs.Finding.{all_unusable};
 ghost use Rattle.fhir_report.specs.Faultless.{IsFaultless};
-ghost use Rattle.fhir_registry.specs.Replying.{Promise};
-ghost use Rattle.fhir_registry.specs.Views.{request_seen};
+ghost use Rattle.fhir_registry.specs.Outcomes.{IsOutcome, is_explained};
+ghost use Rattle.fhir_engine.specs.declared.request.WordsFault.{WordsFault};
+ghost use Rattle.fhir_engine.specs.Promising.{Promise};
+ghost use Rattle.fhir_engine.specs.Requests.{InvocationValue};
 
 use fhir_cert_check::{Answer, check_bytes};
 use fhir_certificate::CertFault;
@@ -56,24 +58,24 @@ use fhir_conformance::{Children, asks};
 use fhir_decimal::Decimal;
 use fhir_definition::Definition;
 use fhir_elements::{ElementDef, ElementFault};
+use fhir_engine::{Opened, Status, invocation_of, open_asked, run};
 use fhir_facets::{Facet, Pattern, narrower_holds};
 use fhir_forms::NodeForms;
 use fhir_fp_eval::{Env, holds};
 use fhir_fp_syntax::{Expr, Parsed, parse};
 use fhir_instance::{Misfit, Typed, type_resource};
-use fhir_json::{Json, JsonFault, NoMemory};
+use fhir_json::{Json, JsonFault, NoMemory, write};
 use fhir_matching::{json_eq, matches};
 use fhir_names::{ElementId, front_of};
 use fhir_nodes::{Nodes, Table};
 use fhir_package::{Folder, FolderFiles, Kind, LoadFault, Package, Silent, Survey, load};
 use fhir_prims::{PrimType, lexical};
-use fhir_registry::{Request, Status, bytes_at, files_at, respond};
+use fhir_registry::outcome;
 use fhir_report::{Form, Subject};
 use fhir_schema::{NodeRef, Schema, Slot};
 use fhir_slicing::belongs;
-use fhir_validator::{Fault, validate};
+use fhir_validator::{Fault, Verdict, validate};
 use std::alloc::Global;
-use std::io;
 use std::io::Write;
 use std::rt::Files;
 
@@ -320,17 +322,35 @@ pub fn is_clean(alloc: Global, files: &FolderFiles) -> Result<bool, NoMemory>
     Ok(report.is_clean)
 }
 
-/// Answers a request, and gives the status.
+/// The outcome of a validation against the profile at a url, as a JSON text.
+pub fn outcome_text(
+    alloc: Global,
+    profile: &str,
+    validated: &Result<Verdict<'_>, Fault>,
+) -> Result<Vec<u8>, NoMemory>
+    ensures { IsTrue (is_explained validated.now)
+        → IfOk result (λ text. (t : Tree) × IsOutcome validated.now t × (text.items ≡ compact t)) }
+{
+    let outcome = outcome(alloc, profile, validated)?;
+    write(alloc, &outcome)
+}
+
+/// Does what words ask, of which the first is the program's name, and gives the status.
 pub fn status_of<R: Files + AllocGlobal + Clone + Drop, W: Write, E: Write>(
     rt: &R,
-    request: Request<'_>,
+    words: &[String],
     out: &mut W,
     err: &mut E,
-) -> io::Result<Status>
-    ensures { IfOk result (λ status. status ≡ Status.Yes
-        → (files : Result Files LoadFault) × (file : Option Text) × Promise (request_seen request.entry) files file) }
+) -> Status
+    ensures { result ≡ Status.Yes → (asked : Result InvocationValue WordsFault)
+        × (files : Files) × (file : Option Text) × Promise asked files file }
 {
-    let files = files_at(rt, request.folder());
-    let file = bytes_at(rt, request.file())?;
-    Ok(respond(rt.alloc(), request, &files, file.as_deref(), out, err))
+    let asked = invocation_of(rt.alloc(), words);
+    let Opened {
+        asked,
+        folder,
+        file,
+    } = open_asked(rt, asked, &mut Silent);
+    let bytes = file.as_deref();
+    run(rt.alloc(), &asked, folder, bytes, &mut Silent, out, err)
 }

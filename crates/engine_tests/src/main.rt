@@ -11,11 +11,8 @@
 //!   there as it is, without its line feed.
 #![tactic(auto)]
 
-use fhir_registry::{
-    CheckRequest, Invocation, Request, Status, bytes_at, check, files_at, invocation_of,
-    listing_at, refuse, respond, tell_version,
-};
-use fhir_report::Silent;
+use fhir_engine::{Opened, Status, invocation_of, open_asked, run};
+use fhir_package::Silent;
 use std::alloc::{AllocError, Global};
 use std::io::Write;
 use std::rt::Files;
@@ -43,9 +40,9 @@ fn told<R: Files + AllocGlobal + Clone + Drop>(
     let mut full: &mut [u8] = &mut [];
     let words = words_of(alloc, command)?;
     let status = if is_full {
-        done(rt, &words, &mut full, &mut err)?
+        done(rt, &words, &mut full, &mut err)
     } else {
-        done(rt, &words, &mut out, &mut err)?
+        done(rt, &words, &mut out, &mut err)
     };
     Ok(line_of(alloc, status, &out, &err)?)
 }
@@ -56,40 +53,14 @@ fn done<R: Files + AllocGlobal + Clone + Drop, W: Write>(
     words: &[String],
     out: &mut W,
     err: &mut Vec<u8>,
-) -> io::Result<Status> {
-    match invocation_of(rt.alloc(), words) {
-        Ok(Invocation::Judge(request)) => answer(rt, request, out, err),
-        Ok(Invocation::Check(request)) => report(rt, request, out, err),
-        Ok(Invocation::Version) => Ok(tell_version(out)),
-        Err(fault) => Ok(refuse(fault, err)),
-    }
-}
-
-fn report<R: Files + AllocGlobal + Clone + Drop, W: Write>(
-    rt: &R,
-    request: CheckRequest<'_>,
-    out: &mut W,
-    err: &mut Vec<u8>,
-) -> io::Result<Status> {
-    let file = match request.certificate {
-        Some(path) => bytes_at(rt, path)?,
-        None => None,
-    };
-    let listing = listing_at(rt, request.folder, &mut Silent);
+) -> Status {
+    let Opened {
+        asked,
+        folder,
+        file,
+    } = open_asked(rt, invocation_of(rt.alloc(), words), &mut Silent);
     let bytes = file.as_deref();
-    Ok(check(rt.alloc(), request, &listing, bytes, &mut Silent, out, err))
-}
-
-// What the engine answers.
-fn answer<R: Files + AllocGlobal + Clone + Drop, W: Write>(
-    rt: &R,
-    request: Request<'_>,
-    out: &mut W,
-    err: &mut Vec<u8>,
-) -> io::Result<Status> {
-    let file = bytes_at(rt, request.file())?;
-    let files = files_at(rt, request.folder());
-    Ok(respond(rt.alloc(), request, &files, file.as_deref(), out, err))
+    run(rt.alloc(), &asked, folder, bytes, &mut Silent, out, err)
 }
 
 fn line_of(alloc: Global, status: Status, out: &[u8], err: &[u8]) -> Result<String, AllocError> {

@@ -1,9 +1,13 @@
 -- The issues of an outcome.
-use Rattle.std.proofs.Common.{◌≡◌, List, [], ◌∷◌, map, codes, refl, ap, ◌∙◌}
+use Rattle.std.proofs.Common.{◌≡◌, List, [], ◌∷◌, ◌++◌, map, codes, All, refl, sym, ap, subst, ◌∙◌}
+use Rattle.std.proofs.lemmas.List.{map-append}
+use Rattle.std.proofs.lemmas.List.Elements.{All-push}
+use Rattle.fhir_json.specs.declared.json.Json.{Json}
 use Rattle.fhir_json.specs.declared.json.Member.{Member}
-use Rattle.fhir_json.specs.Tree.{Tree, object, array, items_of, list_of, members_of}
-use Rattle.fhir_json.specs.Views.{property_of}
+use Rattle.fhir_json.specs.Tree.{Text, Tree, string, object, array, items_of, list_of, members_of}
+use Rattle.fhir_json.specs.Views.{tree_of, trees_of, property_of}
 use Rattle.fhir_json.specs.Fields.{items_in}
+use Rattle.fhir_registry.specs.Outcomes.{HasSeverity}
 
 listed : (ts : List Tree) → list_of (items_of ts) ≡ ts
 listed [] = refl
@@ -20,3 +24,17 @@ issues_in t members kind issues name ts whole two first second =
     ∙ ap (λ p. object (members_of (p ∷ property_of issues ∷ []))) first
     ∙ ap (λ p. object (members_of ((codes "resourceType", name) ∷ p ∷ []))) second in
     ap (items_in (codes "issue")) parts ∙ listed ts
+
+-- the severity of an object whose first property is that
+pub severity_in : (t : Tree) (members rest : List Member) (first : Member) (severity : Text) → t ≡ object (members_of (map property_of members))
+    → members ≡ first ∷ rest → property_of first ≡ (codes "severity", string severity) → HasSeverity severity t
+severity_in t members rest first severity whole some is =
+    subst (HasSeverity severity)
+    (sym (whole ∙ ap (λ ms. object (members_of (map property_of ms))) some ∙ ap (λ p. object (members_of (p ∷ map property_of rest))) is)) refl
+
+-- one more
+pub one_issue_more : (severity : Text) (old new : List Json) (issue : Json) → new ≡ old ++ issue ∷ [] → HasSeverity severity (tree_of issue)
+    → All (HasSeverity severity) (trees_of old) → All (HasSeverity severity) (trees_of new)
+one_issue_more severity old new issue is so all =
+    subst (λ ts. All (HasSeverity severity) ts) (sym (ap trees_of is ∙ map-append tree_of old (issue ∷ [])))
+    (All-push (HasSeverity severity) (trees_of old) (tree_of issue) all so)

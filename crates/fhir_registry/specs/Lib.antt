@@ -1,10 +1,1 @@
 pub mod Outcomes
-pub mod Standing
-pub mod Status
-pub mod Telling
-pub mod Replying
-pub mod Words
-pub mod Views
-pub mod Ending
-pub mod Agreeing
-pub mod Checking

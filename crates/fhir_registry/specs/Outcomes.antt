@@ -1,15 +1,27 @@
 -- The outcome of a validation (FHIR R4, OperationOutcome).
-use Rattle.std.specs.Prelude.{◌≡◌, ◌<◌, length, Bool, true, nat_lt, Some, Result, Ok, Err, codes}
-use Rattle.fhir_json.specs.Tree.{Tree}
+use Rattle.std.specs.Prelude.{◌≡◌, ◌<◌, length, Bool, true, nat_lt, All, Some, Result, Ok, Err, codes}
+use Rattle.fhir_json.specs.Tree.{Text, Tree}
 use Rattle.fhir_json.specs.Fields.{text_in, items_in}
 use Rattle.fhir_validator.specs.declared.fault.Fault.{Fault}
 use Rattle.fhir_validator.specs.declared.verdict.Verdict.{Verdict}
 use Rattle.fhir_validator.specs.declared.verdict.Verdict.TheVariants.{Conforms, Violates, Open}
 
--- the tree is an outcome, with an issue at least
-pub record IsOutcome (t : Tree) : Type 0 where
+-- the severity of what is said of a validation (OperationOutcome, issue.severity)
+abbrev pub severity_of : Result Verdict Fault → Text
+severity_of (Ok Conforms) = codes "information"
+severity_of (Ok (Violates issues)) = codes "error"
+severity_of (Ok (Open sites)) = codes "warning"
+severity_of (Err fault) = codes "fatal"
+
+-- an issue has that severity
+abbrev pub HasSeverity : Text → Tree → Type 0
+HasSeverity severity issue = text_in (codes "severity") issue ≡ Some severity
+
+-- the tree is the outcome of a validation, with an issue at least, each of that severity
+pub record IsOutcome (validated : Result Verdict Fault) (t : Tree) : Type 0 where
   pub resource : text_in (codes "resourceType") t ≡ Some (codes "OperationOutcome")
   pub issues : 0 < length (items_in (codes "issue") t)
+  pub severity : All (HasSeverity (severity_of validated)) (items_in (codes "issue") t)
 
 -- the verdict lists something, if it is one that lists
 abbrev pub is_explained : Result Verdict Fault → Bool

@@ -1,12 +1,13 @@
 //! What is said of a validation, as an OperationOutcome.
 
-ghost use Rattle.std.specs.Prelude.{◌≡◌, ◌<◌, ◌+◌, Some, Err, length, map, codes, IfOk, OnOk, IsTrue, if◌then◌else◌};
+ghost use Rattle.std.specs.Prelude.{◌≡◌, ◌<◌, ◌+◌, ◌++◌, List, Some, Err, length, map, codes, All, IfOk, OnOk, IsTrue, if◌then◌else◌};
 ghost use Rattle.std.specs.BTreeSet.{btree_set_len};
-ghost use Rattle.fhir_json.specs.Tree.{string, array, object, items_of, members_of};
+ghost use Rattle.fhir_json.specs.declared.json.Member.{Member};
+ghost use Rattle.fhir_json.specs.Tree.{Text, string, array, object, items_of, members_of};
 ghost use Rattle.fhir_json.specs.Fields.{text_in, items_in};
 ghost use Rattle.fhir_json.specs.Views.{tree_of, property_of, trees_of};
 ghost use Rattle.fhir_validator.specs.declared.fault.Fault.TheVariants as faults;
-ghost use Rattle.fhir_registry.specs.Outcomes.{IsOutcome, is_explained};
+ghost use Rattle.fhir_registry.specs.Outcomes.{severity_of, HasSeverity, IsOutcome, is_explained};
 
 use fhir_instance::{Misfit, MisfitKind};
 use fhir_json::{Json, Member, NoMemory, write};
@@ -55,8 +56,25 @@ fn object(members: Vec<Member<'static>>) -> Json<'static>
     Json::Obj(members)
 }
 
+// Puts in where it is, if that is said.
+fn push_expression(
+    alloc: Global,
+    expression: Option<String>,
+    members: &mut Vec<Member<'static>>,
+) -> Result<(), AllocError>
+    ensures { OnOk result ((more : List Member) × (members.new.items ≡ members.old.items ++ more)) }
+{
+    if let Some(place) = expression {
+        let places = vec![in alloc; text(place)]?;
+        members.push(member("expression", array(places)))?;
+    }
+    Ok(())
+}
+
 impl Said {
-    fn into_json(self, alloc: Global) -> Result<Json<'static>, AllocError> {
+    fn into_json(self, alloc: Global) -> Result<Json<'static>, AllocError>
+        ensures { IfOk result (λ json. HasSeverity self.entry.severity.now (tree_of json)) }
+    {
         let Said {
             severity,
             code,
@@ -67,15 +85,14 @@ impl Said {
         members.push(member("severity", word(severity)))?;
         members.push(member("code", word(code)))?;
         members.push(member("diagnostics", text(diagnostics)))?;
-        if let Some(place) = expression {
-            let places = vec![in alloc; text(place)]?;
-            members.push(member("expression", array(places)))?;
-        }
+        push_expression(alloc, expression, &mut members)?;
         Ok(object(members))
     }
 }
 
-fn conforming(alloc: Global) -> Result<Said, AllocError> {
+fn conforming(alloc: Global) -> Result<Said, AllocError>
+    ensures { IfOk result (λ said. said.severity.now ≡ codes "information") }
+{
     Ok(Said {
         severity: "information",
         code: "informational",
@@ -91,7 +108,9 @@ fn misfit_code(kind: MisfitKind) -> &'static str {
     }
 }
 
-fn misfit_said(alloc: Global, misfit: &Misfit) -> Result<Said, AllocError> {
+fn misfit_said(alloc: Global, misfit: &Misfit) -> Result<Said, AllocError>
+    ensures { IfOk result (λ said. said.severity.now ≡ codes "error") }
+{
     let expression = match &misfit.place {
         Some(place) => Some(String::from_str(alloc, place.as_str())?),
         None => None,
@@ -118,7 +137,9 @@ fn rule_code(rule: &Rule<'_>) -> &'static str {
     }
 }
 
-fn finding_said(alloc: Global, finding: &Finding<'_>) -> Result<Said, AllocError> {
+fn finding_said(alloc: Global, finding: &Finding<'_>) -> Result<Said, AllocError>
+    ensures { IfOk result (λ said. said.severity.now ≡ codes "error") }
+{
     Ok(Said {
         severity: "error",
         code: rule_code(&finding.rule),
@@ -127,14 +148,18 @@ fn finding_said(alloc: Global, finding: &Finding<'_>) -> Result<Said, AllocError
     })
 }
 
-fn issue_said(alloc: Global, issue: &Issue<'_>) -> Result<Said, AllocError> {
+fn issue_said(alloc: Global, issue: &Issue<'_>) -> Result<Said, AllocError>
+    ensures { IfOk result (λ said. said.severity.now ≡ codes "error") }
+{
     match issue {
         Issue::Misfit(misfit) => misfit_said(alloc, misfit),
         Issue::Broken(finding) => finding_said(alloc, finding),
     }
 }
 
-fn site_said(alloc: Global, site: &Site<'_>) -> Result<Said, AllocError> {
+fn site_said(alloc: Global, site: &Site<'_>) -> Result<Said, AllocError>
+    ensures { IfOk result (λ said. said.severity.now ≡ codes "warning") }
+{
     Ok(Said {
         severity: "warning",
         code: "not-supported",
@@ -143,7 +168,9 @@ fn site_said(alloc: Global, site: &Site<'_>) -> Result<Said, AllocError> {
     })
 }
 
-fn fatal(code: &'static str, diagnostics: String) -> Said {
+fn fatal(code: &'static str, diagnostics: String) -> Said
+    ensures { result.severity.now ≡ codes "fatal" }
+{
     Said {
         severity: "fatal",
         code,
@@ -153,6 +180,7 @@ fn fatal(code: &'static str, diagnostics: String) -> Said {
 }
 
 fn fault_said(alloc: Global, profile: &str, fault: Fault) -> Result<Said, NoMemory>
+    ensures severity { IfOk result (λ said. said.severity.now ≡ codes "fatal") }
     ensures memory { IfOk result (λ said. fault ≡ faults.NoMemory → ⊥) }
 {
     match fault {
@@ -196,6 +224,8 @@ impl Issues {
         ensures kept { btree_set_len self.old.texts ≡ length self.old.issues.items
             → OnOk result (btree_set_len self.new.texts ≡ length self.new.issues.items) }
         ensures some { OnOk result (0 < btree_set_len self.new.texts) }
+        ensures severity { All (HasSeverity said.entry.severity.now) (trees_of self.old.issues.items)
+            → OnOk result (All (HasSeverity said.entry.severity.now) (trees_of self.new.issues.items)) }
     {
         let issue = said.into_json(alloc)?;
         let text = write(alloc, &issue)?;
@@ -208,14 +238,16 @@ impl Issues {
 }
 
 fn one(alloc: Global, said: Said) -> Result<Vec<Json<'static>>, NoMemory>
-    ensures { IfOk result (λ all. 0 < length all.items) }
+    ensures some { IfOk result (λ all. 0 < length all.items) }
+    ensures severity { IfOk result (λ all. All (HasSeverity said.entry.severity.now) (trees_of all.items)) }
 {
     let issue = said.into_json(alloc)?;
     Ok(vec![in alloc; issue]?)
 }
 
 fn violations(alloc: Global, issues: &Vec<Issue<'_>>) -> Result<Vec<Json<'static>>, NoMemory>
-    ensures { IfOk result (λ all. 0 < length issues.now.items → 0 < length all.items) }
+    ensures some { IfOk result (λ all. 0 < length issues.now.items → 0 < length all.items) }
+    ensures severity { IfOk result (λ all. All (HasSeverity (codes "error")) (trees_of all.items)) }
 {
     let mut all = Issues::new(alloc);
     for issue in issues {
@@ -225,7 +257,8 @@ fn violations(alloc: Global, issues: &Vec<Issue<'_>>) -> Result<Vec<Json<'static
 }
 
 fn warnings(alloc: Global, sites: &Vec<Site<'_>>) -> Result<Vec<Json<'static>>, NoMemory>
-    ensures { IfOk result (λ all. 0 < length sites.now.items → 0 < length all.items) }
+    ensures some { IfOk result (λ all. 0 < length sites.now.items → 0 < length all.items) }
+    ensures severity { IfOk result (λ all. All (HasSeverity (codes "warning")) (trees_of all.items)) }
 {
     let mut all = Issues::new(alloc);
     for site in sites {
@@ -240,6 +273,7 @@ fn issues_of(
     validated: &Result<Verdict<'_>, Fault>,
 ) -> Result<Vec<Json<'static>>, NoMemory>
     ensures some { IsTrue (is_explained validated.now) → IfOk result (λ all. 0 < length all.items) }
+    ensures severity { IfOk result (λ all. All (HasSeverity (severity_of validated.now)) (trees_of all.items)) }
     ensures memory { IfOk result (λ all. validated.now ≡ Err faults.NoMemory → ⊥) }
 {
     match validated {
@@ -260,13 +294,14 @@ fn resource(alloc: Global, issues: Vec<Json<'static>>) -> Result<Json<'static>, 
 }
 
 /// The OperationOutcome (FHIR R4) of what was answered on a resource and the profile at a url: its issues in their order, each
-/// once. It takes time near linear in their number. The one refusal is want of memory, also where the answer is that.
+/// once, and as severe as the answer. It takes time near linear in their number. The one refusal is want of memory, also where
+/// the answer is that.
 pub fn outcome(
     alloc: Global,
     profile: &str,
     validated: &Result<Verdict<'_>, Fault>,
 ) -> Result<Json<'static>, NoMemory>
-    ensures outcome { IsTrue (is_explained validated.now) → IfOk result (λ json. IsOutcome (tree_of json)) }
+    ensures outcome { IsTrue (is_explained validated.now) → IfOk result (λ json. IsOutcome validated.now (tree_of json)) }
     ensures memory { IfOk result (λ json. validated.now ≡ Err faults.NoMemory → ⊥) }
 {
     let issues = issues_of(alloc, profile, validated)?;

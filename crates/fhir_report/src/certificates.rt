@@ -5,6 +5,7 @@ ghost use Rattle.fhir_json.specs.Tree.{Text};
 ghost use Rattle.fhir_report.specs.Lines.{file_line, line_seen};
 ghost use Rattle.fhir_report.specs.Report.{node_text, pair_word, derived_of, base_of, pair_text, IsOfCertificate};
 
+use crate::failing::no_text;
 use crate::line::{Line, Number};
 use crate::narrowing::rule_words;
 use fhir_cert_check::Rule;
@@ -128,11 +129,7 @@ pub fn no_line<'r>(
     ensures { IfOk result (λ l. (words : Text)
         × (line_seen l ≡ file_line file.now None (codes "no: " ++ pair_text schema.now pair ++ codes ": " ++ words))) }
 {
-    let pair_text = pair_text(alloc, schema, pair)?;
     let words = rule_words(alloc, schema, pair, rule)?;
-    let mut text = String::from_str(alloc, "no: ")?;
-    text.push_str(pair_text.as_str())?;
-    text.push_str(": ")?;
-    text.push_str(words.as_str())?;
+    let text = no_text(alloc, schema, pair, words.as_str())?;
     Ok(Line::of_file(file, None, text))
 }

@@ -26,6 +26,7 @@
 mod causes;
 mod certificates;
 mod explaining;
+mod failing;
 mod fields;
 mod laws;
 mod line;
@@ -40,6 +41,7 @@ mod wording;
 mod writing;
 
 pub use certificates::{flaw_line, no_line, pair_text};
+pub use failing::{no_text, rule_text};
 pub use laws::{reports, rows_are_lines};
 pub use line::{Line, Number};
 pub use narrowing::rule_words;

@@ -1,5 +1,6 @@
 //! What a pair of a certificate fails, in plain words, with what stands in both elements.
 
+use crate::failing::rule_text;
 use fhir_cert_check::Rule;
 use fhir_certificate::{NodePair, Pair};
 use fhir_elements::{ElementDef, Max, TypeEntry};
@@ -174,6 +175,7 @@ fn compared(
 ) -> Result<String, NoMemory> {
     let derived = said(alloc, schema, nodes.derived, rule)?;
     let base = said(alloc, schema, nodes.base, rule)?;
+    let rule = rule_text(alloc, rule)?;
     Ok(format!(in alloc;
         "{rule}: {derived} in the derived profile isn't within {base} of the base"
     )?)
@@ -212,6 +214,6 @@ pub fn rule_words(
         | Rule::Binding
         | Rule::Cardinality(_)
         | Rule::Bounds { .. } => compared(alloc, schema, nodes_of(pair), rule),
-        _ => Ok(format!(in alloc; "{rule}: {}", lacking(rule))?),
+        _ => Ok(format!(in alloc; "{}: {}", rule_text(alloc, rule)?, lacking(rule))?),
     }
 }

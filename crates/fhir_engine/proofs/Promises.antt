@@ -1,0 +1,51 @@
+-- What the promise of a session says of the files that it is of, and what that says of their folder.
+use Rattle.std.proofs.Common.{◌≡◌, List, [], Ok, Err, Result, Option, None, Some, All, refl, sym, ap, ◌∙◌}
+use Rattle.std.specs.Prelude.{find, slice_get}
+use Rattle.std.specs.Option.{option_map, option_or}
+use Rattle.std.specs.Map.{keys_of}
+use Rattle.fhir_json.specs.Tree.{Text}
+use Rattle.fhir_package.specs.declared.folder.FolderFault.{FolderFault}
+use Rattle.fhir_package.specs.Definitions.{Definitions}
+use Rattle.fhir_package.specs.Folder.{Files}
+use Rattle.fhir_package.specs.Packing.{Refusal, json_names, json_files, pack_files, pack}
+use Rattle.fhir_package.specs.ReadFiles.{ReadFiles, IsFrom, all_given, pack_given}
+use Rattle.fhir_package.specs.Surveying.{FileFault, survey, is_unread, told_by, packed_by}
+use Rattle.fhir_engine.specs.declared.request.WordsFault.{WordsFault}
+use Rattle.fhir_engine.specs.Promising.{SessionPromise, ReadPromise, WordsPromise, FolderPromise, Promise}
+use Rattle.fhir_engine.specs.Requests.{RequestValue, InvocationValue, request, version}
+use Rattle.fhir_engine.specs.Session.{IsReadOf, session_of}
+
+pub of_read : ((files : ReadFiles) → packed_by (survey files) ≡ pack_given files) → (request : RequestValue) (files : ReadFiles) (file : Option Text)
+    → SessionPromise request (session_of files) file → ReadPromise request (Ok files) file
+of_read surveys request files file promise =
+    let by_faults : List FileFault → Option (Result Definitions Refusal) =
+    λ faults. told_by (option_or (find is_unread faults) (slice_get faults 0)) (survey files).definitions in
+    ((survey files).definitions, sym (surveys files) ∙ ap by_faults promise.0, promise.1)
+
+-- ---- what was read of a folder is the folder's
+
+-- files that were all given are a folder's JSON files
+abbrev AreOfFolder : Type 0
+AreOfFolder =
+    (folder : Files) (read : ReadFiles) (files : Files) → keys_of read ≡ json_names (keys_of folder) → All (IsFrom folder) read
+    → all_given read ≡ Some files → files ≡ json_files folder
+
+packed : AreOfFolder → (folder : Files) (read : ReadFiles) (p : Definitions) → IsReadOf folder (Ok read) → pack_given read ≡ Some (Ok p)
+    → pack folder ≡ Ok p
+packed law folder read p is_read is = by (all_given read) refl is
+  where
+    by : (given : Option Files) → all_given read ≡ given → option_map pack_files given ≡ Some (Ok p) → pack folder ≡ Ok p
+    by None e h = absurd cc
+    by (Some files) e h =
+        let whole : pack_files files ≡ Ok p = cc in ap pack_files (sym (law folder read files is_read.0 is_read.1 e)) ∙ whole
+
+of_request : AreOfFolder → (request : RequestValue) (folder : Files) (read : Result ReadFiles FolderFault) (file : Option Text) → IsReadOf folder read
+    → ReadPromise request read file → FolderPromise request folder file
+of_request law request folder (Ok read) file is_read promise = (promise.0, packed law folder read promise.0 is_read promise.1, promise.2)
+of_request law request folder (Err fault) file is_read promise = absurd promise
+
+pub of_words : AreOfFolder → (asked : Result InvocationValue WordsFault) (folder : Files) (read : Result ReadFiles FolderFault) (file : Option Text)
+    → IsReadOf folder read → WordsPromise asked read file → Promise asked folder file
+of_words law (Ok (request q)) folder read file is_read promise = of_request law q folder read file is_read promise
+of_words law (Ok version) folder read file is_read promise = tt
+of_words law (Err fault) folder read file is_read promise = promise

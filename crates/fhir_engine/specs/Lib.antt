@@ -1,0 +1,13 @@
+pub mod Standing
+pub mod Status
+pub mod Telling
+pub mod Requests
+pub mod Words
+pub mod Views
+pub mod Session
+pub mod Reporting
+pub mod Replying
+pub mod Answering
+pub mod Promising
+pub mod Ending
+pub mod Agreeing

@@ -1,0 +1,64 @@
+-- What the program writes, and with which status it ends.
+use Rattle.std.specs.Prelude.{ℕ, List, [], ◌++◌, Bool, true, false, Option, None, Some, Result, Ok, Err, codes, string_bytes}
+use Rattle.fhir_json.specs.Tree.{Text}
+use Rattle.fhir_package.specs.Faults.{fault_number, fault_subject}
+use Rattle.fhir_package.specs.Surveying.{FileFault}
+use Rattle.fhir_schema.specs.Schemas.{SchemaValue}
+use Rattle.fhir_certificate.specs.declared.fault.CertFault.{CertFault}
+use Rattle.fhir_certificate.specs.declared.pair.Pair.{Pair}
+use Rattle.fhir_certificate.specs.Faults.{cert_number}
+use Rattle.fhir_certificate.specs.Reading.{reading}
+use Rattle.fhir_cert_check.specs.Rule.{RuleName}
+use Rattle.fhir_cert_check.specs.Checking.{answer_of}
+use Rattle.fhir_engine.specs.declared.reply.Reply.{Reply}
+use Rattle.fhir_engine.specs.declared.reply.Reply.TheVariants.{Answer, Fault}
+use Rattle.fhir_engine.specs.Status.{code_of}
+use Rattle.fhir_engine.specs.Telling.{wrong_text}
+
+-- a status, and what is written to standard output, or told on standard error
+pub data ReplyValue : Type 0 where
+  written : ℕ → List ℕ → ReplyValue
+  told : ℕ → List ℕ → ReplyValue
+
+abbrev pub reply_seen : Reply → ReplyValue
+reply_seen (Answer status out) = written (code_of status) out.items
+reply_seen (Fault err) = told 3 (string_bytes err)
+
+abbrev pub status_of : ReplyValue → ℕ
+status_of (written status out) = status
+status_of (told status err) = status
+
+abbrev pub out_of : ReplyValue → Text
+out_of (written status out) = out
+out_of (told status err) = []
+
+abbrev pub is_told : ReplyValue → Bool
+is_told (written status out) = false
+is_told (told status err) = true
+
+-- ---- replies
+
+-- a fault of the input: its number, and what it is about
+abbrev pub fault_reply : Text → Text → ReplyValue
+fault_reply number subject = told 3 (number ++ codes " " ++ subject ++ codes "\n")
+
+-- the fault for which files are no package
+abbrev pub refused_reply : FileFault → ReplyValue
+refused_reply fault = fault_reply (fault_number fault) (fault_subject fault)
+
+-- that a file of that name can't be read
+abbrev pub unread_reply : Text → ReplyValue
+unread_reply name = fault_reply (codes "read") name
+
+-- what is wrong with a certificate, if anything
+abbrev pub wrong_reply : SchemaValue → Option (Pair × RuleName) → ReplyValue
+wrong_reply s None = written 0 (codes "yes\n")
+wrong_reply s (Some wrong) = written 1 (wrong_text s wrong.0 wrong.1)
+
+abbrev pub checked_reply : Text → SchemaValue → Result (Option (Pair × RuleName)) CertFault → ReplyValue
+checked_reply name s (Ok wrong) = wrong_reply s wrong
+checked_reply name s (Err fault) = fault_reply (cert_number fault) name
+
+-- of a certificate's bytes, whose file has that name
+abbrev pub certificate_reply : Text → SchemaValue → Text → ReplyValue
+certificate_reply name s bytes = checked_reply name s (answer_of (reading s bytes) s)

@@ -1,0 +1,28 @@
+-- What is asked, and what words ask for.
+use Rattle.std.specs.Prelude.{ℕ, List, Option, Some}
+use Rattle.fhir_json.specs.Tree.{Text}
+use Rattle.fhir_report.specs.declared.writing.Form.{Form}
+
+pub data RequestValue : Type 0 where
+  -- whether the certificate in a file is right, over the definitions in a folder
+  certify : (folder file : List ℕ) → RequestValue
+  -- whether the resource in a file conforms to the profile at a url, over the definitions in a folder
+  validate : (folder profile file : List ℕ) → RequestValue
+  -- what is wrong with the files of a folder, and with the certificate in a file, if there is one
+  check : List ℕ → Option (List ℕ) → Form → RequestValue
+
+abbrev pub folder_of : RequestValue → Text
+folder_of (certify folder file) = folder
+folder_of (validate folder profile file) = folder
+folder_of (check folder certificate form) = folder
+
+-- the file that is asked about
+abbrev pub file_of : RequestValue → Option Text
+file_of (certify folder file) = Some file
+file_of (validate folder profile file) = Some file
+file_of (check folder certificate form) = certificate
+
+-- what words ask for
+pub data InvocationValue : Type 0 where
+  request : RequestValue → InvocationValue
+  version : InvocationValue

@@ -1,0 +1,34 @@
+-- The numbers of the statuses.
+use Rattle.std.specs.Prelude.{ℕ, Bool, true, false, Result, Ok, Err}
+use Rattle.fhir_validator.specs.declared.fault.Fault.{Fault as NotJudged}
+use Rattle.fhir_validator.specs.declared.verdict.Verdict.{Verdict}
+use Rattle.fhir_validator.specs.declared.verdict.Verdict.TheVariants as verdicts
+use Rattle.fhir_engine.specs.declared.reply.Status.{Status}
+use Rattle.fhir_engine.specs.declared.request.WordsFault.{WordsFault}
+use Rattle.fhir_engine.specs.declared.reply.Status.TheVariants.{Yes, No, Open, Fault, Unwritten, Usage, NoMemory}
+
+abbrev pub code_of : Status → ℕ
+code_of Yes = 0
+code_of No = 1
+code_of Open = 2
+code_of Fault = 3
+code_of Unwritten = 3
+code_of Usage = 4
+code_of NoMemory = 5
+
+-- the status where the words ask for nothing
+abbrev pub words_status : WordsFault → Status
+words_status WordsFault.Usage = Usage
+words_status WordsFault.NoMemory = NoMemory
+
+-- the status of a validation
+abbrev pub verdict_status : Result Verdict NotJudged → Status
+verdict_status (Ok verdicts.Conforms) = Yes
+verdict_status (Ok (verdicts.Violates issues)) = No
+verdict_status (Ok (verdicts.Open sites)) = Open
+verdict_status (Err fault) = Fault
+
+-- the status of a report, by whether nothing is wrong
+abbrev pub report_status : Bool → Status
+report_status true = Yes
+report_status false = No

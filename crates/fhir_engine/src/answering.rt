@@ -1,0 +1,100 @@
+//! What is answered of a file, by a schema.
+
+ghost use Rattle.std.specs.Prelude.{◌≡◌, IfOk};
+ghost use Rattle.fhir_json.specs.Memory.{Gives};
+ghost use Rattle.fhir_report.specs.Faultless.{Promises};
+ghost use Rattle.fhir_engine.specs.Answering.{IsJudged, IsReply, certify_answer, validate_answer};
+ghost use Rattle.fhir_engine.specs.Promising.{Certified, Validated};
+ghost use Rattle.fhir_engine.specs.Replying.{reply_seen, status_of, certificate_reply};
+ghost use Rattle.fhir_engine.specs.Standing.{AlwaysConforms};
+ghost use Rattle.fhir_engine.specs.Status.{verdict_status};
+ghost use Rattle.fhir_engine.specs.Views.{bytes_seen};
+
+use crate::reply::{Reply, Status, fault_reply, unread_reply};
+use crate::telling::wrong_reply;
+use fhir_cert_check::check_bytes;
+use fhir_certificate::CertFault;
+use fhir_json::{NoMemory, write};
+use fhir_registry::outcome;
+use fhir_schema::Schema;
+use fhir_validator::{Fault, Verdict, validate};
+use std::alloc::Global;
+
+fn certificate_reply(
+    alloc: Global,
+    name: &str,
+    schema: &Schema,
+    bytes: &[u8],
+) -> Result<Reply, NoMemory>
+    ensures told { Gives reply_seen result (certificate_reply name.now schema.now bytes.now) }
+    ensures promised { IfOk result (λ r. status_of (reply_seen r) ≡ 0 → Promises schema.now bytes.now) }
+{
+    match check_bytes(alloc, schema, bytes) {
+        Ok(answer) => Ok(wrong_reply(alloc, schema, answer)?),
+        Err(CertFault::NoMemory) => Err(NoMemory),
+        Err(fault) => Ok(fault_reply(alloc, fault.number(), name)?),
+    }
+}
+
+fn status_of(validated: &Result<Verdict<'_>, Fault>) -> Status
+    ensures { result ≡ verdict_status validated.now }
+{
+    match validated {
+        Ok(Verdict::Conforms) => Status::Yes,
+        Ok(Verdict::Violates(_)) => Status::No,
+        Ok(Verdict::Open(_)) => Status::Open,
+        Err(_) => Status::Fault,
+    }
+}
+
+fn resource_reply(
+    alloc: Global,
+    profile: &str,
+    schema: &Schema,
+    bytes: &[u8],
+) -> Result<Reply, NoMemory>
+    ensures told { IfOk result (λ r. IsJudged schema.now profile.now bytes.now (reply_seen r)) }
+    ensures promised { IfOk result (λ r. status_of (reply_seen r) ≡ 0 → AlwaysConforms schema.now profile.now bytes.now) }
+{
+    let validated = validate(alloc, schema, profile, bytes);
+    let outcome = outcome(alloc, profile, &validated)?;
+    let mut out = write(alloc, &outcome)?;
+    out.push(b'\n')?;
+    Ok(Reply::Answer {
+        status: status_of(&validated),
+        out,
+    })
+}
+
+/// What is answered of the certificate in a file of that name, by its bytes, or by none where it can't be read.
+pub(crate) fn certify(
+    alloc: Global,
+    schema: &Schema,
+    name: &str,
+    file: Option<&[u8]>,
+) -> Result<Reply, NoMemory>
+    ensures told { IfOk result (λ r. IsReply (certify_answer schema.now name.now (bytes_seen file.entry)) (reply_seen r)) }
+    ensures promised { IfOk result (λ r. status_of (reply_seen r) ≡ 0 → Certified schema.now (bytes_seen file.entry)) }
+{
+    match file {
+        Some(bytes) => certificate_reply(alloc, name, schema, bytes),
+        None => Ok(unread_reply(alloc, name)?),
+    }
+}
+
+/// What is answered of the resource in a file of that name and a profile, by the file's bytes, or by none where it can't be read.
+pub(crate) fn validate_file(
+    alloc: Global,
+    schema: &Schema,
+    profile: &str,
+    name: &str,
+    file: Option<&[u8]>,
+) -> Result<Reply, NoMemory>
+    ensures told { IfOk result (λ r. IsReply (validate_answer schema.now profile.now name.now (bytes_seen file.entry)) (reply_seen r)) }
+    ensures promised { IfOk result (λ r. status_of (reply_seen r) ≡ 0 → Validated schema.now profile.now (bytes_seen file.entry)) }
+{
+    match file {
+        Some(bytes) => resource_reply(alloc, profile, schema, bytes),
+        None => Ok(unread_reply(alloc, name)?),
+    }
+}

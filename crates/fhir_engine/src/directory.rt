@@ -1,0 +1,163 @@
+//! Files of a file system.
+
+ghost use Rattle.std.specs.Prelude.{◌≡◌, ◌⊎◌, Err};
+ghost use Rattle.fhir_engine.specs.Views.{asked_seen};
+
+use crate::request::{Invocation, Request, WordsFault};
+use fhir_json::NoMemory;
+use fhir_package::{FolderFile, MemoryFolder, Progress, Stage, is_json_name};
+use std::alloc::Global;
+use std::collections::BTreeMap;
+use std::fs::DirEntry;
+use std::io::{ErrorKind, Read};
+use std::rt::Files;
+use std::{fs, io};
+
+// Puts in the name and the path of an entry of a directory, if its name is UTF-8 and ends in `.json`. An error is of the
+// listing, or of memory.
+fn put_entry<R: Files + AllocGlobal + Clone + Drop>(
+    rt: &R,
+    entry: io::Result<DirEntry<R, Global>>,
+    paths: &mut BTreeMap<String, String>,
+) -> io::Result<()> {
+    let entry = match entry {
+        Ok(entry) => entry,
+        Err(error) if error.kind() == ErrorKind::InvalidFilename => return Ok(()),
+        Err(error) => return Err(error),
+    };
+    if is_json_name(entry.file_name()) {
+        let name = String::from_str(rt.alloc(), entry.file_name())?;
+        let path = String::from_str(rt.alloc(), entry.path().as_str())?;
+        paths.insert(name, path)?;
+    }
+    Ok(())
+}
+
+// The paths of what a directory holds whose names end in `.json`, by these.
+fn paths_at<R: Files + AllocGlobal + Clone + Drop>(
+    rt: &R,
+    path: &str,
+) -> io::Result<BTreeMap<String, String>> {
+    let mut paths = BTreeMap::new(rt.alloc());
+    for entry in fs::read_dir(rt, path)? {
+        put_entry(rt, entry, &mut paths)?;
+    }
+    Ok(paths)
+}
+
+// The bytes of a regular file: neither a directory, nor a device or a pipe, whose end may never come.
+fn regular_bytes<R: Files + AllocGlobal>(rt: &R, path: &str) -> io::Result<Vec<u8>> {
+    let metadata = fs::metadata(rt, path)?;
+    if !metadata.is_file() {
+        return Err(io::Error::from(ErrorKind::InvalidInput));
+    }
+    let size = usize::try_from(metadata.len()).unwrap_or(0);
+    let mut bytes = Vec::with_capacity(rt.alloc(), size)?;
+    fs::open(rt, path)?.read_to_end(&mut bytes)?;
+    Ok(bytes)
+}
+
+/// The bytes of the regular file at a path, or none where there is none or the device doesn't give them. The one refusal is want
+/// of memory.
+pub fn bytes_at<R: Files + AllocGlobal>(rt: &R, path: &str) -> Result<Option<Vec<u8>>, NoMemory> {
+    match regular_bytes(rt, path) {
+        Ok(bytes) => Ok(Some(bytes)),
+        Err(error) if error.kind() == ErrorKind::OutOfMemory => Err(NoMemory),
+        Err(_) => Ok(None),
+    }
+}
+
+// The folder of the files at these paths, each under its name.
+fn folder_of<R: Files + AllocGlobal, P: Progress>(
+    rt: &R,
+    paths: BTreeMap<String, String>,
+    progress: &mut P,
+) -> Result<MemoryFolder, NoMemory> {
+    let count = paths.len();
+    let mut files = Vec::with_capacity(rt.alloc(), count)?;
+    for (place, (name, path)) in paths.into_iter().enumerate() {
+        let bytes = bytes_at(rt, path.as_str())?;
+        files.push(FolderFile { name, bytes })?;
+        progress.tell(Stage::Reading, place.saturating_add(1), count);
+    }
+    MemoryFolder::new(rt.alloc(), files)
+}
+
+/// The folder of what the directory at a path holds whose names end in `.json`. A file that the device doesn't give, or that is no
+/// regular one, has no bytes, and one whose name isn't UTF-8 is passed over. Where the directory isn't listed, nor is the folder.
+/// How many are read is told to `progress`. The one refusal is want of memory.
+pub fn directory_at<R: Files + AllocGlobal + Clone + Drop, P: Progress>(
+    rt: &R,
+    path: &str,
+    progress: &mut P,
+) -> Result<MemoryFolder, NoMemory> {
+    match paths_at(rt, path) {
+        Ok(paths) => folder_of(rt, paths, progress),
+        Err(error) if error.kind() == ErrorKind::OutOfMemory => Err(NoMemory),
+        Err(_) => Ok(MemoryFolder::unlisted(rt.alloc())),
+    }
+}
+
+/// What words ask for, with what they name.
+#[derive(Drop)]
+pub struct Opened<'w> {
+    /// What they ask for.
+    pub asked: Result<Invocation<'w>, WordsFault>,
+    /// The folder.
+    pub folder: MemoryFolder,
+    /// The bytes of the file, or none where none is named or it can't be read.
+    pub file: Option<Vec<u8>>,
+}
+
+// The file that is asked about, if one is and it can be read.
+fn file_of<R: Files + AllocGlobal>(
+    rt: &R,
+    request: &Request<'_>,
+) -> Result<Option<Vec<u8>>, NoMemory> {
+    match request.file() {
+        Some(path) => bytes_at(rt, path),
+        None => Ok(None),
+    }
+}
+
+fn found<R: Files + AllocGlobal + Clone + Drop, P: Progress>(
+    rt: &R,
+    request: &Request<'_>,
+    progress: &mut P,
+) -> Result<(MemoryFolder, Option<Vec<u8>>), NoMemory> {
+    let folder = directory_at(rt, request.folder(), progress)?;
+    let file = file_of(rt, request)?;
+    Ok((folder, file))
+}
+
+// Those where nothing is opened.
+fn unopened<'w>(alloc: Global, asked: Result<Invocation<'w>, WordsFault>) -> Opened<'w>
+    ensures { asked_seen result.asked ≡ asked_seen asked.entry }
+{
+    Opened {
+        asked,
+        folder: MemoryFolder::unlisted(alloc),
+        file: None,
+    }
+}
+
+/// Opens what words name. Where they name no folder, none is listed. Where memory runs out, they ask for nothing.
+pub fn open_asked<'w, R: Files + AllocGlobal + Clone + Drop, P: Progress>(
+    rt: &R,
+    asked: Result<Invocation<'w>, WordsFault>,
+    progress: &mut P,
+) -> Opened<'w>
+    ensures { (asked_seen result.asked ≡ asked_seen asked.entry) ⊎ (asked_seen result.asked ≡ Err WordsFault.NoMemory) }
+{
+    let Ok(Invocation::Request(request)) = asked else {
+        return unopened(rt.alloc(), asked);
+    };
+    match found(rt, &request, progress) {
+        Ok((folder, file)) => Opened {
+            asked,
+            folder,
+            file,
+        },
+        Err(NoMemory) => unopened(rt.alloc(), Err(WordsFault::NoMemory)),
+    }
+}

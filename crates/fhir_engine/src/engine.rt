@@ -1,0 +1,195 @@
+//! The engine: it does what words ask, and writes what is answered.
+
+ghost use Rattle.std.specs.Prelude.{◌≡◌, false, Result, Ok, IfOk, IfErr, IsTrue};
+ghost use Rattle.std.specs.Io.KnownBytes.{Appends};
+ghost use Rattle.fhir_package.specs.declared.folder.FolderFault.{FolderFault};
+ghost use Rattle.fhir_package.specs.ReadFiles.{ReadFiles};
+ghost use Rattle.fhir_engine.specs.Answering.{IsReply, answer_by, answer_to, answer_for};
+ghost use Rattle.fhir_engine.specs.Ending.{HasEnded, told_status};
+ghost use Rattle.fhir_engine.specs.Promising.{ReadPromise, WordsPromise, Promise};
+ghost use Rattle.fhir_engine.specs.Replying.{ReplyValue, written, reply_seen, status_of, is_told};
+ghost use Rattle.fhir_engine.specs.Session.{IsReadOf, session_of};
+ghost use Rattle.fhir_engine.specs.Status.{code_of, words_status};
+ghost use Rattle.fhir_engine.specs.Views.{bytes_seen, request_seen, asked_seen};
+
+use crate::reply::{Reply, Status, fault_reply};
+use crate::request::{Invocation, Request, WordsFault};
+use crate::session::Session;
+use crate::version::VERSION;
+use fhir_json::NoMemory;
+use fhir_package::{Folder, FolderFault, FolderFiles, Progress, given_files, surveys};
+use std::alloc::Global;
+use std::io::Write;
+
+fn is_written<W: Write>(end: &mut W, bytes: &[u8]) -> bool
+    ensures { IsTrue result → Appends (W.contents end.old) (W.contents end.new) bytes.now }
+{
+    end.write_all(bytes).is_ok()
+}
+
+// Says something to standard error, which may fail, and ends with that status.
+fn end_with<E: Write>(err: &mut E, text: &str, status: Status) -> Status
+    ensures { result ≡ status }
+{
+    let _ = is_written(err, text.as_bytes());
+    status
+}
+
+// Writes bytes to standard output, and ends with that status.
+fn put<W: Write>(out: &mut W, bytes: &[u8], status: Status) -> Status
+    ensures { HasEnded result (W.contents out.old) (W.contents out.new) (written (code_of status) bytes.now) }
+{
+    if is_written(out, bytes) {
+        status
+    } else {
+        Status::Unwritten
+    }
+}
+
+fn write_reply<W: Write, E: Write>(reply: &Reply, out: &mut W, err: &mut E) -> Status
+    ensures ended { HasEnded result (W.contents out.old) (W.contents out.new) (reply_seen reply.now) }
+    ensures fault { IsTrue (is_told (reply_seen reply.now)) → (result ≡ Status.Fault) × (out.new ≡ out.old) }
+    ensures answer { is_told (reply_seen reply.now) ≡ false → err.new ≡ err.old }
+{
+    match reply {
+        Reply::Answer { status, out: bytes } => put(out, bytes, *status),
+        Reply::Fault(text) => end_with(err, text.as_str(), Status::Fault),
+    }
+}
+
+// The answer to a request.
+fn answer<P: Progress>(
+    alloc: Global,
+    request: Request<'_>,
+    read: &Result<FolderFiles, FolderFault>,
+    file: Option<&[u8]>,
+    progress: &mut P,
+) -> Result<Reply, NoMemory>
+    ensures told { IfOk result (λ r. IsReply (answer_to (request_seen request.entry) read.now (bytes_seen file.entry)) (reply_seen r)) }
+    ensures promised { IfOk result (λ r. status_of (reply_seen r) ≡ 0
+        → ReadPromise (request_seen request.entry) read.now (bytes_seen file.entry)) }
+{
+    match read {
+        Ok(files) => answer_read(alloc, request, files, file, progress),
+        Err(FolderFault::Device) => Ok(fault_reply(alloc, "P1", request.folder())?),
+        Err(FolderFault::NoMemory) => Err(NoMemory),
+    }
+}
+
+// The same of the files that were read.
+fn answer_read<P: Progress>(
+    alloc: Global,
+    request: Request<'_>,
+    files: &FolderFiles,
+    file: Option<&[u8]>,
+    progress: &mut P,
+) -> Result<Reply, NoMemory>
+    ensures told { IfOk result (λ r. IsReply (answer_by (request_seen request.entry) (session_of files.now) (bytes_seen file.entry)) (reply_seen r)) }
+    ensures promised { IfOk result (λ r. status_of (reply_seen r) ≡ 0
+        → ReadPromise (request_seen request.entry) (Ok files.now) (bytes_seen file.entry)) }
+{
+    surveys();
+    let session = Session::of(alloc, files, progress)?;
+    session.answer(alloc, request, file)
+}
+
+// Answers a request.
+fn respond<W: Write, E: Write, P: Progress>(
+    alloc: Global,
+    request: Request<'_>,
+    read: &Result<FolderFiles, FolderFault>,
+    file: Option<&[u8]>,
+    progress: &mut P,
+    out: &mut W,
+    err: &mut E,
+) -> Status
+    ensures told { (result ≡ Status.NoMemory → ⊥) → (reply : ReplyValue)
+        × IsReply (answer_to (request_seen request.entry) read.now (bytes_seen file.entry)) reply
+        × HasEnded result (W.contents out.old) (W.contents out.new) reply
+        × (IsTrue (is_told reply) → (result ≡ Status.Fault) × (out.new ≡ out.old)) × (is_told reply ≡ false → err.new ≡ err.old) }
+    ensures promised { result ≡ Status.Yes → ReadPromise (request_seen request.entry) read.now (bytes_seen file.entry) }
+{
+    let reply = answer(alloc, request, read, file, progress);
+    progress.end();
+    match reply {
+        Ok(reply) => write_reply(&reply, out, err),
+        Err(NoMemory) => end_with(err, "no memory\n", Status::NoMemory),
+    }
+}
+
+// Says why words ask for nothing.
+fn refuse<E: Write>(fault: WordsFault, err: &mut E) -> Status
+    ensures { result ≡ words_status fault }
+{
+    match fault {
+        WordsFault::Usage => end_with(err, "usage: fhirprof COMMAND ..\n", Status::Usage),
+        WordsFault::NoMemory => end_with(err, "no memory\n", Status::NoMemory),
+    }
+}
+
+// Does what words ask, of the files that were read.
+fn answer_words<W: Write, E: Write, P: Progress>(
+    alloc: Global,
+    asked: &Result<Invocation<'_>, WordsFault>,
+    read: &Result<FolderFiles, FolderFault>,
+    file: Option<&[u8]>,
+    progress: &mut P,
+    out: &mut W,
+    err: &mut E,
+) -> Status
+    ensures told { (result ≡ Status.NoMemory → ⊥) → (reply : ReplyValue)
+        × IsReply (answer_for (asked_seen asked.now) read.now (bytes_seen file.entry)) reply
+        × HasEnded result (W.contents out.old) (W.contents out.new) reply
+        × (IsTrue (is_told reply) → (result ≡ told_status (asked_seen asked.now)) × (out.new ≡ out.old))
+        × (is_told reply ≡ false → err.new ≡ err.old) }
+    ensures words { IfErr asked.now (λ fault. result ≡ words_status fault) }
+    ensures promised { result ≡ Status.Yes → WordsPromise (asked_seen asked.now) read.now (bytes_seen file.entry) }
+{
+    match asked {
+        Ok(Invocation::Request(request)) => {
+            respond(alloc, *request, read, file, progress, out, err)
+        }
+        Ok(Invocation::Version) => put(out, VERSION.as_bytes(), Status::Yes),
+        Err(fault) => {
+            progress.end();
+            refuse(*fault, err)
+        }
+    }
+}
+
+// The files of a folder, which is dropped then.
+fn files_of<F: Folder + Drop>(alloc: Global, mut folder: F) -> Result<FolderFiles, FolderFault>
+    ensures { IsReadOf (F.files folder.entry) result }
+{
+    FolderFiles::read(alloc, &mut folder)
+}
+
+/// Does what words ask, of the folder and the bytes of the file that they name, and writes what is answered at once: what can't
+/// be answered to standard error, and all else to standard output. The folder is read first. A file that can't be read has no
+/// bytes. How far the work is, is told to `progress`. An output that fails is a fault; a failure of standard error changes
+/// nothing.
+pub fn run<F: Folder + Drop, W: Write, E: Write, P: Progress>(
+    alloc: Global,
+    asked: &Result<Invocation<'_>, WordsFault>,
+    folder: F,
+    file: Option<&[u8]>,
+    progress: &mut P,
+    out: &mut W,
+    err: &mut E,
+) -> Status
+    // Of what was read of the folder, the reply is the one that is stated, or one of those that are. What can't be answered has
+    // its status, and nothing is written to standard output; of any other reply nothing is written to standard error.
+    ensures told { (result ≡ Status.NoMemory → ⊥) → (read : Result ReadFiles FolderFault) × (reply : ReplyValue)
+        × IsReadOf (F.files folder.entry) read
+        × IsReply (answer_for (asked_seen asked.now) read (bytes_seen file.entry)) reply
+        × HasEnded result (W.contents out.old) (W.contents out.new) reply
+        × (IsTrue (is_told reply) → (result ≡ told_status (asked_seen asked.now)) × (out.new ≡ out.old))
+        × (is_told reply ≡ false → err.new ≡ err.old) }
+    ensures words { IfErr asked.now (λ fault. result ≡ words_status fault) }
+    // What a yes promises.
+    ensures promised { result ≡ Status.Yes → Promise (asked_seen asked.now) (F.files folder.entry) (bytes_seen file.entry) }
+{
+    given_files();
+    let read = files_of(alloc, folder);
+    answer_words(alloc, asked, &read, file, progress, out, err)
+}

@@ -1,0 +1,302 @@
+//! What the words of the command line ask for.
+
+ghost use Rattle.std.specs.Prelude.{◌≡◌, ◌↔◌, Some, map, string_bytes, option_map, IfErr};
+ghost use Rattle.std.specs.Result.{result_ok};
+ghost use Rattle.clap.specs.declared.error.kind.ErrorKind.TheVariants as kind;
+ghost use Rattle.fhir_engine.specs.declared.request.WordsFault.TheVariants as faults;
+ghost use Rattle.fhir_engine.specs.Requests.{InvocationValue, folder_of, file_of};
+ghost use Rattle.fhir_engine.specs.Words.{is_option, are_plain, certify_request, validate_request, check_request, check_beside, first_some, command_request, plain_request, plain_invocation};
+ghost use Rattle.fhir_engine.specs.Views.{bytes_seen, request_seen, invocation_seen};
+
+use crate::version::VERSION;
+use clap::error::ErrorKind;
+use clap::{Arg, ArgAction, ArgMatches, Command};
+use fhir_report::Form;
+use std::alloc::{AllocError, Global};
+
+/// What is asked.
+#[derive(Clone, Copy, Debug, PartialEq, Eq)]
+pub enum Request<'w> {
+    /// Whether the certificate in a file is right, over the definitions in a folder.
+    Certify {
+        /// The folder.
+        folder: &'w str,
+        /// The file.
+        file: &'w str,
+    },
+    /// Whether the resource in a file conforms to the profile at a url, over the definitions in a folder.
+    Validate {
+        /// The folder.
+        folder: &'w str,
+        /// The profile's url.
+        profile: &'w str,
+        /// The file.
+        file: &'w str,
+    },
+    /// What is wrong with the files of a folder.
+    Check {
+        /// The folder.
+        folder: &'w str,
+        /// The file of a certificate over the folder's definitions, if that is asked about too.
+        certificate: Option<&'w str>,
+        /// How the answer is written.
+        form: Form,
+    },
+}
+
+impl<'w> Request<'w> {
+    /// The folder of the definitions.
+    pub fn folder(&self) -> &'w str
+        ensures { result.now ≡ folder_of (request_seen self.now) }
+    {
+        match self {
+            Request::Certify { folder, .. }
+            | Request::Validate { folder, .. }
+            | Request::Check { folder, .. } => *folder,
+        }
+    }
+
+    /// The file that is asked about, if one is.
+    pub fn file(&self) -> Option<&'w str>
+        ensures { bytes_seen result ≡ file_of (request_seen self.now) }
+    {
+        match self {
+            Request::Certify { file, .. } | Request::Validate { file, .. } => Some(*file),
+            Request::Check { certificate, .. } => *certificate,
+        }
+    }
+}
+
+/// What the words ask for.
+#[derive(Clone, Copy, Debug, PartialEq, Eq)]
+pub enum Invocation<'w> {
+    /// An answer to a request.
+    Request(Request<'w>),
+    /// The program's version.
+    Version,
+}
+
+/// Why the words ask for nothing.
+#[derive(Clone, Copy, Debug, PartialEq, Eq)]
+pub enum WordsFault {
+    /// They are no request, or ask how to ask.
+    Usage,
+    /// A growth of memory was refused.
+    NoMemory,
+}
+
+impl From<AllocError> for WordsFault {
+    ghost from_gives = { λ _ e. e ≡ faults.NoMemory };
+
+    fn from(_error: AllocError) -> WordsFault {
+        WordsFault::NoMemory
+    }
+}
+
+fn certify<'a>(alloc: Global) -> Result<Command<'a>, AllocError> {
+    Command::new(alloc, "certify")
+        .arg(Arg::new(alloc, "PACKAGE").required(true))?
+        .arg(Arg::new(alloc, "CERTIFICATE").required(true))
+}
+
+fn validate<'a>(alloc: Global) -> Result<Command<'a>, AllocError> {
+    Command::new(alloc, "validate")
+        .arg(Arg::new(alloc, "PACKAGE").required(true))?
+        .arg(Arg::new(alloc, "PROFILE").required(true))?
+        .arg(Arg::new(alloc, "RESOURCE").required(true))
+}
+
+fn check<'a>(alloc: Global) -> Result<Command<'a>, AllocError> {
+    Command::new(alloc, "check")
+        .arg(Arg::new(alloc, "PACKAGE").required(true))?
+        .arg(Arg::new(alloc, "CERTIFICATE"))?
+        .arg(
+            Arg::new(alloc, "json")
+                .long("json")
+                .action(ArgAction::SetTrue),
+        )
+}
+
+fn program<'a>(alloc: Global) -> Result<Command<'a>, AllocError> {
+    Command::new(alloc, "fhirprof")
+        .version(VERSION)
+        .subcommand_required(true)
+        .subcommand(certify(alloc)?)?
+        .subcommand(validate(alloc)?)?
+        .subcommand(check(alloc)?)
+}
+
+// What words ask for that `clap` gives back with an error of a kind.
+fn unmatched<'w>(kind: ErrorKind) -> Result<Invocation<'w>, WordsFault>
+    ensures { IfErr result (λ fault. (fault ≡ WordsFault.NoMemory) ↔ (kind ≡ ErrorKind.OutOfMemory)) }
+{
+    match kind {
+        ErrorKind::DisplayVersion => Ok(Invocation::Version),
+        ErrorKind::OutOfMemory => Err(WordsFault::NoMemory),
+        _ => Err(WordsFault::Usage),
+    }
+}
+
+fn is_option(word: &str) -> bool
+    ensures { result ≡ is_option word.now }
+{
+    word.as_bytes().starts_with(b"-")
+}
+
+fn are_plain(first: &str, second: &str) -> bool
+    ensures { result ≡ are_plain first.now second.now }
+{
+    !is_option(first) && !is_option(second)
+}
+
+fn certify_request<'w>(command: &str, first: &'w str, second: &'w str) -> Option<Request<'w>>
+    ensures { option_map request_seen result ≡ certify_request command.now first.now second.now }
+{
+    if command == "certify" && are_plain(first, second) {
+        Some(Request::Certify {
+            folder: first,
+            file: second,
+        })
+    } else {
+        None
+    }
+}
+
+fn validate_request<'w>(
+    command: &str,
+    first: &'w str,
+    second: &'w str,
+    third: &'w str,
+) -> Option<Request<'w>>
+    ensures { option_map request_seen result ≡ validate_request command.now first.now second.now third.now }
+{
+    if command == "validate" && !is_option(first) && are_plain(second, third) {
+        Some(Request::Validate {
+            folder: first,
+            profile: second,
+            file: third,
+        })
+    } else {
+        None
+    }
+}
+
+fn check_request<'w>(command: &str, folder: &'w str) -> Option<Request<'w>>
+    ensures { option_map request_seen result ≡ check_request command.now folder.now }
+{
+    if command == "check" && !is_option(folder) {
+        Some(Request::Check {
+            folder,
+            certificate: None,
+            form: Form::Text,
+        })
+    } else {
+        None
+    }
+}
+
+fn check_beside<'w>(command: &str, folder: &'w str, certificate: &'w str) -> Option<Request<'w>>
+    ensures { option_map request_seen result ≡ check_beside command.now folder.now certificate.now }
+{
+    if command == "check" && are_plain(folder, certificate) {
+        Some(Request::Check {
+            folder,
+            certificate: Some(certificate),
+            form: Form::Text,
+        })
+    } else {
+        None
+    }
+}
+
+fn certify_or_check<'w>(command: &str, first: &'w str, second: &'w str) -> Option<Request<'w>>
+    ensures { option_map request_seen result
+        ≡ first_some (certify_request command.now first.now second.now) (check_beside command.now first.now second.now) }
+{
+    match certify_request(command, first, second) {
+        Some(request) => Some(request),
+        None => check_beside(command, first, second),
+    }
+}
+
+fn command_request<'w>(command: &str, words: &'w [String]) -> Option<Request<'w>>
+    ensures { option_map request_seen result ≡ command_request command.now (map string_bytes words.now) }
+{
+    match words {
+        [first] => check_request(command, first.as_str()),
+        [first, second] => certify_or_check(command, first.as_str(), second.as_str()),
+        [first, second, third] => {
+            validate_request(command, first.as_str(), second.as_str(), third.as_str())
+        }
+        _ => None,
+    }
+}
+
+fn plain_request(words: &[String]) -> Option<Request<'_>>
+    ensures { option_map request_seen result ≡ plain_request (map string_bytes words.now) }
+{
+    match words {
+        [_, command, others @ ..] => command_request(command.as_str(), others),
+        _ => None,
+    }
+}
+
+fn word<'a>(matches: &ArgMatches<'a>, id: &str) -> Result<&'a str, WordsFault> {
+    matches.get_str(id).ok_or(WordsFault::Usage)
+}
+
+/// What the words ask for, of which the first is the program's name: `certify PACKAGE CERTIFICATE`,
+/// `validate PACKAGE PROFILE RESOURCE`, `check PACKAGE [CERTIFICATE] [--json]` or `--version`. Words without options are read as
+/// they stand, and all others by `clap`.
+pub fn invocation_of<'w>(alloc: Global, words: &'w [String]) -> Result<Invocation<'w>, WordsFault>
+    ensures plain { (asked : InvocationValue) → plain_invocation (map string_bytes words.now) ≡ Some asked
+        → option_map invocation_seen (result_ok result) ≡ Some asked }
+{
+    match plain_request(words) {
+        Some(request) => Ok(Invocation::Request(request)),
+        None => other_invocation(alloc, words),
+    }
+}
+
+fn other_invocation<'w>(alloc: Global, words: &'w [String]) -> Result<Invocation<'w>, WordsFault> {
+    let matches = match program(alloc)?.try_get_matches_from(words) {
+        Ok(matches) => matches,
+        Err(error) => return unmatched(error.kind()),
+    };
+    let Some((name, matches)) = matches.subcommand() else {
+        return Err(WordsFault::Usage);
+    };
+    match name {
+        "certify" => Ok(Invocation::Request(certify_matched(matches)?)),
+        "validate" => Ok(Invocation::Request(validate_matched(matches)?)),
+        "check" => Ok(Invocation::Request(check_matched(matches)?)),
+        _ => Err(WordsFault::Usage),
+    }
+}
+
+fn certify_matched<'w>(matches: &ArgMatches<'w>) -> Result<Request<'w>, WordsFault> {
+    Ok(Request::Certify {
+        folder: word(matches, "PACKAGE")?,
+        file: word(matches, "CERTIFICATE")?,
+    })
+}
+
+fn validate_matched<'w>(matches: &ArgMatches<'w>) -> Result<Request<'w>, WordsFault> {
+    Ok(Request::Validate {
+        folder: word(matches, "PACKAGE")?,
+        profile: word(matches, "PROFILE")?,
+        file: word(matches, "RESOURCE")?,
+    })
+}
+
+fn check_matched<'w>(matches: &ArgMatches<'w>) -> Result<Request<'w>, WordsFault> {
+    Ok(Request::Check {
+        folder: word(matches, "PACKAGE")?,
+        certificate: matches.get_str("CERTIFICATE"),
+        form: if matches.get_flag("json") {
+            Form::Json
+        } else {
+            Form::Text
+        },
+    })
+}

@@ -1,0 +1,202 @@
+//! What is held between two answers, and what it answers.
+
+ghost use Rattle.std.specs.Prelude.{◌≡◌, [], None, Some, IfOk, IfErr};
+ghost use Rattle.fhir_json.specs.Memory.{Gives};
+ghost use Rattle.fhir_package.specs.Surveying.{refusal};
+ghost use Rattle.fhir_package.specs.SurveyView.{fault_seen};
+ghost use Rattle.fhir_report.specs.Faultless.{PromisesIfAny, certificate_seen};
+ghost use Rattle.fhir_engine.specs.Answering.{IsReported, IsReply, package_answer, certify_answer, validate_answer, check_answer, answer_by};
+ghost use Rattle.fhir_engine.specs.Promising.{Certified, Validated, Checked, SessionPromise};
+ghost use Rattle.fhir_engine.specs.Replying.{reply_seen, status_of, refused_reply};
+ghost use Rattle.fhir_engine.specs.Session.{session_of, schema_in};
+ghost use Rattle.fhir_engine.specs.Status.{report_status};
+ghost use Rattle.fhir_engine.specs.Views.{bytes_seen, request_seen};
+
+use crate::answering::{certify, validate_file};
+use crate::reply::{Reply, Status, fault_reply, unread_reply};
+use crate::request::Request;
+use fhir_findings::all_usable;
+use fhir_json::NoMemory;
+use fhir_package::{FileFault, FolderFiles, Progress, Stage, Survey};
+use fhir_report::{CertificateFile, Form, Subject, report_on};
+use fhir_schema::Schema;
+use std::alloc::{AllocError, Global};
+use std::marker::Model;
+
+/// What is held between two answers: the survey of a folder's files, and the schema of the package of all that is right.
+#[derive(Drop)]
+pub struct Session<'f> {
+    survey: Survey<'f>,
+    schema: Schema,
+    files: usize,
+}
+
+impl<'f> Model for Session<'f> {
+    ghost use Rattle.fhir_engine.specs.Session.{SessionValue};
+
+    ghost Value = { SessionValue };
+
+    ghost use Rattle.fhir_json.specs.Coding.{tree_code};
+    ghost use Rattle.std.specs.Coded.{codes};
+
+    ghost coded = { Prim.hlevel (codes, tree_code) };
+
+    ghost use Rattle.std.specs.Prelude.{◌≡◌};
+    ghost use Rattle.fhir_schema.specs.Schemas.{schema_of};
+
+    ghost view = { λ s. record { survey = s.survey; files = s.files } };
+
+    ghost invariant = { λ s. s.schema ≡ schema_of s.survey.definitions };
+}
+
+// What is answered where files are no package, by the fault for which they are none.
+fn refused(alloc: Global, fault: &FileFault<'_>) -> Result<Reply, AllocError>
+    ensures { IfOk result (λ r. reply_seen r ≡ refused_reply (fault_seen fault.now)) }
+{
+    fault_reply(alloc, fault.number(), fault.subject())
+}
+
+fn report_status(is_clean: bool) -> Status
+    ensures { result ≡ report_status is_clean }
+{
+    if is_clean { Status::Yes } else { Status::No }
+}
+
+impl<'f> Session<'f> {
+    /// That of a folder's files. How far the work is, is told to `progress`. The one refusal is want of memory.
+    pub fn of<P: Progress>(
+        alloc: Global,
+        files: &'f FolderFiles,
+        progress: &mut P,
+    ) -> Result<Session<'f>, NoMemory>
+        ensures { Gives (λ s. s) result (session_of files.now) }
+    {
+        let survey = Survey::of(alloc, files, progress)?;
+        let schema = Schema::build(alloc, survey.package())?;
+        let files = files.files().len();
+        progress.tell(Stage::Surveying, files, files);
+        Ok(Session {
+            survey,
+            schema,
+            files,
+        })
+    }
+
+    fn schema(&self) -> &Schema
+        ensures { result.now ≡ schema_in self.now }
+    {
+        &self.schema
+    }
+
+    // The schema of the package that the files are, or the fault for which they are none.
+    fn package(&self) -> Result<&Schema, &FileFault<'f>>
+        ensures found { IfOk result (λ s. (refusal self.now.survey ≡ None) × (s.now ≡ schema_in self.now)) }
+        ensures refused { IfErr result (λ fault. refusal self.now.survey ≡ Some (fault_seen fault.now)) }
+    {
+        match self.survey.refusal() {
+            Some(fault) => Err(fault),
+            None => Ok(&self.schema),
+        }
+    }
+
+    /// What is answered to a request, of the bytes of the file that it names; where it names none or the file can't be read, of
+    /// none. The one refusal is want of memory.
+    pub fn answer(
+        &self,
+        alloc: Global,
+        request: Request<'_>,
+        file: Option<&[u8]>,
+    ) -> Result<Reply, NoMemory>
+        ensures told { IfOk result (λ r. IsReply (answer_by (request_seen request.entry) self.now (bytes_seen file.entry)) (reply_seen r)) }
+        ensures promised { IfOk result (λ r. status_of (reply_seen r) ≡ 0
+            → SessionPromise (request_seen request.entry) self.now (bytes_seen file.entry)) }
+    {
+        match request {
+            Request::Certify { file: name, .. } => self.certify(alloc, name, file),
+            Request::Validate {
+                profile,
+                file: name,
+                ..
+            } => self.validate(alloc, profile, name, file),
+            Request::Check {
+                certificate,
+                form,
+                ..
+            } => self.check(alloc, form, certificate, file),
+        }
+    }
+
+    fn certify(&self, alloc: Global, name: &str, file: Option<&[u8]>) -> Result<Reply, NoMemory>
+        ensures told { IfOk result (λ r. IsReply
+            (package_answer (refusal self.now.survey) (certify_answer (schema_in self.now) name.now (bytes_seen file.entry))) (reply_seen r)) }
+        ensures promised { IfOk result (λ r. status_of (reply_seen r) ≡ 0
+            → (self.now.survey.faults ≡ []) × Certified (schema_in self.now) (bytes_seen file.entry)) }
+    {
+        match self.package() {
+            Ok(schema) => certify(alloc, schema, name, file),
+            Err(fault) => Ok(refused(alloc, fault)?),
+        }
+    }
+
+    fn validate(
+        &self,
+        alloc: Global,
+        profile: &str,
+        name: &str,
+        file: Option<&[u8]>,
+    ) -> Result<Reply, NoMemory>
+        ensures told { IfOk result (λ r. IsReply
+            (package_answer (refusal self.now.survey) (validate_answer (schema_in self.now) profile.now name.now (bytes_seen file.entry))) (reply_seen r)) }
+        ensures promised { IfOk result (λ r. status_of (reply_seen r) ≡ 0
+            → (self.now.survey.faults ≡ []) × Validated (schema_in self.now) profile.now (bytes_seen file.entry)) }
+    {
+        match self.package() {
+            Ok(schema) => validate_file(alloc, schema, profile, name, file),
+            Err(fault) => Ok(refused(alloc, fault)?),
+        }
+    }
+
+    fn report(
+        &self,
+        alloc: Global,
+        form: Form,
+        certificate: Option<CertificateFile<'_>>,
+    ) -> Result<Reply, NoMemory>
+        ensures told { IfOk result (λ r. IsReported form self.now (certificate_seen certificate.entry) (reply_seen r)) }
+        ensures promised { IfOk result (λ r. status_of (reply_seen r) ≡ 0 → PromisesIfAny (schema_in self.now) (certificate_seen certificate.entry)) }
+    {
+        all_usable();
+        let subject = Subject {
+            survey: &self.survey,
+            schema: self.schema(),
+            files: self.files,
+            certificate,
+        };
+        let report = report_on(alloc, form, subject)?;
+        Ok(Reply::Answer {
+            status: report_status(report.is_clean),
+            out: report.text.into_bytes(),
+        })
+    }
+
+    fn check(
+        &self,
+        alloc: Global,
+        form: Form,
+        certificate: Option<&str>,
+        file: Option<&[u8]>,
+    ) -> Result<Reply, NoMemory>
+        ensures told { IfOk result (λ r. IsReply (check_answer form self.now (bytes_seen certificate.entry) (bytes_seen file.entry)) (reply_seen r)) }
+        ensures promised { IfOk result (λ r. status_of (reply_seen r) ≡ 0 → (self.now.survey.faults ≡ [])
+            × Checked (schema_in self.now) (bytes_seen certificate.entry) (bytes_seen file.entry)) }
+    {
+        match (certificate, file) {
+            (None, _) => self.report(alloc, form, None),
+            (Some(name), None) => Ok(unread_reply(alloc, name)?),
+            (Some(name), Some(bytes)) => {
+                let certificate = CertificateFile { name, bytes };
+                self.report(alloc, form, Some(certificate))
+            }
+        }
+    }
+}
