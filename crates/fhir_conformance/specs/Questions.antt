@@ -1,7 +1,7 @@
 -- A package of questionnaires, whose items have items, without end, and which may contain questionnaires; and some of them, to
 -- see which conform.
 use Rattle.std.specs.Prelude.{[], ◌∷◌, codes}
-use Rattle.fhir_json.specs.Tree.{Text, Tree, string, array, object, no_items, item, Members, no_members, member}
+use Rattle.fhir_json.specs.Tree.{Tree, string, array, object, no_items, item, Members, no_members, member}
 use Rattle.fhir_package.specs.Definitions.{Definitions}
 use Rattle.fhir_schema.specs.Schemas.{SchemaValue, schema_of}
 use Rattle.fhir_instance.specs.TypingExample.{element, definition, of_type, with_snapshot}
