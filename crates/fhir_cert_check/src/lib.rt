@@ -25,7 +25,6 @@ mod laws;
 mod nodes;
 mod pair_set;
 mod rule;
-mod rules;
 mod slices;
 
 pub use answer::Answer;
