@@ -10,3 +10,5 @@ pub mod Certified
 pub mod Promised
 pub mod Spelled
 pub mod Distinct
+pub mod Looking
+pub mod OfNodes

@@ -2,6 +2,7 @@ pub mod Lists
 pub mod Rule
 pub mod Rules
 pub mod Facets
+pub mod Asked
 pub mod Checking
 pub mod PairSet
 pub mod Views

@@ -37,14 +37,33 @@ about (closed name) = Some name
 about (slice name of_slice) = Some name
 about (criteria name of_slice) = Some name
 about (bounds name of_slice) = Some name
-about _ = None
+about root = None
+about type = None
+about fixed = None
+about pattern = None
+about range = None
+about length_limit = None
+about binding = None
+about children = None
 
 -- the name of the slice that the rule is about
 abbrev pub slice_of : RuleName → Option Text
 slice_of (slice name of_slice) = Some of_slice
 slice_of (criteria name of_slice) = Some of_slice
 slice_of (bounds name of_slice) = Some of_slice
-slice_of _ = None
+slice_of root = None
+slice_of type = None
+slice_of fixed = None
+slice_of pattern = None
+slice_of range = None
+slice_of length_limit = None
+slice_of binding = None
+slice_of children = None
+slice_of (constraint key) = None
+slice_of (slot name) = None
+slice_of (cardinality name) = None
+slice_of (entry name) = None
+slice_of (closed name) = None
 
 -- the name, and behind a colon that of the slice
 abbrev pub subject : RuleName → Text → Text

@@ -17,53 +17,52 @@ ghost use Rattle.fhir_cert_check.specs.Views.{failing_seen, rule_seen, is_yes, w
 ghost use Rattle.fhir_cert_check.specs.PairSet.{has_in, OrdersFirsts};
 
 use crate::answer::Answer;
+use crate::items::item_failing;
+use crate::kids::kids_failing;
 use crate::laws::inclusion;
 use crate::pair_set::PairSet;
 use crate::rule::Rule;
-use crate::rules::failing;
 use fhir_certificate::{CertFault, Certificate, NodePair, Pair, format_agrees, read};
 use fhir_json::NoMemory;
 use fhir_schema::Schema;
 use std::alloc::Global;
 
-fn first_item<'s>(
-    schema: &'s Schema,
-    pairs: &PairSet,
-    nodes: &[NodePair],
-) -> Option<(Pair, Rule<'s>)>
+fn failing<'s>(schema: &'s Schema, pairs: &PairSet, pair: Pair) -> Option<Rule<'s>>
+    ensures { rule_seen result ≡ failing (has_in pairs.now) schema.now pair }
+{
+    match pair {
+        Pair::Item(nodes) => item_failing(schema, pairs, nodes.derived, nodes.base),
+        Pair::Kids(nodes) => kids_failing(schema, pairs, nodes.derived, nodes.base),
+    }
+}
+
+// A pair that fails a rule, with that rule.
+type Wrong<'s> = Option<(Pair, Rule<'s>)>;
+
+fn first_item<'s>(schema: &'s Schema, pairs: &PairSet, nodes: &[NodePair]) -> Wrong<'s>
     ensures { failing_seen result ≡ first_in (failing (has_in pairs.now) schema.now) (map variants.Item nodes.now) }
 {
     for pair in nodes {
-        let pair = Pair::Item(*pair);
-        if let Some(rule) = failing(schema, pairs, pair) {
-            return Some((pair, rule));
+        if let Some(rule) = failing(schema, pairs, Pair::Item(*pair)) {
+            return Some((Pair::Item(*pair), rule));
         }
     }
     None
 }
 
-fn first_kids<'s>(
-    schema: &'s Schema,
-    pairs: &PairSet,
-    nodes: &[NodePair],
-) -> Option<(Pair, Rule<'s>)>
+fn first_kids<'s>(schema: &'s Schema, pairs: &PairSet, nodes: &[NodePair]) -> Wrong<'s>
     ensures { failing_seen result ≡ first_in (failing (has_in pairs.now) schema.now) (map variants.Kids nodes.now) }
 {
     for pair in nodes {
-        let pair = Pair::Kids(*pair);
-        if let Some(rule) = failing(schema, pairs, pair) {
-            return Some((pair, rule));
+        if let Some(rule) = failing(schema, pairs, Pair::Kids(*pair)) {
+            return Some((Pair::Kids(*pair), rule));
         }
     }
     None
 }
 
 // The first pair that fails a rule: each is judged once, however often it stands in the certificate.
-fn first_wrong<'s>(
-    schema: &'s Schema,
-    pairs: &PairSet,
-    certificate: &Certificate,
-) -> Option<(Pair, Rule<'s>)>
+fn first_wrong<'s>(schema: &'s Schema, pairs: &PairSet, certificate: &Certificate) -> Wrong<'s>
     requires { OrdersFirsts pairs.now certificate.now }
     ensures { failing_seen result ≡ first_in (failing (has_in pairs.now) schema.now) (pairs_of certificate.now) }
 {

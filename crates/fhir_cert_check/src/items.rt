@@ -5,14 +5,13 @@ ghost use Rattle.std.specs.List.{list_all, list_any};
 ghost use Rattle.std.specs.Option.{option_map_or};
 ghost use Rattle.fhir_elements.specs.Tests.{first_of};
 ghost use Rattle.fhir_schema.specs.Covers.{covers};
-ghost use Rattle.fhir_schema.specs.Schemas.{type_root, loaded};
-ghost use Rattle.fhir_facets.specs.Bindings.{binding_to, binding_narrower};
+ghost use Rattle.fhir_schema.specs.Schemas.{loaded};
 ghost use Rattle.fhir_facets.specs.Targets.{targets_narrower};
 ghost use Rattle.fhir_facets.specs.Values.{fixed_fits, pattern_narrower};
 ghost use Rattle.fhir_conformance.specs.Conformance.{is_untyped};
 ghost use Rattle.fhir_cert_check.specs.Lists.{each_answers};
 ghost use Rattle.fhir_cert_check.specs.Rules.{has_item_pair, profile_answers, profiles_answer, entry_answers, types_answer, roots_answer, type_answers, item_rules};
-ghost use Rattle.fhir_cert_check.specs.Rules.{has_kids_pair, own_children_answer, code_children_answer, profiles_children_answer, entry_children_answer, type_children_answer, children_answer};
+ghost use Rattle.fhir_cert_check.specs.Rules.{has_kids_pair, code_children_answer, profiles_children_answer, entry_children_answer, type_children_answer, children_answer};
 ghost use Rattle.fhir_cert_check.specs.Rules.{is_answered, fixed_answers, pattern_answers, range_answers, length_answers, binding_answers};
 ghost use Rattle.fhir_cert_check.specs.Facets.{element_rules, facet_rules};
 ghost use Rattle.fhir_cert_check.specs.Views.{rule_name};
@@ -82,7 +81,8 @@ fn profiles_answer(schema: &Schema, pairs: &PairSet, own: &[String], bases: &[St
     bases.is_empty() || (!own.is_empty() && each_profile_answers(schema, pairs, own, bases))
 }
 
-fn code_answers(schema: &Schema, entry: &TypeEntry, base: &TypeEntry) -> bool
+/// Whether a type entry is of a type that the base's allows, with targets that it allows.
+pub(crate) fn code_answers(schema: &Schema, entry: &TypeEntry, base: &TypeEntry) -> bool
     ensures { result ≡ (covers schema.now base.now.code entry.now.code && targets_narrower schema.now entry.now base.now) }
 {
     schema.covers(base.code(), entry.code()) && targets_answer(schema, entry, base)
@@ -103,16 +103,10 @@ fn answers_one(schema: &Schema, pairs: &PairSet, entry: &TypeEntry, bases: &[Typ
         .any(|base| entry_answers(schema, pairs, entry, base))
 }
 
-fn each_answers(
-    schema: &Schema,
-    pairs: &PairSet,
-    entries: &[TypeEntry],
-    bases: &[TypeEntry],
-) -> bool
-    ensures { result ≡ each_answers (entry_answers (has_in pairs.now) schema.now) entries.now bases.now }
+fn each_answers(schema: &Schema, pairs: &PairSet, owns: &[TypeEntry], bases: &[TypeEntry]) -> bool
+    ensures { result ≡ each_answers (entry_answers (has_in pairs.now) schema.now) owns.now bases.now }
 {
-    entries
-        .iter()
+    owns.iter()
         .all(|entry| answers_one(schema, pairs, entry, bases))
 }
 
@@ -148,36 +142,30 @@ fn type_answers(schema: &Schema, pairs: &PairSet, n: NodeRef, m: NodeRef) -> boo
 fn fixed_answers(own: &ElementDef, base: &ElementDef) -> bool
     ensures { result ≡ fixed_answers own.now base.now }
 {
-    let Some(base) = base.fixed() else {
-        return true;
-    };
-    match own.fixed() {
-        Some(own) => Fixed(&own.value).narrower(&Fixed(&base.value)),
-        None => false,
+    match (own.fixed(), base.fixed()) {
+        (_, None) => true,
+        (Some(own), Some(base)) => Fixed(&own.value).narrower(&Fixed(&base.value)),
+        (None, Some(_)) => false,
     }
 }
 
 fn fixed_value_fits(own: &ElementDef, base: &ElementDef) -> bool
     ensures { result ≡ is_answered (λ p q. fixed_fits p.1 q.1) own.now.fixed base.now.pattern }
 {
-    let Some(base) = base.pattern() else {
-        return true;
-    };
-    match own.fixed() {
-        Some(own) => fixed_fits(&Fixed(&own.value), &Pattern(&base.value)),
-        None => false,
+    match (own.fixed(), base.pattern()) {
+        (_, None) => true,
+        (Some(own), Some(base)) => fixed_fits(&Fixed(&own.value), &Pattern(&base.value)),
+        (None, Some(_)) => false,
     }
 }
 
 fn pattern_fits(own: &ElementDef, base: &ElementDef) -> bool
     ensures { result ≡ is_answered (λ p q. pattern_narrower p.1 q.1) own.now.pattern base.now.pattern }
 {
-    let Some(base) = base.pattern() else {
-        return true;
-    };
-    match own.pattern() {
-        Some(own) => Pattern(&own.value).narrower(&Pattern(&base.value)),
-        None => false,
+    match (own.pattern(), base.pattern()) {
+        (_, None) => true,
+        (Some(own), Some(base)) => Pattern(&own.value).narrower(&Pattern(&base.value)),
+        (None, Some(_)) => false,
     }
 }
 
@@ -196,30 +184,20 @@ fn range_answers(own: &ElementDef, base: &ElementDef) -> bool
 fn length_answers(own: &ElementDef, base: &ElementDef) -> bool
     ensures { result ≡ length_answers own.now base.now }
 {
-    let Some(base) = base.max_length() else {
-        return true;
-    };
-    match own.max_length() {
-        Some(own) => Length(own).narrower(&Length(base)),
-        None => false,
+    match (own.max_length(), base.max_length()) {
+        (_, None) => true,
+        (Some(own), Some(base)) => Length(own).narrower(&Length(base)),
+        (None, Some(_)) => false,
     }
-}
-
-fn sets_answer(schema: &Schema, own: &str, base: &str) -> bool
-    ensures { result ≡ binding_narrower (binding_to schema.now own.now) (binding_to schema.now base.now) }
-{
-    Binding::of(schema, own).narrower(&Binding::of(schema, base))
 }
 
 fn binding_answers(schema: &Schema, own: &ElementDef, base: &ElementDef) -> bool
     ensures { result ≡ binding_answers schema.now own.now base.now }
 {
-    let Some(base) = base.required_value_set() else {
-        return true;
-    };
-    match own.required_value_set() {
-        Some(own) => sets_answer(schema, own, base),
-        None => false,
+    match (own.required_value_set(), base.required_value_set()) {
+        (_, None) => true,
+        (Some(own), Some(base)) => Binding::of(schema, own).narrower(&Binding::of(schema, base)),
+        (None, Some(_)) => false,
     }
 }
 
@@ -248,28 +226,17 @@ fn element_failing<'s>(schema: &Schema, own: &ElementDef, base: &ElementDef) -> 
 fn facet_failing<'s>(schema: &Schema, n: NodeRef, m: NodeRef) -> Option<Rule<'s>>
     ensures { option_map rule_name result ≡ first_of (facet_rules schema.now n m) }
 {
-    let Some(base) = schema.element(m) else {
-        return None;
-    };
-    match schema.element(n) {
-        Some(own) => element_failing(schema, own, base),
-        None => Some(Rule::Fixed),
+    match (schema.element(n), schema.element(m)) {
+        (_, None) => None,
+        (Some(own), Some(base)) => element_failing(schema, own, base),
+        (None, Some(_)) => Some(Rule::Fixed),
     }
 }
 
-fn own_children_answer(schema: &Schema, pairs: &PairSet, n: NodeRef, base: NodeRef) -> bool
-    ensures { result ≡ own_children_answer (has_in pairs.now) schema.now n base }
+fn has_kids_pair(pairs: &PairSet, derived: Option<NodeRef>, base: NodeRef) -> bool
+    ensures { result ≡ option_map_or (λ derived. has_kids_pair (has_in pairs.now) derived base) derived false }
 {
-    match schema.holder(n) {
-        Some(derived) => pairs.has(Pair::Kids(NodePair { derived, base })),
-        None => false,
-    }
-}
-
-fn has_root_pair(schema: &Schema, pairs: &PairSet, code: &str, base: NodeRef) -> bool
-    ensures { result ≡ option_map_or (λ root. has_kids_pair (has_in pairs.now) root base) (type_root schema.now code.now) false }
-{
-    match schema.type_root(code) {
+    match derived {
         Some(derived) => pairs.has(Pair::Kids(NodePair { derived, base })),
         None => false,
     }
@@ -278,31 +245,16 @@ fn has_root_pair(schema: &Schema, pairs: &PairSet, code: &str, base: NodeRef) ->
 fn code_children_answer(schema: &Schema, pairs: &PairSet, base: NodeRef, entry: &TypeEntry) -> bool
     ensures { result ≡ code_children_answer (has_in pairs.now) schema.now base entry.now }
 {
-    !schema.is_resource(entry.code()) && has_root_pair(schema, pairs, entry.code(), base)
+    !schema.is_resource(entry.code()) && has_kids_pair(pairs, schema.type_root(entry.code()), base)
 }
 
-fn profile_children_answer(schema: &Schema, pairs: &PairSet, base: NodeRef, profile: &str) -> bool
-    ensures { result ≡ option_map_or (λ root. has_kids_pair (has_in pairs.now) root base)
-        (loaded schema.now profile.now) false }
-{
-    match schema.loaded(profile) {
-        Some(derived) => pairs.has(Pair::Kids(NodePair { derived, base })),
-        None => false,
-    }
-}
-
-fn each_profile_has_pair(
-    schema: &Schema,
-    pairs: &PairSet,
-    base: NodeRef,
-    profiles: &[String],
-) -> bool
+fn have_kids_pairs(schema: &Schema, pairs: &PairSet, base: NodeRef, profiles: &[String]) -> bool
     ensures { result ≡ list_all
         (λ p. option_map_or (λ root. has_kids_pair (has_in pairs.now) root base) (loaded schema.now p) false)
         (map string_bytes profiles.now) }
 {
     for profile in profiles {
-        if !profile_children_answer(schema, pairs, base, profile.as_str()) {
+        if !has_kids_pair(pairs, schema.loaded(profile.as_str()), base) {
             return false;
         }
     }
@@ -317,7 +269,7 @@ fn profiles_children_answer(
 ) -> bool
     ensures { result ≡ profiles_children_answer (has_in pairs.now) schema.now base entry.now }
 {
-    !entry.profiles().is_empty() && each_profile_has_pair(schema, pairs, base, entry.profiles())
+    !entry.profiles().is_empty() && have_kids_pairs(schema, pairs, base, entry.profiles())
 }
 
 fn entry_children_answer(schema: &Schema, pairs: &PairSet, base: NodeRef, entry: &TypeEntry) -> bool
@@ -327,23 +279,17 @@ fn entry_children_answer(schema: &Schema, pairs: &PairSet, base: NodeRef, entry:
         || code_children_answer(schema, pairs, base, entry)
 }
 
-fn each_entry_answers(
-    schema: &Schema,
-    pairs: &PairSet,
-    base: NodeRef,
-    entries: &[TypeEntry],
-) -> bool
-    ensures { result ≡ list_all (entry_children_answer (has_in pairs.now) schema.now base) entries.now }
+fn entries_answer(schema: &Schema, pairs: &PairSet, base: NodeRef, owns: &[TypeEntry]) -> bool
+    ensures { result ≡ list_all (entry_children_answer (has_in pairs.now) schema.now base) owns.now }
 {
-    entries
-        .iter()
+    owns.iter()
         .all(|entry| entry_children_answer(schema, pairs, base, entry))
 }
 
 fn type_children_answer(schema: &Schema, pairs: &PairSet, n: NodeRef, base: NodeRef) -> bool
     ensures { result ≡ type_children_answer (has_in pairs.now) schema.now n base }
 {
-    !is_untyped(schema, n) && each_entry_answers(schema, pairs, base, schema.types(n))
+    !is_untyped(schema, n) && entries_answer(schema, pairs, base, schema.types(n))
 }
 
 fn children_answer(schema: &Schema, pairs: &PairSet, n: NodeRef, m: NodeRef) -> bool
@@ -351,7 +297,7 @@ fn children_answer(schema: &Schema, pairs: &PairSet, n: NodeRef, m: NodeRef) -> 
 {
     match schema.holder(m) {
         Some(base) => {
-            own_children_answer(schema, pairs, n, base)
+            has_kids_pair(pairs, schema.holder(n), base)
                 || type_children_answer(schema, pairs, n, base)
         }
         None => true,

@@ -1,17 +1,20 @@
 //! Laws: what right pairs promise.
 
 ghost use Rattle.std.specs.Prelude.{◌≡◌, Bool, IsTrue};
+ghost use Rattle.std.specs.List.{Contains};
+ghost use Rattle.fhir_package.specs.Definitions.{Definitions};
 ghost use Rattle.fhir_nodes.specs.declared.node.NodeRef.{NodeRef};
-ghost use Rattle.fhir_schema.specs.Schemas.{SchemaValue};
+ghost use Rattle.fhir_schema.specs.Schemas.{SchemaValue, schema_of};
 ghost use Rattle.fhir_certificate.specs.declared.pair.Pair.{Pair};
-ghost use Rattle.fhir_cert_check.specs.Rules.{has_item_pair};
+ghost use Rattle.fhir_cert_check.specs.Rules.{has_item_pair, failing, is_local};
 ghost use Rattle.fhir_certificate.specs.Certificate.{CertificateValue};
 ghost use Rattle.fhir_cert_check.specs.Checking.{IsRight, IsCertificate};
+ghost use Rattle.fhir_cert_check.specs.Asked.{asked_for, is_of_nodes};
 ghost use Rattle.fhir_cert_check.specs.Inclusion.{IncludesItems, Includes};
 
 use fhir_conformance::roots_ask_no_root;
 use fhir_facets::narrower_holds;
-use fhir_schema::{covering_codes, roots_are_roots};
+use fhir_schema::{covering_codes, least_closed, roots_are_roots};
 use fhir_slicing::equal_criteria;
 
 /// Where each pair of a set is right by the set, an item that conforms to the derived node of one of its pairs conforms
@@ -33,4 +36,29 @@ pub fn certificates_include()
     ensures { (s : SchemaValue) (c : CertificateValue) → IsCertificate s c → Includes s c.derived c.base }
 {
     inclusion();
+}
+
+/// The rules of a pair look at no other pairs than it asks for: where two sets of pairs have the same of those, the same rule is
+/// the first that fails, and the pair is right by both sets or by neither.
+pub fn rules_look_at_asked()
+    ensures first { (s : SchemaValue) (some others : Pair → Bool) (p : Pair)
+        → ((q : Pair) → Contains (asked_for s p) q → some q ≡ others q) → failing some s p ≡ failing others s p }
+    ensures right { (s : SchemaValue) (some others : Pair → Bool) (p : Pair)
+        → ((q : Pair) → Contains (asked_for s p) q → some q ≡ others q) → is_local some s p ≡ is_local others s p }
+{}
+
+/// A pair that is right by a set of pairs is right by each set that has all which the first has of the pairs that it asks for, as
+/// a larger one has.
+pub fn more_pairs()
+    ensures { (s : SchemaValue) (some more : Pair → Bool) (p : Pair)
+        → ((q : Pair) → Contains (asked_for s p) q → IsTrue (some q) → IsTrue (more q))
+        → IsTrue (is_local some s p) → IsTrue (is_local more s p) }
+{}
+
+/// A pair of nodes of a package's schema asks for pairs of such nodes alone.
+pub fn asked_are_nodes()
+    ensures { (d : Definitions) (p q : Pair) → IsTrue (is_of_nodes (schema_of d) p) → Contains (asked_for (schema_of d) p) q
+        → IsTrue (is_of_nodes (schema_of d) q) }
+{
+    least_closed();
 }

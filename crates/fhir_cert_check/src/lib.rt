@@ -17,6 +17,7 @@
 #![tactic(auto)]
 
 mod answer;
+mod asked;
 mod checking;
 mod constraints;
 mod items;
@@ -25,10 +26,10 @@ mod laws;
 mod nodes;
 mod pair_set;
 mod rule;
-mod rules;
 mod slices;
 
 pub use answer::Answer;
+pub use asked::asked_for;
 pub use checking::{check, check_bytes, first_failing};
-pub use laws::{certificates_include, inclusion};
+pub use laws::{asked_are_nodes, certificates_include, inclusion, more_pairs, rules_look_at_asked};
 pub use rule::Rule;

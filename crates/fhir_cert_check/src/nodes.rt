@@ -16,12 +16,10 @@ use fhir_schema::{NodeRef, Schema, Slot};
 pub(crate) fn count_answers(schema: &Schema, n: NodeRef, m: NodeRef) -> bool
     ensures { result ≡ elements_answer count_narrower schema.now n m }
 {
-    let Some(base) = schema.element(m) else {
-        return true;
-    };
-    match schema.element(n) {
-        Some(own) => Cardinality(own).narrower(&Cardinality(base)),
-        None => false,
+    match (schema.element(n), schema.element(m)) {
+        (_, None) => true,
+        (Some(own), Some(base)) => Cardinality(own).narrower(&Cardinality(base)),
+        (None, Some(_)) => false,
     }
 }
 
@@ -36,13 +34,10 @@ pub(crate) fn is_forbidden_at(schema: &Schema, node: NodeRef) -> bool
 }
 
 /// Whether the pair of items of two nodes is there.
-pub(crate) fn has_item_pair(pairs: &PairSet, n: NodeRef, m: NodeRef) -> bool
-    ensures { result ≡ has_item_pair (has_in pairs.now) n m }
+pub(crate) fn has_item_pair(pairs: &PairSet, derived: NodeRef, base: NodeRef) -> bool
+    ensures { result ≡ has_item_pair (has_in pairs.now) derived base }
 {
-    pairs.has(Pair::Item(NodePair {
-        derived: n,
-        base: m,
-    }))
+    pairs.has(Pair::Item(NodePair { derived, base }))
 }
 
 /// The node of the element of a slot, or of a slice.

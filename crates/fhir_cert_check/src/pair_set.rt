@@ -41,11 +41,9 @@ fn put(
     ensures { OnOk result ((ps : List NodePair) → AreDistinct set.old.keys order.old.items ps
         → AreDistinct set.new.keys order.new.items (ps ++ pair ∷ [])) }
 {
-    let is_new = set.insert(pair)?;
-    if !is_new {
-        return Ok(());
+    if set.insert(pair)? {
+        order.push(pair)?;
     }
-    order.push(pair)?;
     Ok(())
 }
 

@@ -1,8 +1,8 @@
 //! The rules of a certificate's pairs.
 
-ghost use Rattle.std.specs.Prelude.{◌≡◌};
+ghost use Rattle.std.specs.Prelude.{◌≡◌, Some};
 ghost use Rattle.fhir_json.specs.Views.{text_seen};
-ghost use Rattle.fhir_cert_check.specs.Rule.{word_of, about, slice_of};
+ghost use Rattle.fhir_cert_check.specs.Rule.{word_of, about, slice_of, rule_text};
 ghost use Rattle.fhir_cert_check.specs.Views.{rule_name};
 
 use std::fmt;
@@ -58,84 +58,62 @@ pub enum Rule<'s> {
 }
 
 impl<'s> Rule<'s> {
+    // The rule's word, the key or the name that it is about, and the name of the slice.
+    fn named(&self) -> (&'static str, Option<&'s str>, Option<&'s str>)
+        ensures word { result.0.now ≡ word_of (rule_name self.now) }
+        ensures about { text_seen result.1 ≡ about (rule_name self.now) }
+        ensures slice { text_seen result.2 ≡ slice_of (rule_name self.now) }
+    {
+        match self {
+            Rule::Root => ("root", None, None),
+            Rule::TypeCode => ("type", None, None),
+            Rule::Fixed => ("fixed", None, None),
+            Rule::Pattern => ("pattern", None, None),
+            Rule::Range => ("range", None, None),
+            Rule::Length => ("length", None, None),
+            Rule::Binding => ("binding", None, None),
+            Rule::Constraint(key) => ("constraint", Some(*key), None),
+            Rule::Children => ("children", None, None),
+            Rule::Slot(name) => ("slot", Some(*name), None),
+            Rule::Cardinality(name) => ("cardinality", Some(*name), None),
+            Rule::Entry(name) => ("entry", Some(*name), None),
+            Rule::Closed(name) => ("closed", Some(*name), None),
+            Rule::Slice { name, slice } => ("slice", Some(*name), Some(*slice)),
+            Rule::Criteria { name, slice } => ("criteria", Some(*name), Some(*slice)),
+            Rule::Bounds { name, slice } => ("bounds", Some(*name), Some(*slice)),
+        }
+    }
+
     /// The rule's word.
     pub fn word(&self) -> &'static str
         ensures { result.now ≡ word_of (rule_name self.now) }
     {
-        match self {
-            Rule::Root => "root",
-            Rule::TypeCode => "type",
-            Rule::Fixed => "fixed",
-            Rule::Pattern => "pattern",
-            Rule::Range => "range",
-            Rule::Length => "length",
-            Rule::Binding => "binding",
-            Rule::Constraint(_) => "constraint",
-            Rule::Children => "children",
-            Rule::Slot(_) => "slot",
-            Rule::Cardinality(_) => "cardinality",
-            Rule::Entry(_) => "entry",
-            Rule::Closed(_) => "closed",
-            Rule::Slice { .. } => "slice",
-            Rule::Criteria { .. } => "criteria",
-            Rule::Bounds { .. } => "bounds",
-        }
+        self.named().0
     }
 
     /// The key of the constraint, or the name of the slot, that the rule is about.
     pub fn about(&self) -> Option<&'s str>
         ensures { text_seen result ≡ about (rule_name self.now) }
     {
-        match self {
-            Rule::Constraint(name)
-            | Rule::Slot(name)
-            | Rule::Cardinality(name)
-            | Rule::Entry(name)
-            | Rule::Closed(name)
-            | Rule::Slice { name, .. }
-            | Rule::Criteria { name, .. }
-            | Rule::Bounds { name, .. } => Some(*name),
-            Rule::Root
-            | Rule::TypeCode
-            | Rule::Fixed
-            | Rule::Pattern
-            | Rule::Range
-            | Rule::Length
-            | Rule::Binding
-            | Rule::Children => None,
-        }
+        self.named().1
     }
 
     /// The name of the slice that the rule is about.
     pub fn slice(&self) -> Option<&'s str>
         ensures { text_seen result ≡ slice_of (rule_name self.now) }
     {
-        match self {
-            Rule::Slice { slice, .. } | Rule::Criteria { slice, .. } | Rule::Bounds { slice, .. } =>
-                Some(*slice),
-            Rule::Root
-            | Rule::TypeCode
-            | Rule::Fixed
-            | Rule::Pattern
-            | Rule::Range
-            | Rule::Length
-            | Rule::Binding
-            | Rule::Constraint(_)
-            | Rule::Children
-            | Rule::Slot(_)
-            | Rule::Cardinality(_)
-            | Rule::Entry(_)
-            | Rule::Closed(_) => None,
-        }
+        self.named().2
     }
 }
 
 impl fmt::Display for Rule<'_> {
+    ghost output = { λ rule. Some (rule_text (rule_name rule)) };
+
     fn fmt<W: fmt::Write>(&self, f: &mut fmt::Formatter<W>) -> fmt::Result {
-        match (self.about(), self.slice()) {
-            (Some(name), Some(slice)) => write!(f, "{} {name}:{slice}", self.word()),
-            (Some(name), None) => write!(f, "{} {name}", self.word()),
-            (None, _) => write!(f, "{}", self.word()),
+        match self.named() {
+            (word, Some(name), Some(slice)) => write!(f, "{word} {name}:{slice}"),
+            (word, Some(name), None) => write!(f, "{word} {name}"),
+            (word, None, _) => write!(f, "{word}"),
         }
     }
 }

@@ -64,19 +64,11 @@ fn slice_failing<'s>(
 ) -> Option<Rule<'s>>
     ensures { option_map rule_name result ≡ first_of (slice_rules (has_in pairs.now) schema.now name.now n m base.now) }
 {
-    match schema.slice(n, base.name()) {
-        Some(own) => own_slice_failing(
-            schema,
-            pairs,
-            name,
-            base.name(),
-            entry_of(n, own),
-            entry_of(m, base),
-        ),
-        None => Some(Rule::Slice {
-            name,
-            slice: base.name(),
-        }),
+    let slice = base.name();
+    let m = entry_of(m, base);
+    match schema.slice(n, slice) {
+        Some(own) => own_slice_failing(schema, pairs, name, slice, entry_of(n, own), m),
+        None => Some(Rule::Slice { name, slice }),
     }
 }
 
@@ -156,13 +148,11 @@ fn empty_slice_failing<'s>(
 ) -> Option<Rule<'s>>
     ensures { option_map rule_name result ≡ first_of (empty_slice_rule schema.now name.now m base.now ∷ []) }
 {
+    let slice = base.name();
     if asks_for_none(schema, entry_of(m, base)) {
         None
     } else {
-        Some(Rule::Bounds {
-            name,
-            slice: base.name(),
-        })
+        Some(Rule::Bounds { name, slice })
     }
 }
 

@@ -4,7 +4,7 @@ use Rattle.std.specs.Option.{option_map_or}
 use Rattle.fhir_schema.specs.Schemas.{loaded}
 use Rattle.fhir_cert_check.specs.Rules.{has_kids_pair}
 use Rattle.fhir_cert_check.specs.PairSet.{has_in}
-use Rattle.fhir_cert_check.proofs.items.each_profile_has_pair.Given as goal
+use Rattle.fhir_cert_check.proofs.items.have_kids_pairs.Given as goal
 
 abbrev pub invariant-loop-profile : goal.invariant-loop-profile
 invariant-loop-profile l =
