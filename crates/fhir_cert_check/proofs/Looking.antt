@@ -17,7 +17,7 @@ use Rattle.fhir_schema.specs.Schemas.{SchemaValue, entry_of, slots, slot_named, 
 use Rattle.fhir_schema.specs.Covers.{covers}
 use Rattle.fhir_facets.specs.Counts.{count_narrower}
 use Rattle.fhir_facets.specs.Targets.{targets_narrower}
-use Rattle.fhir_slicing.specs.Conformance.{is_untyped}
+use Rattle.fhir_conformance.specs.Conformance.{is_untyped}
 use Rattle.fhir_slicing.specs.SameCriteria.{same_criteria}
 use Rattle.fhir_certificate.specs.declared.pair.Pair.{Pair}
 use Rattle.fhir_certificate.specs.declared.pair.Pair.TheVariants.{Item, Kids}
