@@ -1,5 +1,10 @@
 //! What a pair of a certificate fails, in plain words, with what stands in both elements.
 
+ghost use Rattle.std.specs.Prelude.{◌≡◌, ◌++◌, IfOk, codes, string_bytes};
+ghost use Rattle.fhir_json.specs.Tree.{Text};
+ghost use Rattle.fhir_cert_check.specs.Rule.{rule_text};
+ghost use Rattle.fhir_cert_check.specs.Views.{rule_name};
+
 use fhir_cert_check::Rule;
 use fhir_certificate::{NodePair, Pair};
 use fhir_elements::{ElementDef, Max, TypeEntry};
@@ -143,26 +148,98 @@ fn node_types_text(alloc: Global, schema: &Schema, node: NodeRef) -> Result<Stri
     types_text(alloc, schema.types(node))
 }
 
-// What an element says by the field that a rule is about.
-fn said(alloc: Global, schema: &Schema, node: NodeRef, rule: Rule<'_>) -> Result<String, NoMemory> {
+// ---- what is said of a pair that fails a rule
+
+// What the elements of a pair are compared by.
+#[derive(Clone, Copy)]
+enum Field<'r> {
+    Types,
+    Fixed,
+    Pattern,
+    Range,
+    Length,
+    Binding,
+    SlotBounds(&'r str),
+    SliceBounds { slot: &'r str, slice: &'r str },
+}
+
+// What is said of a pair that fails a rule: what both elements say by a field, or what isn't there.
+#[derive(Clone, Copy)]
+enum Shown<'r> {
+    Compared(Field<'r>),
+    Lacking(&'static str),
+}
+
+fn shown_of(rule: Rule<'_>) -> Shown<'_> {
+    match rule {
+        Rule::Root => Shown::Lacking("no `item` line pairs the roots of the two profiles"),
+        Rule::TypeCode => Shown::Compared(Field::Types),
+        Rule::Fixed => Shown::Compared(Field::Fixed),
+        Rule::Pattern => Shown::Compared(Field::Pattern),
+        Rule::Range => Shown::Compared(Field::Range),
+        Rule::Length => Shown::Compared(Field::Length),
+        Rule::Binding => Shown::Compared(Field::Binding),
+        Rule::Constraint(_) => Shown::Lacking(
+            "the derived element has no constraint with the same expression",
+        ),
+        Rule::Children => Shown::Lacking("no `kids` line pairs the children of the two elements"),
+        Rule::Slot(_) => Shown::Lacking("the derived profile has no such element there"),
+        Rule::Cardinality(name) => Shown::Compared(Field::SlotBounds(name)),
+        Rule::Entry(_) => Shown::Lacking("no `item` line pairs the two elements of this name"),
+        Rule::Closed(_) => Shown::Lacking(
+            "the base allows items in slices alone, and the derived profile others",
+        ),
+        Rule::Slice { .. } => Shown::Lacking(
+            "the derived profile has no such slice, or no `item` line pairs the two",
+        ),
+        Rule::Criteria { .. } => Shown::Lacking("the two slices are not told apart by the same"),
+        Rule::Bounds { name, slice } => Shown::Compared(Field::SliceBounds { slot: name, slice }),
+    }
+}
+
+fn slot_bounds_text(
+    alloc: Global,
+    schema: &Schema,
+    node: NodeRef,
+    slot: &str,
+) -> Result<String, AllocError> {
+    bounds_text(alloc, element_at(schema, slot_node(schema, node, slot)))
+}
+
+fn slice_bounds_text(
+    alloc: Global,
+    schema: &Schema,
+    node: NodeRef,
+    slot: &str,
+    slice: &str,
+) -> Result<String, AllocError> {
+    bounds_text(
+        alloc,
+        element_at(schema, slice_node(schema, node, slot, slice)),
+    )
+}
+
+// What an element says by a field.
+fn said(
+    alloc: Global,
+    schema: &Schema,
+    node: NodeRef,
+    field: Field<'_>,
+) -> Result<String, NoMemory> {
     let Some(element) = schema.element(node) else {
         return Ok(String::from_str(alloc, "nothing")?);
     };
-    match rule {
-        Rule::TypeCode => Ok(node_types_text(alloc, schema, node)?),
-        Rule::Length => Ok(length_text(alloc, element)?),
-        Rule::Binding => Ok(binding_text(alloc, element)?),
-        Rule::Cardinality(name) => {
-            let slot = element_at(schema, slot_node(schema, node, name));
-            Ok(bounds_text(alloc, slot)?)
-        }
-        Rule::Bounds { name, slice } => {
-            let slice = element_at(schema, slice_node(schema, node, name, slice));
-            Ok(bounds_text(alloc, slice)?)
-        }
-        Rule::Fixed => fixed_text(alloc, element),
-        Rule::Pattern => pattern_text(alloc, element),
-        _ => range_text(alloc, element),
+    match field {
+        Field::Types => Ok(node_types_text(alloc, schema, node)?),
+        Field::Fixed => fixed_text(alloc, element),
+        Field::Pattern => pattern_text(alloc, element),
+        Field::Range => range_text(alloc, element),
+        Field::Length => Ok(length_text(alloc, element)?),
+        Field::Binding => Ok(binding_text(alloc, element)?),
+        Field::SlotBounds(slot) => Ok(slot_bounds_text(alloc, schema, node, slot)?),
+        Field::SliceBounds { slot, slice } => Ok(slice_bounds_text(
+            alloc, schema, node, slot, slice,
+        )?),
     }
 }
 
@@ -171,47 +248,29 @@ fn compared(
     schema: &Schema,
     nodes: NodePair,
     rule: Rule<'_>,
-) -> Result<String, NoMemory> {
-    let derived = said(alloc, schema, nodes.derived, rule)?;
-    let base = said(alloc, schema, nodes.base, rule)?;
+    field: Field<'_>,
+) -> Result<String, NoMemory>
+    ensures { IfOk result (λ text. (more : Text) × (string_bytes text ≡ rule_text (rule_name rule.entry) ++ codes ": " ++ more)) }
+{
+    let derived = said(alloc, schema, nodes.derived, field)?;
+    let base = said(alloc, schema, nodes.base, field)?;
     Ok(format!(in alloc;
         "{rule}: {derived} in the derived profile isn't within {base} of the base"
     )?)
 }
 
-// What is asked that isn't there, by the rules that ask for that.
-fn lacking(rule: Rule<'_>) -> &'static str {
-    match rule {
-        Rule::Root => "no `item` line pairs the roots of the two profiles",
-        Rule::Constraint(_) => "the derived element has no constraint with the same expression",
-        Rule::Children => "no `kids` line pairs the children of the two elements",
-        Rule::Slot(_) => "the derived profile has no such element there",
-        Rule::Entry(_) => "no `item` line pairs the two elements of this name",
-        Rule::Closed(_) => "the base allows items in slices alone, and the derived profile others",
-        Rule::Slice { .. } =>
-            "the derived profile has no such slice, or no `item` line pairs the two",
-        Rule::Criteria { .. } => "the two slices are not told apart by the same",
-        _ => "it doesn't hold",
-    }
-}
-
-/// Which rule a pair fails, in plain words: with what stands in both elements, where the rule compares that. The one refusal is
-/// want of memory.
+/// Which rule a pair fails, as `Display` prints it, and behind a colon in plain words: with what stands in both elements, where
+/// the rule compares that. The one refusal is want of memory.
 pub fn rule_words(
     alloc: Global,
     schema: &Schema,
     pair: Pair,
     rule: Rule<'_>,
-) -> Result<String, NoMemory> {
-    match rule {
-        Rule::TypeCode
-        | Rule::Fixed
-        | Rule::Pattern
-        | Rule::Range
-        | Rule::Length
-        | Rule::Binding
-        | Rule::Cardinality(_)
-        | Rule::Bounds { .. } => compared(alloc, schema, nodes_of(pair), rule),
-        _ => Ok(format!(in alloc; "{rule}: {}", lacking(rule))?),
+) -> Result<String, NoMemory>
+    ensures { IfOk result (λ text. (more : Text) × (string_bytes text ≡ rule_text (rule_name rule.entry) ++ codes ": " ++ more)) }
+{
+    match shown_of(rule) {
+        Shown::Compared(field) => compared(alloc, schema, nodes_of(pair), rule, field),
+        Shown::Lacking(text) => Ok(format!(in alloc; "{rule}: {text}")?),
     }
 }
