@@ -1,5 +1,5 @@
 -- The issues of an outcome.
-use Rattle.std.proofs.Common.{◌≡◌, List, [], ◌∷◌, ◌++◌, map, codes, All, refl, sym, ap, subst, ◌∙◌}
+use Rattle.std.proofs.Common.{◌≡◌, ◌<◌, ℕ, arith, List, [], ◌∷◌, ◌++◌, map, codes, All, refl, sym, ap, subst, ◌∙◌}
 use Rattle.std.proofs.lemmas.List.{map-append}
 use Rattle.std.proofs.lemmas.List.Elements.{All-push}
 use Rattle.fhir_json.specs.declared.json.Json.{Json}
@@ -31,6 +31,13 @@ pub severity_in : (t : Tree) (members rest : List Member) (first : Member) (seve
 severity_in t members rest first severity whole some is =
     subst (HasSeverity severity)
     (sym (whole ∙ ap (λ ms. object (members_of (map property_of ms))) some ∙ ap (λ p. object (members_of (p ∷ map property_of rest))) is)) refl
+
+no_place : (k : ℕ) → k < 0 → ⊥
+no_place k lt = omega arith
+
+-- none
+pub none_issued : (severity : Text) (issues : List Json) → issues ≡ [] → All (HasSeverity severity) (trees_of issues)
+none_issued severity issues none = subst (λ (js : List Json). All (HasSeverity severity) (trees_of js)) (sym none) (λ k d lt. absurd (no_place k lt))
 
 -- one more
 pub one_issue_more : (severity : Text) (old new : List Json) (issue : Json) → new ≡ old ++ issue ∷ [] → HasSeverity severity (tree_of issue)

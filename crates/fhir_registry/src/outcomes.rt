@@ -1,6 +1,6 @@
 //! What is said of a validation, as an OperationOutcome.
 
-ghost use Rattle.std.specs.Prelude.{◌≡◌, ◌<◌, ◌+◌, ◌++◌, List, Some, Err, length, map, codes, All, IfOk, OnOk, IsTrue, if◌then◌else◌};
+ghost use Rattle.std.specs.Prelude.{◌≡◌, ◌<◌, ◌+◌, ◌++◌, [], List, Some, Err, length, map, codes, All, IfOk, OnOk, IsTrue, if◌then◌else◌};
 ghost use Rattle.std.specs.BTreeSet.{btree_set_len};
 ghost use Rattle.fhir_json.specs.declared.json.Member.{Member};
 ghost use Rattle.fhir_json.specs.Tree.{Text, string, array, object, items_of, members_of};
@@ -73,7 +73,7 @@ fn push_expression(
 
 impl Said {
     fn into_json(self, alloc: Global) -> Result<Json<'static>, AllocError>
-        ensures { IfOk result (λ json. HasSeverity self.entry.severity.now (tree_of json)) }
+        ensures { IfOk result (λ json. HasSeverity self.severity.now (tree_of json)) }
     {
         let Said {
             severity,
@@ -211,7 +211,8 @@ fn is_new(texts: &mut BTreeSet<Vec<u8>>, text: Vec<u8>) -> Result<bool, NoMemory
 
 impl Issues {
     fn new(alloc: Global) -> Issues
-        ensures { btree_set_len result.texts ≡ length result.issues.items }
+        ensures kept { btree_set_len result.texts ≡ length result.issues.items }
+        ensures none { result.issues.items ≡ [] }
     {
         Issues {
             texts: BTreeSet::new(alloc),
@@ -224,8 +225,8 @@ impl Issues {
         ensures kept { btree_set_len self.old.texts ≡ length self.old.issues.items
             → OnOk result (btree_set_len self.new.texts ≡ length self.new.issues.items) }
         ensures some { OnOk result (0 < btree_set_len self.new.texts) }
-        ensures severity { All (HasSeverity said.entry.severity.now) (trees_of self.old.issues.items)
-            → OnOk result (All (HasSeverity said.entry.severity.now) (trees_of self.new.issues.items)) }
+        ensures severity { All (HasSeverity said.severity.now) (trees_of self.old.issues.items)
+            → OnOk result (All (HasSeverity said.severity.now) (trees_of self.new.issues.items)) }
     {
         let issue = said.into_json(alloc)?;
         let text = write(alloc, &issue)?;
@@ -239,12 +240,13 @@ impl Issues {
 
 fn one(alloc: Global, said: Said) -> Result<Vec<Json<'static>>, NoMemory>
     ensures some { IfOk result (λ all. 0 < length all.items) }
-    ensures severity { IfOk result (λ all. All (HasSeverity said.entry.severity.now) (trees_of all.items)) }
+    ensures severity { IfOk result (λ all. All (HasSeverity said.severity.now) (trees_of all.items)) }
 {
     let issue = said.into_json(alloc)?;
     Ok(vec![in alloc; issue]?)
 }
 
+#[tactic(auto, using(crate::proofs::Items::none_issued))]
 fn violations(alloc: Global, issues: &Vec<Issue<'_>>) -> Result<Vec<Json<'static>>, NoMemory>
     ensures some { IfOk result (λ all. 0 < length issues.now.items → 0 < length all.items) }
     ensures severity { IfOk result (λ all. All (HasSeverity (codes "error")) (trees_of all.items)) }
@@ -256,6 +258,7 @@ fn violations(alloc: Global, issues: &Vec<Issue<'_>>) -> Result<Vec<Json<'static
     Ok(all.issues)
 }
 
+#[tactic(auto, using(crate::proofs::Items::none_issued))]
 fn warnings(alloc: Global, sites: &Vec<Site<'_>>) -> Result<Vec<Json<'static>>, NoMemory>
     ensures some { IfOk result (λ all. 0 < length sites.now.items → 0 < length all.items) }
     ensures severity { IfOk result (λ all. All (HasSeverity (codes "warning")) (trees_of all.items)) }
