@@ -45,7 +45,7 @@ ghost use Rattle.fhir_certificate.specs.Certificate.{CertificateValue};
 ghost use Rattle.fhir_certificate.specs.Judging.{Stands};
 ghost use Rattle.fhir_cert_check.specs.Checking.{SpellsCertificate};
 ghost use Rattle.fhir_findings.specs.Finding.{all_unusable};
-ghost use Rattle.fhir_report.specs.Faultless.{IsFaultless};
+ghost use Rattle.fhir_report.specs.Faultless.{IsRightBy};
 ghost use Rattle.fhir_registry.specs.Outcomes.{IsOutcome, is_explained};
 ghost use Rattle.fhir_engine.specs.declared.request.WordsFault.{WordsFault};
 ghost use Rattle.fhir_engine.specs.Promising.{Promise};
@@ -68,7 +68,7 @@ use fhir_json::{Json, JsonFault, NoMemory, write};
 use fhir_matching::{json_eq, matches};
 use fhir_names::{ElementId, front_of};
 use fhir_nodes::{Nodes, Table};
-use fhir_package::{Folder, FolderFiles, Kind, LoadFault, Package, Silent, Survey, load};
+use fhir_package::{Folder, Kind, LoadFault, Package, Silent, Survey, load};
 use fhir_prims::{PrimType, lexical};
 use fhir_registry::outcome;
 use fhir_report::{Form, Subject};
@@ -305,17 +305,19 @@ pub fn are_usable<'r>(
     Ok(!fhir_findings::has_faults(&found))
 }
 
-/// Whether nothing is wrong with files, and each of their definitions can be used.
-pub fn is_clean(alloc: Global, files: &FolderFiles) -> Result<bool, NoMemory>
-    ensures { IfOk result (λ is_clean. IsTrue is_clean → IsFaultless files.now None) }
+/// Whether nothing is wrong with the files of a survey, and each of their definitions can be used, by the schema of its package.
+pub fn is_clean<'s, 'f: 's>(
+    alloc: Global,
+    survey: &'s Survey<'f>,
+    schema: &'s Schema,
+    files: usize,
+) -> Result<bool, NoMemory>
+    ensures { IfOk result (λ is_clean. IsTrue is_clean → IsRightBy schema.now survey.now None) }
 {
-    fhir_report::reports();
-    let survey = Survey::of(alloc, files, &mut Silent)?;
-    let schema = Schema::build(alloc, survey.package())?;
     let subject = Subject {
-        survey: &survey,
-        schema: &schema,
-        files: files.files().len(),
+        survey,
+        schema,
+        files,
         certificate: None,
     };
     let report = fhir_report::report_on(alloc, Form::Text, subject)?;

@@ -1,17 +1,19 @@
 //! What is told of the files of a folder, their definitions and a certificate: a line for each finding.
 //!
 //! ```
-//! /// Whether nothing is wrong with files, and each of their definitions can be used.
-//! pub fn is_clean(alloc: Global, files: &FolderFiles) -> Result<bool, NoMemory>
-//!     ensures { IfOk result (λ is_clean. IsTrue is_clean → IsFaultless files.now None) }
+//! /// Whether nothing is wrong with the files of a survey, and each of their definitions can be used, by the schema of its package.
+//! pub fn is_clean<'s, 'f: 's>(
+//!     alloc: Global,
+//!     survey: &'s Survey<'f>,
+//!     schema: &'s Schema,
+//!     files: usize,
+//! ) -> Result<bool, NoMemory>
+//!     ensures { IfOk result (λ is_clean. IsTrue is_clean → IsRightBy schema.now survey.now None) }
 //! {
-//!     fhir_report::reports();
-//!     let survey = Survey::of(alloc, files, &mut Silent)?;
-//!     let schema = Schema::build(alloc, survey.package())?;
 //!     let subject = Subject {
-//!         survey: &survey,
-//!         schema: &schema,
-//!         files: files.files().len(),
+//!         survey,
+//!         schema,
+//!         files,
 //!         certificate: None,
 //!     };
 //!     let report = fhir_report::report_on(alloc, Form::Text, subject)?;
