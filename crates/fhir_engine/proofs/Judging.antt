@@ -1,7 +1,8 @@
 -- What a reply on a resource says, from what was validated.
-use Rattle.std.proofs.Common.{◌≡◌, ◌<◌, ◌↔◌, true, false, length, Result, Ok, Err, IfOk, IfErr, IsTrue, refl, sym, ◌∙◌, ap, rules}
+use Rattle.std.proofs.Common.{◌≡◌, ◌<◌, ◌++◌, ◌↔◌, true, false, length, Result, Ok, Err, IfOk, IfErr, IsTrue, codes, refl, ◌∙◌, ap, rules}
 use Rattle.std.proofs.lemmas.Bool.{false≢true}
 use Rattle.fhir_json.specs.Tree.{Text, Tree}
+use Rattle.fhir_json.specs.Compact.{compact}
 use Rattle.fhir_json.specs.Grammar.{Reads}
 use Rattle.fhir_schema.specs.Schemas.{SchemaValue}
 use Rattle.fhir_slicing.specs.Conformance.{Interpretation, Conforms, constant}
@@ -11,7 +12,8 @@ use Rattle.fhir_validator.specs.declared.verdict.Verdict.{Verdict}
 use Rattle.fhir_validator.specs.declared.verdict.Verdict.TheVariants as verdicts
 use Rattle.fhir_validator.specs.Verdicts.{is_conforming, is_violating, IsExplained, Means}
 use Rattle.fhir_registry.specs.Outcomes.{is_explained}
-use Rattle.fhir_engine.specs.Replying.{ReplyValue, written, status_of}
+use Rattle.fhir_engine.specs.declared.reply.Status.{Status}
+use Rattle.fhir_engine.specs.Replying.{written}
 use Rattle.fhir_engine.specs.Standing.{AlwaysConforms, Stands}
 use Rattle.fhir_engine.specs.Status.{code_of, verdict_status}
 
@@ -60,3 +62,8 @@ always_by s profile bytes (Ok verdicts.Conforms) so zero = (so.0, so.1, so.2)
 always_by s profile bytes (Ok (verdicts.Violates issues)) so zero = absurd cc
 always_by s profile bytes (Ok (verdicts.Open sites)) so zero = absurd cc
 always_by s profile bytes (Err fault) so zero = absurd cc
+
+-- the reply is written with the status of what was validated, and the text of the outcome
+pub written_so : (status : Status) (v : Result Verdict Fault) (out : Text) (outcome : Tree) → status ≡ verdict_status v
+    → out ≡ compact outcome ++ codes "\n" → written (code_of status) out ≡ written (code_of (verdict_status v)) (compact outcome ++ codes "\n")
+written_so status v out outcome is text = ap (λ s. written (code_of s) out) is ∙ ap (λ bytes. written (code_of (verdict_status v)) bytes) text

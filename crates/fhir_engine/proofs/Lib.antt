@@ -1,3 +1,4 @@
 pub mod Ends
 pub mod Judging
 pub mod Promises
+pub mod Sessions

@@ -15,9 +15,9 @@ use Rattle.fhir_engine.specs.Promising.{SessionPromise, ReadPromise, WordsPromis
 use Rattle.fhir_engine.specs.Requests.{RequestValue, InvocationValue, request, version}
 use Rattle.fhir_engine.specs.Session.{IsReadOf, session_of}
 
-pub of_read : ((files : ReadFiles) → packed_by (survey files) ≡ pack_given files) → (request : RequestValue) (files : ReadFiles) (file : Option Text)
-    → SessionPromise request (session_of files) file → ReadPromise request (Ok files) file
-of_read surveys request files file promise =
+pub of_read : ((files : ReadFiles) → packed_by (survey files) ≡ pack_given files) → (q : RequestValue) (files : ReadFiles) (file : Option Text)
+    → SessionPromise q (session_of files) file → ReadPromise q (Ok files) file
+of_read surveys q files file promise =
     let by_faults : List FileFault → Option (Result Definitions Refusal) =
     λ faults. told_by (option_or (find is_unread faults) (slice_get faults 0)) (survey files).definitions in
     ((survey files).definitions, sym (surveys files) ∙ ap by_faults promise.0, promise.1)
@@ -39,10 +39,10 @@ packed law folder read p is_read is = by (all_given read) refl is
     by (Some files) e h =
         let whole : pack_files files ≡ Ok p = cc in ap pack_files (sym (law folder read files is_read.0 is_read.1 e)) ∙ whole
 
-of_request : AreOfFolder → (request : RequestValue) (folder : Files) (read : Result ReadFiles FolderFault) (file : Option Text) → IsReadOf folder read
-    → ReadPromise request read file → FolderPromise request folder file
-of_request law request folder (Ok read) file is_read promise = (promise.0, packed law folder read promise.0 is_read promise.1, promise.2)
-of_request law request folder (Err fault) file is_read promise = absurd promise
+of_request : AreOfFolder → (q : RequestValue) (folder : Files) (read : Result ReadFiles FolderFault) (file : Option Text) → IsReadOf folder read
+    → ReadPromise q read file → FolderPromise q folder file
+of_request law q folder (Ok read) file is_read promise = (promise.0, packed law folder read promise.0 is_read promise.1, promise.2)
+of_request law q folder (Err fault) file is_read promise = absurd promise
 
 pub of_words : AreOfFolder → (asked : Result InvocationValue WordsFault) (folder : Files) (read : Result ReadFiles FolderFault) (file : Option Text)
     → IsReadOf folder read → WordsPromise asked read file → Promise asked folder file

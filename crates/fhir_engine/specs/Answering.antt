@@ -80,8 +80,8 @@ answer_by (check folder certificate form) s file = check_answer form s certifica
 
 -- of the files that were read of a folder, or of a folder that wasn't listed
 abbrev pub answer_to : RequestValue → Result ReadFiles FolderFault → Option Text → AnswerValue
-answer_to request (Ok files) file = answer_by request (session_of files) file
-answer_to request (Err fault) file = stated (fault_reply (codes "P1") (folder_of request))
+answer_to q (Ok files) file = answer_by q (session_of files) file
+answer_to q (Err fault) file = stated (fault_reply (codes "P1") (folder_of q))
 
 -- ---- the answer to words
 

@@ -24,11 +24,13 @@ Certified s file = (bytes : Text) × (file ≡ Some bytes) × Promises s bytes
 abbrev pub Validated : SchemaValue → Text → Option Text → Type 0
 Validated s profile file = (bytes : Text) × (file ≡ Some bytes) × AlwaysConforms s profile bytes
 
--- Each definition can be used. The certificate, if one is asked about, was read and is right, and what that promises holds.
+-- each definition can be used, and the certificate, if there is one, is right, and what it promises holds
+abbrev pub AreRight : SchemaValue → Option CertificateValue → Type 0
+AreRight s certificate = AreUsable s × IsRightIfAny s certificate × PromisesIfAny s certificate
+
+-- The same of the certificate of that name, if one is asked about: its file was read.
 abbrev pub Checked : SchemaValue → Option Text → Option Text → Type 0
-Checked s name file =
-    AreUsable s × (certificate : Option CertificateValue) × (asked name file ≡ Some certificate)
-    × IsRightIfAny s certificate × PromisesIfAny s certificate
+Checked s name file = (certificate : Option CertificateValue) × (asked name file ≡ Some certificate) × AreRight s certificate
 
 abbrev pub Promised : RequestValue → SchemaValue → Option Text → Type 0
 Promised (certify folder name) s file = Certified s file
@@ -37,12 +39,12 @@ Promised (check folder certificate form) s file = Checked s certificate file
 
 -- of a session: nothing is wrong with any file, and the same of the schema
 abbrev pub SessionPromise : RequestValue → SessionValue → Option Text → Type 0
-SessionPromise request s file = (s.survey.faults ≡ []) × Promised request (schema_in s) file
+SessionPromise q s file = (s.survey.faults ≡ []) × Promised q (schema_in s) file
 
 -- of what was read of a folder: it was listed, each file was given, the files are a package, and the same of its schema
 abbrev pub ReadPromise : RequestValue → Result ReadFiles FolderFault → Option Text → Type 0
-ReadPromise request (Ok files) file = (p : Definitions) × (pack_given files ≡ Some (Ok p)) × Promised request (schema_of p) file
-ReadPromise request (Err fault) file = ⊥
+ReadPromise q (Ok files) file = (p : Definitions) × (pack_given files ≡ Some (Ok p)) × Promised q (schema_of p) file
+ReadPromise q (Err fault) file = ⊥
 
 abbrev pub WordsPromise : Result InvocationValue WordsFault → Result ReadFiles FolderFault → Option Text → Type 0
 WordsPromise (Ok (request asked)) read file = ReadPromise asked read file
@@ -51,7 +53,7 @@ WordsPromise (Err fault) read file = ⊥
 
 -- of a folder's files: they are a package, and the same of its schema
 abbrev pub FolderPromise : RequestValue → Files → Option Text → Type 0
-FolderPromise request files file = (p : Definitions) × (pack files ≡ Ok p) × Promised request (schema_of p) file
+FolderPromise q files file = (p : Definitions) × (pack files ≡ Ok p) × Promised q (schema_of p) file
 
 -- of words: they ask for something, and of a request the same
 abbrev pub Promise : Result InvocationValue WordsFault → Files → Option Text → Type 0

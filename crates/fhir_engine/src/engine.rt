@@ -159,7 +159,7 @@ fn answer_words<W: Write, E: Write, P: Progress>(
 
 // The files of a folder, which is dropped then.
 fn files_of<F: Folder + Drop>(alloc: Global, mut folder: F) -> Result<FolderFiles, FolderFault>
-    ensures { IsReadOf (F.files folder.entry) result }
+    ensures { IsReadOf (F.files folder) result }
 {
     FolderFiles::read(alloc, &mut folder)
 }
@@ -180,14 +180,14 @@ pub fn run<F: Folder + Drop, W: Write, E: Write, P: Progress>(
     // Of what was read of the folder, the reply is the one that is stated, or one of those that are. What can't be answered has
     // its status, and nothing is written to standard output; of any other reply nothing is written to standard error.
     ensures told { (result ≡ Status.NoMemory → ⊥) → (read : Result ReadFiles FolderFault) × (reply : ReplyValue)
-        × IsReadOf (F.files folder.entry) read
+        × IsReadOf (F.files folder) read
         × IsReply (answer_for (asked_seen asked.now) read (bytes_seen file.entry)) reply
         × HasEnded result (W.contents out.old) (W.contents out.new) reply
         × (IsTrue (is_told reply) → (result ≡ told_status (asked_seen asked.now)) × (out.new ≡ out.old))
         × (is_told reply ≡ false → err.new ≡ err.old) }
     ensures words { IfErr asked.now (λ fault. result ≡ words_status fault) }
     // What a yes promises.
-    ensures promised { result ≡ Status.Yes → Promise (asked_seen asked.now) (F.files folder.entry) (bytes_seen file.entry) }
+    ensures promised { result ≡ Status.Yes → Promise (asked_seen asked.now) (F.files folder) (bytes_seen file.entry) }
 {
     given_files();
     let read = files_of(alloc, folder);

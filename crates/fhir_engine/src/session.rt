@@ -4,9 +4,9 @@ ghost use Rattle.std.specs.Prelude.{◌≡◌, [], None, Some, IfOk, IfErr};
 ghost use Rattle.fhir_json.specs.Memory.{Gives};
 ghost use Rattle.fhir_package.specs.Surveying.{refusal};
 ghost use Rattle.fhir_package.specs.SurveyView.{fault_seen};
-ghost use Rattle.fhir_report.specs.Faultless.{PromisesIfAny, certificate_seen};
+ghost use Rattle.fhir_report.specs.Faultless.{certificate_seen};
 ghost use Rattle.fhir_engine.specs.Answering.{IsReported, IsReply, package_answer, certify_answer, validate_answer, check_answer, answer_by};
-ghost use Rattle.fhir_engine.specs.Promising.{Certified, Validated, Checked, SessionPromise};
+ghost use Rattle.fhir_engine.specs.Promising.{Certified, Validated, AreRight, Checked, SessionPromise};
 ghost use Rattle.fhir_engine.specs.Replying.{reply_seen, status_of, refused_reply};
 ghost use Rattle.fhir_engine.specs.Session.{session_of, schema_in};
 ghost use Rattle.fhir_engine.specs.Status.{report_status};
@@ -163,7 +163,8 @@ impl<'f> Session<'f> {
         certificate: Option<CertificateFile<'_>>,
     ) -> Result<Reply, NoMemory>
         ensures told { IfOk result (λ r. IsReported form self.now (certificate_seen certificate.entry) (reply_seen r)) }
-        ensures promised { IfOk result (λ r. status_of (reply_seen r) ≡ 0 → PromisesIfAny (schema_in self.now) (certificate_seen certificate.entry)) }
+        ensures promised { IfOk result (λ r. status_of (reply_seen r) ≡ 0
+            → (self.now.survey.faults ≡ []) × AreRight (schema_in self.now) (certificate_seen certificate.entry)) }
     {
         all_usable();
         let subject = Subject {

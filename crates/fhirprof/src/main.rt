@@ -65,9 +65,9 @@ fn code_of<F: Folder + Drop, W: Write, E: Write, P: Progress>(
     out: &mut W,
     err: &mut E,
 ) -> ExitCode
-    ensures promised { exit_status result ≡ 0 → Promise (asked_seen asked.now) (F.files folder.entry) (bytes_seen file.entry) }
+    ensures promised { exit_status result ≡ 0 → Promise (asked_seen asked.now) (F.files folder) (bytes_seen file.entry) }
     ensures no { exit_status result ≡ 1 → (read : Result ReadFiles FolderFault) × (reply : ReplyValue)
-        × IsReadOf (F.files folder.entry) read
+        × IsReadOf (F.files folder) read
         × IsReply (answer_for (asked_seen asked.now) read (bytes_seen file.entry)) reply × (status_of reply ≡ 1) }
 {
     ExitCode::from(run(alloc, asked, folder, file, progress, out, err))

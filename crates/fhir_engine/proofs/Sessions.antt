@@ -1,0 +1,45 @@
+-- What a session says of its schema and its files.
+use Rattle.std.proofs.Common.{◌≡◌, List, [], ◌∷◌, Bool, true, false, IsTrue, Option, None, Some, refl, sym, ap, subst, ◌∙◌}
+use Rattle.std.specs.Prelude.{find, slice_get}
+use Rattle.std.specs.Option.{option_or}
+use Rattle.fhir_json.specs.Tree.{Text}
+use Rattle.fhir_package.specs.Surveying.{FileFault, Surveyed, is_unread, refusal}
+use Rattle.fhir_schema.specs.Schemas.{SchemaValue, schema_of}
+use Rattle.fhir_findings.specs.Clean.{AreUsable}
+use Rattle.fhir_findings.specs.Finding.{all_unusable}
+use Rattle.fhir_report.specs.Faultless.{CertificateValue, PromisesIfAny, IsRightBy}
+use Rattle.fhir_engine.specs.Promising.{AreRight, Checked}
+use Rattle.fhir_engine.specs.Reporting.{asked}
+use Rattle.fhir_engine.specs.Session.{SessionValue, schema_in}
+use Rattle.fhir_engine.specs.Status.{code_of, report_status}
+
+-- files that aren't refused have no fault
+none_of : (faults : List FileFault) → option_or (find is_unread faults) (slice_get faults 0) ≡ None → faults ≡ []
+none_of [] e = refl
+none_of (fault ∷ faults) e = by (find is_unread (fault ∷ faults)) e
+  where
+    by : (first : Option FileFault) → option_or first (Some fault) ≡ None → fault ∷ faults ≡ []
+    by None e = absurd cc
+    by (Some other) e = absurd cc
+
+pub no_faults : (s : Surveyed) → refusal s ≡ None → s.faults ≡ []
+no_faults s e = none_of s.faults e
+
+-- status 0 is that of a clean report
+pub clean_by : (is_clean : Bool) → code_of (report_status is_clean) ≡ 0 → IsTrue is_clean
+clean_by true e = refl
+clean_by false e = absurd cc
+
+-- what is right by the schema and the survey of a session
+pub right_of : ((survey : Surveyed) → all_unusable (schema_of survey.definitions) survey ≡ [] → AreUsable (schema_of survey.definitions))
+    → (schema : SchemaValue) (survey : Surveyed) (s : SessionValue) (certificate : Option CertificateValue) → survey ≡ s.survey → schema ≡ schema_in s
+    → IsRightBy schema survey certificate → PromisesIfAny schema certificate → (s.survey.faults ≡ []) × AreRight (schema_in s) certificate
+right_of usable schema survey s certificate same_survey same_schema right promises =
+    let by : IsRightBy (schema_in s) s.survey certificate =
+    subst (λ x. IsRightBy x s.survey certificate) same_schema (subst (λ x. IsRightBy schema x certificate) same_survey right) in
+    (by.0, (usable s.survey by.1, by.2, subst (λ x. PromisesIfAny x certificate) same_schema promises))
+
+-- the same of the certificate that is asked about
+pub checked_so : (s : SessionValue) (name file : Option Text) (certificate : Option CertificateValue) → asked name file ≡ Some certificate
+    → (s.survey.faults ≡ []) × AreRight (schema_in s) certificate → (s.survey.faults ≡ []) × Checked (schema_in s) name file
+checked_so s name file certificate is promise = (promise.0, (certificate, is, promise.1))
