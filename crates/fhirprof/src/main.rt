@@ -1,7 +1,7 @@
 //! The program: it opens what the words name, and calls the engine.
 #![tactic(auto)]
 
-ghost use Rattle.std.specs.Prelude.{◌≡◌};
+ghost use Rattle.std.specs.Prelude.{◌≡◌, Result};
 ghost use Rattle.std.specs.Process.{exit_status};
 ghost use Rattle.fhir_package.specs.ReadFiles.{ReadFiles};
 ghost use Rattle.fhir_engine.specs.Answering.{IsReply, answer_for};
