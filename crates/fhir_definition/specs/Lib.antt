@@ -4,6 +4,7 @@ pub mod Children
 pub mod Bounds
 pub mod Head
 pub mod Definition
+pub mod Blames
 pub mod Views
 pub mod Gathering
 pub mod Worked

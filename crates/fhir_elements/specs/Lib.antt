@@ -9,3 +9,4 @@ pub mod Slicing
 pub mod Element
 pub mod CodesSeen
 pub mod Numbers
+pub mod Causes

@@ -17,6 +17,7 @@
 #![tactic(auto)]
 
 mod binding;
+mod cause;
 mod codes;
 mod constraint;
 mod element;
@@ -29,6 +30,7 @@ mod texts;
 mod type_entry;
 
 pub use binding::{BindingDef, Strength};
+pub use cause::{Blame, Cause};
 pub use constraint::{ConstraintDef, Severity};
 pub use element::{ElementDef, element_fault, fields_of, owned_member};
 pub use fault::ElementFault;
