@@ -10,7 +10,7 @@ pub mod UsableRoots
 pub mod OneMeaning
 pub mod Users
 pub mod Spreading
-pub mod Answering
 pub mod FoundThere
 pub mod ByName
 pub mod Utf8Names
+pub mod Blamed

@@ -2,7 +2,7 @@
 use Rattle.std.proofs.Common.{◌≡◌, ℕ, zero, suc, ◌<◌, ◌≤◌, ◌+◌, List, [], ◌∷◌, ◌++◌, map, length, get_or, true, false, Bool, ◌&&◌, ◌||◌, not, nat_le, refl, ap, sym}
 use Rattle.std.proofs.Common.{◌∙◌, Some, None, Option, is_some, is_none, IsTrue, arith}
 use Rattle.std.specs.List.{slice_get, list_all, Contains}
-use Rattle.std.specs.Option.{option_map_or}
+use Rattle.std.specs.Option.{option_map_or, option_or}
 use Rattle.std.proofs.lemmas.Bool.Decides.{nat_tests}
 use Rattle.std.proofs.lemmas.List.{length-map}
 use Rattle.std.proofs.lemmas.Option.{slice_get_within}
@@ -16,11 +16,11 @@ use Rattle.fhir_definition.specs.Snapshot.{is_root}
 use Rattle.fhir_definition.specs.Definition.{Definition}
 use Rattle.fhir_nodes.specs.Types.{type_place, is_system}
 use Rattle.fhir_schema.specs.Settling.{Reasons, reason_at, is_usable_type, entry_is_usable, element_is_usable, types_are_usable, target_place, target_is_usable, targets_are_usable}
-use Rattle.fhir_schema.specs.Settling.{fault_of, has_tree, lasting_tests, tests, reason_of, round, rounds, no_reasons, found}
+use Rattle.fhir_schema.specs.Settling.{fault_of, has_tree, lasting_tests, tests, reason_of, round, rounds, no_reasons, all_reasons}
 use Rattle.fhir_schema.specs.Usability.{AllApply, IsClosed, IsWithin}
 use Rattle.fhir_schema.specs.Resting.{first_reasons}
-use Rattle.fhir_schema.proofs.Rounds.{rounds_fixed}
-use Rattle.fhir_schema.proofs.Failing.{first_fails, none_fails, hold_none, both_hold_more, both_fail_more}
+use Rattle.fhir_schema.proofs.Rounds.{rounds_fixed, one_more}
+use Rattle.fhir_schema.proofs.Failing.{none_fails, hold_none, both_hold_more}
 
 -- ---- lists of reasons
 
@@ -127,49 +127,20 @@ module _ (ds : List Definition) (reasons next : Reasons) (fewer : Fewer reasons 
   targets_more : (d : Definition) → targets_are_usable ds next d ≡ true → targets_are_usable ds reasons d ≡ true
   targets_more d e = all_more (target_is_usable ds next d) (target_is_usable ds reasons d) (target_more d) d.elements e
 
-  pub applies_more : (d : Definition) (r : Reason) → Contains (tests ds reasons d) (false, r) → Contains (tests ds next d) (false, r)
-  applies_more d r h =
-      both_fail_more (types_are_usable ds reasons d) (types_are_usable ds next d) UnusableType
-      (targets_are_usable ds reasons d) (targets_are_usable ds next d) MissingContent
-      ((has_tree ds d, NoTree) ∷ []) (lasting_tests ds d) (fault_of d) r (types_more d) (targets_more d) h
-
   pub tests_less : (d : Definition) → IsTrue (all_hold (tests ds next d)) → IsTrue (all_hold (tests ds reasons d))
   tests_less d h =
       both_hold_more (types_are_usable ds next d) (types_are_usable ds reasons d) UnusableType
       (targets_are_usable ds next d) (targets_are_usable ds reasons d) MissingContent
       ((has_tree ds d, NoTree) ∷ []) (lasting_tests ds d) (fault_of d) (types_more d) (targets_more d) h
 
-pub iff_same : (a b : Bool) → (a ≡ true → b ≡ true) → (b ≡ true → a ≡ true) → a ≡ b
-iff_same true b there back = sym (there refl)
-iff_same false true there back = back refl
-iff_same false false there back = refl
-
--- the tests are the same where the same definitions can't be used
-module _ (ds : List Definition) (a b : Reasons) (same : (p : ℕ) → is_some (reason_at a p) ≡ is_some (reason_at b p)) where
-  fewer_there : Fewer a b
-  unfolding Fewer
-  fewer_there place none = same place ∙ none
-
-  fewer_back : Fewer b a
-  unfolding Fewer
-  fewer_back place none = sym (same place) ∙ none
-
-  pub tests_same : (d : Definition) → tests ds a d ≡ tests ds b d
-  tests_same d =
-      let types : types_are_usable ds a d ≡ types_are_usable ds b d =
-      iff_same (types_are_usable ds a d) (types_are_usable ds b d) (types_more ds b a fewer_back d) (types_more ds a b fewer_there d) in
-      let targets : targets_are_usable ds a d ≡ targets_are_usable ds b d =
-      iff_same (targets_are_usable ds a d) (targets_are_usable ds b d) (targets_more ds b a fewer_back d) (targets_more ds a b fewer_there d) in
-      λ i. fault_of d ++ (types i, UnusableType) ∷ (has_tree ds d, NoTree) ∷ (targets i, MissingContent) ∷ lasting_tests ds d
-
 module _ (ds : List Definition) (is_placed : (i : ℕ) (d : Definition) → slice_get ds i ≡ Some d → d.place ≡ i) where
   -- a round at a place
-  pub round_at_from : (f : Definition → Option Reason) (ds : List Definition) (i : ℕ) (d : Definition) → slice_get ds i ≡ Some d → get_or (map f ds) i None ≡ f d
+  round_at_from : (f : Definition → Option Reason) (ds : List Definition) (i : ℕ) (d : Definition) → slice_get ds i ≡ Some d → get_or (map f ds) i None ≡ f d
   round_at_from f [] i d h = cc
   round_at_from f (x ∷ xs) zero d h = let same : x ≡ d = cc in ap f same
   round_at_from f (x ∷ xs) (suc i) d h = round_at_from f xs i d h
 
-  round_at : (reasons : Reasons) (d : Definition) → slice_get ds d.place ≡ Some d → reason_at (round ds reasons) d.place ≡ reason_of ds reasons d
+  pub round_at : (reasons : Reasons) (d : Definition) → slice_get ds d.place ≡ Some d → reason_at (round ds reasons) d.place ≡ reason_of ds reasons d
   round_at reasons d h = round_at_from (reason_of ds reasons) ds d.place d h
 
   -- what has a reason has a definition
@@ -191,7 +162,11 @@ module _ (ds : List Definition) (is_placed : (i : ℕ) (d : Definition) → slic
       let of : reason_of ds reasons d ≡ Some r = rw kept refl in
       round_at_from (reason_of ds reasons) ds i d s.1 ∙ of
 
-  length_round : (reasons : Reasons) → length (round ds reasons) ≡ length ds
+  pub keeps : (reasons : Reasons) → length reasons ≡ length ds → (i : ℕ) (r : Reason) → reason_at reasons i ≡ Some r → reason_at (round ds reasons) i ≡ Some r
+  unfolding Extends
+  keeps reasons e i r h = round_keeps reasons e i r h
+
+  pub length_round : (reasons : Reasons) → length (round ds reasons) ≡ length ds
   length_round reasons = length-map ds (reason_of ds reasons)
 
   -- ---- coming to rest
@@ -220,7 +195,7 @@ module _ (ds : List Definition) (is_placed : (i : ℕ) (d : Definition) → slic
   none_at (x ∷ xs) zero = refl
   none_at (x ∷ xs) (suc i) = none_at xs i
 
-  pub none_fewer : Fewer (no_reasons ds) (found ds)
+  pub none_fewer : Fewer (no_reasons ds) (all_reasons ds)
   unfolding Fewer
   none_fewer place h = ap is_some (none_at ds place)
 
@@ -231,77 +206,47 @@ module _ (ds : List Definition) (is_placed : (i : ℕ) (d : Definition) → slic
   length_rounds zero reasons e = e
   length_rounds (suc n) reasons e = length_rounds n (round ds reasons) (length_round reasons)
 
-  at_rest : round ds (found ds) ≡ found ds
+  pub at_rest : round ds (all_reasons ds) ≡ all_reasons ds
   at_rest = rests (length ds) (no_reasons ds) (length_none ds) (omega arith)
 
-  pub closed : IsClosed ds (found ds)
+  pub closed : IsClosed ds (all_reasons ds)
   closed d at none =
-      let of : reason_of ds (found ds) d ≡ None =
-      sym (round_at (found ds) d at) ∙ ap (λ l. reason_at l d.place) at_rest ∙ none in
-      none_fails (tests ds (found ds) d) (rw none at of)
+      let of : reason_of ds (all_reasons ds) d ≡ None =
+      sym (round_at (all_reasons ds) d at) ∙ ap (λ l. reason_at l d.place) at_rest ∙ none in
+      none_fails (tests ds (all_reasons ds) d) (rw none at of)
 
-  pub length_all : length (found ds) ≡ length ds
+  pub length_all : length (all_reasons ds) ≡ length ds
   length_all = length_rounds (length ds) (no_reasons ds) (length_none ds)
 
-  -- ---- the reasons of the first round last
+  -- ---- the first round
 
   first_same : (d : Definition) → first_of (tests ds (no_reasons ds) d) ≡ reason_of ds (no_reasons ds) d
   first_same d = rw (none_at ds d.place) refl
 
-  first_round : first_reasons ds ≡ round ds (no_reasons ds)
+  pub first_round : first_reasons ds ≡ round ds (no_reasons ds)
   first_round = λ i. map (λ d. first_same d i) ds
 
-  pub first_at : (d : Definition) → slice_get ds d.place ≡ Some d → reason_at (first_reasons ds) d.place ≡ first_of (tests ds (no_reasons ds) d)
-  first_at d at = round_at_from (λ d. first_of (tests ds (no_reasons ds) d)) ds d.place d at
+  -- ---- the reasons apply to what the rounds before have found
 
-  rounds_keep : (n : ℕ) (reasons : Reasons) → length reasons ≡ length ds → Extends reasons (rounds ds n reasons)
-  unfolding Extends
-  rounds_keep zero reasons e i r h = h
-  rounds_keep (suc n) reasons e i r h = rounds_keep n (round ds reasons) (length_round reasons) i r (round_keeps reasons e i r h)
-
-  round_lasts : (n : ℕ) → length ds ≡ n → Extends (round ds (no_reasons ds)) (rounds ds n (no_reasons ds))
-  unfolding Extends
-  round_lasts zero e i r h =
-      let s = has_definition ds (round ds (no_reasons ds)) i r (length_round (no_reasons ds)) h in
-      let within : i < length ds = slice_get_within ds i s.0 s.1 in absurd (omega arith)
-  round_lasts (suc n) e i r h = rounds_keep n (round ds (no_reasons ds)) (length_round (no_reasons ds)) i r h
-
-  pub first_lasts : (place : ℕ) (r : Reason) → reason_at (first_reasons ds) place ≡ Some r → reason_at (found ds) place ≡ Some r
-  unfolding Extends
-  first_lasts place r h = round_lasts (length ds) refl place r (sym (ap (λ l. reason_at l place) first_round) ∙ h)
-
-  -- ---- the reasons that are reasons apply
-
-  fewer_before : (reasons : Reasons) → length reasons ≡ length ds → Fewer reasons (round ds reasons)
-  unfolding Fewer Extends
-  fewer_before reasons e place none = go (reason_at reasons place) refl
+  apply_from : (d : Definition) (r : Reason) → slice_get ds d.place ≡ Some d → (n : ℕ) → reason_at (rounds ds n (no_reasons ds)) d.place ≡ Some r
+      → (m : ℕ) × (reason_at (rounds ds m (no_reasons ds)) d.place ≡ None) × (first_of (tests ds (rounds ds m (no_reasons ds)) d) ≡ Some r)
+  apply_from d r at zero h = let no : None ≡ Some r = sym (none_at ds d.place) ∙ h in cc
+  apply_from d r at (suc n) h = go (reason_at (rounds ds n (no_reasons ds)) d.place) refl (apply_from d r at n)
     where
-      go : (o : Option Reason) → reason_at reasons place ≡ o → is_some o ≡ false
-      go None is = refl
-      go (Some r) is =
-          let kept : reason_at (round ds reasons) place ≡ Some r = round_keeps reasons e place r is in
-          let some : is_some (reason_at (round ds reasons) place) ≡ true = ap is_some kept in cc
+      now : reason_of ds (rounds ds n (no_reasons ds)) d ≡ Some r
+      now = sym (round_at (rounds ds n (no_reasons ds)) d at) ∙ ap (λ l. reason_at l d.place) (sym (one_more ds n (no_reasons ds))) ∙ h
 
-  apply_round : (reasons : Reasons) → length reasons ≡ length ds → AllApply ds reasons → AllApply ds (round ds reasons)
-  apply_round reasons e all d r at h =
-      applies_more ds reasons (round ds reasons) (fewer_before reasons e) d r (go (reason_at reasons d.place) refl)
-    where
-      now : reason_of ds reasons d ≡ Some r
-      now = sym (round_at reasons d at) ∙ h
+      go : (o : Option Reason) → reason_at (rounds ds n (no_reasons ds)) d.place ≡ o
+          → (reason_at (rounds ds n (no_reasons ds)) d.place ≡ Some r
+              → (m : ℕ) × (reason_at (rounds ds m (no_reasons ds)) d.place ≡ None) × (first_of (tests ds (rounds ds m (no_reasons ds)) d) ≡ Some r))
+          → (m : ℕ) × (reason_at (rounds ds m (no_reasons ds)) d.place ≡ None) × (first_of (tests ds (rounds ds m (no_reasons ds)) d) ≡ Some r)
+      go None is before = (n, is, ap (λ o. option_or o (first_of (tests ds (rounds ds n (no_reasons ds)) d))) (sym is) ∙ now)
+      go (Some x) is before =
+          let same : Some x ≡ Some r = ap (λ o. option_or o (first_of (tests ds (rounds ds n (no_reasons ds)) d))) (sym is) ∙ now in
+          before (is ∙ same)
 
-      go : (o : Option Reason) → reason_at reasons d.place ≡ o → Contains (tests ds reasons d) (false, r)
-      go (Some x) is =
-          let of : reason_of ds reasons d ≡ Some x = rw is refl in
-          let same : reason_at reasons d.place ≡ Some r = is ∙ sym of ∙ now in
-          all d r at same
-      go None is = first_fails (tests ds reasons d) r (rw is at now)
-
-  apply_rounds : (n : ℕ) (reasons : Reasons) → length reasons ≡ length ds → AllApply ds reasons → AllApply ds (rounds ds n reasons)
-  apply_rounds zero reasons e all = all
-  apply_rounds (suc n) reasons e all = apply_rounds n (round ds reasons) (length_round reasons) (apply_round reasons e all)
-
-  pub apply : AllApply ds (found ds)
-  apply = apply_rounds (length ds) (no_reasons ds) (length_none ds) (λ d r at h. (let no : None ≡ Some r = sym (none_at ds d.place) ∙ h in cc))
+  pub apply : AllApply ds (all_reasons ds)
+  apply d r at h = apply_from d r at (length ds) h
 
   -- ---- nothing closed is smaller
 
@@ -344,7 +289,7 @@ module _ (ds : List Definition) (is_placed : (i : ℕ) (d : Definition) → slic
   rounds_within (suc n) reasons other e shut h =
       rounds_within n (round ds reasons) other (length_round reasons) shut (round_within reasons other e shut h)
 
-  pub least : (other : Reasons) → IsClosed ds other → IsWithin (found ds) other
+  pub least : (other : Reasons) → IsClosed ds other → IsWithin (all_reasons ds) other
   least other shut =
       rounds_within (length ds) (no_reasons ds) other (length_none ds) shut
       (λ place some. (let no : is_some (reason_at (no_reasons ds) place) ≡ false = ap is_some (none_at ds place) in cc))

@@ -24,7 +24,7 @@ use Rattle.fhir_schema.specs.Schemas.{schema_with, is_loaded, unusable, root, ro
 -- ---- what is found under a url
 
 -- a definition is at the place that is found
-found : (es : List Definition) (url : Text) (place : ℕ) → url_place es url ≡ Some place
+pub found : (es : List Definition) (url : Text) (place : ℕ) → url_place es url ≡ Some place
     → (d : Definition) × (k : ℕ) × (slice_get es k ≡ Some d) × (d.place ≡ place)
 found [] url place e = absurd (none-some place e)
 found (x ∷ es) url place e = go (bytes_eq url x.url) e (found es url place)

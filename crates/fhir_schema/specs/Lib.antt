@@ -6,3 +6,4 @@ pub mod Lineages
 pub mod Covers
 pub mod Resting
 pub mod Expressions
+pub mod Blaming

@@ -1,8 +1,7 @@
--- Which definitions rest on which, by their types and by the elements that they refer to, and what follows where one can't be used (used by private contracts alone).
-use Rattle.std.specs.Prelude.{ℕ, suc, List, [], ◌∷◌, ◌++◌, map, length, replicate, set, Bool, ◌&&◌, nat_lt, Option, Some, is_some, is_none, if◌then◌else◌}
+-- Which definitions rest on which, by their types and by the elements that they refer to (used by private contracts alone).
+use Rattle.std.specs.Prelude.{ℕ, suc, List, [], ◌∷◌, ◌++◌, map, length, replicate, Option, Some, is_some, is_none, if◌then◌else◌}
 use Rattle.std.specs.List.{flat_map}
 use Rattle.fhir_elements.specs.declared.reason.Reason.{Reason}
-use Rattle.fhir_elements.specs.declared.reason.Reason.TheVariants.{UnusableType}
 use Rattle.fhir_elements.specs.TypeEntry.{TypeEntry}
 use Rattle.fhir_elements.specs.Element.{Element}
 use Rattle.fhir_elements.specs.Tests.{first_of}
@@ -10,7 +9,7 @@ use Rattle.fhir_definition.specs.Snapshot.{is_root}
 use Rattle.fhir_definition.specs.Definition.{Definition}
 use Rattle.fhir_definition.specs.Gathering.{put_at}
 use Rattle.fhir_nodes.specs.Types.{type_place, is_system}
-use Rattle.fhir_schema.specs.Settling.{Reasons, reason_at, target_place, tests, no_reasons}
+use Rattle.fhir_schema.specs.Settling.{Reasons, target_place, tests, no_reasons}
 
 -- ---- the places of what is asked for
 
@@ -46,13 +45,9 @@ users_of ds = users_from ds ds (replicate (length ds) [])
 
 -- ---- what follows
 
--- the reason of the first test that each fails
-abbrev pub failing : List Definition → Reasons → Reasons
-failing ds reasons = map (λ d. first_of (tests ds reasons d)) ds
-
--- why each can't be used, where it rests on no other that can't
+-- why each can't be used, where it rests on no other that can't: the first round
 abbrev pub first_reasons : List Definition → Reasons
-first_reasons ds = failing ds (no_reasons ds)
+first_reasons ds = map (λ d. first_of (tests ds (no_reasons ds) d)) ds
 
 abbrev pub unusable_at : ℕ → Option Reason → List ℕ
 unusable_at place reason = if is_some reason then place ∷ [] else []
@@ -61,22 +56,3 @@ unusable_at place reason = if is_some reason then place ∷ [] else []
 abbrev pub unusable_from : ℕ → Reasons → List ℕ
 unusable_from place [] = []
 unusable_from place (reason ∷ reasons) = unusable_at place reason ++ unusable_from (suc place) reasons
-
-abbrev pub is_unmarked : Reasons → ℕ → Bool
-is_unmarked reasons place = nat_lt place (length reasons) && is_none (reason_at reasons place)
-
--- the reasons with one for a place that has none
-abbrev pub marked : ℕ → Reasons → Reasons
-marked place reasons = if is_unmarked reasons place then set reasons place (Some UnusableType) else reasons
-
--- a queue with a place behind it that has no reason
-abbrev pub queued : ℕ → Reasons → List ℕ → List ℕ
-queued place reasons queue = if is_unmarked reasons place then queue ++ place ∷ [] else queue
-
-abbrev pub marked_all : List ℕ → Reasons → Reasons
-marked_all [] reasons = reasons
-marked_all (place ∷ places) reasons = marked_all places (marked place reasons)
-
-abbrev pub queued_all : List ℕ → Reasons → List ℕ → List ℕ
-queued_all [] reasons queue = queue
-queued_all (place ∷ places) reasons queue = queued_all places (marked place reasons) (queued place reasons queue)

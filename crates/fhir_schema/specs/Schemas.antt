@@ -52,6 +52,10 @@ is_usable s place = is_none (reason_at s.reasons place)
 abbrev pub elements_at : SchemaValue → ℕ → List Element
 elements_at s place = elements_in s.definitions place
 
+-- those of the definition at a url
+abbrev pub elements_of_url : SchemaValue → Text → List Element
+elements_of_url s url = option_map_or (elements_at s) (url_place s.definitions url) []
+
 -- the node is an element of a definition that can be used
 abbrev pub has : SchemaValue → NodeRef → Bool
 has s n = is_usable s n.definition && nat_lt n.element (length (elements_at s n.definition))

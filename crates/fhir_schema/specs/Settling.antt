@@ -120,14 +120,6 @@ rounds ds (suc n) reasons = rounds ds n (round ds reasons)
 abbrev pub no_reasons : List Definition → Reasons
 no_reasons ds = map (λ d. None) ds
 
--- what is found in as many rounds as there are definitions
-abbrev pub found : List Definition → Reasons
-found ds = rounds ds (length ds) (no_reasons ds)
-
--- Why a definition can't be used, where that is found: the first that applies whichever others can't be used, and else the
--- first that applies since others can't.
-abbrev pub first_reason : List Definition → Reasons → Definition → Option Reason
-first_reason ds reasons d = option_or (first_of (tests ds (no_reasons ds) d)) (first_of (tests ds reasons d))
-
+-- why each can't be used: what is found in as many rounds as there are definitions
 abbrev pub all_reasons : List Definition → Reasons
-all_reasons ds = map (first_reason ds (found ds)) ds
+all_reasons ds = rounds ds (length ds) (no_reasons ds)

@@ -1,16 +1,17 @@
--- What it is that a definition can't be used, in words that don't speak of rounds.
-use Rattle.std.specs.Prelude.{◌≡◌, ℕ, List, false, None, Some, is_some, IsTrue}
-use Rattle.std.specs.List.{slice_get, Contains}
+-- What it is that a definition can't be used.
+use Rattle.std.specs.Prelude.{◌≡◌, ℕ, List, None, Some, is_some, IsTrue}
+use Rattle.std.specs.List.{slice_get}
 use Rattle.fhir_elements.specs.declared.reason.Reason.{Reason}
-use Rattle.fhir_elements.specs.Tests.{all_hold}
+use Rattle.fhir_elements.specs.Tests.{first_of, all_hold}
 use Rattle.fhir_definition.specs.Definition.{Definition}
-use Rattle.fhir_schema.specs.Settling.{Reasons, reason_at, tests}
+use Rattle.fhir_schema.specs.Settling.{Reasons, reason_at, tests, no_reasons, rounds}
 
--- each definition that can't be used fails a test, with the reason that it has
+-- each definition that can't be used has the reason of the first test that it fails by what some number of rounds have found,
+-- among which it isn't
 abbrev pub AllApply : List Definition → Reasons → Type 0
 AllApply ds reasons =
     (d : Definition) (reason : Reason) → slice_get ds d.place ≡ Some d → reason_at reasons d.place ≡ Some reason
-    → Contains (tests ds reasons d) (false, reason)
+    → (n : ℕ) × (reason_at (rounds ds n (no_reasons ds)) d.place ≡ None) × (first_of (tests ds (rounds ds n (no_reasons ds)) d) ≡ Some reason)
 
 -- a definition that can be used fails no test
 abbrev pub IsClosed : List Definition → Reasons → Type 0

@@ -27,7 +27,7 @@ mod schema;
 mod settling;
 mod types;
 
-pub use fhir_forms::{Content, Criterion, Form, MAX_DISCRIMINATORS, Property, Sought};
+pub use fhir_forms::{Content, Criterion, Form, Property, Sought};
 pub use fhir_nodes::{NodeRef, Slot, is_system};
 pub use laws::{
     concepts_of_package, covering_codes, least_closed, named_nodes, one_meaning, roots_are_roots,

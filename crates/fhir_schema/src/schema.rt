@@ -1,10 +1,13 @@
 //! The schema of a package.
 
-ghost use Rattle.std.specs.Prelude.{◌≡◌, false, IsTrue, IfOk};
+ghost use Rattle.std.specs.Prelude.{◌≡◌, length, false, IsTrue, IfOk};
 ghost use Rattle.std.specs.Option.{option_copied, option_map, option_map_or};
 ghost use Rattle.fhir_json.specs.Memory.{Gives};
-ghost use Rattle.fhir_schema.specs.Schemas.{schema_of, schema_with, unusable, is_usable, elements_at, has, element_at, url_at, id_of_node, is_root_node, node_in, root_element, root, node_with, node, slots, slot_named, slices, slice_named, criteria, is_closed, target, holder, types, forms, property, type_root, resource_root, is_concrete, is_loaded, loaded, concepts_at};
+ghost use Rattle.fhir_schema.specs.Schemas.{schema_of, schema_with, unusable, is_usable, elements_at, elements_of_url, has, element_at, url_at, id_of_node, is_root_node, node_in, root_element, root, node_with, node, slots, slot_named, slices, slice_named, criteria, is_closed, target, holder, types, forms, property, type_root, resource_root, is_concrete, is_loaded, loaded, concepts_at};
+ghost use Rattle.fhir_elements.specs.Causes.{blamed_reason, is_blame_among};
+ghost use Rattle.fhir_definition.specs.Blames.{AreBlamesAmong};
 ghost use Rattle.fhir_schema.specs.Settling.{reason_at, all_reasons};
+ghost use Rattle.fhir_schema.specs.Blaming.{reasons_of};
 ghost use Rattle.fhir_nodes.specs.Slots.{all_slots, all_slices};
 ghost use Rattle.fhir_nodes.specs.Expressions.{all_expressions};
 ghost use Rattle.fhir_nodes.specs.Readings.{lists_seen};
@@ -19,11 +22,11 @@ ghost use Rattle.fhir_schema.specs.Covers.{type_at, covers, derives};
 
 use crate::covering::{covers, derives};
 use crate::lineage::Lineage;
-use crate::settling::all_reasons;
-use crate::types::reason_at;
+use crate::settling::all_blames;
+use crate::types::blame_at;
 use fhir_codes::{ConceptSet, ValueSets};
 use fhir_definition::Definition;
-use fhir_elements::{ElementDef, Reason, TypeEntry};
+use fhir_elements::{Blame, ElementDef, Reason, TypeEntry};
 use fhir_forms::{Criteria, Criterion, Form, NodeForms, Property, is_closed};
 use fhir_fp_syntax::Expr;
 use fhir_json::NoMemory;
@@ -40,7 +43,7 @@ use std::marker::Model;
 pub struct Schema {
     table: Table,
     lineage: Lineage,
-    reasons: Vec<Option<Reason>>,
+    blames: Vec<Option<Blame>>,
     nodes: Nodes,
     slices: Nodes,
     criteria: Criteria,
@@ -67,10 +70,12 @@ impl Model for Schema {
     ghost use Rattle.fhir_nodes.specs.Expressions.{all_expressions};
     ghost use Rattle.fhir_nodes.specs.Readings.{lists_seen};
     ghost use Rattle.fhir_schema.specs.Lineages.{IsLineage};
+    ghost use Rattle.fhir_schema.specs.Blaming.{reasons_of};
+    ghost use Rattle.fhir_definition.specs.Blames.{AreBlamesAmong};
 
-    ghost view = { λ s. record { definitions = s.table; reasons = s.reasons.items; value_sets = s.value_sets } };
+    ghost view = { λ s. record { definitions = s.table; reasons = reasons_of s.blames.items; value_sets = s.value_sets } };
 
-    ghost invariant = { λ s. (s.nodes ≡ all_slots s.table) × (s.slices ≡ all_slices s.table) × (s.criteria.criteria ≡ all_criteria s.table) × (s.forms.forms ≡ all_forms s.table) × (lists_seen s.expressions ≡ all_expressions s.table) × IsLineage s.table s.lineage };
+    ghost invariant = { λ s. (s.nodes ≡ all_slots s.table) × (s.slices ≡ all_slices s.table) × (s.criteria.criteria ≡ all_criteria s.table) × (s.forms.forms ≡ all_forms s.table) × (lists_seen s.expressions ≡ all_expressions s.table) × IsLineage s.table s.lineage × AreBlamesAmong s.table s.blames.items };
 }
 
 // What definitions say of their own nodes, and of one another's bases.
@@ -100,27 +105,28 @@ fn own_parts(alloc: Global, table: &Table) -> Result<OwnParts, NoMemory>
     })
 }
 
-// The criteria and the forms of definitions, and why some of them can't be used.
+// The criteria and the forms of definitions, and what is to blame for those that can't be used.
 #[derive(Drop)]
 struct JudgedParts {
     criteria: Criteria,
     forms: NodeForms,
-    reasons: Vec<Option<Reason>>,
+    blames: Vec<Option<Blame>>,
 }
 
 fn judged_parts(alloc: Global, table: &Table, nodes: &Nodes) -> Result<JudgedParts, NoMemory>
     requires { nodes.now ≡ all_slots table.now }
     ensures criteria { IfOk result (λ p. p.criteria.criteria ≡ all_criteria table.now) }
     ensures forms { IfOk result (λ p. p.forms.forms ≡ all_forms table.now) }
-    ensures reasons { IfOk result (λ p. p.reasons.items ≡ all_reasons table.now) }
+    ensures reasons { IfOk result (λ p. reasons_of p.blames.items ≡ all_reasons table.now) }
+    ensures elements { IfOk result (λ p. AreBlamesAmong table.now p.blames.items) }
 {
     let criteria = Criteria::of(alloc, table, nodes)?;
     let forms = NodeForms::of(alloc, table, nodes)?;
-    let reasons = all_reasons(alloc, table, forms.are_apart(), criteria.are_told())?;
+    let blames = all_blames(alloc, table, forms.blames(), criteria.blames())?;
     Ok(JudgedParts {
         criteria,
         forms,
-        reasons,
+        blames,
     })
 }
 
@@ -143,7 +149,7 @@ impl Schema {
         Ok(Schema {
             table,
             lineage: own.lineage,
-            reasons: judged.reasons,
+            blames: judged.blames,
             nodes: own.nodes,
             slices: own.slices,
             criteria: judged.criteria,
@@ -171,7 +177,8 @@ impl Schema {
     pub fn reason(&self, place: usize) -> Option<Reason>
         ensures { result ≡ reason_at self.now.reasons place }
     {
-        reason_at(&self.reasons, place)
+        let blame = blame_at(&self.blames, place)?;
+        Some(blame.cause.reason())
     }
 
     /// Why the definition at a url can't be used, if it is there and can't.
@@ -179,7 +186,20 @@ impl Schema {
         ensures { result ≡ unusable self.now url.now }
     {
         match self.table.url_place(url) {
-            Some(place) => reason_at(&self.reasons, place),
+            Some(place) => self.reason(place),
+            None => None,
+        }
+    }
+
+    /// What is to blame where the definition at a url can't be used: its cause is of the reason that `unusable` gives, and its
+    /// element is one of the definition's.
+    pub fn blame(&self, url: &str) -> Option<Blame>
+        ensures reason { blamed_reason result ≡ unusable self.now url.now }
+        ensures element { is_blame_among (length (elements_of_url self.now url.now)) result }
+    {
+        self.table.are_placed();
+        match self.table.url_place(url) {
+            Some(place) => blame_at(&self.blames, place),
             None => None,
         }
     }
@@ -187,7 +207,7 @@ impl Schema {
     fn is_usable(&self, place: usize) -> bool
         ensures { result ≡ is_usable self.now place }
     {
-        reason_at(&self.reasons, place).is_none()
+        blame_at(&self.blames, place).is_none()
     }
 
     fn elements_at(&self, place: usize) -> &[ElementDef]

@@ -1,79 +1,126 @@
 //! What a definition says of others: its types, the elements that it refers to, and the chain of its bases.
 
-ghost use Rattle.std.specs.Prelude.{◌≡◌};
-ghost use Rattle.std.specs.Option.{option_map_or, option_and_then};
+ghost use Rattle.std.specs.Prelude.{◌≡◌, length};
+ghost use Rattle.std.specs.Option.{option_map, option_map_or, option_and_then};
 ghost use Rattle.std.specs.List.{list_all, slice_get};
+ghost use Rattle.fhir_elements.specs.Causes.{reason_of, blamed_reason, reason_unless, is_blame_among};
+ghost use Rattle.fhir_elements.specs.declared.reason.Reason.TheVariants.{UnusableType, MissingContent};
 ghost use Rattle.fhir_nodes.specs.Urls.{canonical_place};
 ghost use Rattle.fhir_schema.specs.Settling.{reason_at, is_usable_type, entry_is_usable, element_is_usable, types_are_usable, target_place, target_is_usable, targets_are_usable, base_place, is_first_of_type};
+ghost use Rattle.fhir_schema.specs.Blaming.{reasons_of, blame_at};
 
 use fhir_definition::{Definition, is_root};
-use fhir_elements::{ElementDef, Reason, TypeEntry};
+use fhir_elements::{Blame, Cause, ElementDef, TypeEntry};
 use fhir_nodes::{Table, canonical_place, content_target, is_system};
 
-/// What has been found of the definition at a place.
-pub(crate) fn reason_at(reasons: &[Option<Reason>], place: usize) -> Option<Reason>
-    ensures { result ≡ reason_at reasons.now place }
+/// What is to blame for the definition at a place.
+pub(crate) fn blame_at(blames: &[Option<Blame>], place: usize) -> Option<Blame>
+    ensures blame { result ≡ blame_at blames.now place }
+    ensures reason { blamed_reason result ≡ reason_at (reasons_of blames.now) place }
 {
-    match reasons.get(place) {
-        Some(reason) => *reason,
+    match blames.get(place) {
+        Some(blame) => *blame,
         None => None,
     }
 }
 
-fn is_usable_type(table: &Table, reasons: &[Option<Reason>], code: &str) -> bool
-    ensures { result ≡ is_usable_type table.now reasons.now code.now }
-{
-    match table.type_place(code) {
-        Some(place) => reason_at(reasons, place).is_none(),
-        None => false,
+// The definition on which one that can't be used rests in the end: itself, where it rests on no other.
+fn origin_of(place: usize, blame: Blame) -> usize {
+    match blame.cause {
+        Cause::UnusableType { origin, .. } | Cause::UnusableContent { origin, .. } => origin,
+        _ => place,
     }
 }
 
-fn entry_is_usable(table: &Table, reasons: &[Option<Reason>], entry: &TypeEntry) -> bool
-    ensures { result ≡ entry_is_usable table.now reasons.now entry.now }
+fn type_cause(
+    table: &Table,
+    blames: &[Option<Blame>],
+    code: &str,
+    entry: Option<usize>,
+) -> Option<Cause>
+    ensures { option_map reason_of result ≡ reason_unless (is_usable_type table.now (reasons_of blames.now) code.now) UnusableType }
+{
+    let Some(definition) = table.type_place(code) else {
+        return Some(Cause::MissingType(entry));
+    };
+    match blame_at(blames, definition) {
+        Some(blame) => Some(Cause::UnusableType {
+            entry,
+            definition,
+            origin: origin_of(definition, blame),
+        }),
+        None => None,
+    }
+}
+
+fn entry_cause(
+    table: &Table,
+    blames: &[Option<Blame>],
+    entry: &TypeEntry,
+    place: usize,
+) -> Option<Cause>
+    ensures { option_map reason_of result ≡ reason_unless (entry_is_usable table.now (reasons_of blames.now) entry.now) UnusableType }
 {
     let code = entry.code();
-    is_system(code) || is_usable_type(table, reasons, code)
+    if is_system(code) {
+        return None;
+    }
+    type_cause(table, blames, code, Some(place))
 }
 
-fn entries_are_usable(table: &Table, reasons: &[Option<Reason>], entries: &[TypeEntry]) -> bool
-    ensures { result ≡ list_all (entry_is_usable table.now reasons.now) entries.now }
+fn entries_cause(table: &Table, blames: &[Option<Blame>], entries: &[TypeEntry]) -> Option<Cause>
+    ensures { option_map reason_of result
+        ≡ reason_unless (list_all (entry_is_usable table.now (reasons_of blames.now)) entries.now) UnusableType }
 {
-    for entry in entries {
-        if !entry_is_usable(table, reasons, entry) {
-            return false;
+    for (place, entry) in entries.iter().enumerate() {
+        let cause = entry_cause(table, blames, entry, place);
+        if cause.is_some() {
+            return cause;
         }
     }
-    true
+    None
 }
 
-fn element_is_usable(table: &Table, reasons: &[Option<Reason>], element: &ElementDef) -> bool
-    ensures { result ≡ element_is_usable table.now reasons.now element.now }
+fn element_cause(table: &Table, blames: &[Option<Blame>], element: &ElementDef) -> Option<Cause>
+    ensures { option_map reason_of result ≡ reason_unless (element_is_usable table.now (reasons_of blames.now) element.now) UnusableType }
 {
-    is_root(element) || entries_are_usable(table, reasons, element.types())
-}
-
-fn elements_are_usable(table: &Table, reasons: &[Option<Reason>], elements: &[ElementDef]) -> bool
-    ensures { result ≡ list_all (element_is_usable table.now reasons.now) elements.now }
-{
-    for element in elements {
-        if !element_is_usable(table, reasons, element) {
-            return false;
-        }
+    if is_root(element) {
+        return None;
     }
-    true
+    entries_cause(table, blames, element.types())
 }
 
-/// Whether its own type and the types of its elements can be used.
-pub(crate) fn types_are_usable(
+fn elements_blame(
     table: &Table,
-    reasons: &[Option<Reason>],
-    definition: &Definition,
-) -> bool
-    ensures { result ≡ types_are_usable table.now reasons.now definition.now }
+    blames: &[Option<Blame>],
+    elements: &[ElementDef],
+) -> Option<Blame>
+    ensures reason { blamed_reason result
+        ≡ reason_unless (list_all (element_is_usable table.now (reasons_of blames.now)) elements.now) UnusableType }
+    ensures element { is_blame_among (length elements.now) result }
 {
-    is_usable_type(table, reasons, definition.type_code())
-        && elements_are_usable(table, reasons, definition.elements())
+    for (place, element) in elements.iter().enumerate() {
+        if let Some(cause) = element_cause(table, blames, element) {
+            return Some(Blame::at(place, cause));
+        }
+    }
+    None
+}
+
+/// What is to blame where its own type, or a type of its elements, can't be used.
+pub(crate) fn types_blame(
+    table: &Table,
+    blames: &[Option<Blame>],
+    definition: &Definition,
+) -> Option<Blame>
+    ensures reason { blamed_reason result
+        ≡ reason_unless (types_are_usable table.now (reasons_of blames.now) definition.now) UnusableType }
+    ensures element { is_blame_among (length definition.now.elements) result }
+{
+    if let Some(cause) = type_cause(table, blames, definition.type_code(), None) {
+        return Some(Blame::whole(cause));
+    }
+    elements_blame(table, blames, definition.elements())
 }
 
 /// The place of the definition that has the element to which another refers for its content.
@@ -90,37 +137,46 @@ pub(crate) fn target_place(
     }
 }
 
-fn target_is_usable(
+fn target_cause(
     table: &Table,
-    reasons: &[Option<Reason>],
+    blames: &[Option<Blame>],
     definition: &Definition,
     element: &ElementDef,
-) -> bool
-    ensures { result ≡ target_is_usable table.now reasons.now definition.now element.now }
+) -> Option<Cause>
+    ensures { option_map reason_of result
+        ≡ reason_unless (target_is_usable table.now (reasons_of blames.now) definition.now element.now) MissingContent }
 {
     if element.content_reference().is_none() {
-        return true;
+        return None;
     }
-    match target_place(table, definition, element) {
-        Some(place) => reason_at(reasons, place).is_none(),
-        None => false,
+    let Some(target) = target_place(table, definition, element) else {
+        return Some(Cause::MissingContent);
+    };
+    match blame_at(blames, target) {
+        Some(blame) => Some(Cause::UnusableContent {
+            definition: target,
+            origin: origin_of(target, blame),
+        }),
+        None => None,
     }
 }
 
-/// Whether the elements to which its elements refer for their contents are there, and can be used.
-pub(crate) fn targets_are_usable(
+/// What is to blame where an element to which one of its elements refers for its content isn't there, or can't be used.
+pub(crate) fn targets_blame(
     table: &Table,
-    reasons: &[Option<Reason>],
+    blames: &[Option<Blame>],
     definition: &Definition,
-) -> bool
-    ensures { result ≡ targets_are_usable table.now reasons.now definition.now }
+) -> Option<Blame>
+    ensures reason { blamed_reason result
+        ≡ reason_unless (targets_are_usable table.now (reasons_of blames.now) definition.now) MissingContent }
+    ensures element { is_blame_among (length definition.now.elements) result }
 {
-    for element in definition.elements() {
-        if !target_is_usable(table, reasons, definition, element) {
-            return false;
+    for (place, element) in definition.elements().iter().enumerate() {
+        if let Some(cause) = target_cause(table, blames, definition, element) {
+            return Some(Blame::at(place, cause));
         }
     }
-    true
+    None
 }
 
 /// The place of its base.

@@ -1,6 +1,6 @@
 use Rattle.fhir_definition.specs.Definition.{definitions_from}
 use Rattle.fhir_nodes.proofs.Placing.{placed}
-use Rattle.fhir_schema.proofs.Answering.{closed, apply, least}
+use Rattle.fhir_schema.proofs.Settles.{closed, apply, least}
 use Rattle.fhir_schema.proofs.laws.least_closed.Goals as goal
 
 pub returns : goal.returns

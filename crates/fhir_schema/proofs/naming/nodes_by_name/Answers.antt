@@ -1,7 +1,7 @@
 use Rattle.fhir_codes.specs.Expanding.{expansions_of}
 use Rattle.fhir_definition.specs.Definition.{definitions_from}
 use Rattle.fhir_nodes.proofs.Placing.{placed}
-use Rattle.fhir_schema.proofs.Answering.{closed}
+use Rattle.fhir_schema.proofs.Settles.{closed}
 use Rattle.fhir_schema.proofs.ByName.{node_found, url_right, id_right, root_right}
 use Rattle.fhir_schema.proofs.naming.nodes_by_name.Goals as goal
 
