@@ -1,6 +1,6 @@
 -- What the first test that fails answers, where some of those before it hold.
 use Rattle.std.proofs.Common.{◌≡◌, Bool, true, false, Option, None, Some, refl}
-use Rattle.std.specs.Prelude.{is_none, if◌then◌else◌}
+use Rattle.std.specs.Prelude.{if◌then◌else◌}
 use Rattle.fhir_elements.specs.declared.reason.Reason.{Reason}
 use Rattle.fhir_elements.specs.Causes.{reason_unless}
 
