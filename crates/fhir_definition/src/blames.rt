@@ -9,7 +9,6 @@ ghost use Rattle.fhir_elements.specs.Causes.{reason_of, blamed_reason, reason_un
 ghost use Rattle.fhir_elements.specs.Element.{element_fault, fields_of};
 ghost use Rattle.fhir_definition.specs.Head.{has_right_head};
 ghost use Rattle.fhir_definition.specs.Bounds.{has_lexical_bounds};
-ghost use Rattle.fhir_definition.specs.Snapshot.{ids_differ};
 ghost use Rattle.fhir_definition.specs.Cases.{reasons_of, is_case_of};
 ghost use Rattle.fhir_definition.specs.Definition.{is_whole, is_wrong_field, is_min_over_max, is_repeated_type, is_wrong_id, element_trees, element_faults, own_fault};
 
