@@ -5,6 +5,7 @@ pub mod Bounds
 pub mod Head
 pub mod Definition
 pub mod Blames
+pub mod Cases
 pub mod Views
 pub mod Gathering
 pub mod Worked

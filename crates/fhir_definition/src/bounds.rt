@@ -1,12 +1,14 @@
 //! Bounds of values, by the names of their properties.
 
-ghost use Rattle.std.specs.Prelude.{◌≡◌, drop, true};
-ghost use Rattle.std.specs.Option.{option_map_or};
+ghost use Rattle.std.specs.Prelude.{◌≡◌, drop, length, true};
+ghost use Rattle.std.specs.Option.{option_map, option_map_or};
 ghost use Rattle.std.specs.List.{list_all};
 ghost use Rattle.fhir_json.specs.Views.{property_of, property_seen};
+ghost use Rattle.fhir_elements.specs.declared.reason.Reason.TheVariants.{WrongField};
+ghost use Rattle.fhir_elements.specs.Causes.{reason_of, blamed_reason, reason_unless, is_blame_among};
 ghost use Rattle.fhir_definition.specs.Bounds.{compared_type, bound_type, is_lexical_bound, has_lexical_bounds};
 
-use fhir_elements::ElementDef;
+use fhir_elements::{Blame, Cause, ElementDef};
 use fhir_json::Member;
 use fhir_prims::{PrimType, lexical};
 
@@ -72,15 +74,27 @@ fn allows_bound(bound: Option<&Member<'_>>) -> bool
     }
 }
 
-fn has_lexical_bounds(element: &ElementDef) -> bool
-    ensures { result ≡ has_lexical_bounds element.now }
+fn wrong_bound(element: &ElementDef) -> Option<Cause>
+    ensures { option_map reason_of result ≡ reason_unless (has_lexical_bounds element.now) WrongField }
 {
-    allows_bound(element.min_value()) && allows_bound(element.max_value())
+    if !allows_bound(element.min_value()) {
+        Some(Cause::WrongBound("minValue"))
+    } else if !allows_bound(element.max_value()) {
+        Some(Cause::WrongBound("maxValue"))
+    } else {
+        None
+    }
 }
 
-/// Whether each bound that is compared is a value of its type.
-pub(crate) fn have_lexical_bounds(elements: &[ElementDef]) -> bool
-    ensures { result ≡ list_all has_lexical_bounds elements.now }
+/// The first element with a bound that is compared and is no value of its type.
+pub(crate) fn blame_of_bounds(elements: &[ElementDef]) -> Option<Blame>
+    ensures reason { blamed_reason result ≡ reason_unless (list_all has_lexical_bounds elements.now) WrongField }
+    ensures element { is_blame_among (length elements.now) result }
 {
-    elements.iter().all(|element| has_lexical_bounds(element))
+    for (place, element) in elements.iter().enumerate() {
+        if let Some(cause) = wrong_bound(element) {
+            return Some(Blame::at(place, cause));
+        }
+    }
+    None
 }

@@ -1,13 +1,15 @@
 //! The elements of a snapshot, found by their ids.
 
-ghost use Rattle.std.specs.Prelude.{◌≡◌, ◌∷◌, List, ℕ, is_some, not, map, IfOk, OnOk, length, suc};
+ghost use Rattle.std.specs.Prelude.{◌≡◌, ◌∷◌, List, ℕ, is_some, not, map, IfOk, OnOk, length, suc, ◌==◌};
 ghost use Rattle.std.specs.List.{list_all, count_by, slice_get};
 ghost use Rattle.fhir_json.specs.Views.{text_seen};
+ghost use Rattle.fhir_elements.specs.declared.reason.Reason.TheVariants.{WrongId, NoTree};
+ghost use Rattle.fhir_elements.specs.Causes.{blamed_reason, reason_unless, is_blame_among};
 ghost use Rattle.fhir_elements.specs.Element.{Element};
 ghost use Rattle.fhir_definition.specs.Snapshot.{id_place, is_at, are_first, ids_differ, up_of, is_root, has_parent, is_tree, root_place, child_place, slice_place};
 ghost use Rattle.fhir_definition.specs.Views.{FindsIds};
 
-use fhir_elements::ElementDef;
+use fhir_elements::{Blame, Cause, ElementDef};
 use fhir_names::{Index, front_of, slice_of, sliced_of};
 use std::alloc::{AllocError, Global};
 use std::marker::Model;
@@ -116,16 +118,17 @@ impl ElementsById {
         is_at(place, self.id_place(element.id()))
     }
 
-    /// Whether no id is repeated.
-    pub(crate) fn ids_differ(&self) -> bool
-        ensures { result ≡ ids_differ self.now }
+    /// The first element whose id an element before it has.
+    pub(crate) fn blame_of_ids(&self) -> Option<Blame>
+        ensures reason { blamed_reason result ≡ reason_unless (ids_differ self.now) WrongId }
+        ensures element { is_blame_among (length self.now) result }
     {
         for (place, element) in self.elements().iter().enumerate() {
             if !self.is_first(place, element) {
-                return false;
+                return Some(Blame::at(place, Cause::RepeatedId));
             }
         }
-        true
+        None
     }
 
     fn has_parent(&self, element: &ElementDef) -> bool
@@ -137,22 +140,27 @@ impl ElementsById {
         }
     }
 
-    fn have_parents(&self) -> bool
-        ensures { result ≡ list_all (has_parent self.now) self.now }
+    fn blame_of_parents(&self) -> Option<Blame>
+        ensures reason { blamed_reason result ≡ reason_unless (list_all (has_parent self.now) self.now) NoTree }
+        ensures element { is_blame_among (length self.now) result }
     {
-        for element in self.elements() {
+        for (place, element) in self.elements().iter().enumerate() {
             if !self.has_parent(element) {
-                return false;
+                return Some(Blame::at(place, Cause::MissingParent));
             }
         }
-        true
+        None
     }
 
-    /// Whether each parent is there and there is one root.
-    pub(crate) fn is_tree(&self) -> bool
-        ensures { result ≡ is_tree self.now }
+    /// What is to blame where a parent isn't there, or where there isn't one root.
+    pub(crate) fn tree_blame(&self) -> Option<Blame>
+        ensures reason { blamed_reason result ≡ reason_unless (is_tree self.now) NoTree }
+        ensures element { is_blame_among (length self.now) result }
     {
-        self.have_parents() && count_roots(self.elements()) == 1
+        if let Some(blame) = self.blame_of_parents() {
+            return Some(blame);
+        }
+        blame_of_roots(self.elements())
     }
 
     /// The place of the root.
@@ -206,8 +214,21 @@ impl ElementsById {
     }
 }
 
-fn count_roots(elements: &[ElementDef]) -> usize
-    ensures { result ≡ count_by is_root elements.now }
+fn blame_of_roots(elements: &[ElementDef]) -> Option<Blame>
+    ensures reason { blamed_reason result ≡ reason_unless (count_by is_root elements.now == 1) NoTree }
+    ensures element { is_blame_among (length elements.now) result }
 {
-    elements.iter().filter(|element| is_root(element)).count()
+    let mut has_root = false;
+    for (place, element) in elements.iter().enumerate() {
+        let is_root = is_root(element);
+        if has_root && is_root {
+            return Some(Blame::at(place, Cause::SecondRoot));
+        }
+        has_root = has_root || is_root;
+    }
+    if has_root {
+        None
+    } else {
+        Some(Blame::whole(Cause::NoRoot))
+    }
 }

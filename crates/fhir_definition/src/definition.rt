@@ -1,21 +1,23 @@
 //! A definition by itself.
 
-ghost use Rattle.std.specs.Prelude.{◌≡◌, IfOk, codes, string_bytes};
+ghost use Rattle.std.specs.Prelude.{◌≡◌, IfOk, codes, length, string_bytes};
 ghost use Rattle.std.specs.Option.{option_map};
 ghost use Rattle.fhir_json.specs.Fields.{field, text_in};
 ghost use Rattle.fhir_json.specs.Views.{tree_of, text_seen, tree_seen};
 ghost use Rattle.fhir_json.specs.Memory.{Gives};
+ghost use Rattle.fhir_elements.specs.declared.reason.Reason.TheVariants.{NoTree};
+ghost use Rattle.fhir_elements.specs.Causes.{blamed_reason, reason_unless, is_blame_among};
 ghost use Rattle.fhir_definition.specs.Snapshot.{id_place, is_tree, root_place};
 ghost use Rattle.fhir_definition.specs.Children.{children_of, slices_of};
 ghost use Rattle.fhir_definition.specs.Views.{lists_in};
 ghost use Rattle.fhir_definition.specs.Definition.{has_snapshot, is_primitive, definition_of};
 
+use crate::blames::own_blame;
 use crate::elements::{element_trees, elements_of};
-use crate::faults::own_fault;
 use crate::head::{is_abstract, is_type_definition, kind_in};
 use crate::kind::TypeKind;
 use crate::snapshot::Snapshot;
-use fhir_elements::{ElementDef, Reason};
+use fhir_elements::{Blame, ElementDef};
 use fhir_json::{Json, NoMemory};
 use std::alloc::{AllocError, Global};
 use std::marker::Model;
@@ -31,14 +33,15 @@ pub struct Definition {
     type_code: String,
     is_type: bool,
     base: Option<String>,
-    fault: Option<Reason>,
+    blame: Option<Blame>,
     snapshot: Snapshot,
 }
 
 impl Model for Definition {
-    ghost use Rattle.std.specs.Prelude.{string_bytes};
+    ghost use Rattle.std.specs.Prelude.{string_bytes, length};
     ghost use Rattle.std.specs.Option.{option_map};
     ghost use Rattle.fhir_json.specs.Views.{tree_of};
+    ghost use Rattle.fhir_elements.specs.Causes.{blamed_reason, is_blame_among};
     ghost use Rattle.fhir_definition.specs.Definition.{Definition as Shown};
 
     ghost Value = { Shown };
@@ -57,9 +60,11 @@ impl Model for Definition {
       type = string_bytes d.type_code;
       is_type = d.is_type;
       base = option_map string_bytes d.base;
-      fault = d.fault;
+      fault = blamed_reason d.blame;
       elements = d.snapshot;
     } };
+
+    ghost invariant = { λ d. is_blame_among (length d.snapshot) d.blame };
 }
 
 fn version_of(alloc: Global, json: &Json<'_>) -> Result<Option<Json<'static>>, NoMemory>
@@ -82,7 +87,7 @@ fn base_of(alloc: Global, json: &Json<'_>) -> Result<Option<String>, AllocError>
 
 impl Definition {
     /// The definition that a tree is, at a place of a package and under a url. A field that isn't of its kind counts as
-    /// absent; `fault` says whether there is one. The one refusal is want of memory.
+    /// absent; `blame` says whether there is one. The one refusal is want of memory.
     pub fn of(
         alloc: Global,
         place: usize,
@@ -97,7 +102,7 @@ impl Definition {
         let version = version_of(alloc, json)?;
         let type_code = String::from_str(alloc, json.text_at("type"))?;
         let base = base_of(alloc, json)?;
-        let fault = own_fault(alloc, url, json, &snapshot)?;
+        let blame = own_blame(alloc, url, json, &snapshot)?;
         Ok(Definition {
             place,
             url: url_text,
@@ -107,7 +112,7 @@ impl Definition {
             type_code,
             is_type: is_type_definition(json),
             base,
-            fault,
+            blame,
             snapshot,
         })
     }
@@ -171,12 +176,13 @@ impl Definition {
         }
     }
 
-    /// The first reason for which it can't be used whatever the other definitions are (`WrongField`, `MinOverMax`, `RepeatedType`
-    /// or `WrongId`).
-    pub fn fault(&self) -> Option<Reason>
-        ensures { result ≡ self.now.fault }
+    /// What is to blame where it can't be used whatever the other definitions are: a cause of the first reason of
+    /// `WrongField`, `MinOverMax`, `RepeatedType` and `WrongId` that applies, and its element, if it has one.
+    pub fn blame(&self) -> Option<Blame>
+        ensures reason { blamed_reason result ≡ self.now.fault }
+        ensures element { is_blame_among (length self.now.elements) result }
     {
-        self.fault
+        self.blame
     }
 
     /// The elements of its snapshot, in order; none where it has no snapshot.
@@ -193,11 +199,12 @@ impl Definition {
         !self.elements().is_empty()
     }
 
-    /// Whether its elements are a tree by their ids: each parent is there, and there is one root.
-    pub fn is_tree(&self) -> bool
-        ensures { result ≡ is_tree self.now.elements }
+    /// What is to blame where its elements are no tree by their ids: a parent that isn't there, no root, or a second one.
+    pub fn tree_blame(&self) -> Option<Blame>
+        ensures reason { blamed_reason result ≡ reason_unless (is_tree self.now.elements) NoTree }
+        ensures element { is_blame_among (length self.now.elements) result }
     {
-        self.snapshot.is_tree()
+        self.snapshot.tree_blame()
     }
 
     /// The place of its root among the elements.

@@ -3,12 +3,15 @@
 ghost use Rattle.std.specs.Prelude.{◌≡◌, ◌||◌, ◌&&◌, map, IfOk, is_some, length, nat_lt};
 ghost use Rattle.std.specs.List.{list_all};
 ghost use Rattle.fhir_json.specs.Views.{tree_of, trees_of};
-ghost use Rattle.fhir_elements.specs.Element.{element_fault, fields_of};
+ghost use Rattle.std.specs.Option.{option_map};
+ghost use Rattle.fhir_elements.specs.declared.reason.Reason.TheVariants.{WrongField};
+ghost use Rattle.fhir_elements.specs.Causes.{reason_of, blamed_reason, reason_unless, is_blame_among};
+ghost use Rattle.fhir_elements.specs.Element.{fields_of};
 ghost use Rattle.fhir_definition.specs.Snapshot.{is_root};
 ghost use Rattle.fhir_definition.specs.Definition.{element_trees, is_whole};
 
 use crate::by_id::is_root;
-use fhir_elements::{ElementDef, Reason, element_fault, fields_of};
+use fhir_elements::{Blame, Cause, ElementDef, fields_of};
 use fhir_json::{Json, NoMemory};
 use std::alloc::Global;
 
@@ -20,18 +23,6 @@ pub fn element_trees<'t, 'j>(json: &'t Json<'j>) -> &'t [Json<'j>]
         Some(snapshot) => snapshot.items_in("element"),
         None => Default::default(),
     }
-}
-
-/// Why each tree is no element, if it is none.
-pub(crate) fn faults_of(alloc: Global, items: &[Json<'_>]) -> Result<Vec<Option<Reason>>, NoMemory>
-    ensures { IfOk result (λ v. v.items ≡ map element_fault (trees_of items.now)) }
-{
-    let mut faults = Vec::new(alloc);
-    for item in items {
-        let fault = element_fault(alloc, item)?;
-        faults.push(fault)?;
-    }
-    Ok(faults)
 }
 
 /// What the elements say.
@@ -53,15 +44,30 @@ fn says_what_it_is(element: &ElementDef) -> bool
     is_root(element) || !element.types().is_empty() || element.content_reference().is_some()
 }
 
-fn is_whole(element: &ElementDef) -> bool
-    ensures { result ≡ is_whole element.now }
+// What an element of a snapshot must have and this one lacks.
+fn lack_of(element: &ElementDef) -> Option<Cause>
+    ensures { option_map reason_of result ≡ reason_unless (is_whole element.now) WrongField }
 {
-    element.min().is_some() && element.max().is_some() && says_what_it_is(element)
+    if element.min().is_none() {
+        Some(Cause::MissingField("min"))
+    } else if element.max().is_none() {
+        Some(Cause::MissingField("max"))
+    } else if !says_what_it_is(element) {
+        Some(Cause::NoType)
+    } else {
+        None
+    }
 }
 
-/// Whether each element has what an element of a snapshot must have.
-pub(crate) fn are_whole(elements: &[ElementDef]) -> bool
-    ensures { result ≡ list_all is_whole elements.now }
+/// The first element that lacks what an element of a snapshot must have.
+pub(crate) fn blame_of_lacks(elements: &[ElementDef]) -> Option<Blame>
+    ensures reason { blamed_reason result ≡ reason_unless (list_all is_whole elements.now) WrongField }
+    ensures element { is_blame_among (length elements.now) result }
 {
-    elements.iter().all(|element| is_whole(element))
+    for (place, element) in elements.iter().enumerate() {
+        if let Some(cause) = lack_of(element) {
+            return Some(Blame::at(place, cause));
+        }
+    }
+    None
 }

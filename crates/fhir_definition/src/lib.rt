@@ -13,12 +13,12 @@
 //! The contract to read first is that of [`Definition::of`].
 #![tactic(auto)]
 
+mod blames;
 mod bounds;
 mod by_id;
 mod children;
 mod definition;
 mod elements;
-mod faults;
 mod head;
 mod kind;
 mod laws;

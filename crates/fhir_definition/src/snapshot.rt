@@ -1,13 +1,15 @@
 //! The snapshot of a definition: its elements, and which of them stand under which.
 
-ghost use Rattle.std.specs.Prelude.{◌≡◌, IfOk};
+ghost use Rattle.std.specs.Prelude.{◌≡◌, length, IfOk};
+ghost use Rattle.fhir_elements.specs.declared.reason.Reason.TheVariants.{WrongId, NoTree};
+ghost use Rattle.fhir_elements.specs.Causes.{blamed_reason, reason_unless, is_blame_among};
 ghost use Rattle.fhir_definition.specs.Snapshot.{id_place, ids_differ, is_tree, root_place};
 ghost use Rattle.fhir_definition.specs.Children.{children_of, slices_of};
 ghost use Rattle.fhir_definition.specs.Views.{lists_in};
 
 use crate::by_id::ElementsById;
 use crate::children::{children_of, slices_of};
-use fhir_elements::ElementDef;
+use fhir_elements::{Blame, ElementDef};
 use std::alloc::{AllocError, Global};
 use std::marker::Model;
 
@@ -18,7 +20,7 @@ pub(crate) struct Snapshot {
     children: Vec<Vec<usize>>,
     slices: Vec<Vec<usize>>,
     root: Option<usize>,
-    is_tree: bool,
+    tree_blame: Option<Blame>,
 }
 
 impl Model for Snapshot {
@@ -48,13 +50,13 @@ impl Snapshot {
         let children = children_of(alloc, &elements)?;
         let slices = slices_of(alloc, &elements)?;
         let root = elements.root_place();
-        let is_tree = elements.is_tree();
+        let tree_blame = elements.tree_blame();
         Ok(Snapshot {
             elements,
             children,
             slices,
             root,
-            is_tree,
+            tree_blame,
         })
     }
 
@@ -72,18 +74,20 @@ impl Snapshot {
         self.elements.id_place(id)
     }
 
-    /// Whether no id is repeated.
-    pub(crate) fn ids_differ(&self) -> bool
-        ensures { result ≡ ids_differ self.now }
+    /// The first element whose id an element before it has.
+    pub(crate) fn blame_of_ids(&self) -> Option<Blame>
+        ensures reason { blamed_reason result ≡ reason_unless (ids_differ self.now) WrongId }
+        ensures element { is_blame_among (length self.now) result }
     {
-        self.elements.ids_differ()
+        self.elements.blame_of_ids()
     }
 
-    /// Whether each parent is there and there is one root.
-    pub(crate) fn is_tree(&self) -> bool
-        ensures { result ≡ is_tree self.now }
+    /// What is to blame where a parent isn't there, or where there isn't one root.
+    pub(crate) fn tree_blame(&self) -> Option<Blame>
+        ensures reason { blamed_reason result ≡ reason_unless (is_tree self.now) NoTree }
+        ensures element { is_blame_among (length self.now) result }
     {
-        self.is_tree
+        self.tree_blame
     }
 
     /// The place of the root.

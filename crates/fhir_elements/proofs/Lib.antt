@@ -1,2 +1,3 @@
 mod WholeNumbers
 pub mod SeenCodes
+pub mod FirstFound

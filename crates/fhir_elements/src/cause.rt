@@ -98,10 +98,8 @@ impl Cause {
             Cause::RepeatedType(_) => Reason::RepeatedType,
             Cause::MissingId | Cause::UnreadableId | Cause::RepeatedId => Reason::WrongId,
             Cause::MissingType(_) | Cause::UnusableType { .. } => Reason::UnusableType,
-            Cause::MissingParent
-            | Cause::NoRoot
-            | Cause::SecondRoot
-            | Cause::RepeatedProperty(_) => Reason::NoTree,
+            Cause::MissingParent | Cause::NoRoot | Cause::SecondRoot | Cause::RepeatedProperty(_) =>
+                Reason::NoTree,
             Cause::MissingContent | Cause::UnusableContent { .. } => Reason::MissingContent,
             Cause::BaseCycle => Reason::BaseCycle,
             Cause::OrderedSlicing

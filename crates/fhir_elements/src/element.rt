@@ -1,10 +1,12 @@
 //! Elements.
 
-ghost use Rattle.std.specs.Prelude.{◌≡◌, IfOk};
+ghost use Rattle.std.specs.Prelude.{◌≡◌, is_none, IfOk};
 ghost use Rattle.std.specs.Option.{option_map};
 ghost use Rattle.fhir_json.specs.Views.{tree_of, property_of, text_seen, property_seen};
 ghost use Rattle.fhir_json.specs.Fields.{field, choice_in};
 ghost use Rattle.fhir_json.specs.Memory.{Gives, GivesOr};
+ghost use Rattle.fhir_elements.specs.declared.reason.Reason.TheVariants.{WrongField, WrongId};
+ghost use Rattle.fhir_elements.specs.Causes.{reason_of, reason_unless};
 ghost use Rattle.fhir_elements.specs.TypeEntry.{is_type_entry};
 ghost use Rattle.fhir_elements.specs.Constraint.{is_constraint};
 ghost use Rattle.fhir_elements.specs.Binding.{is_binding, binding_of};
@@ -12,15 +14,15 @@ ghost use Rattle.fhir_elements.specs.Slicing.{is_slicing, slicing_of};
 ghost use Rattle.fhir_elements.specs.Element.{allows_part, allows_parts, has_right_texts, has_right_numbers, has_right_choices, has_right_parts, has_right_fields, has_right_bounds, has_readable_id, element_fault, fields_of, element_of, is_no_memory, required_value_set};
 
 use crate::binding::{BindingDef, binding_of, is_binding};
+use crate::cause::Cause;
 use crate::codes::{allows_code, code_in};
 use crate::constraint::{ConstraintDef, are_constraints, constraints_of};
 use crate::fault::ElementFault;
 use crate::integers::{allows_integer, integer_in};
 use crate::max::Max;
-use crate::reason::Reason;
 use crate::slicing::{SlicingDef, is_slicing, slicing_of};
 use crate::texts::{owned_at, owned_in, text_of};
-use crate::type_entry::{TypeEntry, are_type_entries, codes_differ, type_entries_of};
+use crate::type_entry::{TypeEntry, are_type_entries, repeated_code, type_entries_of};
 use fhir_json::{Json, Member, NoMemory};
 use fhir_names::ElementId;
 use std::alloc::{AllocError, Global};
@@ -107,47 +109,89 @@ fn allows_slicing(json: &Json<'_>, name: &str) -> bool
     json.field(name).is_none_or(|value| is_slicing(value))
 }
 
-fn has_right_texts(json: &Json<'_>) -> bool
-    ensures { result ≡ has_right_texts (tree_of json.now) }
+fn wrong_text(json: &Json<'_>) -> Option<&'static str>
+    ensures { is_none result ≡ has_right_texts (tree_of json.now) }
 {
-    json.allows_text("id")
-        && json.allows_text("path")
-        && json.allows_text("sliceName")
-        && json.allows_text("contentReference")
+    if !json.allows_text("id") {
+        Some("id")
+    } else if !json.allows_text("path") {
+        Some("path")
+    } else if !json.allows_text("sliceName") {
+        Some("sliceName")
+    } else if !json.allows_text("contentReference") {
+        Some("contentReference")
+    } else {
+        None
+    }
 }
 
-fn has_right_numbers(json: &Json<'_>) -> bool
-    ensures { result ≡ has_right_numbers (tree_of json.now) }
+fn wrong_number(json: &Json<'_>) -> Option<&'static str>
+    ensures { is_none result ≡ has_right_numbers (tree_of json.now) }
 {
-    json.allows_count("min") && allows_code::<Max>(json, "max") && allows_integer(json, "maxLength")
+    if !json.allows_count("min") {
+        Some("min")
+    } else if !allows_code::<Max>(json, "max") {
+        Some("max")
+    } else if !allows_integer(json, "maxLength") {
+        Some("maxLength")
+    } else {
+        None
+    }
 }
 
-fn has_right_choices(json: &Json<'_>) -> bool
-    ensures { result ≡ has_right_choices (tree_of json.now) }
+// The stem of a choice that has two forms.
+fn twofold_choice(json: &Json<'_>) -> Option<&'static str>
+    ensures { is_none result ≡ has_right_choices (tree_of json.now) }
 {
-    json.allows_choice("fixed")
-        && json.allows_choice("pattern")
-        && json.allows_choice("minValue")
-        && json.allows_choice("maxValue")
+    if !json.allows_choice("fixed") {
+        Some("fixed")
+    } else if !json.allows_choice("pattern") {
+        Some("pattern")
+    } else if !json.allows_choice("minValue") {
+        Some("minValue")
+    } else if !json.allows_choice("maxValue") {
+        Some("maxValue")
+    } else {
+        None
+    }
 }
 
-fn has_right_parts(json: &Json<'_>) -> bool
-    ensures { result ≡ has_right_parts (tree_of json.now) }
+fn wrong_part(json: &Json<'_>) -> Option<&'static str>
+    ensures { is_none result ≡ has_right_parts (tree_of json.now) }
 {
-    allows_types(json, "type")
-        && allows_constraints(json, "constraint")
-        && allows_binding(json, "binding")
-        && allows_slicing(json, "slicing")
+    if !allows_types(json, "type") {
+        Some("type")
+    } else if !allows_constraints(json, "constraint") {
+        Some("constraint")
+    } else if !allows_binding(json, "binding") {
+        Some("binding")
+    } else if !allows_slicing(json, "slicing") {
+        Some("slicing")
+    } else {
+        None
+    }
 }
 
-fn has_right_fields(json: &Json<'_>) -> bool
-    ensures { result ≡ has_right_fields (tree_of json.now) }
+// The first field that is of a wrong kind, or whose value isn't one that it may have.
+fn wrong_field(json: &Json<'_>) -> Option<Cause>
+    ensures { option_map reason_of result ≡ reason_unless (has_right_fields (tree_of json.now)) WrongField }
 {
-    json.is_object()
-        && has_right_texts(json)
-        && has_right_numbers(json)
-        && has_right_choices(json)
-        && has_right_parts(json)
+    if !json.is_object() {
+        return Some(Cause::NoObject);
+    }
+    if let Some(name) = wrong_text(json) {
+        return Some(Cause::WrongField(name));
+    }
+    if let Some(name) = wrong_number(json) {
+        return Some(Cause::WrongField(name));
+    }
+    if let Some(stem) = twofold_choice(json) {
+        return Some(Cause::TwoForms(stem));
+    }
+    if let Some(name) = wrong_part(json) {
+        return Some(Cause::WrongField(name));
+    }
+    None
 }
 
 fn has_right_bounds(json: &Json<'_>) -> bool
@@ -163,33 +207,34 @@ fn has_right_bounds(json: &Json<'_>) -> bool
     }
 }
 
-fn has_readable_id(json: &Json<'_>) -> bool
-    ensures { result ≡ has_readable_id (tree_of json.now) }
+fn wrong_id(json: &Json<'_>) -> Option<Cause>
+    ensures { option_map reason_of result ≡ reason_unless (has_readable_id (tree_of json.now)) WrongId }
 {
-    json.text_in("id")
-        .is_some_and(|id| ElementId::parse(id).is_ok())
+    let Some(id) = json.text_in("id") else {
+        return Some(Cause::MissingId);
+    };
+    match ElementId::parse(id) {
+        Ok(_) => None,
+        Err(_) => Some(Cause::UnreadableId),
+    }
 }
 
-/// Why a tree is no element, as the first of these that applies (FHIR R4, ElementDefinition): `WrongField` where it is
-/// no object, or a field has a wrong kind or a value outside its set; `MinOverMax`; `RepeatedType`; `WrongId` where its
-/// `id` is missing, or a text that is none. The one refusal is want of memory.
-pub fn element_fault(alloc: Global, json: &Json<'_>) -> Result<Option<Reason>, NoMemory>
-    ensures { Gives (λ fault. fault) result (element_fault (tree_of json.now)) }
+/// Why a tree is no element, as the first of these that applies (FHIR R4, ElementDefinition): `NoObject`; `WrongField` or
+/// `TwoForms` where a field has a wrong kind or a value outside its set; `MinOverMax`; `RepeatedType`; `MissingId` or
+/// `UnreadableId`. The one refusal is want of memory.
+pub fn element_cause(alloc: Global, json: &Json<'_>) -> Result<Option<Cause>, NoMemory>
+    ensures { Gives (λ cause. option_map reason_of cause) result (element_fault (tree_of json.now)) }
 {
-    if !has_right_fields(json) {
-        return Ok(Some(Reason::WrongField));
+    if let Some(cause) = wrong_field(json) {
+        return Ok(Some(cause));
     }
     if !has_right_bounds(json) {
-        return Ok(Some(Reason::MinOverMax));
+        return Ok(Some(Cause::MinOverMax));
     }
-    let codes_differ = codes_differ(alloc, json.items_in("type"))?;
-    if !codes_differ {
-        return Ok(Some(Reason::RepeatedType));
+    if let Some(place) = repeated_code(alloc, json.items_in("type"))? {
+        return Ok(Some(Cause::RepeatedType(place)));
     }
-    if !has_readable_id(json) {
-        return Ok(Some(Reason::WrongId));
-    }
-    Ok(None)
+    Ok(wrong_id(json))
 }
 
 // ---- the element that it is
@@ -237,7 +282,7 @@ fn slicing_in(alloc: Global, json: &Json<'_>, name: &str) -> Result<Option<Slici
     }
 }
 
-/// The element of a tree's fields, each as far as it fits: a field that doesn't fit counts as absent. `element_fault`
+/// The element of a tree's fields, each as far as it fits: a field that doesn't fit counts as absent. `element_cause`
 /// says whether all do.
 pub fn fields_of(alloc: Global, json: &Json<'_>) -> Result<ElementDef, NoMemory>
     ensures { Gives (λ e. e) result (fields_of (tree_of json.now)) }
@@ -263,13 +308,13 @@ pub fn fields_of(alloc: Global, json: &Json<'_>) -> Result<ElementDef, NoMemory>
 
 impl ElementDef {
     /// The element that a tree is (FHIR R4, ElementDefinition), in memory of its own. A tree that is none is refused
-    /// with the reason that `element_fault` gives. A field that isn't read here is passed over, and an empty array
+    /// with the reason of the cause that `element_cause` gives. A field that isn't read here is passed over, and an empty array
     /// counts as an absent one.
     pub fn of(alloc: Global, json: &Json<'_>) -> Result<ElementDef, ElementFault>
         ensures { GivesOr is_no_memory (λ e. e) result (element_of (tree_of json.now)) }
     {
-        if let Some(reason) = element_fault(alloc, json)? {
-            return Err(ElementFault::Unfit(reason));
+        if let Some(cause) = element_cause(alloc, json)? {
+            return Err(ElementFault::Unfit(cause.reason()));
         }
         let element = fields_of(alloc, json)?;
         Ok(element)

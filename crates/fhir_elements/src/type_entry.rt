@@ -1,7 +1,7 @@
 //! Type entries (FHIR R4, ElementDefinition, type).
 
 ghost use Rattle.std.specs.List.{list_all, list_any};
-ghost use Rattle.std.specs.Prelude.{◌≡◌, List, ◌∷◌, map, not, IfOk, OnOk, string_bytes, codes};
+ghost use Rattle.std.specs.Prelude.{◌≡◌, List, ◌∷◌, map, not, is_none, IfOk, OnOk, string_bytes, codes};
 ghost use Rattle.std.specs.Str.{bytes_eq};
 ghost use Rattle.fhir_elements.specs.CodesSeen.{HaveCodes};
 ghost use Rattle.fhir_elements.specs.TypeEntry.{is_type_entry, type_entry_of, has_code, codes_differ};
@@ -116,17 +116,20 @@ fn has_code(items: &[Json<'_>], code: &str) -> bool
     false
 }
 
-fn few_codes_differ(items: &[Json<'_>]) -> bool
-    ensures { result ≡ codes_differ (trees_of items.now) }
+// The first place whose code stands at a later one too.
+fn repeated_of_few(items: &[Json<'_>]) -> Option<usize>
+    ensures { is_none result ≡ codes_differ (trees_of items.now) }
 {
     let mut left = items;
+    let mut place = 0;
     while let [item, rest @ ..] = left {
         if has_code(rest, item.text_at("code")) {
-            return false;
+            return Some(place);
         }
         left = rest;
+        place += 1;
     }
-    true
+    None
 }
 
 // Whether the code of an item has no place yet; it then has this one.
@@ -145,8 +148,9 @@ fn is_new(
     Ok(is_new)
 }
 
-fn many_codes_differ(alloc: Global, items: &[Json<'_>]) -> Result<bool, AllocError>
-    ensures { IfOk result (λ differ. differ ≡ codes_differ (trees_of items.now)) }
+// The last place whose code stands at a later one too.
+fn repeated_of_many(alloc: Global, items: &[Json<'_>]) -> Result<Option<usize>, AllocError>
+    ensures { IfOk result (λ place. is_none place ≡ codes_differ (trees_of items.now)) }
 {
     let mut seen = Index::new(alloc);
     let mut i = items.len();
@@ -154,20 +158,20 @@ fn many_codes_differ(alloc: Global, items: &[Json<'_>]) -> Result<bool, AllocErr
         i -= 1;
         let item = &items[i];
         if !is_new(alloc, &mut seen, item, i)? {
-            return Ok(false);
+            return Ok(Some(i));
         }
     }
-    Ok(true)
+    Ok(None)
 }
 
-/// Whether no two types have one code. Beyond a few the codes are kept in order, so that n of them cost n log n
-/// comparisons.
-pub(crate) fn codes_differ(alloc: Global, items: &[Json<'_>]) -> Result<bool, AllocError>
-    ensures { IfOk result (λ differ. differ ≡ codes_differ (trees_of items.now)) }
+/// The place of a type whose code another one has, or none where no two have one code. Beyond a few the codes are kept
+/// in order, so that n of them cost n log n comparisons.
+pub(crate) fn repeated_code(alloc: Global, items: &[Json<'_>]) -> Result<Option<usize>, AllocError>
+    ensures { IfOk result (λ place. is_none place ≡ codes_differ (trees_of items.now)) }
 {
     if items.len() <= 16 {
-        Ok(few_codes_differ(items))
+        Ok(repeated_of_few(items))
     } else {
-        many_codes_differ(alloc, items)
+        repeated_of_many(alloc, items)
     }
 }

@@ -2,7 +2,7 @@
 //! an element of it; `fault TEXT`; `id TEXT`; `reasons`; `more_reasons`.
 
 use fhir_elements::{
-    ConstraintDef, DiscriminatorDef, ElementDef, ElementFault, Reason, TypeEntry, element_fault,
+    ConstraintDef, DiscriminatorDef, ElementDef, ElementFault, Reason, TypeEntry, element_cause,
     fields_of,
 };
 use fhir_json::{Json, Member, read};
@@ -98,11 +98,11 @@ fn fault_of_text(alloc: Global, text: &str) -> Result<String, AllocError> {
     }
 }
 
-// Why a tree is no element, as `element_fault` and `of` say it.
+// Why a tree is no element, as `element_cause` and `of` say it.
 fn fault_told(alloc: Global, json: &Json<'_>) -> Result<String, AllocError> {
     format!(in alloc;
         "{:?} {:?}",
-        element_fault(alloc, json).unwrap_or(None),
+        element_cause(alloc, json).unwrap_or(None),
         ElementDef::of(alloc, json).err()
     )
 }

@@ -2,7 +2,7 @@ use Rattle.std.proofs.Common.{◌-◌, ◌∷◌, drop, sym, ◌∙◌, ap, arit
 use Rattle.fhir_json.specs.Views.{tree_of, trees_of}
 use Rattle.fhir_elements.specs.TypeEntry.{codes_differ}
 use Rattle.fhir_elements.proofs.SeenCodes.{before, differ-front, differ-drop, seen-before}
-use Rattle.fhir_elements.proofs.type_entry.many_codes_differ.Goals as goal
+use Rattle.fhir_elements.proofs.type_entry.repeated_of_many.Goals as goal
 
 pub returns-then-not-branch : goal.returns-then-not-branch
 returns-then-not-branch c =

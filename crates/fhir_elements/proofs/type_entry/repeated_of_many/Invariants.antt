@@ -2,7 +2,7 @@ use Rattle.std.proofs.Common.{◌≡◌, ◌≤◌, length, drop, true}
 use Rattle.fhir_json.specs.Views.{trees_of}
 use Rattle.fhir_elements.specs.TypeEntry.{codes_differ}
 use Rattle.fhir_elements.specs.CodesSeen.{HaveCodes}
-use Rattle.fhir_elements.proofs.type_entry.many_codes_differ.Given as goal
+use Rattle.fhir_elements.proofs.type_entry.repeated_of_many.Given as goal
 
 abbrev pub invariant-loop-i : goal.invariant-loop-i
 invariant-loop-i l = record {
