@@ -2,3 +2,4 @@ mod Capitals
 mod Spelled
 mod Meaning
 mod Told
+mod Blamed

@@ -16,6 +16,7 @@
 mod criteria;
 mod criterion;
 mod discriminating;
+mod first_blame;
 mod form;
 mod form_table;
 mod forms;

@@ -1,14 +1,16 @@
 //! How an element is sliced.
 
-ghost use Rattle.std.specs.Prelude.{◌≡◌, ◌∷◌, ◌++◌, [], map, false, not, codes, Some, IfOk, OnOk};
-ghost use Rattle.std.specs.Option.{option_map_or, option_and_then};
+ghost use Rattle.std.specs.Prelude.{◌≡◌, ◌∷◌, [], map, length, nat_lt, false, ◌&&◌, is_none, IfOk};
+ghost use Rattle.std.specs.Option.{option_map, option_map_or, option_and_then};
 ghost use Rattle.fhir_names.specs.Parents.{name_of};
+ghost use Rattle.fhir_elements.specs.declared.reason.Reason.TheVariants.{UnsupportedSlicing};
+ghost use Rattle.fhir_elements.specs.Causes.{reason_of, reason_unless};
 ghost use Rattle.fhir_elements.specs.Slicing.{Discriminator};
 ghost use Rattle.fhir_forms.specs.Slicings.{is_extension, implied_discriminators, if_few, discriminators_of, is_closing, is_ending, is_closed, is_unordered};
 ghost use Rattle.fhir_forms.specs.CriteriaSeen.{test_seen, tests_seen, lists_of_tests};
 
 use crate::property_name::is_choice;
-use fhir_elements::{DiscriminatorDef, DiscriminatorType, ElementDef, SlicingDef, SlicingRules};
+use fhir_elements::{Cause, DiscriminatorDef, DiscriminatorType, ElementDef, SlicingRules};
 use fhir_names::name_of;
 use std::alloc::{AllocError, Global};
 
@@ -144,10 +146,56 @@ pub fn is_closed(element: &ElementDef) -> bool
     rules_of(element).is_some_and(|rules| is_closing(rules))
 }
 
-/// Whether an element's items may stand in any order.
-pub(crate) fn is_unordered(element: &ElementDef) -> bool
-    ensures { result ≡ is_unordered element.now }
+// Why an element's items may not stand in any order.
+fn order_cause(element: &ElementDef) -> Option<Cause>
+    ensures { option_map reason_of result ≡ reason_unless (is_unordered element.now) UnsupportedSlicing }
 {
     let ends = rules_of(element).is_some_and(|rules| is_ending(rules));
-    !is_ordered(element) && !ends
+    if is_ordered(element) {
+        Some(Cause::OrderedSlicing)
+    } else if ends {
+        Some(Cause::OpenAtEnd)
+    } else {
+        None
+    }
+}
+
+// Why no discriminator of an element is read: there are none, or too many.
+fn unread_cause(element: &ElementDef) -> Cause
+    ensures { reason_of result ≡ UnsupportedSlicing }
+{
+    match element.slicing() {
+        Some(slicing) if !slicing.discriminators().is_empty() => Cause::ManyDiscriminators,
+        _ => Cause::NoDiscriminator,
+    }
+}
+
+// Why the discriminator at a place tells nothing; one that its name implies is of no slicing.
+fn untold_cause(element: &ElementDef, place: usize) -> Cause
+    ensures { reason_of result ≡ UnsupportedSlicing }
+{
+    match element.slicing() {
+        Some(_slicing) => Cause::UntoldDiscriminator(place),
+        None => Cause::NoDiscriminator,
+    }
+}
+
+/// Why the items of an element's slices can't be told, where these are its discriminators, and the first that isn't told
+/// stands at a place.
+pub(crate) fn slicing_cause(
+    element: &ElementDef,
+    tests: &[Test<'_>],
+    untold: Option<usize>,
+) -> Option<Cause>
+    ensures { option_map reason_of result
+        ≡ reason_unless (nat_lt 0 (length tests.now) && is_none untold && is_unordered element.now) UnsupportedSlicing }
+{
+    let order = order_cause(element);
+    if order.is_some() {
+        return order;
+    }
+    if tests.is_empty() {
+        return Some(unread_cause(element));
+    }
+    Some(untold_cause(element, untold?))
 }
