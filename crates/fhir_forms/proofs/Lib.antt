@@ -3,3 +3,4 @@ mod Spelled
 mod Meaning
 mod Told
 mod Blamed
+mod Distinct

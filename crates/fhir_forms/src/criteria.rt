@@ -1,6 +1,6 @@
 //! By what an item is told to belong to a slice, worked out when a schema is built.
 
-ghost use Rattle.std.specs.Prelude.{◌≡◌, ◌∷◌, ◌++◌, [], length, get_or, map, true, ◌&&◌, None, is_some, is_none, IfOk, OnOk};
+ghost use Rattle.std.specs.Prelude.{◌≡◌, ◌∷◌, ◌++◌, [], length, get_or, map, true, None, is_none, IfOk};
 ghost use Rattle.std.specs.Option.{option_map, option_map_or, option_and_then};
 ghost use Rattle.std.specs.List.{list_all, flat_map, slice_get};
 ghost use Rattle.fhir_elements.specs.declared.reason.Reason.TheVariants.{UnsupportedSlicing};
@@ -84,28 +84,7 @@ fn no_slice(alloc: Global) -> SliceCriteria
     }
 }
 
-fn put(criteria: &mut Vec<Criterion>, criterion: Option<Criterion>) -> Result<(), NoMemory>
-    ensures { OnOk result (criteria_seen criteria.new.items
-        ≡ criteria_seen criteria.old.items ++ option_map_or (λ c. criterion_seen c ∷ []) criterion []) }
-{
-    if let Some(criterion) = criterion {
-        criteria.push(criterion)?;
-    }
-    Ok(())
-}
-
-// The place of the first discriminator that isn't told, where those before one at a place are seen.
-fn first_untold(before: Option<usize>, place: usize, is_told: bool) -> Option<usize>
-    ensures { is_none result ≡ (is_none before && is_told) }
-{
-    if before.is_some() || is_told {
-        before
-    } else {
-        Some(place)
-    }
-}
-
-// The criteria of those discriminators that can be told, and the place of the first that can't.
+// The criteria of discriminators up to the first that can't be told, and that one's place in the slicing.
 fn told(
     alloc: Global,
     slots: &[SlotList],
@@ -113,17 +92,17 @@ fn told(
     place: usize,
     tests: &[Test<'_>],
 ) -> Result<(Vec<Criterion>, Option<usize>), NoMemory>
-    ensures criteria { IfOk result (λ r. criteria_seen r.0.items ≡ flat_map (told slots.now elements.now place) (tests_seen tests.now)) }
+    ensures criteria { IfOk result (λ r. is_none r.1 ≡ true → criteria_seen r.0.items ≡ flat_map (told slots.now elements.now place) (tests_seen tests.now)) }
     ensures all { IfOk result (λ r. is_none r.1 ≡ list_all (is_told slots.now elements.now place) (tests_seen tests.now)) }
 {
     let mut criteria = Vec::new(alloc);
-    let mut untold = None;
-    for (at, test) in tests.iter().enumerate() {
-        let criterion = criterion_of(alloc, slots, elements, place, *test)?;
-        untold = first_untold(untold, at, criterion.is_some());
-        put(&mut criteria, criterion)?;
+    for test in tests {
+        let Some(criterion) = criterion_of(alloc, slots, elements, place, *test)? else {
+            return Ok((criteria, Some(test.place)));
+        };
+        criteria.push(criterion)?;
     }
-    Ok((criteria, untold))
+    Ok((criteria, None))
 }
 
 // The criteria of a slice of an element whose discriminators these are, and why it can't be told.
@@ -137,11 +116,14 @@ fn told_by(
 ) -> Result<SliceCriteria, NoMemory>
     requires { tests_seen tests.now ≡ discriminators_of sliced.now }
     ensures criteria { IfOk result (λ r. criteria_seen r.criteria.items ≡ criteria_by slots.now elements.now place sliced.now) }
-    ensures reason { IfOk result (λ r. option_map reason_of r.cause
-        ≡ reason_unless (is_told_by slots.now elements.now place sliced.now) UnsupportedSlicing) }
+    ensures reason { IfOk result (λ r. option_map reason_of r.cause ≡ reason_unless (is_told_by slots.now elements.now place sliced.now) UnsupportedSlicing) }
 {
     let (criteria, untold) = told(alloc, slots, elements, place, tests)?;
     let cause = slicing_cause(sliced, tests, untold);
+    if cause.is_some() {
+        let criteria = Vec::new(alloc);
+        return Ok(SliceCriteria { criteria, cause });
+    }
     Ok(SliceCriteria { criteria, cause })
 }
 
@@ -195,22 +177,16 @@ fn told_at(
 }
 
 // The criteria of each element of a definition, and what is to blame where a slice can't be told.
-#[derive(Drop)]
-struct DefinitionCriteria {
-    lists: Vec<Vec<Criterion>>,
-    blame: Option<Blame>,
-}
-
 fn criteria_of(
     alloc: Global,
     table: &Table,
     definition: &Definition,
     slots: &[SlotList],
-) -> Result<DefinitionCriteria, NoMemory>
+) -> Result<(Vec<Vec<Criterion>>, Option<Blame>), NoMemory>
     requires { slots.now ≡ slots_of table.now definition.now }
-    ensures criteria { IfOk result (λ r. map (λ v. criteria_seen v.items) r.lists.items ≡ criteria_of table.now definition.now) }
-    ensures reason { IfOk result (λ r. blamed_reason r.blame ≡ reason_unless (are_told_apart table.now definition.now) UnsupportedSlicing) }
-    ensures element { IfOk result (λ r. is_blame_among (length definition.now.elements) r.blame) }
+    ensures criteria { IfOk result (λ r. map (λ v. criteria_seen v.items) r.0.items ≡ criteria_of table.now definition.now) }
+    ensures reason { IfOk result (λ r. blamed_reason r.1 ≡ reason_unless (are_told_apart table.now definition.now) UnsupportedSlicing) }
+    ensures element { IfOk result (λ r. is_blame_among (length definition.now.elements) r.1) }
 {
     let all = all_tests(alloc, definition.elements())?;
     let mut lists = Vec::new(alloc);
@@ -220,7 +196,7 @@ fn criteria_of(
         blame = first_blame(blame, place, told.cause);
         lists.push(told.criteria)?;
     }
-    Ok(DefinitionCriteria { lists, blame })
+    Ok((lists, blame))
 }
 
 /// The criteria of each element of each definition; an element that is no slice has none. Of each definition it is known
@@ -249,16 +225,15 @@ impl Criteria {
     pub fn of(alloc: Global, table: &Table, nodes: &Nodes) -> Result<Criteria, NoMemory>
         requires { nodes.now ≡ all_slots table.now }
         ensures criteria { IfOk result (λ c. c.criteria ≡ all_criteria table.now) }
-        ensures blames { IfOk result (λ c. map blamed_reason c.blames
-            ≡ map (λ d. reason_unless (are_told_apart table.now d) UnsupportedSlicing) table.now) }
+        ensures blames { IfOk result (λ c. map blamed_reason c.blames ≡ map (λ d. reason_unless (are_told_apart table.now d) UnsupportedSlicing) table.now) }
         ensures elements { IfOk result (λ c. AreBlamesAmong table.now c.blames) }
     {
         let mut lists = Vec::new(alloc);
         let mut blames = Vec::new(alloc);
         for (place, definition) in table.definitions().iter().enumerate() {
-            let found = criteria_of(alloc, table, definition, nodes.lists(place))?;
-            blames.push(found.blame)?;
-            lists.push(found.lists)?;
+            let (found, blame) = criteria_of(alloc, table, definition, nodes.lists(place))?;
+            blames.push(blame)?;
+            lists.push(found)?;
         }
         Ok(Criteria { lists, blames })
     }

@@ -128,10 +128,7 @@ impl Model for FormTable {
 
 impl FormTable {
     /// The table of some forms; where two of them spell one property that of none, and what is wrong.
-    pub(crate) fn of(
-        alloc: Global,
-        forms: Vec<Form>,
-    ) -> Result<(FormTable, Option<Cause>), AllocError>
+    pub(crate) fn of(alloc: Global, forms: Vec<Form>) -> Result<(Self, Option<Cause>), AllocError>
         ensures table { IfOk result (λ r. r.0 ≡ if_apart forms.items) }
         ensures reason { IfOk result (λ r. option_map reason_of r.1 ≡ reason_unless (are_apart forms.items) NoTree) }
     {

@@ -28,4 +28,4 @@ pub use criteria::Criteria;
 pub use criterion::{Criterion, Sought};
 pub use form::{Content, Form, Property};
 pub use node_forms::NodeForms;
-pub use slicings::{MAX_DISCRIMINATORS, is_closed};
+pub use slicings::is_closed;

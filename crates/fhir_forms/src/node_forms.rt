@@ -19,8 +19,7 @@ use fhir_nodes::{NodeRef, Nodes, SlotList, Table};
 use std::alloc::{AllocError, Global};
 use std::marker::Model;
 
-// The forms of the children of each element of one definition, and what is to blame where two of one element's spell one
-// property.
+// The forms of the children of each element of one definition, and what is to blame where they aren't apart.
 #[derive(Drop)]
 struct DefinitionForms {
     tables: Vec<FormTable>,

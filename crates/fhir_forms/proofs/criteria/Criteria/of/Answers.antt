@@ -19,11 +19,11 @@ loop-place-preserved c =
     let is : definition ≡ get_or table place definition = c.definition-item.is ∙ ap (λ l. get_or l place definition) c.definitions-definition-items.ensures in
     record {
       criteria = item_more (λ v. map (λ w. criteria_seen w.items) v.items) (criteria_of table) table place definition c.loop-place.lists.items
-          c.push-in-loop-place.new.self.items c.in_ok-found.found.lists within is c.loop-place.invariant.criteria c.in_ok-push-2.ensures.items
+          c.push-in-loop-place.new.self.items c.in_ok-found.found within is c.loop-place.invariant.criteria c.in_ok-push-2.ensures.items
           c.in_ok-found.ensures.criteria;
-      reasons = item_more blamed_reason reason table place definition old c.push.new.self.items c.in_ok-found.found.blame within is
+      reasons = item_more blamed_reason reason table place definition old c.push.new.self.items c.in_ok-found.blame within is
           c.loop-place.invariant.reasons c.in_ok-push.ensures.items c.in_ok-found.ensures.reason;
-      elements = one_blame_more table old c.push.new.self.items place definition c.in_ok-found.found.blame c.loop-place.invariant.elements
+      elements = one_blame_more table old c.push.new.self.items place definition c.in_ok-found.blame c.loop-place.invariant.elements
           (so_many blamed_reason reason table place old within c.loop-place.invariant.reasons)
           (slice_get_read table (length table) place definition refl within is) c.in_ok-found.ensures.element c.in_ok-push.ensures.items;
     }
