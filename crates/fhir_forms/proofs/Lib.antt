@@ -2,3 +2,5 @@ mod Capitals
 mod Spelled
 mod Meaning
 mod Told
+mod Blamed
+mod Distinct

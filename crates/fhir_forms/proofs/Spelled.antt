@@ -22,7 +22,7 @@ abbrev names_in : List Meant → List Text
 names_in xs = map (λ x. x.0) xs
 
 -- whether a name has a place is whether it is among the names
-is_found : (places : Places) (ns : List Text) (name : Text) → Finds places ns → is_some (place_of places name) ≡ is_among name ns
+pub is_found : (places : Places) (ns : List Text) (name : Text) → Finds places ns → is_some (place_of places name) ≡ is_among name ns
 is_found places ns name h = ap is_some (h name) ∙ any_position (bytes_eq name) 0 ns
 
 names_push : (xs : List Meant) (name : Text) (meaning : Property) → names_in (xs ++ (name, meaning) ∷ []) ≡ names_in xs ++ name ∷ []

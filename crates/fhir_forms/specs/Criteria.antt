@@ -129,14 +129,14 @@ module _ (slots : List (List Slot)) (es : List Element) (place : ℕ) where
   abbrev pub is_told : Discriminator → Bool
   is_told d = is_some (criterion_of d)
 
-  -- where the element that it is a slice of says so
-  abbrev pub criteria_by : Element → List Criterion
-  criteria_by sliced = flat_map told (discriminators_of sliced)
-
   -- there is a discriminator, and each of them can be told; nothing hangs on the order of the items
   abbrev pub is_told_by : Element → Bool
   is_told_by sliced =
       nat_lt 0 (length (discriminators_of sliced)) && list_all is_told (discriminators_of sliced) && is_unordered sliced
+
+  -- where the element that it is a slice of says so; a slice that can't be told has none
+  abbrev pub criteria_by : Element → List Criterion
+  criteria_by sliced = if is_told_by sliced then flat_map told (discriminators_of sliced) else []
 
 -- the element that the one at a place is a slice of
 abbrev pub sliced_at : List Element → ℕ → Option Element

@@ -1,7 +1,8 @@
 -- What contracts see of criteria.
-use Rattle.std.specs.Prelude.{List, Bool, map, string_bytes, Vec}
+use Rattle.std.specs.Prelude.{List, Option, map, string_bytes, Vec}
 use Rattle.std.specs.declared.alloc.Global.{Global}
 use Rattle.fhir_json.specs.Views.{tree_of, text_seen}
+use Rattle.fhir_elements.specs.declared.cause.Blame.{Blame}
 use Rattle.fhir_elements.specs.Slicing.{Discriminator}
 use Rattle.fhir_forms.specs.declared.criterion.Criterion.{Criterion}
 use Rattle.fhir_forms.specs.declared.criterion.Sought.{Sought}
@@ -32,10 +33,10 @@ criteria_seen cs = map criterion_seen cs
 abbrev pub all_seen : List (Vec (Vec Criterion Global) Global) → List (List (List Told))
 all_seen lists = map (λ v. map (λ w. criteria_seen w.items) v.items) lists
 
--- those of each element of each definition, and of each definition whether those of its slices can be told
+-- those of each element of each definition, and of each definition what is to blame where a slice of it can't be told
 pub record NodeCriteria : Type 0 where
   pub criteria : List (List (List Told))
-  pub are_told : List Bool
+  pub blames : List (Option Blame)
 
 -- a discriminator of the program
 abbrev pub test_seen : Test → Discriminator

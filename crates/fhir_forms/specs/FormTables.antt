@@ -1,7 +1,8 @@
 -- What a table of forms keeps beside them (used by private contracts alone).
-use Rattle.std.specs.Prelude.{◌≡◌, ℕ, List, [], ◌∷◌, Bool, true, false, map, IsTrue, if◌then◌else◌}
+use Rattle.std.specs.Prelude.{◌≡◌, ℕ, List, [], ◌∷◌, Bool, true, false, Option, map, IsTrue, if◌then◌else◌}
 use Rattle.fhir_json.specs.Tree.{Text}
 use Rattle.fhir_json.specs.Sound.{differ}
+use Rattle.fhir_elements.specs.declared.cause.Blame.{Blame}
 use Rattle.fhir_names.specs.Places.{Places, Finds}
 use Rattle.fhir_forms.specs.declared.form.Property.{Property}
 use Rattle.fhir_forms.specs.Forms.{Form, is_primitive, companion_name, spellings, are_apart}
@@ -32,7 +33,7 @@ abbrev pub companions_of : ℕ → Form → List Meant
 companions_of place f =
     if is_primitive f.content then (companion_name f, record { form = place; is_companion = true }) ∷ [] else []
 
--- the forms of the children of each element of each definition, and of each definition whether its forms are apart
+-- the forms of the children of each element of each definition, and of each definition what is to blame where they aren't apart
 pub record NodeForms : Type 0 where
   pub forms : List (List (List Form))
-  pub are_apart : List Bool
+  pub blames : List (Option Blame)

@@ -1,11 +1,12 @@
 -- How an element is sliced (FHIR R4, Profiling, slicing; ElementDefinition, slicing).
-use Rattle.std.specs.Prelude.{ℕ, List, [], ◌∷◌, length, Bool, nat_le, true, false, not, ◌&&◌, ◌||◌, Some, if◌then◌else◌, codes}
+use Rattle.std.specs.Prelude.{List, [], ◌∷◌, ◌++◌, map, fold, Bool, true, false, not, ◌&&◌, ◌||◌, Some, if◌then◌else◌, codes}
 use Rattle.std.specs.Option.{option_map_or, option_and_then}
 use Rattle.std.specs.Str.{bytes_eq}
 use Rattle.fhir_json.specs.Tree.{Text}
+use Rattle.fhir_json.specs.Sound.{is_among}
 use Rattle.fhir_names.specs.Parents.{name_of}
 use Rattle.fhir_elements.specs.declared.slicing.DiscriminatorType.{DiscriminatorType}
-use Rattle.fhir_elements.specs.declared.slicing.DiscriminatorType.TheVariants.{Value, TypeCode}
+use Rattle.fhir_elements.specs.declared.slicing.DiscriminatorType.TheVariants.{Value, Exists, Pattern, TypeCode, Profile}
 use Rattle.fhir_elements.specs.declared.slicing.SlicingRules.{SlicingRules}
 use Rattle.fhir_elements.specs.declared.slicing.SlicingRules.TheVariants.{Closed, Open, OpenAtEnd}
 use Rattle.fhir_elements.specs.Slicing.{Discriminator}
@@ -25,16 +26,27 @@ implied_discriminators name =
     if is_extension name then discriminator Value (codes "url") ∷ []
     else (if is_choice name then discriminator TypeCode (codes "$this") ∷ [] else [])
 
--- so many are read; an element that names more counts as one that names none
-abbrev pub max_discriminators : ℕ
-max_discriminators = 16
+-- the type and the path of a discriminator in one text, as `value:url`
+abbrev pub word_of : DiscriminatorType → Text
+word_of Value = codes "value"
+word_of Exists = codes "exists"
+word_of Pattern = codes "pattern"
+word_of TypeCode = codes "type"
+word_of Profile = codes "profile"
 
-abbrev pub if_few : List Discriminator → List Discriminator
-if_few ds = if nat_le (length ds) max_discriminators then ds else []
+abbrev pub key_of : Discriminator → Text
+key_of d = option_map_or word_of d.by [] ++ option_map_or (λ path. codes ":" ++ path) d.path []
+
+-- each once, where one of its type and path first stands
+abbrev pub put_new : List Discriminator → Discriminator → List Discriminator
+put_new ds d = if is_among (key_of d) (map key_of ds) then ds else ds ++ d ∷ []
+
+abbrev pub distinct : List Discriminator → List Discriminator
+distinct ds = fold put_new [] ds
 
 -- what tells an element's slices apart
 abbrev pub discriminators_of : Element → List Discriminator
-discriminators_of e = option_map_or (λ s. if_few s.discriminators) e.slicing (implied_discriminators (name_of e.id))
+discriminators_of e = option_map_or (λ s. distinct s.discriminators) e.slicing (implied_discriminators (name_of e.id))
 
 abbrev pub is_closing : SlicingRules → Bool
 is_closing Closed = true

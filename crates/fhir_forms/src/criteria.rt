@@ -1,9 +1,12 @@
 //! By what an item is told to belong to a slice, worked out when a schema is built.
 
-ghost use Rattle.std.specs.Prelude.{◌≡◌, ◌∷◌, ◌++◌, [], get_or, map, true, IfOk, OnOk};
+ghost use Rattle.std.specs.Prelude.{◌≡◌, ◌∷◌, ◌++◌, [], length, get_or, map, true, None, is_none, IfOk};
 ghost use Rattle.std.specs.Option.{option_map, option_map_or, option_and_then};
 ghost use Rattle.std.specs.List.{list_all, flat_map, slice_get};
+ghost use Rattle.fhir_elements.specs.declared.reason.Reason.TheVariants.{UnsupportedSlicing};
+ghost use Rattle.fhir_elements.specs.Causes.{reason_of, blamed_reason, reason_unless, is_blame_among};
 ghost use Rattle.fhir_definition.specs.Snapshot.{slice_place};
+ghost use Rattle.fhir_definition.specs.Blames.{AreBlamesAmong};
 ghost use Rattle.fhir_nodes.specs.Slots.{slots_of, all_slots};
 ghost use Rattle.fhir_forms.specs.Slicings.{discriminators_of};
 ghost use Rattle.fhir_forms.specs.Criteria.{criterion_at, criterion_of, told, is_told, criteria_by, is_told_by, sliced_at, criteria_in, is_told_apart, criteria_of, are_told_apart, all_criteria};
@@ -11,9 +14,10 @@ ghost use Rattle.fhir_forms.specs.CriteriaSeen.{criterion_seen, criteria_seen, a
 
 use crate::criterion::Criterion;
 use crate::discriminating::{names_of, sought_at};
-use crate::slicings::{Test, all_tests, is_unordered};
+use crate::first_blame::first_blame;
+use crate::slicings::{Test, all_tests, slicing_cause};
 use fhir_definition::Definition;
-use fhir_elements::{DiscriminatorType, ElementDef};
+use fhir_elements::{Blame, Cause, DiscriminatorType, ElementDef};
 use fhir_json::NoMemory;
 use fhir_names::sliced_of;
 use fhir_nodes::{NodeRef, Nodes, SlotList, Table};
@@ -62,56 +66,46 @@ fn criterion_of(
     }
 }
 
-// The criteria of an element, and whether each of its discriminators can be told.
+// The criteria of an element, and why it is a slice that can't be told.
 #[derive(Drop)]
 struct SliceCriteria {
     criteria: Vec<Criterion>,
-    are_told: bool,
+    cause: Option<Cause>,
 }
 
 // An element that is no slice has no criteria.
 fn no_slice(alloc: Global) -> SliceCriteria
     ensures criteria { result.criteria.items ≡ [] }
-    ensures told { result.are_told ≡ true }
+    ensures cause { result.cause ≡ None }
 {
     SliceCriteria {
         criteria: Vec::new(alloc),
-        are_told: true,
+        cause: None,
     }
 }
 
-fn put(criteria: &mut Vec<Criterion>, criterion: Option<Criterion>) -> Result<(), NoMemory>
-    ensures { OnOk result (criteria_seen criteria.new.items
-        ≡ criteria_seen criteria.old.items ++ option_map_or (λ c. criterion_seen c ∷ []) criterion []) }
-{
-    if let Some(criterion) = criterion {
-        criteria.push(criterion)?;
-    }
-    Ok(())
-}
-
-// The criteria of those discriminators that can be told, and whether each of them can.
+// The criteria of discriminators up to the first that can't be told, and that one's place in the slicing.
 fn told(
     alloc: Global,
     slots: &[SlotList],
     elements: &[ElementDef],
     place: usize,
     tests: &[Test<'_>],
-) -> Result<SliceCriteria, NoMemory>
-    ensures criteria { IfOk result (λ r. criteria_seen r.criteria.items ≡ flat_map (told slots.now elements.now place) (tests_seen tests.now)) }
-    ensures all { IfOk result (λ r. r.are_told ≡ list_all (is_told slots.now elements.now place) (tests_seen tests.now)) }
+) -> Result<(Vec<Criterion>, Option<usize>), NoMemory>
+    ensures criteria { IfOk result (λ r. is_none r.1 ≡ true → criteria_seen r.0.items ≡ flat_map (told slots.now elements.now place) (tests_seen tests.now)) }
+    ensures all { IfOk result (λ r. is_none r.1 ≡ list_all (is_told slots.now elements.now place) (tests_seen tests.now)) }
 {
     let mut criteria = Vec::new(alloc);
-    let mut are_told = true;
     for test in tests {
-        let criterion = criterion_of(alloc, slots, elements, place, *test)?;
-        are_told &= criterion.is_some();
-        put(&mut criteria, criterion)?;
+        let Some(criterion) = criterion_of(alloc, slots, elements, place, *test)? else {
+            return Ok((criteria, Some(test.place)));
+        };
+        criteria.push(criterion)?;
     }
-    Ok(SliceCriteria { criteria, are_told })
+    Ok((criteria, None))
 }
 
-// The criteria of a slice of an element whose discriminators these are, and whether each can be told.
+// The criteria of a slice of an element whose discriminators these are, and why it can't be told.
 fn told_by(
     alloc: Global,
     slots: &[SlotList],
@@ -122,14 +116,15 @@ fn told_by(
 ) -> Result<SliceCriteria, NoMemory>
     requires { tests_seen tests.now ≡ discriminators_of sliced.now }
     ensures criteria { IfOk result (λ r. criteria_seen r.criteria.items ≡ criteria_by slots.now elements.now place sliced.now) }
-    ensures all { IfOk result (λ r. r.are_told ≡ is_told_by slots.now elements.now place sliced.now) }
+    ensures reason { IfOk result (λ r. option_map reason_of r.cause ≡ reason_unless (is_told_by slots.now elements.now place sliced.now) UnsupportedSlicing) }
 {
-    let told = told(alloc, slots, elements, place, tests)?;
-    let are_told = !tests.is_empty() && told.are_told && is_unordered(sliced);
-    Ok(SliceCriteria {
-        criteria: told.criteria,
-        are_told,
-    })
+    let (criteria, untold) = told(alloc, slots, elements, place, tests)?;
+    let cause = slicing_cause(sliced, tests, untold);
+    if cause.is_some() {
+        let criteria = Vec::new(alloc);
+        return Ok(SliceCriteria { criteria, cause });
+    }
+    Ok(SliceCriteria { criteria, cause })
 }
 
 // The place of the element that the one at a place is a slice of.
@@ -152,8 +147,8 @@ fn told_under(
     requires { lists_of_tests all.now ≡ map discriminators_of elements.now }
     ensures criteria { IfOk result (λ r. criteria_seen r.criteria.items
         ≡ option_map_or (criteria_by slots.now elements.now place) (slice_get elements.now sliced) []) }
-    ensures all { IfOk result (λ r. r.are_told
-        ≡ option_map_or (is_told_by slots.now elements.now place) (slice_get elements.now sliced) true) }
+    ensures reason { IfOk result (λ r. option_map reason_of r.cause
+        ≡ reason_unless (option_map_or (is_told_by slots.now elements.now place) (slice_get elements.now sliced) true) UnsupportedSlicing) }
 {
     match elements.get(sliced) {
         Some(element) => told_by(alloc, slots, elements, place, element, &all[sliced]),
@@ -171,8 +166,9 @@ fn told_at(
     requires { lists_of_tests all.now ≡ map discriminators_of definition.now.elements }
     ensures criteria { IfOk result (λ r. criteria_seen r.criteria.items
         ≡ option_map_or (criteria_by slots.now definition.now.elements place) (sliced_at definition.now.elements place) []) }
-    ensures all { IfOk result (λ r. r.are_told
-        ≡ option_map_or (is_told_by slots.now definition.now.elements place) (sliced_at definition.now.elements place) true) }
+    ensures reason { IfOk result (λ r. option_map reason_of r.cause
+        ≡ reason_unless (option_map_or (is_told_by slots.now definition.now.elements place) (sliced_at definition.now.elements place) true)
+        UnsupportedSlicing) }
 {
     match sliced_place(definition, place) {
         Some(sliced) => told_under(alloc, definition.elements(), slots, place, sliced, all),
@@ -180,40 +176,35 @@ fn told_at(
     }
 }
 
-// The criteria of each element of a definition, and whether those of each slice can be told.
-#[derive(Drop)]
-struct DefinitionCriteria {
-    lists: Vec<Vec<Criterion>>,
-    are_told: bool,
-}
-
+// The criteria of each element of a definition, and what is to blame where a slice can't be told.
 fn criteria_of(
     alloc: Global,
     table: &Table,
     definition: &Definition,
     slots: &[SlotList],
-) -> Result<DefinitionCriteria, NoMemory>
+) -> Result<(Vec<Vec<Criterion>>, Option<Blame>), NoMemory>
     requires { slots.now ≡ slots_of table.now definition.now }
-    ensures criteria { IfOk result (λ r. map (λ v. criteria_seen v.items) r.lists.items ≡ criteria_of table.now definition.now) }
-    ensures all { IfOk result (λ r. r.are_told ≡ are_told_apart table.now definition.now) }
+    ensures criteria { IfOk result (λ r. map (λ v. criteria_seen v.items) r.0.items ≡ criteria_of table.now definition.now) }
+    ensures reason { IfOk result (λ r. blamed_reason r.1 ≡ reason_unless (are_told_apart table.now definition.now) UnsupportedSlicing) }
+    ensures element { IfOk result (λ r. is_blame_among (length definition.now.elements) r.1) }
 {
     let all = all_tests(alloc, definition.elements())?;
     let mut lists = Vec::new(alloc);
-    let mut are_told = true;
+    let mut blame = None;
     for place in 0..definition.elements().len() {
         let told = told_at(alloc, definition, slots, place, &all)?;
-        are_told &= told.are_told;
+        blame = first_blame(blame, place, told.cause);
         lists.push(told.criteria)?;
     }
-    Ok(DefinitionCriteria { lists, are_told })
+    Ok((lists, blame))
 }
 
 /// The criteria of each element of each definition; an element that is no slice has none. Of each definition it is known
-/// whether those of each slice can be told.
+/// what is to blame where a slice can't be told.
 #[derive(Drop)]
 pub struct Criteria {
     lists: Vec<Vec<Vec<Criterion>>>,
-    are_told: Vec<bool>,
+    blames: Vec<Option<Blame>>,
 }
 
 impl Model for Criteria {
@@ -226,7 +217,7 @@ impl Model for Criteria {
 
     ghost coded = { Prim.hlevel (codes, tree_code) };
 
-    ghost view = { λ c. record { criteria = all_seen c.lists.items; are_told = c.are_told.items } };
+    ghost view = { λ c. record { criteria = all_seen c.lists.items; blames = c.blames.items } };
 }
 
 impl Criteria {
@@ -234,19 +225,17 @@ impl Criteria {
     pub fn of(alloc: Global, table: &Table, nodes: &Nodes) -> Result<Criteria, NoMemory>
         requires { nodes.now ≡ all_slots table.now }
         ensures criteria { IfOk result (λ c. c.criteria ≡ all_criteria table.now) }
-        ensures told { IfOk result (λ c. c.are_told ≡ map (are_told_apart table.now) table.now) }
+        ensures blames { IfOk result (λ c. map blamed_reason c.blames ≡ map (λ d. reason_unless (are_told_apart table.now d) UnsupportedSlicing) table.now) }
+        ensures elements { IfOk result (λ c. AreBlamesAmong table.now c.blames) }
     {
         let mut lists = Vec::new(alloc);
-        let mut are_told = Vec::new(alloc);
+        let mut blames = Vec::new(alloc);
         for (place, definition) in table.definitions().iter().enumerate() {
-            let DefinitionCriteria {
-                lists: found,
-                are_told: is_told,
-            } = criteria_of(alloc, table, definition, nodes.lists(place))?;
-            are_told.push(is_told)?;
+            let (found, blame) = criteria_of(alloc, table, definition, nodes.lists(place))?;
+            blames.push(blame)?;
             lists.push(found)?;
         }
-        Ok(Criteria { lists, are_told })
+        Ok(Criteria { lists, blames })
     }
 
     /// Those of a node.
@@ -262,10 +251,10 @@ impl Criteria {
         }
     }
 
-    /// Of each definition, whether each criterion of each of its slices can be told.
-    pub fn are_told(&self) -> &[bool]
-        ensures { result.now ≡ self.now.are_told }
+    /// Of each definition, the first slice that can't be told, and why.
+    pub fn blames(&self) -> &[Option<Blame>]
+        ensures { result.now ≡ self.now.blames }
     {
-        &self.are_told
+        &self.blames
     }
 }

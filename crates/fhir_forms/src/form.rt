@@ -51,6 +51,8 @@ pub struct Form {
     pub(crate) code: String,
     pub(crate) repeats: bool,
     pub(crate) content: Content,
+    // The place of its element in the definition.
+    pub(crate) entry: usize,
 }
 
 impl Model for Form {

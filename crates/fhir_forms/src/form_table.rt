@@ -1,12 +1,15 @@
 //! The forms of one element's children, found by the names of their properties.
 
-ghost use Rattle.std.specs.Prelude.{◌≡◌, ◌++◌, ◌∷◌, [], List, false, string_bytes, IfOk, IsTrue, Some, None, if◌then◌else◌};
-ghost use Rattle.std.specs.Option.{MatchOption};
+ghost use Rattle.std.specs.Prelude.{◌≡◌, ◌++◌, ◌∷◌, [], List, false, string_bytes, IfOk, IsTrue, MatchResult};
 ghost use Rattle.std.specs.List.{slice_get};
-ghost use Rattle.fhir_forms.specs.Forms.{are_apart, companion_name, property_of, spellings_of};
+ghost use Rattle.std.specs.Option.{option_map};
+ghost use Rattle.fhir_elements.specs.declared.reason.Reason.TheVariants.{NoTree};
+ghost use Rattle.fhir_elements.specs.Causes.{reason_of, reason_unless};
+ghost use Rattle.fhir_forms.specs.Forms.{are_apart, if_apart, companion_name, property_of, spellings_of};
 ghost use Rattle.fhir_forms.specs.FormTables.{Meant, Keeps, KeepsIf, companions_of, IsTable};
 
 use crate::form::{Form, Property};
+use fhir_elements::Cause;
 use fhir_names::Index;
 use std::alloc::{AllocError, Global};
 use std::marker::Model;
@@ -85,17 +88,17 @@ fn companion_name(alloc: Global, form: &Form) -> Result<String, AllocError>
     Ok(name)
 }
 
-// The names that some forms spell, if no two are the same.
-fn names_of(alloc: Global, forms: &[Form]) -> Result<Option<Names>, AllocError>
-    ensures { IfOk result (λ o. MatchOption o (are_apart forms.now ≡ false) (λ n. IsTable n.meanings.items n.places forms.now)) }
+// The names that some forms spell, if no two are the same; else the element of the first form that spells one again.
+fn names_of(alloc: Global, forms: &[Form]) -> Result<Result<Names, usize>, AllocError>
+    ensures { IfOk result (λ r. MatchResult r (λ n. IsTable n.meanings.items n.places forms.now) (λ _. are_apart forms.now ≡ false)) }
 {
     let mut names = Names::new(alloc);
     for (place, form) in forms.iter().enumerate() {
         if !names.add_form(alloc, form, place)? {
-            return Ok(None);
+            return Ok(Err(form.entry));
         }
     }
-    Ok(Some(names))
+    Ok(Ok(names))
 }
 
 fn meaning_at(meanings: &[Property], place: usize) -> Option<Property>
@@ -124,13 +127,17 @@ impl Model for FormTable {
 }
 
 impl FormTable {
-    /// The table of some forms, if no two of them spell one property.
-    pub(crate) fn of(alloc: Global, forms: Vec<Form>) -> Result<Option<FormTable>, AllocError>
-        ensures { IfOk result (λ o. o ≡ (if are_apart forms.items then Some forms.items else None)) }
+    /// The table of some forms; where two of them spell one property that of none, and what is wrong.
+    pub(crate) fn of(alloc: Global, forms: Vec<Form>) -> Result<(Self, Option<Cause>), AllocError>
+        ensures table { IfOk result (λ r. r.0 ≡ if_apart forms.items) }
+        ensures reason { IfOk result (λ r. option_map reason_of r.1 ≡ reason_unless (are_apart forms.items) NoTree) }
     {
         match names_of(alloc, &forms)? {
-            Some(names) => Ok(Some(FormTable { forms, names })),
-            None => Ok(None),
+            Ok(names) => Ok((FormTable { forms, names }, None)),
+            Err(child) => Ok((
+                FormTable::empty(alloc),
+                Some(Cause::RepeatedProperty(child)),
+            )),
         }
     }
 

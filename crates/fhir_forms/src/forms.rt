@@ -78,6 +78,7 @@ fn form_of(
         code: String::from_str(alloc, code)?,
         repeats: repeats(element),
         content: content_of(table, nodes, slot_node(definition, slot), code),
+        entry: slot.entry(),
     })
 }
 

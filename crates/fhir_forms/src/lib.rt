@@ -16,6 +16,7 @@
 mod criteria;
 mod criterion;
 mod discriminating;
+mod first_blame;
 mod form;
 mod form_table;
 mod forms;
@@ -27,4 +28,4 @@ pub use criteria::Criteria;
 pub use criterion::{Criterion, Sought};
 pub use form::{Content, Form, Property};
 pub use node_forms::NodeForms;
-pub use slicings::{MAX_DISCRIMINATORS, is_closed};
+pub use slicings::is_closed;

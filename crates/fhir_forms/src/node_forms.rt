@@ -1,35 +1,29 @@
 //! The forms of the children of each node, worked out when a schema is built.
 
-ghost use Rattle.std.specs.Prelude.{◌≡◌, [], get_or, map, IfOk, IsTrue};
+ghost use Rattle.std.specs.Prelude.{◌≡◌, [], length, get_or, map, IfOk, IsTrue};
 ghost use Rattle.std.specs.Option.{option_map_or};
 ghost use Rattle.std.specs.List.{list_all};
+ghost use Rattle.fhir_elements.specs.declared.reason.Reason.TheVariants.{NoTree};
+ghost use Rattle.fhir_elements.specs.Causes.{blamed_reason, reason_unless, is_blame_among};
+ghost use Rattle.fhir_definition.specs.Blames.{AreBlamesAmong};
 ghost use Rattle.fhir_forms.specs.Forms.{are_apart, if_apart, forms_under, spells_apart, property_of, forms_of, all_forms};
 ghost use Rattle.fhir_nodes.specs.Slots.{slots_of, all_slots};
 
+use crate::first_blame::first_blame;
 use crate::form::{Form, Property};
 use crate::form_table::FormTable;
 use crate::forms::forms_under;
 use fhir_definition::Definition;
+use fhir_elements::Blame;
 use fhir_nodes::{NodeRef, Nodes, SlotList, Table};
 use std::alloc::{AllocError, Global};
 use std::marker::Model;
 
-// The forms of the children of each element of one definition, and whether no two of one element's spell one property.
+// The forms of the children of each element of one definition, and what is to blame where they aren't apart.
 #[derive(Drop)]
 struct DefinitionForms {
     tables: Vec<FormTable>,
-    are_apart: bool,
-}
-
-// The table of some forms, and whether no two of them spell one property; where two do, that of none.
-fn table_of(alloc: Global, forms: Vec<Form>) -> Result<(FormTable, bool), AllocError>
-    ensures table { IfOk result (λ r. r.0 ≡ if_apart forms.items) }
-    ensures apart { IfOk result (λ r. r.1 ≡ are_apart forms.items) }
-{
-    match FormTable::of(alloc, forms)? {
-        Some(table) => Ok((table, true)),
-        None => Ok((FormTable::empty(alloc), false)),
-    }
+    blame: Option<Blame>,
 }
 
 fn type_forms(
@@ -41,17 +35,19 @@ fn type_forms(
 ) -> Result<DefinitionForms, AllocError>
     requires { nodes.now ≡ all_slots table.now }
     ensures forms { IfOk result (λ f. f.tables.items ≡ map (λ s. if_apart (forms_under table.now definition.now s)) slots.now) }
-    ensures apart { IfOk result (λ f. f.are_apart ≡ list_all (λ s. are_apart (forms_under table.now definition.now s)) slots.now) }
+    ensures reason { IfOk result (λ f. blamed_reason f.blame
+        ≡ reason_unless (list_all (λ s. are_apart (forms_under table.now definition.now s)) slots.now) NoTree) }
+    ensures element { IfOk result (λ f. is_blame_among (length slots.now) f.blame) }
 {
     let mut tables = Vec::new(alloc);
-    let mut are_apart = true;
-    for list in slots {
+    let mut blame = None;
+    for (place, list) in slots.iter().enumerate() {
         let forms = forms_under(alloc, table, definition, nodes, list.slots())?;
-        let (forms, is_apart) = table_of(alloc, forms)?;
+        let (forms, cause) = FormTable::of(alloc, forms)?;
         tables.push(forms)?;
-        are_apart &= is_apart;
+        blame = first_blame(blame, place, cause);
     }
-    Ok(DefinitionForms { tables, are_apart })
+    Ok(DefinitionForms { tables, blame })
 }
 
 // A profile has no forms.
@@ -65,24 +61,25 @@ fn forms_of(
     requires nodes { nodes.now ≡ all_slots table.now }
     requires slots { slots.now ≡ slots_of table.now definition.now }
     ensures forms { IfOk result (λ f. f.tables.items ≡ forms_of table.now definition.now) }
-    ensures apart { IfOk result (λ f. f.are_apart ≡ spells_apart table.now definition.now) }
+    ensures reason { IfOk result (λ f. blamed_reason f.blame ≡ reason_unless (spells_apart table.now definition.now) NoTree) }
+    ensures element { IfOk result (λ f. is_blame_among (length definition.now.elements) f.blame) }
 {
     if definition.is_type() {
         type_forms(alloc, table, definition, nodes, slots)
     } else {
         Ok(DefinitionForms {
             tables: Vec::new(alloc),
-            are_apart: true,
+            blame: None,
         })
     }
 }
 
-/// The forms of the children of each element of each type definition. Of each definition it is known whether no two forms of
-/// one element's children spell one property.
+/// The forms of the children of each element of each type definition. Of each definition it is known what is to blame where
+/// two forms of one element's children spell one property.
 #[derive(Drop)]
 pub struct NodeForms {
     tables: Vec<Vec<FormTable>>,
-    are_apart: Vec<bool>,
+    blames: Vec<Option<Blame>>,
 }
 
 impl Model for NodeForms {
@@ -91,7 +88,7 @@ impl Model for NodeForms {
 
     ghost Value = { Shown };
 
-    ghost view = { λ n. record { forms = map (λ v. v.items) n.tables.items; are_apart = n.are_apart.items } };
+    ghost view = { λ n. record { forms = map (λ v. v.items) n.tables.items; blames = n.blames.items } };
 }
 
 impl NodeForms {
@@ -99,16 +96,18 @@ impl NodeForms {
     pub fn of(alloc: Global, table: &Table, nodes: &Nodes) -> Result<NodeForms, AllocError>
         requires { nodes.now ≡ all_slots table.now }
         ensures forms { IfOk result (λ n. n.forms ≡ all_forms table.now) }
-        ensures apart { IfOk result (λ n. n.are_apart ≡ map (spells_apart table.now) table.now) }
+        ensures blames { IfOk result (λ n. map blamed_reason n.blames
+            ≡ map (λ d. reason_unless (spells_apart table.now d) NoTree) table.now) }
+        ensures elements { IfOk result (λ n. AreBlamesAmong table.now n.blames) }
     {
         let mut tables = Vec::new(alloc);
-        let mut are_apart = Vec::new(alloc);
+        let mut blames = Vec::new(alloc);
         for (place, definition) in table.definitions().iter().enumerate() {
             let forms = forms_of(alloc, table, definition, nodes, nodes.lists(place))?;
             tables.push(forms.tables)?;
-            are_apart.push(forms.are_apart)?;
+            blames.push(forms.blame)?;
         }
-        Ok(NodeForms { tables, are_apart })
+        Ok(NodeForms { tables, blames })
     }
 
     fn table(&self, node: NodeRef) -> Option<&FormTable>
@@ -147,10 +146,11 @@ impl NodeForms {
         }
     }
 
-    /// Of each definition, whether no two forms of one element's children spell one property.
-    pub fn are_apart(&self) -> &[bool]
-        ensures { result.now ≡ self.now.are_apart }
+    /// Of each definition, the first element of whose children two forms spell one property, and the child whose form spells
+    /// it again.
+    pub fn blames(&self) -> &[Option<Blame>]
+        ensures { result.now ≡ self.now.blames }
     {
-        &self.are_apart
+        &self.blames
     }
 }

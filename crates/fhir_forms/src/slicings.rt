@@ -1,26 +1,28 @@
 //! How an element is sliced.
 
-ghost use Rattle.std.specs.Prelude.{◌≡◌, ◌∷◌, ◌++◌, [], map, false, not, codes, Some, IfOk, OnOk};
-ghost use Rattle.std.specs.Option.{option_map_or, option_and_then};
+ghost use Rattle.std.specs.Prelude.{◌≡◌, ◌∷◌, ◌++◌, [], map, length, nat_lt, false, ◌&&◌, is_none, codes, string_bytes, IfOk, OnOk};
+ghost use Rattle.std.specs.Option.{option_map, option_map_or, option_and_then};
+ghost use Rattle.fhir_json.specs.Views.{text_seen};
 ghost use Rattle.fhir_names.specs.Parents.{name_of};
+ghost use Rattle.fhir_names.specs.Places.{Finds};
+ghost use Rattle.fhir_elements.specs.declared.reason.Reason.TheVariants.{UnsupportedSlicing};
+ghost use Rattle.fhir_elements.specs.Causes.{reason_of, reason_unless};
 ghost use Rattle.fhir_elements.specs.Slicing.{Discriminator};
-ghost use Rattle.fhir_forms.specs.Slicings.{is_extension, implied_discriminators, if_few, discriminators_of, is_closing, is_ending, is_closed, is_unordered};
+ghost use Rattle.fhir_forms.specs.Slicings.{is_extension, implied_discriminators, word_of, key_of, put_new, distinct, discriminators_of, is_closing, is_ending, is_closed, is_unordered};
 ghost use Rattle.fhir_forms.specs.CriteriaSeen.{test_seen, tests_seen, lists_of_tests};
 
 use crate::property_name::is_choice;
-use fhir_elements::{DiscriminatorDef, DiscriminatorType, ElementDef, SlicingDef, SlicingRules};
-use fhir_names::name_of;
+use fhir_elements::{Cause, DiscriminatorDef, DiscriminatorType, ElementDef, SlicingRules};
+use fhir_names::{Index, name_of};
 use std::alloc::{AllocError, Global};
-
-/// How many discriminators a slicing may have. Each slice has a criterion for each, so that many of both would take memory by
-/// their product.
-pub const MAX_DISCRIMINATORS: usize = 16;
 
 /// A discriminator of an element, or one that its name implies.
 #[derive(Clone, Copy)]
 pub(crate) struct Test<'e> {
     pub(crate) by: Option<DiscriminatorType>,
     pub(crate) path: Option<&'e str>,
+    /// Its place in the slicing.
+    pub(crate) place: usize,
 }
 
 fn is_extension(name: &str) -> bool
@@ -36,11 +38,13 @@ fn implied_test(name: &str) -> Option<Test<'static>>
         Some(Test {
             by: Some(DiscriminatorType::Value),
             path: Some("url"),
+            place: 0,
         })
     } else if is_choice(name) {
         Some(Test {
             by: Some(DiscriminatorType::TypeCode),
             path: Some("$this"),
+            place: 0,
         })
     } else {
         None
@@ -57,33 +61,78 @@ fn implied_tests<'e>(alloc: Global, name: &str) -> Result<Vec<Test<'e>>, AllocEr
     Ok(tests)
 }
 
+fn word_of(by: DiscriminatorType) -> &'static str
+    ensures { result.now ≡ word_of by }
+{
+    match by {
+        DiscriminatorType::Value => "value",
+        DiscriminatorType::Exists => "exists",
+        DiscriminatorType::Pattern => "pattern",
+        DiscriminatorType::TypeCode => "type",
+        DiscriminatorType::Profile => "profile",
+    }
+}
+
+fn push_path(key: &mut String, path: Option<&str>) -> Result<(), AllocError>
+    ensures { OnOk result (string_bytes key.new ≡ string_bytes key.old ++ option_map_or (λ p. codes ":" ++ p) (text_seen path.entry) []) }
+{
+    if let Some(path) = path {
+        key.push_str(":")?;
+        key.push_str(path)?;
+    }
+    Ok(())
+}
+
+fn key_of(alloc: Global, test: Test<'_>) -> Result<String, AllocError>
+    ensures { IfOk result (λ key. string_bytes key ≡ key_of (test_seen test.entry)) }
+{
+    let mut key = String::new(alloc);
+    if let Some(by) = test.by {
+        key.push_str(word_of(by))?;
+    }
+    push_path(&mut key, test.path)?;
+    Ok(key)
+}
+
+// Puts a discriminator behind others, unless one of its type and path is among them.
+fn put_new<'e>(
+    alloc: Global,
+    seen: &mut Index,
+    tests: &mut Vec<Test<'e>>,
+    test: Test<'e>,
+) -> Result<(), AllocError>
+    ensures put { OnOk result (Finds seen.old (map key_of (tests_seen tests.old.items))
+        → tests_seen tests.new.items ≡ put_new (tests_seen tests.old.items) (test_seen test.entry)) }
+    ensures found { OnOk result (Finds seen.old (map key_of (tests_seen tests.old.items))
+        → Finds seen.new (map key_of (tests_seen tests.new.items))) }
+{
+    let key = key_of(alloc, test)?;
+    if seen.get(key.as_str()).is_some() {
+        return Ok(());
+    }
+    seen.add(alloc, key.as_str(), tests.len())?;
+    tests.push(test)?;
+    Ok(())
+}
+
+// The discriminators of a slicing, each once.
 fn named_tests<'e>(
     alloc: Global,
     discriminators: &'e [DiscriminatorDef],
 ) -> Result<Vec<Test<'e>>, AllocError>
-    ensures { IfOk result (λ tests. tests_seen tests.items ≡ discriminators.now) }
+    ensures { IfOk result (λ tests. tests_seen tests.items ≡ distinct discriminators.now) }
 {
+    let mut seen = Index::new(alloc);
     let mut tests = Vec::new(alloc);
-    for discriminator in discriminators {
-        tests.push(Test {
+    for (place, discriminator) in discriminators.iter().enumerate() {
+        let test = Test {
             by: discriminator.by(),
             path: discriminator.path(),
-        })?;
+            place,
+        };
+        put_new(alloc, &mut seen, &mut tests, test)?;
     }
     Ok(tests)
-}
-
-fn tests_if_few<'e>(
-    alloc: Global,
-    discriminators: &'e [DiscriminatorDef],
-) -> Result<Vec<Test<'e>>, AllocError>
-    ensures { IfOk result (λ tests. tests_seen tests.items ≡ if_few discriminators.now) }
-{
-    if discriminators.len() <= MAX_DISCRIMINATORS {
-        named_tests(alloc, discriminators)
-    } else {
-        Ok(Vec::new(alloc))
-    }
 }
 
 // What tells an element's slices apart.
@@ -91,7 +140,7 @@ fn tests_of(alloc: Global, element: &ElementDef) -> Result<Vec<Test<'_>>, AllocE
     ensures { IfOk result (λ tests. tests_seen tests.items ≡ discriminators_of element.now) }
 {
     match element.slicing() {
-        Some(slicing) => tests_if_few(alloc, slicing.discriminators()),
+        Some(slicing) => named_tests(alloc, slicing.discriminators()),
         None => implied_tests(alloc, name_of(element.id())),
     }
 }
@@ -144,10 +193,45 @@ pub fn is_closed(element: &ElementDef) -> bool
     rules_of(element).is_some_and(|rules| is_closing(rules))
 }
 
-/// Whether an element's items may stand in any order.
-pub(crate) fn is_unordered(element: &ElementDef) -> bool
-    ensures { result ≡ is_unordered element.now }
+// Why an element's items may not stand in any order.
+fn order_cause(element: &ElementDef) -> Option<Cause>
+    ensures { option_map reason_of result ≡ reason_unless (is_unordered element.now) UnsupportedSlicing }
 {
     let ends = rules_of(element).is_some_and(|rules| is_ending(rules));
-    !is_ordered(element) && !ends
+    if is_ordered(element) {
+        Some(Cause::OrderedSlicing)
+    } else if ends {
+        Some(Cause::OpenAtEnd)
+    } else {
+        None
+    }
+}
+
+// Why the discriminator at a place tells nothing; one that its name implies is of no slicing.
+fn untold_cause(element: &ElementDef, place: usize) -> Cause
+    ensures { reason_of result ≡ UnsupportedSlicing }
+{
+    match element.slicing() {
+        Some(_slicing) => Cause::UntoldDiscriminator(place),
+        None => Cause::NoDiscriminator,
+    }
+}
+
+/// Why an element's slices can't be told by these discriminators, of which the first that isn't told stands at a place.
+pub(crate) fn slicing_cause(
+    element: &ElementDef,
+    tests: &[Test<'_>],
+    untold: Option<usize>,
+) -> Option<Cause>
+    ensures { option_map reason_of result
+        ≡ reason_unless (nat_lt 0 (length tests.now) && is_none untold && is_unordered element.now) UnsupportedSlicing }
+{
+    let order = order_cause(element);
+    if order.is_some() {
+        return order;
+    }
+    if tests.is_empty() {
+        return Some(Cause::NoDiscriminator);
+    }
+    Some(untold_cause(element, untold?))
 }

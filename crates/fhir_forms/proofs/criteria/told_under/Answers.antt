@@ -14,12 +14,12 @@ pub returns-in-Some-clause-criteria : goal.returns-in-Some-clause-criteria
 returns-in-Some-clause-criteria c =
     rw (there c.args.elements.now c.args.sliced c.in-Some.element.now c.in-Some.ensures.lookup.0 c.in-Some.ensures.lookup.1) c.told_by.ensures.criteria
 
-pub returns-in-Some-clause-all : goal.returns-in-Some-clause-all
-returns-in-Some-clause-all c =
-    rw (there c.args.elements.now c.args.sliced c.in-Some.element.now c.in-Some.ensures.lookup.0 c.in-Some.ensures.lookup.1) c.told_by.ensures.all
+pub returns-in-Some-clause-reason : goal.returns-in-Some-clause-reason
+returns-in-Some-clause-reason c =
+    rw (there c.args.elements.now c.args.sliced c.in-Some.element.now c.in-Some.ensures.lookup.0 c.in-Some.ensures.lookup.1) c.told_by.ensures.reason
 
 pub returns-in-None-clause-criteria : goal.returns-in-None-clause-criteria
 returns-in-None-clause-criteria c = rw (not_there c.args.elements.now c.args.sliced c.in-None.ensures.lookup.0) (search)
 
-pub returns-in-None-clause-all : goal.returns-in-None-clause-all
-returns-in-None-clause-all c = rw (not_there c.args.elements.now c.args.sliced c.in-None.ensures.lookup.0) (search)
+pub returns-in-None-clause-reason : goal.returns-in-None-clause-reason
+returns-in-None-clause-reason c = rw (not_there c.args.elements.now c.args.sliced c.in-None.ensures.lookup.0) (search)
