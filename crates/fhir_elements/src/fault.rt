@@ -5,7 +5,6 @@ ghost use Rattle.fhir_elements.specs.declared.fault.ElementFault.TheVariants as 
 
 use crate::reason::Reason;
 use fhir_json::NoMemory;
-use std::alloc::{AllocError, AllocFailed};
 use thiserror::Error;
 
 /// Why a tree gave no element.
@@ -19,26 +18,13 @@ pub enum ElementFault {
     NoMemory,
 }
 
-impl From<AllocError> for ElementFault {
+impl<E: Drop> From<E> for ElementFault
+where
+    NoMemory: From<E>,
+{
     ghost from_gives = { λ _ e. e ≡ faults.NoMemory };
 
-    fn from(_error: AllocError) -> ElementFault {
-        ElementFault::NoMemory
-    }
-}
-
-impl<T: Drop> From<AllocFailed<T>> for ElementFault {
-    ghost from_gives = { λ _ e. e ≡ faults.NoMemory };
-
-    fn from(_error: AllocFailed<T>) -> ElementFault {
-        ElementFault::NoMemory
-    }
-}
-
-impl From<NoMemory> for ElementFault {
-    ghost from_gives = { λ _ e. e ≡ faults.NoMemory };
-
-    fn from(_error: NoMemory) -> ElementFault {
+    fn from(_error: E) -> ElementFault {
         ElementFault::NoMemory
     }
 }

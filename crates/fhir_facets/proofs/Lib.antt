@@ -1,4 +1,3 @@
-mod Parts
 mod Alike
 mod Ends
 mod Chains

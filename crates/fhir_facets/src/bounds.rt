@@ -42,7 +42,6 @@ fn is_inside(side: Side, order: Ordering) -> bool
 fn decimal_of(text: &str) -> Option<Decimal<'_>>
     ensures { option_map parts_seen result ≡ parts text.now }
 {
-    fhir_decimal::grammar();
     Decimal::of(text)
 }
 

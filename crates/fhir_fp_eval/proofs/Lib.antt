@@ -2,7 +2,6 @@ pub mod Heights
 pub mod Kept
 pub mod Pairing
 pub mod At
-pub mod Parts
 pub mod Faulty
 pub mod Filtering
 pub mod Spines

@@ -56,7 +56,6 @@ fn text_content<'t>(code: &str, text: &'t str) -> Option<Content<'t>>
 fn decimal_of(text: &str) -> Option<Decimal<'_>>
     ensures { option_map parts_seen result ≡ parts text.now }
 {
-    fhir_decimal::grammar();
     Decimal::of(text)
 }
 

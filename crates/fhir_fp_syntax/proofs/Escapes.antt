@@ -4,24 +4,10 @@ use Rattle.std.specs.Prelude.{encode_utf8}
 use Rattle.std.proofs.lemmas.Bool.{and_parts, eqb-true, ne_eqb, not-true, not_from_false}
 use Rattle.std.proofs.lemmas.List.{length-append}
 use Rattle.fhir_json.specs.Strings.{code_unit, is_high, is_low, code_point_of}
-use Rattle.fhir_json.specs.Reading.{with_rest, unit_at}
+use Rattle.fhir_json.specs.Reading.{unit_at}
+use Rattle.fhir_json.proofs.Takes.{unit_stands}
 use Rattle.fhir_fp_syntax.specs.Strings.{short_escape, IsEscape, short, unit, pair, IsText, done, plain, escape, low_half, low_at, unicode_at, escape_at, text_at, text_in}
 use Rattle.fhir_fp_syntax.proofs.Options.{bind_some, chosen, some_is, no_some, guard_some}
-
-followed_is : {A : Type 0} (o : Option A) (bs : List ℕ) (x : A) (rest : List ℕ) → with_rest o bs ≡ Some (x, rest) → (o ≡ Some x) × (bs ≡ rest)
-followed_is (Some y) bs x rest e = let p = some_is (y, bs) (x, rest) e in (ap (λ q. Some q.0) p, ap (λ q. q.1) p)
-followed_is None bs x rest e = absurd cc
-
-unit_stands : (bs : List ℕ) (u : ℕ) (rest : List ℕ) → unit_at bs ≡ Some (u, rest)
-    → (a b c d : ℕ) × (bs ≡ a ∷ b ∷ c ∷ d ∷ rest) × (code_unit a b c d ≡ Some u)
-unfolding unit_at
-unit_stands [] u rest e = absurd cc
-unit_stands (a ∷ []) u rest e = absurd cc
-unit_stands (a ∷ b ∷ []) u rest e = absurd cc
-unit_stands (a ∷ b ∷ c ∷ []) u rest e = absurd cc
-unit_stands (a ∷ b ∷ c ∷ d ∷ bs) u rest e =
-    let p = followed_is (code_unit a b c d) bs u rest e in
-    (a, b, c, d, ap (λ (w : List ℕ). a ∷ b ∷ c ∷ d ∷ w) p.1, p.0)
 
 half_is : (high : ℕ) (o : Option (ℕ × List ℕ)) (s rest : List ℕ) → low_half high o ≡ Some (s, rest)
     → (low : ℕ) × (o ≡ Some (low, rest)) × (is_low low ≡ true) × (s ≡ encode_utf8 (code_point_of high low))

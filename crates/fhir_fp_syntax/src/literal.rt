@@ -1,14 +1,13 @@
 //! The text of a string (FHIRPath N1, Grammar).
 
 ghost use Rattle.std.specs.Prelude.{◌≡◌, ◌+◌, ◌-◌, ◌<◌, ◌≤◌, length, take, drop, get_or, string_bytes, encode_utf8, IfOk, IfSome};
-ghost use Rattle.std.specs.Char.{digit_value};
 ghost use Rattle.std.specs.List.{prefix_len};
 ghost use Rattle.std.specs.Option.{option_map};
-ghost use Rattle.fhir_json.specs.Reading.{unit_at};
 ghost use Rattle.fhir_fp_syntax.specs.Answers.{Gives};
 ghost use Rattle.fhir_fp_syntax.specs.Strings.{short_escape, low_at, unicode_at, escape_at, text_at, text_in, is_plain};
 
 use crate::token::Stop;
+use fhir_json::code_unit_of;
 use std::alloc::Global;
 
 // The text behind its first n bytes, of which the last is ASCII.
@@ -17,36 +16,6 @@ pub(crate) fn behind(text: &str, n: usize) -> &str
     ensures { result.now ≡ drop n text.now }
 {
     &text[n..]
-}
-
-// The value of a hexadecimal digit, and at least 16 for another byte.
-fn digit(c: u8) -> u32
-    ensures value { result ≡ digit_value c }
-    ensures ascii { result < 16 → c < 128 }
-{
-    match c {
-        b'0'..=b'9' => (c - b'0') as u32,
-        b'A'..=b'Z' => (c - b'A') as u32 + 10,
-        b'a'..=b'z' => (c - b'a') as u32 + 10,
-        _ => 36,
-    }
-}
-
-// Four hexadecimal digits.
-#[tactic(auto, unfolding(fhir_json::specs::Reading::unit_at))]
-fn unit_of(text: &str) -> Option<(u32, &str)>
-    ensures value { option_map (λ x. (x.0, x.1.now)) result ≡ unit_at text.now }
-    ensures bounds { IfSome result (λ x. (x.0 < 65536) × (length x.1.now < length text.now)) }
-{
-    let [a, b, c, d, ..] = text.as_bytes() else {
-        return None;
-    };
-    let (a, b, c, d) = (digit(*a), digit(*b), digit(*c), digit(*d));
-    if (a < 16) & (b < 16) & (c < 16) & (d < 16) {
-        Some((a * 4096 + b * 256 + c * 16 + d, behind(text, 4)))
-    } else {
-        None
-    }
 }
 
 // The character of a pair, from behind its upper half.
@@ -59,7 +28,7 @@ fn low_of(high: u32, text: &str) -> Option<(char, &str)>
     let [b'\\', b'u', ..] = text.as_bytes() else {
         return None;
     };
-    let Some((low, rest)) = unit_of(behind(text, 2)) else {
+    let Some((low, rest)) = code_unit_of(behind(text, 2)) else {
         return None;
     };
     if 0xdc00 <= low && low < 0xe000 {
@@ -78,7 +47,7 @@ fn unicode_of(text: &str) -> Option<(char, &str)>
     ensures value { option_map (λ x. (encode_utf8 x.0, x.1.now)) result ≡ unicode_at text.now }
     ensures shorter { IfSome result (λ x. length x.1.now < length text.now) }
 {
-    let Some((unit, rest)) = unit_of(text) else {
+    let Some((unit, rest)) = code_unit_of(text) else {
         return None;
     };
     if 0xd800 <= unit && unit < 0xdc00 {

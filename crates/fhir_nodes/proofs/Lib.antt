@@ -1,5 +1,4 @@
 mod Finding
-mod Cuts
 mod Reading
 pub mod Placing
 mod Resolved

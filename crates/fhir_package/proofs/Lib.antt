@@ -8,6 +8,7 @@ pub mod Entries
 pub mod Joins
 pub mod Packs
 pub mod Files
+pub mod EachHeld
 pub mod Sounds
 pub mod Rising
 pub mod Holding

@@ -1,84 +1,28 @@
 -- The trees of a package are sound.
-use Rattle.std.proofs.Common.{◌≡◌, ℕ, zero, suc, Bool, true, false, cond, List, [], ◌∷◌, ◌++◌, Option, None, Some, Result, Ok, Err, refl, subst, arith}
-use Rattle.std.specs.Prelude.{◌&&◌, All, codes}
-use Rattle.std.specs.List.{AllByRecursion, flat_map}
+use Rattle.std.proofs.Common.{◌≡◌, zero, suc, Bool, true, false, cond, List, [], ◌∷◌, ◌++◌, Option, None, Some, Result, Ok, Err, refl, subst, arith}
+use Rattle.std.specs.Prelude.{All, codes}
+use Rattle.std.specs.List.{AllByRecursion}
 use Rattle.std.specs.Option.{option_map, option_map_or, option_and_then}
-use Rattle.std.specs.Str.{bytes_eq, is_utf8}
 use Rattle.std.specs.Map.{keys_of}
-use Rattle.std.proofs.lemmas.Bool.{and_parts}
 use Rattle.fhir_json.specs.declared.fault.JsonFault.{JsonFault}
-use Rattle.fhir_json.specs.Tree.{Text, Tree, null, boolean, number, string, array, object, Items, no_items, item, Members, no_members, member, list_of, names}
-use Rattle.fhir_json.specs.Fields.{value_named, field, as_items, items_in, text_in}
-use Rattle.fhir_json.specs.Sound.{IsSound, sound, items_sound, members_sound, differ}
+use Rattle.fhir_json.specs.Tree.{Text, Tree}
+use Rattle.fhir_json.specs.Fields.{text_in}
+use Rattle.fhir_json.specs.Sound.{IsSound}
 use Rattle.fhir_json.specs.Reading.{reading}
 use Rattle.fhir_matching.specs.Equality.{equal}
 use Rattle.fhir_package.specs.declared.kind.Kind.{Kind}
 use Rattle.fhir_package.specs.declared.kind.Kind.TheVariants.{StructureDefinition, ValueSet, CodeSystem}
 use Rattle.fhir_package.specs.Definitions.{Definitions, ByUrl, no_definitions, of_kind, with_kind, at_url}
 use Rattle.fhir_package.specs.Folder.{Files}
-use Rattle.fhir_package.specs.Packing.{Refusal, Definition, kind_named, resource_type, is_bundle, definition_with, definition_of, held_within, in_entry}
+use Rattle.fhir_package.specs.Packing.{Refusal, Definition, kind_named, resource_type, definition_with, definition_of}
 use Rattle.fhir_package.specs.Packing.{definitions_in, join, joined, join_all, and_then, or_clash, take_tree, bytes_at, json_names, pack}
 use Rattle.fhir_package.proofs.Packs.{Agrees, take_named}
-
--- ---- a tree's parts
-
-abbrev SoundIfAny : Option Tree → Type 0
-SoundIfAny None = Unit {0}
-SoundIfAny (Some t) = IsSound t
-
-abbrev AreSound : List Tree → Type 0
-AreSound ts = AllByRecursion IsSound ts
-
-named_sound : (name : Text) (ms : Members) → members_sound ms ≡ true → SoundIfAny (value_named name ms)
-named_sound name no_members h = tt
-named_sound name (member n t ms) h =
-    let front = and_parts (is_utf8 n && sound t) (members_sound ms) h in
-    let first = and_parts (is_utf8 n) (sound t) front.0 in
-    by (bytes_eq name n) first.1 (named_sound name ms front.1)
-  where
-    by : (b : Bool) → IsSound t → SoundIfAny (value_named name ms) → SoundIfAny (cond b (Some t) (value_named name ms))
-    by true first rest = first
-    by false first rest = rest
-
-field_sound : (name : Text) (t : Tree) → IsSound t → SoundIfAny (field name t)
-field_sound name null h = tt
-field_sound name (boolean b) h = tt
-field_sound name (number n) h = tt
-field_sound name (string s) h = tt
-field_sound name (array ts) h = tt
-field_sound name (object ms) h = named_sound name ms (and_parts (members_sound ms) (differ (names ms)) h).0
-
-list_sound : (ts : Items) → items_sound ts ≡ true → AreSound (list_of ts)
-list_sound no_items h = tt
-list_sound (item t ts) h = let both = and_parts (sound t) (items_sound ts) h in (both.0, list_sound ts both.1)
-
-as_items_sound : (t : Tree) → IsSound t → AreSound (list_of (as_items t))
-as_items_sound null h = tt
-as_items_sound (boolean b) h = tt
-as_items_sound (number n) h = tt
-as_items_sound (string s) h = tt
-as_items_sound (array ts) h = list_sound ts h
-as_items_sound (object ms) h = tt
-
-items_in_sound : (name : Text) (t : Tree) → IsSound t → AreSound (items_in name t)
-items_in_sound name t h = by (field name t) (field_sound name t h)
-  where
-    by : (r : Option Tree) → SoundIfAny r → AreSound (option_map_or (λ v. list_of (as_items v)) r [])
-    by None h = tt
-    by (Some v) h = as_items_sound v h
+use Rattle.fhir_package.proofs.EachHeld.{all_held}
 
 -- ---- what a tree holds
 
 abbrev HoldSound : List Definition → Type 0
 HoldSound ds = AllByRecursion (λ d. IsSound d.tree) ds
-
-both_hold : (ds es : List Definition) → HoldSound ds → HoldSound es → HoldSound (ds ++ es)
-both_hold [] es h k = k
-both_hold (d ∷ ds) es h k = (h.0, both_hold ds es h.1 k)
-
-each_holds : (f : Tree → List Definition) (ts : List Tree) → ((t : Tree) → IsSound t → HoldSound (f t)) → AreSound ts → HoldSound (flat_map f ts)
-each_holds f [] holds h = tt
-each_holds f (t ∷ ts) holds h = both_hold (f t) (flat_map f ts) (holds t h.0) (each_holds f ts holds h.1)
 
 itself_holds : (t : Tree) → IsSound t → HoldSound (option_map_or (λ d. d ∷ []) (definition_of t) [])
 itself_holds t h = by (kind_named (resource_type t))
@@ -91,29 +35,6 @@ itself_holds t h = by (kind_named (resource_type t))
     by : (kind : Option Kind) → HoldSound (option_map_or (λ d. d ∷ []) (option_and_then (definition_with t) kind) [])
     by None = tt
     by (Some kind) = with_url kind (text_in (codes "url") t)
-
-entry_holds : (n : ℕ) → ((t : Tree) → IsSound t → HoldSound (held_within n t)) → (e : Tree) → IsSound e → HoldSound (in_entry n e)
-entry_holds n holds e h = by (field (codes "resource") e) (field_sound (codes "resource") e h)
-  where
-    by : (r : Option Tree) → SoundIfAny r → HoldSound (option_map_or (held_within n) r [])
-    by None h = tt
-    by (Some t) h = holds t h
-
-held_sound : (n : ℕ) (t : Tree) → IsSound t → HoldSound (held_within n t)
-unfolding held_within
-held_sound zero t h = tt
-held_sound (suc n) t h =
-    by (is_bundle t) (each_holds (in_entry n) (items_in (codes "entry") t) (entry_holds n (held_sound n)) (items_in_sound (codes "entry") t h))
-    (itself_holds t h)
-  where
-    by : (b : Bool) → HoldSound (flat_map (in_entry n) (items_in (codes "entry") t)) → HoldSound (option_map_or (λ d. d ∷ []) (definition_of t) [])
-        → HoldSound (cond b (flat_map (in_entry n) (items_in (codes "entry") t)) (option_map_or (λ d. d ∷ []) (definition_of t) []))
-    by true entries itself = entries
-    by false entries itself = itself
-
-all_held_sound : (t : Tree) → IsSound t → HoldSound (definitions_in t)
-unfolding definitions_in
-all_held_sound t h = held_sound 128 t h
 
 -- ---- what is put in
 
@@ -173,7 +94,7 @@ files_sound agrees files (n ∷ ns) p k = by (reading (bytes_at files n)) refl (
     by : (r : Result Tree JsonFault) → reading (bytes_at files n) ≡ r → ((q : Definitions) → KindsSound q → SoundIfOk (take_named files ns q))
         → SoundIfOk (and_then (take_named files ns) (take_tree n r p))
     by (Ok t) is rest =
-        joins (join_all (definitions_in t) p) (join_all_sound (definitions_in t) p (all_held_sound t ((agrees (bytes_at files n) t).0 is).sound) k) rest
+        joins (join_all (definitions_in t) p) (join_all_sound (definitions_in t) p (all_held (λ d. IsSound d.tree) itself_holds t ((agrees (bytes_at files n) t).0 is).sound) k) rest
     by (Err fault) is rest = tt
 
 none_sound : KindsSound no_definitions

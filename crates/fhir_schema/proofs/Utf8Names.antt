@@ -1,22 +1,23 @@
 -- The urls and ids of a package's definitions are UTF-8, since the trees that are read from its files are sound.
-use Rattle.std.proofs.Common.{◌≡◌, ℕ, zero, suc, List, [], ◌∷◌, ◌++◌, map, Bool, true, false, ◌&&◌, cond}
+use Rattle.std.proofs.Common.{◌≡◌, ℕ, zero, suc, List, [], ◌∷◌, map, Bool, true, false, cond}
 use Rattle.std.proofs.Common.{Option, Some, None, is_some, refl, ap, sym, subst, All}
 use Rattle.std.specs.Prelude.{codes, IsUtf8, Contains, IsTrue}
 use Rattle.std.specs.Option.{option_and_then, option_map, option_map_or}
-use Rattle.std.specs.List.{slice_get, flat_map, AllByRecursion}
+use Rattle.std.specs.List.{slice_get, AllByRecursion}
 use Rattle.std.specs.Map.{lookup}
-use Rattle.std.specs.Str.{bytes_eq, is_utf8}
-use Rattle.std.proofs.lemmas.Bool.{and_parts}
+use Rattle.std.specs.Str.{bytes_eq}
 use Rattle.std.proofs.lemmas.Str.{IsUtf8-nil, IsUtf8-from_is_utf8}
 use Rattle.std.proofs.lemmas.Option.{none-some, same_Some}
 use Rattle.std.proofs.lemmas.List.Elements.{All-from_recursion, All-contains, recursion_from_All}
 use Rattle.std.proofs.lemmas.Slice.Eq.{bytes_eq-Decides}
-use Rattle.fhir_json.specs.Tree.{Text, Tree, null, boolean, number, string, array, object, Items, no_items, item, Members, no_members, member, list_of, names}
-use Rattle.fhir_json.specs.Fields.{value_named, field, as_text, text_in, as_items, items_in}
-use Rattle.fhir_json.specs.Sound.{IsSound, sound, items_sound, members_sound, differ}
+use Rattle.fhir_json.specs.Tree.{Text, Tree, null, boolean, number, string, array, object}
+use Rattle.fhir_json.specs.Fields.{field, as_text, text_in, items_in}
+use Rattle.fhir_json.specs.Sound.{IsSound}
+use Rattle.fhir_json.proofs.SoundParts.{SoundIfAny, AreSound, field_sound, items_in_sound}
 use Rattle.fhir_package.specs.declared.kind.Kind.{Kind}
 use Rattle.fhir_package.specs.Packing as packing
-use Rattle.fhir_package.specs.Packing.{kind_named, resource_type, is_bundle, held_within, in_entry, definitions_in}
+use Rattle.fhir_package.specs.Packing.{kind_named, resource_type, definitions_in}
+use Rattle.fhir_package.proofs.EachHeld.{all_held}
 use Rattle.fhir_codes.specs.Expanding.{Expansions}
 use Rattle.fhir_elements.specs.Element.{fields_of}
 use Rattle.fhir_definition.specs.Definition.{Definition, element_trees, definition_of, definitions_from}
@@ -25,52 +26,7 @@ use Rattle.fhir_nodes.specs.Slots.{id_at}
 use Rattle.fhir_nodes.specs.Urls.{url_place}
 use Rattle.fhir_schema.specs.Schemas.{schema_with, root, root_in, url_at, id_of_node}
 
--- ---- a sound tree's parts
-
-abbrev SoundIfAny : Option Tree → Type 0
-SoundIfAny None = Unit {0}
-SoundIfAny (Some t) = IsSound t
-
-abbrev AreSound : List Tree → Type 0
-AreSound ts = AllByRecursion IsSound ts
-
-named_sound : (name : Text) (ms : Members) → members_sound ms ≡ true → SoundIfAny (value_named name ms)
-named_sound name no_members h = tt
-named_sound name (member n t ms) h =
-    let front = and_parts (is_utf8 n && sound t) (members_sound ms) h in
-    let first = and_parts (is_utf8 n) (sound t) front.0 in
-    by (bytes_eq name n) first.1 (named_sound name ms front.1)
-  where
-    by : (b : Bool) → IsSound t → SoundIfAny (value_named name ms) → SoundIfAny (cond b (Some t) (value_named name ms))
-    by true first rest = first
-    by false first rest = rest
-
-field_sound : (name : Text) (t : Tree) → IsSound t → SoundIfAny (field name t)
-field_sound name null h = tt
-field_sound name (boolean b) h = tt
-field_sound name (number n) h = tt
-field_sound name (string s) h = tt
-field_sound name (array ts) h = tt
-field_sound name (object ms) h = named_sound name ms (and_parts (members_sound ms) (differ (names ms)) h).0
-
-list_sound : (ts : Items) → items_sound ts ≡ true → AreSound (list_of ts)
-list_sound no_items h = tt
-list_sound (item t ts) h = let both = and_parts (sound t) (items_sound ts) h in (both.0, list_sound ts both.1)
-
-as_items_sound : (t : Tree) → IsSound t → AreSound (list_of (as_items t))
-as_items_sound null h = tt
-as_items_sound (boolean b) h = tt
-as_items_sound (number n) h = tt
-as_items_sound (string s) h = tt
-as_items_sound (array ts) h = list_sound ts h
-as_items_sound (object ms) h = tt
-
-items_in_sound : (name : Text) (t : Tree) → IsSound t → AreSound (items_in name t)
-items_in_sound name t h = by (field name t) (field_sound name t h)
-  where
-    by : (r : Option Tree) → SoundIfAny r → AreSound (option_map_or (λ v. list_of (as_items v)) r [])
-    by None h = tt
-    by (Some v) h = as_items_sound v h
+-- ---- a sound tree's elements and texts
 
 elements_sound : (t : Tree) → IsSound t → AreSound (element_trees t)
 elements_sound t h = by (field (codes "snapshot") t) (field_sound (codes "snapshot") t h)
@@ -108,14 +64,6 @@ text_or_nil (Some s) h = h
 abbrev AreUtf8 : List packing.Definition → Type 0
 AreUtf8 ds = AllByRecursion (λ d. IsUtf8 d.url) ds
 
-both_hold : (ds es : List packing.Definition) → AreUtf8 ds → AreUtf8 es → AreUtf8 (ds ++ es)
-both_hold [] es h k = k
-both_hold (d ∷ ds) es h k = (h.0, both_hold ds es h.1 k)
-
-each_holds : (f : Tree → List packing.Definition) (ts : List Tree) → ((t : Tree) → IsSound t → AreUtf8 (f t)) → AreSound ts → AreUtf8 (flat_map f ts)
-each_holds f [] holds h = tt
-each_holds f (t ∷ ts) holds h = both_hold (f t) (flat_map f ts) (holds t h.0) (each_holds f ts holds h.1)
-
 itself_holds : (t : Tree) → IsSound t → AreUtf8 (option_map_or (λ d. d ∷ []) (packing.definition_of t) [])
 itself_holds t h = by (kind_named (resource_type t))
   where
@@ -128,32 +76,9 @@ itself_holds t h = by (kind_named (resource_type t))
     by None = tt
     by (Some kind) = with_url kind (text_in (codes "url") t) (text_in_utf8 (codes "url") t h)
 
-entry_holds : (n : ℕ) → ((t : Tree) → IsSound t → AreUtf8 (held_within n t)) → (e : Tree) → IsSound e → AreUtf8 (in_entry n e)
-entry_holds n holds e h = by (field (codes "resource") e) (field_sound (codes "resource") e h)
-  where
-    by : (r : Option Tree) → SoundIfAny r → AreUtf8 (option_map_or (held_within n) r [])
-    by None h = tt
-    by (Some t) h = holds t h
-
-held_utf8 : (n : ℕ) (t : Tree) → IsSound t → AreUtf8 (held_within n t)
-unfolding held_within
-held_utf8 zero t h = tt
-held_utf8 (suc n) t h =
-    by (is_bundle t) (each_holds (in_entry n) (items_in (codes "entry") t) (entry_holds n (held_utf8 n)) (items_in_sound (codes "entry") t h))
-    (itself_holds t h)
-  where
-    by : (b : Bool) → AreUtf8 (flat_map (in_entry n) (items_in (codes "entry") t)) → AreUtf8 (option_map_or (λ d. d ∷ []) (packing.definition_of t) [])
-        → AreUtf8 (cond b (flat_map (in_entry n) (items_in (codes "entry") t)) (option_map_or (λ d. d ∷ []) (packing.definition_of t) []))
-    by true entries itself = entries
-    by false entries itself = itself
-
-all_held_utf8 : (t : Tree) → IsSound t → AreUtf8 (definitions_in t)
-unfolding definitions_in
-all_held_utf8 t h = held_utf8 128 t h
-
 pub held_url : (t : Tree) (d : packing.Definition) → IsSound t → Contains (definitions_in t) d → IsUtf8 d.url
 held_url t d h among =
-    All-contains (λ d. IsUtf8 d.url) (definitions_in t) d (All-from_recursion (λ d. IsUtf8 d.url) (definitions_in t) (all_held_utf8 t h)) among
+    All-contains (λ d. IsUtf8 d.url) (definitions_in t) d (All-from_recursion (λ d. IsUtf8 d.url) (definitions_in t) (all_held (λ d. IsUtf8 d.url) itself_holds t h)) among
 
 -- ---- what a schema names
 

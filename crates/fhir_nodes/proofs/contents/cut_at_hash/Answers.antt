@@ -1,5 +1,5 @@
 use Rattle.std.proofs.Common.{lit<}
-use Rattle.fhir_nodes.proofs.Cuts.{first_cut}
+use Rattle.fhir_names.proofs.Cuts.{first_cut}
 use Rattle.fhir_nodes.proofs.contents.cut_at_hash.Goals as goal
 
 pub returns : goal.returns
