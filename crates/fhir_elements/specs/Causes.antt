@@ -33,7 +33,6 @@ reason_of causes.BaseCycle = reasons.BaseCycle
 reason_of causes.OrderedSlicing = reasons.UnsupportedSlicing
 reason_of causes.OpenAtEnd = reasons.UnsupportedSlicing
 reason_of causes.NoDiscriminator = reasons.UnsupportedSlicing
-reason_of causes.ManyDiscriminators = reasons.UnsupportedSlicing
 reason_of (causes.UntoldDiscriminator place) = reasons.UnsupportedSlicing
 reason_of causes.NoSnapshot = reasons.NoSnapshot
 reason_of causes.SecondType = reasons.SecondType

@@ -70,8 +70,6 @@ pub enum Cause {
     OpenAtEnd,
     /// `U9`: the sliced element has no slicing, or that has no discriminator.
     NoDiscriminator,
-    /// `U9`: the slicing has more discriminators than are supported.
-    ManyDiscriminators,
     /// `U9`: the discriminator at this place of the slicing finds nothing to look for, or lacks its type or its path.
     UntoldDiscriminator(usize),
     /// `U10`: there is no snapshot.
@@ -105,7 +103,6 @@ impl Cause {
             Cause::OrderedSlicing
             | Cause::OpenAtEnd
             | Cause::NoDiscriminator
-            | Cause::ManyDiscriminators
             | Cause::UntoldDiscriminator(_) => Reason::UnsupportedSlicing,
             Cause::NoSnapshot => Reason::NoSnapshot,
             Cause::SecondType => Reason::SecondType,

@@ -238,7 +238,7 @@ module _ (ds : List Definition) (is_placed : (i : ℕ) (d : Definition) → slic
 
       go : (o : Option Reason) → reason_at (rounds ds n (no_reasons ds)) d.place ≡ o
           → (reason_at (rounds ds n (no_reasons ds)) d.place ≡ Some r
-              → (m : ℕ) × (reason_at (rounds ds m (no_reasons ds)) d.place ≡ None) × (first_of (tests ds (rounds ds m (no_reasons ds)) d) ≡ Some r))
+          → (m : ℕ) × (reason_at (rounds ds m (no_reasons ds)) d.place ≡ None) × (first_of (tests ds (rounds ds m (no_reasons ds)) d) ≡ Some r))
           → (m : ℕ) × (reason_at (rounds ds m (no_reasons ds)) d.place ≡ None) × (first_of (tests ds (rounds ds m (no_reasons ds)) d) ≡ Some r)
       go None is before = (n, is, ap (λ o. option_or o (first_of (tests ds (rounds ds n (no_reasons ds)) d))) (sym is) ∙ now)
       go (Some x) is before =

@@ -426,7 +426,7 @@ module _ (ds : List Definition) (is_placed : ArePlaced ds) where
       at_place q d within at (Some r) is b asks = t.kept q r is
       at_place q d within at None is true asks =
           t.new q (subst (λ k. q < k) (sym long_found) within) asks is
-          ∙ ap (λ o. elim o [ | Some e ↦ first_of (tests ds found e) | None ↦ None ]) at
+          ∙ ap (λ o. elim o [ Some e ↦ first_of (tests ds found e) | None ↦ None ]) at
       at_place q d within at None is false alone =
           let place : d.place ≡ q = is_placed q d at in
           t.same q alone ∙ is

@@ -90,11 +90,7 @@ fn element_cause(table: &Table, blames: &[Option<Blame>], element: &ElementDef) 
     entries_cause(table, blames, element.types())
 }
 
-fn elements_blame(
-    table: &Table,
-    blames: &[Option<Blame>],
-    elements: &[ElementDef],
-) -> Option<Blame>
+fn elements_blame(table: &Table, blames: &[Option<Blame>], elements: &[ElementDef]) -> Option<Blame>
     ensures reason { blamed_reason result
         ≡ reason_unless (list_all (element_is_usable table.now (reasons_of blames.now)) elements.now) UnusableType }
     ensures element { is_blame_among (length elements.now) result }

@@ -18,8 +18,12 @@ loop-round-init c =
     record {
       counted = counted_by c.in_ok-found.found.items (first_reasons ds) (length ds) c.in_ok-found.ensures.reasons
           (length-map ds (λ d. first_of (tests ds (no_reasons ds) d)));
-      found = (0, refl, started ds c.are_placed.ensures known found c.in_ok-last.last.items c.in_ok-known.ensures c.in_ok-found.ensures.reasons
-          (c.in_ok-last.ensures ∙ ap (λ l. unusable_from 0 (reasons_of l)) c.deref-3.ensures.value));
+      found = (
+        0,
+        refl,
+        started ds c.are_placed.ensures known found c.in_ok-last.last.items c.in_ok-known.ensures c.in_ok-found.ensures.reasons
+            (c.in_ok-last.ensures ∙ ap (λ l. unusable_from 0 (reasons_of l)) c.deref-3.ensures.value),
+      );
       elements = c.in_ok-found.ensures.elements;
     }
 
@@ -46,23 +50,27 @@ loop-round-preserved c =
     let last_is = c.deref-in-loop-round-6.ensures.value in
     record {
       counted = ap length found_is ∙ c.in_ok-last-2.ensures.counted ∙ ap length c.deref_mut-in-loop-round.ensures.value ∙ c.loop-round.invariant.counted;
-      found = (suc n, ap suc c.loop-round.invariant.found.1 ∙ step, turned ds c.are_placed.ensures n (reasons_of c.loop-round.known.items) found last c.loop-round.invariant.found.2
-          (reasons_of (take c.loop-round.known.len (known_new ++ drop (length known_new) c.loop-round.known.items)))
-          (reasons_of (take c.loop-round.found.len (found_new ++ drop (length found_new) c.loop-round.found.items)))
-          users c.in_ok-last-2.last.items
-          (ap lists_in c.deref-in-loop-round-5.ensures.value ∙ c.in_ok-users.ensures)
-          (ap reasons_of known_is ∙ c.know_each.ensures
-          ∙ ap (λ l. all_known l (reasons_of c.deref-in-loop-round-2.result.now) (reasons_of c.deref_mut.result.now)) c.deref-in-loop-round.ensures.value
-          ∙ ap (λ l. all_known last (reasons_of l) (reasons_of c.deref_mut.result.now)) c.deref-in-loop-round-2.ensures.value
-          ∙ ap (λ l. all_known last found (reasons_of l)) c.deref_mut.ensures.value)
-          (ap reasons_of found_is ∙ c.in_ok-last-2.ensures.reasons
-          ∙ ap (λ b. users_judged (reason_in ds b) users c.deref-in-loop-round-6.result.now (reasons_of c.deref_mut-in-loop-round.result.now)) known_now
-          ∙ ap (λ l. users_judged (reason_in ds (reasons_of (take c.loop-round.known.len (known_new ++ drop (length known_new) c.loop-round.known.items)))) users l (reasons_of c.deref_mut-in-loop-round.result.now)) last_is
-          ∙ ap (users_judged (reason_in ds (reasons_of (take c.loop-round.known.len (known_new ++ drop (length known_new) c.loop-round.known.items)))) users last) found_was)
-          (c.in_ok-last-2.ensures.round
-          ∙ ap (λ b. users_queued (reason_in ds b) users c.deref-in-loop-round-6.result.now (reasons_of c.deref_mut-in-loop-round.result.now) []) known_now
-          ∙ ap (λ l. users_queued (reason_in ds (reasons_of (take c.loop-round.known.len (known_new ++ drop (length known_new) c.loop-round.known.items)))) users l (reasons_of c.deref_mut-in-loop-round.result.now) []) last_is
-          ∙ ap (λ f. users_queued (reason_in ds (reasons_of (take c.loop-round.known.len (known_new ++ drop (length known_new) c.loop-round.known.items)))) users last f []) found_was));
+      found = (
+        suc n,
+        ap suc c.loop-round.invariant.found.1 ∙ step,
+        turned ds c.are_placed.ensures n (reasons_of c.loop-round.known.items) found last c.loop-round.invariant.found.2
+            (reasons_of (take c.loop-round.known.len (known_new ++ drop (length known_new) c.loop-round.known.items)))
+            (reasons_of (take c.loop-round.found.len (found_new ++ drop (length found_new) c.loop-round.found.items)))
+            users c.in_ok-last-2.last.items
+            (ap lists_in c.deref-in-loop-round-5.ensures.value ∙ c.in_ok-users.ensures)
+            (ap reasons_of known_is ∙ c.know_each.ensures
+            ∙ ap (λ l. all_known l (reasons_of c.deref-in-loop-round-2.result.now) (reasons_of c.deref_mut.result.now)) c.deref-in-loop-round.ensures.value
+            ∙ ap (λ l. all_known last (reasons_of l) (reasons_of c.deref_mut.result.now)) c.deref-in-loop-round-2.ensures.value
+            ∙ ap (λ l. all_known last found (reasons_of l)) c.deref_mut.ensures.value)
+            (ap reasons_of found_is ∙ c.in_ok-last-2.ensures.reasons
+            ∙ ap (λ b. users_judged (reason_in ds b) users c.deref-in-loop-round-6.result.now (reasons_of c.deref_mut-in-loop-round.result.now)) known_now
+            ∙ ap (λ l. users_judged (reason_in ds (reasons_of (take c.loop-round.known.len (known_new ++ drop (length known_new) c.loop-round.known.items)))) users l (reasons_of c.deref_mut-in-loop-round.result.now)) last_is
+            ∙ ap (users_judged (reason_in ds (reasons_of (take c.loop-round.known.len (known_new ++ drop (length known_new) c.loop-round.known.items)))) users last) found_was)
+            (c.in_ok-last-2.ensures.round
+            ∙ ap (λ b. users_queued (reason_in ds b) users c.deref-in-loop-round-6.result.now (reasons_of c.deref_mut-in-loop-round.result.now) []) known_now
+            ∙ ap (λ l. users_queued (reason_in ds (reasons_of (take c.loop-round.known.len (known_new ++ drop (length known_new) c.loop-round.known.items)))) users l (reasons_of c.deref_mut-in-loop-round.result.now) []) last_is
+            ∙ ap (λ f. users_queued (reason_in ds (reasons_of (take c.loop-round.known.len (known_new ++ drop (length known_new) c.loop-round.known.items)))) users last f []) found_was),
+      );
       elements = subst (AreBlamesAmong ds) (sym found_is) (c.in_ok-last-2.ensures.elements (subst (AreBlamesAmong ds) (sym c.deref_mut-in-loop-round.ensures.value) c.loop-round.invariant.elements));
     }
 
