@@ -4,7 +4,7 @@ ghost use Rattle.std.specs.Prelude.{◌≡◌};
 ghost use Rattle.fhir_certificate.specs.declared.fault.CertFault.TheVariants as faults;
 ghost use Rattle.fhir_certificate.specs.Faults.{cert_number};
 
-use std::alloc::{AllocError, AllocFailed};
+use fhir_json::NoMemory;
 use thiserror::Error;
 
 /// Why bytes are not taken as a certificate: the first that applies.
@@ -35,26 +35,14 @@ impl CertFault {
     }
 }
 
-impl From<AllocError> for CertFault {
+// Whatever becomes want of memory.
+impl<E: Drop> From<E> for CertFault
+where
+    NoMemory: From<E>,
+{
     ghost from_gives = { λ _ e. e ≡ faults.NoMemory };
 
-    fn from(_error: AllocError) -> CertFault {
-        CertFault::NoMemory
-    }
-}
-
-impl<T: Drop> From<AllocFailed<T>> for CertFault {
-    ghost from_gives = { λ _ e. e ≡ faults.NoMemory };
-
-    fn from(_error: AllocFailed<T>) -> CertFault {
-        CertFault::NoMemory
-    }
-}
-
-impl From<fhir_json::NoMemory> for CertFault {
-    ghost from_gives = { λ _ e. e ≡ faults.NoMemory };
-
-    fn from(_error: fhir_json::NoMemory) -> CertFault {
+    fn from(_error: E) -> CertFault {
         CertFault::NoMemory
     }
 }

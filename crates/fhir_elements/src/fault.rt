@@ -18,6 +18,7 @@ pub enum ElementFault {
     NoMemory,
 }
 
+// Whatever becomes want of memory.
 impl<E: Drop> From<E> for ElementFault
 where
     NoMemory: From<E>,

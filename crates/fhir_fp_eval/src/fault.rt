@@ -4,7 +4,6 @@ ghost use Rattle.std.specs.Prelude.{◌≡◌};
 ghost use Rattle.fhir_fp_eval.specs.declared.fault.EvalFault.TheVariants as faults;
 
 use fhir_json::NoMemory;
-use std::alloc::{AllocError, AllocFailed};
 use thiserror::Error;
 
 /// Why an expression has no result.
@@ -21,26 +20,14 @@ pub enum EvalFault {
     NoMemory,
 }
 
-impl From<AllocError> for EvalFault {
+// Whatever becomes want of memory.
+impl<E: Drop> From<E> for EvalFault
+where
+    NoMemory: From<E>,
+{
     ghost from_gives = { λ _ e. e ≡ faults.NoMemory };
 
-    fn from(_error: AllocError) -> EvalFault {
-        EvalFault::NoMemory
-    }
-}
-
-impl<T: Drop> From<AllocFailed<T>> for EvalFault {
-    ghost from_gives = { λ _ e. e ≡ faults.NoMemory };
-
-    fn from(_error: AllocFailed<T>) -> EvalFault {
-        EvalFault::NoMemory
-    }
-}
-
-impl From<NoMemory> for EvalFault {
-    ghost from_gives = { λ _ e. e ≡ faults.NoMemory };
-
-    fn from(_error: NoMemory) -> EvalFault {
+    fn from(_error: E) -> EvalFault {
         EvalFault::NoMemory
     }
 }

@@ -6,7 +6,6 @@ ghost use Rattle.fhir_json.specs.Refusals.{fault_of, unmet};
 
 use crate::fault::JsonFault;
 use crate::memory::NoMemory;
-use std::alloc::{AllocError, AllocFailed};
 
 /// What the text of a tree would have where a fault was met.
 #[derive(Clone, Copy, Debug, PartialEq, Eq)]
@@ -81,32 +80,14 @@ pub(crate) fn unmet(expected: Expected, text: &str) -> Refusal
     }
 }
 
-impl From<AllocError> for Refusal {
+// Whatever becomes want of memory.
+impl<E: Drop> From<E> for Refusal
+where
+    NoMemory: From<E>,
+{
     ghost from_gives = { λ _ r. r ≡ record { expected = wants.Memory; left = 0 } };
 
-    fn from(_error: AllocError) -> Refusal {
-        Refusal {
-            expected: Expected::Memory,
-            left: 0,
-        }
-    }
-}
-
-impl<T: Drop> From<AllocFailed<T>> for Refusal {
-    ghost from_gives = { λ _ r. r ≡ record { expected = wants.Memory; left = 0 } };
-
-    fn from(_error: AllocFailed<T>) -> Refusal {
-        Refusal {
-            expected: Expected::Memory,
-            left: 0,
-        }
-    }
-}
-
-impl From<NoMemory> for Refusal {
-    ghost from_gives = { λ _ r. r ≡ record { expected = wants.Memory; left = 0 } };
-
-    fn from(_error: NoMemory) -> Refusal {
+    fn from(_error: E) -> Refusal {
         Refusal {
             expected: Expected::Memory,
             left: 0,

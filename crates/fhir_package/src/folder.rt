@@ -7,7 +7,7 @@ ghost use Rattle.fhir_package.specs.declared.folder.FolderFault.TheVariants as f
 ghost use Rattle.fhir_package.specs.Folder.{failed};
 
 use fhir_json::NoMemory;
-use std::alloc::{AllocError, AllocFailed, Global};
+use std::alloc::Global;
 
 /// Why a folder gave nothing.
 #[derive(Clone, Copy, Debug, PartialEq, Eq)]
@@ -18,26 +18,14 @@ pub enum FolderFault {
     NoMemory,
 }
 
-impl From<AllocError> for FolderFault {
+// Whatever becomes want of memory.
+impl<E: Drop> From<E> for FolderFault
+where
+    NoMemory: From<E>,
+{
     ghost from_gives = { λ _ e. e ≡ faults.NoMemory };
 
-    fn from(_error: AllocError) -> FolderFault {
-        FolderFault::NoMemory
-    }
-}
-
-impl<T: Drop> From<AllocFailed<T>> for FolderFault {
-    ghost from_gives = { λ _ e. e ≡ faults.NoMemory };
-
-    fn from(_error: AllocFailed<T>) -> FolderFault {
-        FolderFault::NoMemory
-    }
-}
-
-impl From<NoMemory> for FolderFault {
-    ghost from_gives = { λ _ e. e ≡ faults.NoMemory };
-
-    fn from(_error: NoMemory) -> FolderFault {
+    fn from(_error: E) -> FolderFault {
         FolderFault::NoMemory
     }
 }
