@@ -17,8 +17,8 @@ ghost use Rattle.fhir_schema.specs.Covers.{covers};
 
 use fhir_codes::resolved;
 
-/// The definitions that can't be used are the least closed set: no reason applies to any other, each of them has one
-/// that applies, and no smaller set is closed.
+/// The definitions that can't be used are the least closed set: no reason applies to any other, each of them has the first
+/// that applies by what the rounds before have found, and no smaller set is closed.
 pub fn least_closed()
     ensures placed { (p : Definitions) (place : ℕ) (d : Definition) → slice_get (schema_of p).definitions place ≡ Some d
         → d.place ≡ place }
