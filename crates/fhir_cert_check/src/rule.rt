@@ -91,13 +91,6 @@ impl<'s> Rule<'s> {
         self.named().0
     }
 
-    /// The key of the constraint, or the name of the slot, that the rule is about.
-    pub fn about(&self) -> Option<&'s str>
-        ensures { text_seen result ≡ about (rule_name self.now) }
-    {
-        self.named().1
-    }
-
     /// The name of the slice that the rule is about.
     pub fn slice(&self) -> Option<&'s str>
         ensures { text_seen result ≡ slice_of (rule_name self.now) }

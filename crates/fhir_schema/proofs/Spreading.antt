@@ -1,11 +1,11 @@
 -- Rounds over those alone that rest on what the last one found find what rounds find.
-use Rattle.std.proofs.Common.{◌≡◌, ℕ, zero, suc, ◌<◌, ◌≤◌, ◌+◌, ◌-◌, List, [], ◌∷◌, ◌++◌, map, length, get_or, set, refl, ap, subst, sym, ◌∙◌, IsTrue, arith}
+use Rattle.std.proofs.Common.{◌≡◌, ℕ, zero, suc, ◌<◌, ◌≤◌, ◌+◌, ◌-◌, List, [], ◌∷◌, ◌++◌, length, get_or, set, refl, ap, subst, sym, ◌∙◌, IsTrue, arith}
 use Rattle.std.specs.Option.{option_or}
 use Rattle.std.proofs.Common.{Bool, true, false, ◌&&◌, ◌||◌, cond, nat_eq, nat_lt, Option, Some, None, is_some, is_none, ◌⊎◌, inl, inr}
 use Rattle.std.specs.List.{list_all, list_any, slice_get}
-use Rattle.std.proofs.lemmas.Bool.{cases_eq, cases_lt, and_parts, and_from, and_cases, or_cases, or_left, or_right}
-use Rattle.std.proofs.lemmas.Bool.{eqb-true, eq-eqb, ne_eqb, lt-ltb, ltb-true, false≢true}
-use Rattle.std.proofs.lemmas.Option.{none-some, slice_get_within}
+use Rattle.std.proofs.lemmas.Bool.{cases_eq, cases_lt, and_parts, and_from, or_cases, or_left, or_right}
+use Rattle.std.proofs.lemmas.Bool.{eqb-true, eq-eqb, lt-ltb, ltb-true, false≢true}
+use Rattle.std.proofs.lemmas.Option.{none-some}
 use Rattle.std.proofs.lemmas.List.{length-set, length-map, get_or-set_same, get_or-set_other, get_or_past, get_or_default, same_lists}
 use Rattle.std.proofs.lemmas.List.Folds.{list_any-append}
 use Rattle.fhir_elements.specs.declared.reason.Reason.{Reason}
@@ -14,7 +14,7 @@ use Rattle.fhir_elements.specs.Tests.{first_of, all_hold}
 use Rattle.fhir_definition.specs.Snapshot.{is_at}
 use Rattle.fhir_definition.specs.Definition.{Definition}
 use Rattle.fhir_nodes.specs.Tables.{ArePlaced}
-use Rattle.fhir_schema.specs.Settling.{Reasons, reason_at, fault_of, has_tree, lasting_tests, types_are_usable, targets_are_usable, tests, reason_of, round, rounds, no_reasons, all_reasons}
+use Rattle.fhir_schema.specs.Settling.{Reasons, reason_at, fault_of, has_tree, lasting_tests, types_are_usable, targets_are_usable, tests, round, rounds, no_reasons, all_reasons}
 use Rattle.fhir_schema.specs.Resting.{rests_on, users_of, first_reasons, unusable_at, unusable_from}
 use Rattle.fhir_schema.specs.Blaming.{reason_in, is_unblamed, judged, queued, all_judged, all_queued, users_judged, users_queued, known_at, all_known}
 use Rattle.fhir_schema.proofs.Failing.{none_fails, hold_none, both_hold_more, both_hold}

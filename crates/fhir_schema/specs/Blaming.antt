@@ -1,5 +1,5 @@
 -- What is to blame for each definition that can't be used, and what one round finds (used by private contracts alone).
-use Rattle.std.specs.Prelude.{◌≡◌, ℕ, List, [], ◌∷◌, ◌++◌, map, length, get_or, set, Bool, true, ◌&&◌, nat_lt, Option, None, Some, is_none, if◌then◌else◌}
+use Rattle.std.specs.Prelude.{◌≡◌, ℕ, List, [], ◌∷◌, ◌++◌, map, length, get_or, set, Bool, ◌&&◌, nat_lt, Option, None, Some, is_none, if◌then◌else◌}
 use Rattle.std.specs.Option.{option_and_then}
 use Rattle.std.specs.List.{slice_get}
 use Rattle.fhir_elements.specs.declared.reason.Reason.{Reason}

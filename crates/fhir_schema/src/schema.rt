@@ -3,7 +3,7 @@
 ghost use Rattle.std.specs.Prelude.{◌≡◌, length, false, IsTrue, IfOk};
 ghost use Rattle.std.specs.Option.{option_copied, option_map, option_map_or};
 ghost use Rattle.fhir_json.specs.Memory.{Gives};
-ghost use Rattle.fhir_schema.specs.Schemas.{schema_of, schema_with, unusable, is_usable, elements_at, elements_of_url, has, element_at, url_at, id_of_node, is_root_node, node_in, root_element, root, node_with, node, slots, slot_named, slices, slice_named, criteria, is_closed, target, holder, types, forms, property, type_root, resource_root, is_concrete, is_loaded, loaded, concepts_at};
+ghost use Rattle.fhir_schema.specs.Schemas.{schema_of, schema_with, unusable, is_usable, elements_at, elements_of_url, has, element_at, url_at, id_of_node, is_root_node, node_in, root_element, root, node_with, node, slots, slot_named, slices, slice_named, criteria, is_closed, target, holder, types, forms, property, type_root, resource_root, is_concrete, loaded, concepts_at};
 ghost use Rattle.fhir_elements.specs.Causes.{blamed_reason, is_blame_among};
 ghost use Rattle.fhir_definition.specs.Blames.{AreBlamesAmong};
 ghost use Rattle.fhir_schema.specs.Settling.{reason_at, all_reasons};
@@ -282,13 +282,6 @@ impl Schema {
             Some(place) => self.node_in(place, self.root_element(place)),
             None => None,
         }
-    }
-
-    /// Whether a definition stands at a url. It may be one that can't be used.
-    pub fn is_loaded(&self, url: &str) -> bool
-        ensures { result ≡ is_loaded self.now url.now }
-    {
-        self.table.url_place(url).is_some()
     }
 
     /// The root of the definition that a canonical names (FHIR R4, Data Types, canonical), if that can be used. A canonical

@@ -1,4 +1,4 @@
-use Rattle.std.proofs.Common.{◌≡◌, Bool, List, Option, ap, sym, ◌∙◌}
+use Rattle.std.proofs.Common.{sym, ◌∙◌}
 use Rattle.fhir_elements.specs.declared.reason.Reason.TheVariants.{UnusableType, NoTree, MissingContent}
 use Rattle.fhir_elements.specs.Causes.{blamed_reason}
 use Rattle.fhir_schema.specs.Settling.{types_are_usable, targets_are_usable, has_tree, lasting_tests}

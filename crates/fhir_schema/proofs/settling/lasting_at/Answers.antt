@@ -1,4 +1,4 @@
-use Rattle.std.proofs.Common.{◌≡◌, length, false, None, ap, sym, ◌∙◌, subst, get_or}
+use Rattle.std.proofs.Common.{length, false, None, ap, sym, ◌∙◌, subst, get_or}
 use Rattle.fhir_elements.specs.Causes.{is_blame_among, reason_unless}
 use Rattle.fhir_elements.specs.declared.reason.Reason.TheVariants.{NoTree, UnsupportedSlicing}
 use Rattle.fhir_forms.specs.Forms.{spells_apart}

@@ -1,4 +1,4 @@
-use Rattle.std.proofs.Common.{◌≡◌, ap, sym, ◌∙◌}
+use Rattle.std.proofs.Common.{ap, sym, ◌∙◌}
 use Rattle.fhir_elements.specs.Causes.{blamed_reason, reason_unless}
 use Rattle.fhir_elements.specs.declared.reason.Reason.TheVariants.{NoTree}
 use Rattle.fhir_definition.specs.Snapshot.{is_tree}

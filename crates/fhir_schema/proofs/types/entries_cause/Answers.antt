@@ -1,4 +1,4 @@
-use Rattle.std.proofs.Common.{◌≡◌, ◌<◌, length, sym, ◌∙◌, arith}
+use Rattle.std.proofs.Common.{◌<◌, length, sym, ◌∙◌, arith}
 use Rattle.std.specs.Option.{option_map}
 use Rattle.fhir_elements.specs.Causes.{reason_of}
 use Rattle.fhir_elements.specs.declared.reason.Reason.TheVariants.{UnusableType}
