@@ -25,20 +25,14 @@
 //! stands in `specs/Report.antt`, and how its lines are written in `specs/Lines.antt`.
 #![tactic(auto)]
 
-mod causes;
+mod blaming;
 mod certificates;
-mod explaining;
 mod failing;
-mod fields;
 mod laws;
 mod line;
 mod narrowing;
 mod reporting;
-mod slicings;
 mod telling;
-mod trees;
-mod types;
-mod why;
 mod wording;
 mod writing;
 

@@ -229,7 +229,7 @@ pub fn report_on<'s, 'f: 's>(
         certificate,
     } = subject;
     let found = findings(alloc, survey, schema)?;
-    let teller = Teller::of(alloc, survey, schema)?;
+    let teller = Teller::of(survey, schema);
     let lines = lines_of(alloc, &teller, &found)?;
     let judged = judge_if_any(alloc, schema, certificate)?;
     let counts = counts_of(files, survey, schema);

@@ -7,10 +7,8 @@ ghost use Rattle.fhir_package.specs.declared.survey.FileFault.TheVariants.{NotJs
 ghost use Rattle.fhir_report.specs.Lines.{line_seen};
 ghost use Rattle.fhir_report.specs.Report.{head, fault_head, unusable_head, TellsFinding};
 
-use crate::causes::Causes;
-use crate::explaining::explain;
+use crate::blaming::Blamed;
 use crate::line::{Line, Number};
-use crate::why::{Why, known};
 use crate::wording::expected_words;
 use fhir_findings::{Finding, UnreadRule, Unusable};
 use fhir_json::NoMemory;
@@ -19,11 +17,10 @@ use fhir_schema::Schema;
 use std::alloc::{AllocError, Global};
 
 /// What is told of a package's findings: a line for each.
-#[derive(Drop)]
+#[derive(Clone, Copy)]
 pub struct Teller<'s, 'f> {
     survey: &'s Survey<'f>,
     schema: &'s Schema,
-    causes: Causes,
 }
 
 fn no_bytes_line<'s>(alloc: Global, file: &'s str) -> Result<Line<'s>, AllocError>
@@ -82,48 +79,40 @@ fn unread_line<'s>(alloc: Global, unread: &UnreadRule<'s>) -> Result<Line<'s>, A
     Ok(line)
 }
 
+fn why_text(alloc: Global, blamed: Option<Blamed<'_>>) -> Result<String, AllocError> {
+    match blamed {
+        Some(blamed) => blamed.text(alloc),
+        None => Ok(String::new(alloc)),
+    }
+}
+
 impl<'s, 'f: 's> Teller<'s, 'f> {
-    /// A teller of what was found in the package of a survey, by its schema. The one refusal is want of memory.
-    pub fn of(
-        alloc: Global,
-        survey: &'s Survey<'f>,
-        schema: &'s Schema,
-    ) -> Result<Teller<'s, 'f>, NoMemory> {
-        Ok(Teller {
-            survey,
-            schema,
-            causes: Causes::found(alloc, schema)?,
+    /// A teller of what was found in the package of a survey, by its schema.
+    pub fn of(survey: &'s Survey<'f>, schema: &'s Schema) -> Teller<'s, 'f> {
+        Teller { survey, schema }
+    }
+
+    // What is to blame for the definition at a url, where that can't be used.
+    fn blamed(&self, url: &str) -> Option<Blamed<'s>> {
+        let blame = self.schema.blame(url)?;
+        let package = self.survey.package();
+        let place = package.place(Kind::StructureDefinition, url)?;
+        let definition = self.schema.definitions().get(place)?;
+        Some(Blamed {
+            schema: self.schema,
+            definition,
+            blame,
         })
     }
 
-    fn why(&self, alloc: Global, unusable: &Unusable<'s>) -> Result<Why<'s>, NoMemory> {
-        let package = self.survey.package();
-        let Some(place) = package.place(Kind::StructureDefinition, unusable.url) else {
-            return Ok(known(alloc, "it can't be used")?);
-        };
-        match (
-            self.schema.definitions().get(place),
-            package.at(Kind::StructureDefinition, place),
-        ) {
-            (Some(definition), Some((_url, tree))) => explain(
-                alloc,
-                self.schema,
-                &self.causes,
-                definition,
-                tree,
-                unusable.reason,
-            ),
-            _ => Ok(known(alloc, "it can't be used")?),
-        }
-    }
-
-    fn unusable_line(&self, alloc: Global, unusable: &Unusable<'s>) -> Result<Line<'s>, NoMemory>
+    fn unusable_line(&self, alloc: Global, unusable: &Unusable<'s>) -> Result<Line<'s>, AllocError>
         ensures { IfOk result (λ l. head (line_seen l) ≡ unusable_head (unusable.now.file.now, unusable.now.url.now, unusable.now.reason)) }
     {
-        let Why { id, text } = self.why(alloc, unusable)?;
-        let mut line = Line::of_file(unusable.file, Some(Number::Unusable(unusable.reason)), text);
+        let number = Number::Unusable(unusable.reason);
+        let blamed = self.blamed(unusable.url);
+        let mut line = Line::of_file(unusable.file, Some(number), why_text(alloc, blamed)?);
         line.url = Some(unusable.url);
-        line.id = id;
+        line.id = blamed.and_then(|blamed| blamed.id());
         Ok(line)
     }
 
@@ -133,7 +122,7 @@ impl<'s, 'f: 's> Teller<'s, 'f> {
     {
         match finding {
             Finding::File(fault) => Ok(file_line(alloc, fault)?),
-            Finding::Unusable(unusable) => self.unusable_line(alloc, unusable),
+            Finding::Unusable(unusable) => Ok(self.unusable_line(alloc, unusable)?),
             Finding::Unread(unread) => Ok(unread_line(alloc, unread)?),
         }
     }
