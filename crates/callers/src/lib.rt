@@ -71,7 +71,7 @@ use fhir_nodes::{Nodes, Table};
 use fhir_package::{Folder, Kind, LoadFault, Package, Silent, Survey, load};
 use fhir_prims::{PrimType, lexical};
 use fhir_registry::outcome;
-use fhir_report::{Form, Subject};
+use fhir_report::{Format, Subject};
 use fhir_schema::{NodeRef, Schema, Slot};
 use fhir_slicing::belongs;
 use fhir_validator::{Fault, Verdict, validate};
@@ -320,7 +320,7 @@ pub fn is_clean<'s, 'f: 's>(
         files,
         certificate: None,
     };
-    let report = fhir_report::report_on(alloc, Form::Text, subject)?;
+    let report = fhir_report::report_on(alloc, Format::Text, subject)?;
     Ok(report.is_clean)
 }
 

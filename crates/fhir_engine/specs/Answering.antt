@@ -9,7 +9,7 @@ use Rattle.fhir_schema.specs.Schemas.{SchemaValue}
 use Rattle.fhir_validator.specs.declared.fault.Fault.{Fault}
 use Rattle.fhir_validator.specs.declared.verdict.Verdict.{Verdict}
 use Rattle.fhir_registry.specs.Outcomes.{IsOutcome}
-use Rattle.fhir_report.specs.declared.writing.Form.{Form}
+use Rattle.fhir_report.specs.declared.writing.Format.{Format}
 use Rattle.fhir_report.specs.Faultless.{CertificateValue}
 use Rattle.fhir_engine.specs.declared.request.WordsFault.{WordsFault}
 use Rattle.fhir_engine.specs.declared.request.WordsFault.TheVariants.{Usage, NoMemory}
@@ -27,7 +27,7 @@ use Rattle.fhir_engine.specs.Status.{code_of, verdict_status, report_status, wor
 pub data AnswerValue : Type 0 where
   stated : ReplyValue → AnswerValue
   judged : SchemaValue → (profile bytes : List ℕ) → AnswerValue
-  reported : Form → SessionValue → Option CertificateValue → AnswerValue
+  reported : Format → SessionValue → Option CertificateValue → AnswerValue
 
 -- The status is that of a verdict or a fault which says how the resource stands, and an outcome is written, with a line feed.
 pub record IsJudged (s : SchemaValue) (profile bytes : Text) (reply : ReplyValue) : Type 0 where
@@ -38,17 +38,17 @@ pub record IsJudged (s : SchemaValue) (profile bytes : Text) (reply : ReplyValue
   pub is_reply : reply ≡ written (code_of (verdict_status validated)) (compact outcome ++ codes "\n")
 
 -- The status says whether all is right, and a report is written.
-pub record IsReported (form : Form) (s : SessionValue) (certificate : Option CertificateValue) (reply : ReplyValue) : Type 0 where
+pub record IsReported (format : Format) (s : SessionValue) (certificate : Option CertificateValue) (reply : ReplyValue) : Type 0 where
   pub is_clean : Bool
   pub all_right : IsTrue is_clean ↔ IsAllRight s certificate
   pub text : Text
-  pub is_report : IsReportOf form s certificate text
+  pub is_report : IsReportOf format s certificate text
   pub is_reply : reply ≡ written (code_of (report_status is_clean)) text
 
 abbrev pub IsReply : AnswerValue → ReplyValue → Type 0
 IsReply (stated answer) reply = reply ≡ answer
 IsReply (judged s profile bytes) reply = IsJudged s profile bytes reply
-IsReply (reported form s certificate) reply = IsReported form s certificate reply
+IsReply (reported format s certificate) reply = IsReported format s certificate reply
 
 -- ---- the answer to a request
 
@@ -68,15 +68,15 @@ certify_answer s name file = file_answer (λ bytes. stated (certificate_reply na
 abbrev pub validate_answer : SchemaValue → Text → Text → Option Text → AnswerValue
 validate_answer s profile name file = file_answer (λ bytes. judged s profile bytes) name file
 
-abbrev pub check_answer : Form → SessionValue → Option Text → Option Text → AnswerValue
-check_answer form s None file = reported form s None
-check_answer form s (Some name) file = file_answer (λ bytes. reported form s (Some (name, bytes))) name file
+abbrev pub check_answer : Format → SessionValue → Option Text → Option Text → AnswerValue
+check_answer format s None file = reported format s None
+check_answer format s (Some name) file = file_answer (λ bytes. reported format s (Some (name, bytes))) name file
 
 -- of a session, and of the bytes of the file that is asked about
 abbrev pub answer_by : RequestValue → SessionValue → Option Text → AnswerValue
 answer_by (certify folder name) s file = package_answer (refusal s.survey) (certify_answer (schema_in s) name file)
 answer_by (validate folder profile name) s file = package_answer (refusal s.survey) (validate_answer (schema_in s) profile name file)
-answer_by (check folder certificate form) s file = check_answer form s certificate file
+answer_by (check folder certificate format) s file = check_answer format s certificate file
 
 -- of the files that were read of a folder, or of a folder that wasn't listed
 abbrev pub answer_to : RequestValue → Result ReadFiles FolderFault → Option Text → AnswerValue

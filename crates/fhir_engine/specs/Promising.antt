@@ -35,7 +35,7 @@ Checked s name file = (certificate : Option CertificateValue) × (asked name fil
 abbrev pub Promised : RequestValue → SchemaValue → Option Text → Type 0
 Promised (certify folder name) s file = Certified s file
 Promised (validate folder profile name) s file = Validated s profile file
-Promised (check folder certificate form) s file = Checked s certificate file
+Promised (check folder certificate format) s file = Checked s certificate file
 
 -- of a session: nothing is wrong with any file, and the same of the schema
 abbrev pub SessionPromise : RequestValue → SessionValue → Option Text → Type 0

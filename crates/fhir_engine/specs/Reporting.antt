@@ -1,7 +1,7 @@
 -- What is reported of a folder and a certificate.
 use Rattle.std.specs.Prelude.{Option, None, Some}
 use Rattle.fhir_json.specs.Tree.{Text}
-use Rattle.fhir_report.specs.declared.writing.Form.{Form}
+use Rattle.fhir_report.specs.declared.writing.Format.{Format}
 use Rattle.fhir_report.specs.Faultless.{CertificateValue, IsRightBy}
 use Rattle.fhir_report.specs.Report.{IsReport}
 use Rattle.fhir_engine.specs.Session.{SessionValue, schema_in}
@@ -16,5 +16,5 @@ asked (Some name) (Some bytes) = Some (Some (name, bytes))
 abbrev pub IsAllRight : SessionValue → Option CertificateValue → Type 0
 IsAllRight s certificate = IsRightBy (schema_in s) s.survey certificate
 
-abbrev pub IsReportOf : Form → SessionValue → Option CertificateValue → Text → Type 0
-IsReportOf form s certificate text = IsReport form s.files (schema_in s) s.survey certificate text
+abbrev pub IsReportOf : Format → SessionValue → Option CertificateValue → Text → Type 0
+IsReportOf format s certificate text = IsReport format s.files (schema_in s) s.survey certificate text

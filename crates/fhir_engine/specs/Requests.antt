@@ -1,7 +1,7 @@
 -- What is asked, and what words ask for.
 use Rattle.std.specs.Prelude.{ℕ, List, Option, Some}
 use Rattle.fhir_json.specs.Tree.{Text}
-use Rattle.fhir_report.specs.declared.writing.Form.{Form}
+use Rattle.fhir_report.specs.declared.writing.Format.{Format}
 
 pub data RequestValue : Type 0 where
   -- whether the certificate in a file is right, over the definitions in a folder
@@ -9,18 +9,18 @@ pub data RequestValue : Type 0 where
   -- whether the resource in a file conforms to the profile at a url, over the definitions in a folder
   validate : (folder profile file : List ℕ) → RequestValue
   -- what is wrong with the files of a folder, and with the certificate in a file, if there is one
-  check : List ℕ → Option (List ℕ) → Form → RequestValue
+  check : List ℕ → Option (List ℕ) → Format → RequestValue
 
 abbrev pub folder_of : RequestValue → Text
 folder_of (certify folder file) = folder
 folder_of (validate folder profile file) = folder
-folder_of (check folder certificate form) = folder
+folder_of (check folder certificate format) = folder
 
 -- the file that is asked about
 abbrev pub file_of : RequestValue → Option Text
 file_of (certify folder file) = Some file
 file_of (validate folder profile file) = Some file
-file_of (check folder certificate form) = certificate
+file_of (check folder certificate format) = certificate
 
 -- what words ask for
 pub data InvocationValue : Type 0 where

@@ -17,7 +17,7 @@ bytes_seen file = option_map (λ bytes. bytes.now) file
 abbrev pub request_seen : Request → RequestValue
 request_seen (Certify folder file) = certify folder.now file.now
 request_seen (Validate folder profile file) = validate folder.now profile.now file.now
-request_seen (Check folder certificate form) = check folder.now (bytes_seen certificate) form
+request_seen (Check folder certificate format) = check folder.now (bytes_seen certificate) format
 
 abbrev pub invocation_seen : Invocation → InvocationValue
 invocation_seen (Asked asked) = request (request_seen asked)

@@ -3,7 +3,7 @@ use Rattle.std.specs.Prelude.{List, [], ◌∷◌, Bool, not, ◌&&◌, nat_eq, 
 use Rattle.std.specs.List.{starts_with}
 use Rattle.std.specs.Str.{bytes_eq}
 use Rattle.fhir_json.specs.Tree.{Text}
-use Rattle.fhir_report.specs.declared.writing.Form.TheVariants.{Text as AsText}
+use Rattle.fhir_report.specs.declared.writing.Format.TheVariants.{Text as AsText}
 use Rattle.fhir_engine.specs.Requests.{RequestValue, certify, validate, check, InvocationValue, request}
 
 abbrev pub is_option : Text → Bool

@@ -11,7 +11,7 @@ ghost use Rattle.fhir_engine.specs.Views.{bytes_seen, request_seen, invocation_s
 use crate::version::VERSION;
 use clap::error::ErrorKind;
 use clap::{Arg, ArgAction, ArgMatches, Command};
-use fhir_report::Form;
+use fhir_report::Format;
 use std::alloc::{AllocError, Global};
 
 /// What is asked.
@@ -40,7 +40,7 @@ pub enum Request<'w> {
         /// The file of a certificate over the folder's definitions, if that is asked about too.
         certificate: Option<&'w str>,
         /// How the answer is written.
-        form: Form,
+        format: Format,
     },
 }
 
@@ -188,7 +188,7 @@ fn check_request<'w>(command: &str, folder: &'w str) -> Option<Request<'w>>
         Some(Request::Check {
             folder,
             certificate: None,
-            form: Form::Text,
+            format: Format::Text,
         })
     } else {
         None
@@ -202,7 +202,7 @@ fn check_beside<'w>(command: &str, folder: &'w str, certificate: &'w str) -> Opt
         Some(Request::Check {
             folder,
             certificate: Some(certificate),
-            form: Form::Text,
+            format: Format::Text,
         })
     } else {
         None
@@ -293,10 +293,10 @@ fn check_matched<'w>(matches: &ArgMatches<'w>) -> Result<Request<'w>, WordsFault
     Ok(Request::Check {
         folder: word(matches, "PACKAGE")?,
         certificate: matches.get_str("CERTIFICATE"),
-        form: if matches.get_flag("json") {
-            Form::Json
+        format: if matches.get_flag("json") {
+            Format::Json
         } else {
-            Form::Text
+            Format::Text
         },
     })
 }

@@ -18,7 +18,7 @@ use crate::request::Request;
 use fhir_findings::all_usable;
 use fhir_json::NoMemory;
 use fhir_package::{FileFault, FolderFiles, Progress, Stage, Survey};
-use fhir_report::{CertificateFile, Form, Subject, report_on};
+use fhir_report::{CertificateFile, Format, Subject, report_on};
 use fhir_schema::Schema;
 use std::alloc::{AllocError, Global};
 use std::marker::Model;
@@ -120,9 +120,9 @@ impl<'f> Session<'f> {
             } => self.validate(alloc, profile, name, file),
             Request::Check {
                 certificate,
-                form,
+                format,
                 ..
-            } => self.check(alloc, form, certificate, file),
+            } => self.check(alloc, format, certificate, file),
         }
     }
 
@@ -159,10 +159,10 @@ impl<'f> Session<'f> {
     fn report(
         &self,
         alloc: Global,
-        form: Form,
+        format: Format,
         certificate: Option<CertificateFile<'_>>,
     ) -> Result<Reply, NoMemory>
-        ensures told { IfOk result (λ r. IsReported form self.now (certificate_seen certificate.entry) (reply_seen r)) }
+        ensures told { IfOk result (λ r. IsReported format self.now (certificate_seen certificate.entry) (reply_seen r)) }
         ensures promised { IfOk result (λ r. status_of (reply_seen r) ≡ 0
             → (self.now.survey.faults ≡ []) × AreRight (schema_in self.now) (certificate_seen certificate.entry)) }
     {
@@ -173,7 +173,7 @@ impl<'f> Session<'f> {
             files: self.files,
             certificate,
         };
-        let report = report_on(alloc, form, subject)?;
+        let report = report_on(alloc, format, subject)?;
         Ok(Reply::Answer {
             status: report_status(report.is_clean),
             out: report.text.into_bytes(),
@@ -183,20 +183,20 @@ impl<'f> Session<'f> {
     fn check(
         &self,
         alloc: Global,
-        form: Form,
+        format: Format,
         certificate: Option<&str>,
         file: Option<&[u8]>,
     ) -> Result<Reply, NoMemory>
-        ensures told { IfOk result (λ r. IsReply (check_answer form self.now (bytes_seen certificate.entry) (bytes_seen file.entry)) (reply_seen r)) }
+        ensures told { IfOk result (λ r. IsReply (check_answer format self.now (bytes_seen certificate.entry) (bytes_seen file.entry)) (reply_seen r)) }
         ensures promised { IfOk result (λ r. status_of (reply_seen r) ≡ 0 → (self.now.survey.faults ≡ [])
             × Checked (schema_in self.now) (bytes_seen certificate.entry) (bytes_seen file.entry)) }
     {
         match (certificate, file) {
-            (None, _) => self.report(alloc, form, None),
+            (None, _) => self.report(alloc, format, None),
             (Some(name), None) => Ok(unread_reply(alloc, name)?),
             (Some(name), Some(bytes)) => {
                 let certificate = CertificateFile { name, bytes };
-                self.report(alloc, form, Some(certificate))
+                self.report(alloc, format, Some(certificate))
             }
         }
     }

@@ -10,7 +10,7 @@ use Rattle.fhir_package.specs.Surveying.{FileFault, Surveyed, survey, is_unread,
 use Rattle.fhir_schema.specs.Schemas.{SchemaValue, schema_of}
 use Rattle.fhir_findings.specs.Clean.{AreUsable, IsClean}
 use Rattle.fhir_findings.specs.Finding.{all_unusable}
-use Rattle.fhir_report.specs.declared.writing.Form.{Form}
+use Rattle.fhir_report.specs.declared.writing.Format.{Format}
 use Rattle.fhir_report.specs.Report.{IsReport, IsReportOn}
 use Rattle.fhir_report.specs.Faultless.{CertificateValue, IsRightIfAny, PromisesIfAny, IsRightBy, AreOf, IsFaultless, IsPromised}
 
@@ -53,8 +53,8 @@ module _ (files : ReadFiles) (packed : packed_by (survey files) ≡ pack_given f
               back (λ t v. IsRightBy t v certificate) (none.0, none.1, subst (λ p. IsRightIfAny (schema_of p) certificate) same is.3)
 
 -- a report by a survey of files and its schema is one on the files
-pub report_told : (form : Form) (files : ReadFiles) (sv : Surveyed) (s : SchemaValue) (certificate : Option CertificateValue) (text : Text)
-    → AreOf files sv s → IsReport form (length files) s sv certificate text → IsReportOn form files certificate text
-report_told form files sv s certificate text of told =
-    subst (λ v. IsReport form (length files) (schema_of v.definitions) v certificate text) of.0
-    (subst (λ t. IsReport form (length files) t sv certificate text) of.1 told)
+pub report_told : (format : Format) (files : ReadFiles) (sv : Surveyed) (s : SchemaValue) (certificate : Option CertificateValue) (text : Text)
+    → AreOf files sv s → IsReport format (length files) s sv certificate text → IsReportOn format files certificate text
+report_told format files sv s certificate text of told =
+    subst (λ v. IsReport format (length files) (schema_of v.definitions) v certificate text) of.0
+    (subst (λ t. IsReport format (length files) t sv certificate text) of.1 told)

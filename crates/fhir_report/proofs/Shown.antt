@@ -6,7 +6,7 @@ use Rattle.std.proofs.lemmas.Str.{IsUtf8-append, chars-nil, chars-append, chars-
 use Rattle.std.specs.Char.{is_control, digit_char}
 use Rattle.std.specs.Str.{chars}
 use lib.Utf8.{scalar, scalars, encode, encodes}
-use Rattle.fhir_report.specs.declared.writing.Form.{Form}
+use Rattle.fhir_report.specs.declared.writing.Format.{Format}
 use Rattle.fhir_report.specs.Lines.{LineValue, escaped_character, escaped, row_text, row, rows}
 
 -- the characters that stand for one
@@ -92,21 +92,21 @@ unfolding encode
 line_feed_is_text = (10 ∷ [], (refl, refl))
 
 -- a row has one control character, the line feed at its end
-row_clean : (form : Form) (l : LineValue) → IsUtf8 (row_text form l)
-    → IsUtf8 (row form l) × (filter is_control (chars (row form l)) ≡ 10 ∷ [])
-row_clean form l is =
-    let text = escaped_clean (row_text form l) is in (
-      IsUtf8-append (escaped (row_text form l)) (codes "\n") text.0 line_feed_is_text,
-      ap (filter is_control) (chars-append (escaped (row_text form l)) (codes "\n") text.0)
-          ∙ filter-append is_control (chars (escaped (row_text form l))) (chars (codes "\n"))
+row_clean : (format : Format) (l : LineValue) → IsUtf8 (row_text format l)
+    → IsUtf8 (row format l) × (filter is_control (chars (row format l)) ≡ 10 ∷ [])
+row_clean format l is =
+    let text = escaped_clean (row_text format l) is in (
+      IsUtf8-append (escaped (row_text format l)) (codes "\n") text.0 line_feed_is_text,
+      ap (filter is_control) (chars-append (escaped (row_text format l)) (codes "\n") text.0)
+          ∙ filter-append is_control (chars (escaped (row_text format l))) (chars (codes "\n"))
           ∙ ap₂ (λ (xs ys : List ℕ). xs ++ ys) text.1 line_feed_alone,
     )
 
-pub rows_clean : (form : Form) (ls : List LineValue) → All (λ l. IsUtf8 (row_text form l)) ls
-    → filter is_control (chars (rows form ls)) ≡ replicate (length ls) 10
-rows_clean form [] all = ap (filter is_control) chars-nil
-rows_clean form (l ∷ ls) all =
-    let one = row_clean form l (all 0 l (omega arith)) in
-    ap (filter is_control) (chars-append (row form l) (rows form ls) one.0)
-    ∙ filter-append is_control (chars (row form l)) (chars (rows form ls))
-    ∙ ap₂ (λ (xs ys : List ℕ). xs ++ ys) one.1 (rows_clean form ls (λ k d less. all (suc k) d (omega (arith, less))))
+pub rows_clean : (format : Format) (ls : List LineValue) → All (λ l. IsUtf8 (row_text format l)) ls
+    → filter is_control (chars (rows format ls)) ≡ replicate (length ls) 10
+rows_clean format [] all = ap (filter is_control) chars-nil
+rows_clean format (l ∷ ls) all =
+    let one = row_clean format l (all 0 l (omega arith)) in
+    ap (filter is_control) (chars-append (row format l) (rows format ls) one.0)
+    ∙ filter-append is_control (chars (row format l)) (chars (rows format ls))
+    ∙ ap₂ (λ (xs ys : List ℕ). xs ++ ys) one.1 (rows_clean format ls (λ k d less. all (suc k) d (omega (arith, less))))

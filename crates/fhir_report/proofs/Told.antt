@@ -6,9 +6,9 @@ use Rattle.std.proofs.lemmas.List.{map-append, take_more, take_all}
 use Rattle.fhir_findings.specs.declared.finding.Finding.{Finding}
 use Rattle.fhir_findings.specs.Finding.{fault_told, faults_told, unusable_told, all_told as unusable_each}
 use Rattle.fhir_report.specs.declared.line.Line.{Line}
-use Rattle.fhir_report.specs.declared.line.Number.{Number}
+use Rattle.fhir_report.specs.declared.line.FaultNumber.{FaultNumber}
 use Rattle.fhir_report.specs.Lines.{LineValue, file_line, line_seen, lines_seen, row, rows}
-use Rattle.fhir_report.specs.declared.writing.Form.{Form}
+use Rattle.fhir_report.specs.declared.writing.Format.{Format}
 use Rattle.fhir_json.specs.Tree.{Text}
 use Rattle.fhir_schema.specs.Schemas.{SchemaValue}
 use Rattle.fhir_certificate.specs.declared.fault.CertFault.{CertFault}
@@ -19,13 +19,13 @@ use Rattle.fhir_report.specs.Growing.{Grows}
 
 -- ---- of several
 
-all_told-append : (is : Number → Bool) (xs ys : List LineValue) → all_told is (xs ++ ys) ≡ all_told is xs ++ all_told is ys
+all_told-append : (is : FaultNumber → Bool) (xs ys : List LineValue) → all_told is (xs ++ ys) ≡ all_told is xs ++ all_told is ys
 all_told-append is xs ys = flat_map-append (λ l. kept is (head l)) xs ys
 
 -- some, and then others
 then : (a b c : List Line) (f d g e : List Head) → Grows a b f d → Grows b c g e → Grows a c (f ++ g) (d ++ e)
 then a b c f d g e first second =
-    let both : (kind : Number → Bool) (hs ks : List Head) → all_told kind (lines_seen b) ≡ all_told kind (lines_seen a) ++ hs
+    let both : (kind : FaultNumber → Bool) (hs ks : List Head) → all_told kind (lines_seen b) ≡ all_told kind (lines_seen a) ++ hs
     → all_told kind (lines_seen c) ≡ all_told kind (lines_seen b) ++ ks → all_told kind (lines_seen c) ≡ all_told kind (lines_seen a) ++ (hs ++ ks) =
     (λ kind hs ks one two.
     two ∙ ap (λ (xs : List Head). xs ++ ks) one ∙ append_assoc (all_told kind (lines_seen a)) hs ks) in
@@ -70,12 +70,12 @@ last a found i all before = subst (λ (fs : List Finding). Grows [] a (map fault
 
 -- ---- rows
 
-pub three_rows : (form : Form) (xs ys : List LineValue) (l : LineValue) (a b c : List ℕ) → a ≡ rows form xs → b ≡ a ++ rows form ys → c ≡ b ++ row form l
-    → c ≡ rows form (xs ++ ys ++ l ∷ [])
-three_rows form xs ys l a b c first second third =
-    third ∙ ap (λ (t : List ℕ). t ++ row form l) (second ∙ ap (λ (t : List ℕ). t ++ rows form ys) first ∙ sym (flat_map-append (row form) xs ys))
-    ∙ ap (λ (t : List ℕ). rows form (xs ++ ys) ++ t) (sym (append-nil (row form l)))
-    ∙ sym (flat_map-append (row form) (xs ++ ys) (l ∷ []))
+pub three_rows : (format : Format) (xs ys : List LineValue) (l : LineValue) (a b c : List ℕ) → a ≡ rows format xs → b ≡ a ++ rows format ys → c ≡ b ++ row format l
+    → c ≡ rows format (xs ++ ys ++ l ∷ [])
+three_rows format xs ys l a b c first second third =
+    third ∙ ap (λ (t : List ℕ). t ++ row format l) (second ∙ ap (λ (t : List ℕ). t ++ rows format ys) first ∙ sym (flat_map-append (row format) xs ys))
+    ∙ ap (λ (t : List ℕ). rows format (xs ++ ys) ++ t) (sym (append-nil (row format l)))
+    ∙ sym (flat_map-append (row format) (xs ++ ys) (l ∷ []))
 
 -- ---- certificates
 

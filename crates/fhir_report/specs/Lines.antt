@@ -9,17 +9,17 @@ use Rattle.fhir_json.specs.Faults.{fault_number}
 use Rattle.fhir_elements.specs.Numbers.{reason_number}
 use Rattle.fhir_certificate.specs.Faults.{cert_number}
 use Rattle.fhir_report.specs.declared.line.Line.{Line}
-use Rattle.fhir_report.specs.declared.line.Number.{Number}
-use Rattle.fhir_report.specs.declared.line.Number.TheVariants.{Unread, Clash, Json, Unusable, Certificate}
-use Rattle.fhir_report.specs.declared.writing.Form.{Form}
-use Rattle.fhir_report.specs.declared.writing.Form.TheVariants.{Text as AsText, Json as AsJson}
+use Rattle.fhir_report.specs.declared.line.FaultNumber.{FaultNumber}
+use Rattle.fhir_report.specs.declared.line.FaultNumber.TheVariants.{Unread, Clash, Json, Unusable, Certificate}
+use Rattle.fhir_report.specs.declared.writing.Format.{Format}
+use Rattle.fhir_report.specs.declared.writing.Format.TheVariants.{Text as AsText, Json as AsJson}
 
 -- something that was found, and where
 pub record LineValue : Type 0 where
   pub file : Option Text
   pub line : Option ℕ
   pub column : Option ℕ
-  pub number : Option Number
+  pub number : Option FaultNumber
   pub url : Option Text
   pub id : Option Text
   pub text : Text
@@ -28,12 +28,12 @@ abbrev pub text_line : Text → LineValue
 text_line text = record { file = None; line = None; column = None; number = None; url = None; id = None; text = text }
 
 -- on a file
-abbrev pub file_line : Text → Option Number → Text → LineValue
+abbrev pub file_line : Text → Option FaultNumber → Text → LineValue
 file_line file of_fault text = record (text_line text) { file = Some file; number = of_fault }
 
 -- ---- as a text: FILE:LINE:COLUMN: NUMBER URL ID: TEXT
 
-abbrev pub number_text : Number → Text
+abbrev pub number_text : FaultNumber → Text
 number_text Unread = codes "P1"
 number_text Clash = codes "P3"
 number_text (Json fault) = fault_number fault
@@ -86,16 +86,16 @@ escaped_character c = if is_control c then codes "\\u00" ++ digit_char (c / 16) 
 abbrev pub escaped : Text → Text
 escaped text = flat_map escaped_character (chars text)
 
-abbrev pub row_text : Form → LineValue → Text
+abbrev pub row_text : Format → LineValue → Text
 row_text AsText l = line_text l
 row_text AsJson l = compact (line_tree l)
 
-abbrev pub row : Form → LineValue → Text
-row form l = escaped (row_text form l) ++ codes "\n"
+abbrev pub row : Format → LineValue → Text
+row format l = escaped (row_text format l) ++ codes "\n"
 
 -- one for each line
-abbrev pub rows : Form → List LineValue → Text
-rows form ls = flat_map (row form) ls
+abbrev pub rows : Format → List LineValue → Text
+rows format ls = flat_map (row format) ls
 
 -- ---- what contracts see
 

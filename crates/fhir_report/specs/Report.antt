@@ -19,9 +19,9 @@ use Rattle.fhir_findings.specs.declared.finding.Finding.{Finding}
 use Rattle.fhir_findings.specs.declared.finding.Finding.TheVariants.{File as FileOne, Unusable as UnusableOne, Unread as UnreadOne}
 use Rattle.fhir_findings.specs.Counting.{counts, counts_text}
 use Rattle.fhir_findings.specs.Finding.{UnusableValue, all_unusable}
-use Rattle.fhir_report.specs.declared.line.Number.{Number}
-use Rattle.fhir_report.specs.declared.line.Number.TheVariants.{Unread, Clash, Json, Unusable, Certificate}
-use Rattle.fhir_report.specs.declared.writing.Form.{Form}
+use Rattle.fhir_report.specs.declared.line.FaultNumber.{FaultNumber}
+use Rattle.fhir_report.specs.declared.line.FaultNumber.TheVariants.{Unread, Clash, Json, Unusable, Certificate}
+use Rattle.fhir_report.specs.declared.writing.Format.{Format}
 use Rattle.fhir_report.specs.Faultless.{CertificateValue}
 use Rattle.fhir_report.specs.Lines.{LineValue, text_line, file_line, rows}
 
@@ -32,7 +32,7 @@ pub record Head : Type 0 where
   pub file : Option Text
   pub line : Option ℕ
   pub column : Option ℕ
-  pub number : Option Number
+  pub number : Option FaultNumber
   pub url : Option Text
 
 abbrev pub head : LineValue → Head
@@ -51,21 +51,21 @@ unusable_head u = record { file = Some u.0; line = None; column = None; number =
 
 -- ---- the lines of each kind, by their numbers
 
-abbrev pub is_of_file : Number → Bool
+abbrev pub is_of_file : FaultNumber → Bool
 is_of_file Unread = true
 is_of_file Clash = true
 is_of_file (Json fault) = true
 is_of_file _ = false
 
-abbrev pub is_unusable : Number → Bool
+abbrev pub is_unusable : FaultNumber → Bool
 is_unusable (Unusable reason) = true
 is_unusable _ = false
 
-abbrev pub kept : (Number → Bool) → Head → List Head
+abbrev pub kept : (FaultNumber → Bool) → Head → List Head
 kept is h = option_map_or (λ number. if is number then h ∷ [] else []) h.number []
 
 -- those of a kind, in their order
-abbrev pub all_told : (Number → Bool) → List LineValue → List Head
+abbrev pub all_told : (FaultNumber → Bool) → List LineValue → List Head
 all_told is ls = flat_map (λ l. kept is (head l)) ls
 
 -- The lines tell each fault of a file and each definition that can't be used, once and in their order, and no other.
@@ -121,14 +121,14 @@ TellsCertificate s (Some c) ls = TellsAnswer s c.0 (answer_of (reading s c.1) s)
 -- ---- a report
 
 -- The text has a row for each finding, then those on the certificate, and a last one with the counts of a package of so many files.
-pub record IsReport (form : Form) (files : ℕ) (s : SchemaValue) (survey : Surveyed) (certificate : Option CertificateValue) (text : Text) : Type 0 where
+pub record IsReport (format : Format) (files : ℕ) (s : SchemaValue) (survey : Surveyed) (certificate : Option CertificateValue) (text : Text) : Type 0 where
   pub found : List LineValue
   pub judged : List LineValue
-  pub written : text ≡ rows form (found ++ judged ++ text_line (counts_text (counts files survey s)) ∷ [])
+  pub written : text ≡ rows format (found ++ judged ++ text_line (counts_text (counts files survey s)) ∷ [])
   pub tells_findings : TellsFindings s survey found
   pub tells_certificate : TellsCertificate s certificate judged
 
 -- the same by the survey of files and the schema of its package
-abbrev pub IsReportOn : Form → ReadFiles → Option CertificateValue → Text → Type 0
-IsReportOn form files certificate text =
-    IsReport form (length files) (schema_of (survey files).definitions) (survey files) certificate text
+abbrev pub IsReportOn : Format → ReadFiles → Option CertificateValue → Text → Type 0
+IsReportOn format files certificate text =
+    IsReport format (length files) (schema_of (survey files).definitions) (survey files) certificate text

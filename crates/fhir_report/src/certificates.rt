@@ -6,7 +6,7 @@ ghost use Rattle.fhir_report.specs.Lines.{file_line, line_seen};
 ghost use Rattle.fhir_report.specs.Report.{node_text, pair_word, derived_of, base_of, pair_text, IsOfCertificate};
 
 use crate::failing::no_text;
-use crate::line::{Line, Number};
+use crate::line::{FaultNumber, Line};
 use crate::narrowing::rule_words;
 use fhir_cert_check::Rule;
 use fhir_certificate::{CertFault, Flaw, FlawKind, Pair, Part};
@@ -53,7 +53,7 @@ pub fn flaw_line<'r>(alloc: Global, file: &'r str, flaw: &Flaw<'r>) -> Result<Li
     ensures { IfOk result (λ l. IsOfCertificate file.now (line_seen l)) }
 {
     let text = flaw_text(alloc, flaw.kind)?;
-    let number = Number::Certificate(flaw_fault(flaw.kind));
+    let number = FaultNumber::Certificate(flaw_fault(flaw.kind));
     let (url, id) = match flaw.kind {
         FlawKind::Expected(_) => (None, None),
         FlawKind::Definition(url) => (Some(url), None),

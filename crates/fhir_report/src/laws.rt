@@ -11,7 +11,7 @@ ghost use Rattle.fhir_schema.specs.Schemas.{SchemaValue};
 ghost use Rattle.fhir_report.specs.Faultless.{CertificateValue, PromisesIfAny, IsRightBy, AreOf, IsFaultless, IsPromised};
 ghost use Rattle.fhir_report.specs.Lines.{LineValue, row_text, rows};
 ghost use Rattle.fhir_report.specs.Report.{IsReport, IsReportOn};
-ghost use Rattle.fhir_report.specs.declared.writing.Form.{Form};
+ghost use Rattle.fhir_report.specs.declared.writing.Format.{Format};
 
 use fhir_findings::{all_usable, clean_files};
 use fhir_package::surveys;
@@ -23,8 +23,8 @@ pub fn reports()
         → AreOf files survey s → IsRightBy s survey certificate ↔ IsFaultless files certificate }
     ensures promised { (files : ReadFiles) (survey : Surveyed) (s : SchemaValue) (certificate : Option CertificateValue)
         → AreOf files survey s → IsRightBy s survey certificate → PromisesIfAny s certificate → IsPromised files certificate }
-    ensures told { (form : Form) (files : ReadFiles) (survey : Surveyed) (s : SchemaValue) (certificate : Option CertificateValue) (text : Text)
-        → AreOf files survey s → IsReport form (length files) s survey certificate text → IsReportOn form files certificate text }
+    ensures told { (format : Format) (files : ReadFiles) (survey : Surveyed) (s : SchemaValue) (certificate : Option CertificateValue) (text : Text)
+        → AreOf files survey s → IsReport format (length files) s survey certificate text → IsReportOn format files certificate text }
 {
     surveys();
     all_usable();
@@ -34,6 +34,6 @@ pub fn reports()
 /// Of the control characters the rows of lines have one line feed for each, and no other, where the lines are texts of UTF-8.
 #[tactic(auto, using(crate::proofs::Shown::rows_clean))]
 pub fn rows_are_lines()
-    ensures { (form : Form) (ls : List LineValue) → All (λ l. IsUtf8 (row_text form l)) ls
-        → filter is_control (chars (rows form ls)) ≡ replicate (length ls) line_feed }
+    ensures { (format : Format) (ls : List LineValue) → All (λ l. IsUtf8 (row_text format l)) ls
+        → filter is_control (chars (rows format ls)) ≡ replicate (length ls) line_feed }
 {}

@@ -16,7 +16,7 @@
 //!         files,
 //!         certificate: None,
 //!     };
-//!     let report = fhir_report::report_on(alloc, Form::Text, subject)?;
+//!     let report = fhir_report::report_on(alloc, Format::Text, subject)?;
 //!     Ok(report.is_clean)
 //! }
 //! ```
@@ -39,8 +39,8 @@ mod writing;
 pub use certificates::{flaw_line, no_line, pair_text};
 pub use failing::{no_text, rule_text};
 pub use laws::{reports, rows_are_lines};
-pub use line::{Line, Number};
+pub use line::{FaultNumber, Line};
 pub use narrowing::rule_words;
 pub use reporting::{CertificateFile, Report, Subject, report_on};
 pub use telling::Teller;
-pub use writing::Form;
+pub use writing::Format;

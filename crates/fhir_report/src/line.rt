@@ -16,7 +16,7 @@ use std::fmt;
 
 /// The number of a fault. `Display` prints it.
 #[derive(Clone, Copy, Debug, PartialEq, Eq)]
-pub enum Number {
+pub enum FaultNumber {
     /// `P1`: a file can't be read.
     Unread,
     /// `P3`: two definitions of one url differ.
@@ -29,22 +29,22 @@ pub enum Number {
     Certificate(CertFault),
 }
 
-impl Number {
+impl FaultNumber {
     /// The number's text.
     pub fn text(&self) -> &'static str
         ensures { result.now ≡ number_text self.now }
     {
         match self {
-            Number::Unread => "P1",
-            Number::Clash => "P3",
-            Number::Json(fault) => fault.number(),
-            Number::Unusable(reason) => reason.number(),
-            Number::Certificate(fault) => fault.number(),
+            FaultNumber::Unread => "P1",
+            FaultNumber::Clash => "P3",
+            FaultNumber::Json(fault) => fault.number(),
+            FaultNumber::Unusable(reason) => reason.number(),
+            FaultNumber::Certificate(fault) => fault.number(),
         }
     }
 }
 
-impl fmt::Display for Number {
+impl fmt::Display for FaultNumber {
     fn fmt<W: fmt::Write>(&self, f: &mut fmt::Formatter<W>) -> fmt::Result {
         f.write_str(self.text())
     }
@@ -60,7 +60,7 @@ pub struct Line<'r> {
     /// The column in the line, from 1.
     pub column: Option<usize>,
     /// The number of the fault.
-    pub number: Option<Number>,
+    pub number: Option<FaultNumber>,
     /// The url of a definition.
     pub url: Option<&'r str>,
     /// The id of an element of it.
@@ -160,7 +160,7 @@ fn push_count(
     }
 }
 
-fn number_text(number: Option<Number>) -> Option<&'static str>
+fn number_text(number: Option<FaultNumber>) -> Option<&'static str>
     ensures { option_map (λ t. t.now) result ≡ option_map number_text number }
 {
     match number {
@@ -186,7 +186,7 @@ impl<'r> Line<'r> {
     }
 
     /// A line on a file.
-    pub fn of_file(file: &'r str, number: Option<Number>, text: String) -> Line<'r>
+    pub fn of_file(file: &'r str, number: Option<FaultNumber>, text: String) -> Line<'r>
         ensures { line_seen result ≡ file_line file.now number (string_bytes text) }
     {
         Line {

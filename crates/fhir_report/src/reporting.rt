@@ -11,9 +11,9 @@ ghost use Rattle.fhir_report.specs.Report.{fault_head, unusable_head, IsOfCertif
 ghost use Rattle.fhir_report.specs.Growing.{Grows};
 
 use crate::certificates::{flaw_line, no_line};
-use crate::line::{Line, Number};
+use crate::line::{FaultNumber, Line};
 use crate::telling::Teller;
-use crate::writing::{Form, push_row, push_rows};
+use crate::writing::{Format, push_row, push_rows};
 use fhir_cert_check::{Answer, check_bytes};
 use fhir_certificate::{CertFault, Flaw, flaws};
 use fhir_findings::{Counts, Finding, counts_of, findings, has_faults};
@@ -98,7 +98,7 @@ fn too_many<'r>(alloc: Global, file: &'r str) -> Result<Line<'r>, AllocError>
     ensures { IfOk result (λ l. IsOfCertificate file.now (line_seen l)) }
 {
     let text = String::from_str(alloc, "it has more than 1,048,576 lines of pairs")?;
-    let number = Number::Certificate(CertFault::TooManyPairs);
+    let number = FaultNumber::Certificate(CertFault::TooManyPairs);
     Ok(Line::of_file(file, Some(number), text))
 }
 
@@ -190,18 +190,18 @@ fn counts_line(alloc: Global, counts: Counts) -> Result<Line<'static>, AllocErro
 // The rows of what was found and of what is told of a certificate, and a last one with the counts.
 fn text_of(
     alloc: Global,
-    form: Form,
+    format: Format,
     found: &[Line<'_>],
     judged: &[Line<'_>],
     counts: Counts,
 ) -> Result<String, NoMemory>
     ensures { IfOk result (λ text. string_bytes text
-        ≡ rows form (lines_seen found.now ++ lines_seen judged.now ++ text_line (counts_text counts) ∷ [])) }
+        ≡ rows format (lines_seen found.now ++ lines_seen judged.now ++ text_line (counts_text counts) ∷ [])) }
 {
     let mut text = String::new(alloc);
-    push_rows(alloc, form, found, &mut text)?;
-    push_rows(alloc, form, judged, &mut text)?;
-    push_row(alloc, form, &counts_line(alloc, counts)?, &mut text)?;
+    push_rows(alloc, format, found, &mut text)?;
+    push_rows(alloc, format, judged, &mut text)?;
+    push_row(alloc, format, &counts_line(alloc, counts)?, &mut text)?;
     Ok(text)
 }
 
@@ -210,7 +210,7 @@ fn text_of(
 /// wrong with the certificate, or a yes; then the counts. The one refusal is want of memory.
 pub fn report_on<'s, 'f: 's>(
     alloc: Global,
-    form: Form,
+    format: Format,
     subject: Subject<'s, 'f>,
 ) -> Result<Report, NoMemory>
     ensures clean { IfOk result (λ r. IsTrue r.is_clean
@@ -219,7 +219,7 @@ pub fn report_on<'s, 'f: 's>(
         → PromisesIfAny subject.entry.schema.now (certificate_seen subject.entry.certificate)) }
     ensures faulty { IfOk result (λ r. r.is_clean ≡ false
         → IsRightBy subject.entry.schema.now subject.entry.survey.now (certificate_seen subject.entry.certificate) → ⊥) }
-    ensures told { IfOk result (λ r. IsReport form subject.entry.files subject.entry.schema.now subject.entry.survey.now
+    ensures told { IfOk result (λ r. IsReport format subject.entry.files subject.entry.schema.now subject.entry.survey.now
         (certificate_seen subject.entry.certificate) (string_bytes r.text)) }
 {
     let Subject {
@@ -233,7 +233,7 @@ pub fn report_on<'s, 'f: 's>(
     let lines = lines_of(alloc, &teller, &found)?;
     let judged = judge_if_any(alloc, schema, certificate)?;
     let counts = counts_of(files, survey, schema);
-    let text = text_of(alloc, form, &lines, &judged.lines, counts)?;
+    let text = text_of(alloc, format, &lines, &judged.lines, counts)?;
     Ok(Report {
         is_clean: !has_faults(&found) && judged.is_right,
         text,

@@ -8,7 +8,7 @@ ghost use Rattle.fhir_report.specs.Lines.{line_seen};
 ghost use Rattle.fhir_report.specs.Report.{head, fault_head, unusable_head, TellsFinding};
 
 use crate::blaming::Blamed;
-use crate::line::{Line, Number};
+use crate::line::{FaultNumber, Line};
 use crate::wording::expected_words;
 use fhir_findings::{Finding, UnreadRule, Unusable};
 use fhir_json::NoMemory;
@@ -27,14 +27,14 @@ fn no_bytes_line<'s>(alloc: Global, file: &'s str) -> Result<Line<'s>, AllocErro
     ensures { IfOk result (λ l. head (line_seen l) ≡ fault_head (unread file.now)) }
 {
     let text = String::from_str(alloc, "it can't be read, or is no regular file")?;
-    Ok(Line::of_file(file, Some(Number::Unread), text))
+    Ok(Line::of_file(file, Some(FaultNumber::Unread), text))
 }
 
 fn not_json_line<'s, 'f: 's>(alloc: Global, fault: &'s NotJson<'f>) -> Result<Line<'s>, AllocError>
     ensures { IfOk result (λ l. head (line_seen l) ≡ fault_head (fault_seen (NotJsonOne fault.now))) }
 {
     let text = String::from_str(alloc, expected_words(fault.expected))?;
-    let number = Number::Json(fault.expected.fault());
+    let number = FaultNumber::Json(fault.expected.fault());
     Ok(Line::of_file(fault.file, Some(number), text).at(fault.position))
 }
 
@@ -52,7 +52,7 @@ fn clash_line<'s, 'f: 's>(alloc: Global, clash: &'s Clash<'f>) -> Result<Line<'s
     let kind = kind_word(clash.kind);
     let text = format!(in alloc; "another {kind} of this url stands in {}", clash.first)?;
     let file: &'s str = clash.file;
-    let mut line = Line::of_file(file, Some(Number::Clash), text);
+    let mut line = Line::of_file(file, Some(FaultNumber::Clash), text);
     line.url = Some(clash.url.as_str());
     Ok(line)
 }
@@ -108,7 +108,7 @@ impl<'s, 'f: 's> Teller<'s, 'f> {
     fn unusable_line(&self, alloc: Global, unusable: &Unusable<'s>) -> Result<Line<'s>, AllocError>
         ensures { IfOk result (λ l. head (line_seen l) ≡ unusable_head (unusable.now.file.now, unusable.now.url.now, unusable.now.reason)) }
     {
-        let number = Number::Unusable(unusable.reason);
+        let number = FaultNumber::Unusable(unusable.reason);
         let blamed = self.blamed(unusable.url);
         let mut line = Line::of_file(unusable.file, Some(number), why_text(alloc, blamed)?);
         line.url = Some(unusable.url);

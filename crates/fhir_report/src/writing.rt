@@ -11,7 +11,7 @@ use std::alloc::{AllocError, Global};
 
 /// How a report is written.
 #[derive(Clone, Copy, Debug, PartialEq, Eq)]
-pub enum Form {
+pub enum Format {
     /// A line is a text.
     Text,
     /// A line is a JSON object.
@@ -19,12 +19,12 @@ pub enum Form {
 }
 
 // A line without its line feed, as it is, with the control characters of texts from files.
-fn row_text(alloc: Global, form: Form, line: &Line<'_>) -> Result<String, NoMemory>
-    ensures { Gives string_bytes result (row_text form (line_seen line.now)) }
+fn row_text(alloc: Global, format: Format, line: &Line<'_>) -> Result<String, NoMemory>
+    ensures { Gives string_bytes result (row_text format (line_seen line.now)) }
 {
-    match form {
-        Form::Text => line.to_text(alloc),
-        Form::Json => {
+    match format {
+        Format::Text => line.to_text(alloc),
+        Format::Json => {
             let bytes = write(alloc, &line.to_json(alloc)?)?;
             Ok(String::from_utf8_lossy(alloc, &bytes)?)
         }
@@ -71,13 +71,13 @@ fn push_escaped(text: &str, into: &mut String) -> Result<(), AllocError>
 /// Puts in a line: escaped, and with a line feed behind it.
 pub(crate) fn push_row(
     alloc: Global,
-    form: Form,
+    format: Format,
     line: &Line<'_>,
     into: &mut String,
 ) -> Result<(), NoMemory>
-    ensures { OnOk result (string_bytes into.new ≡ string_bytes into.old ++ row form (line_seen line.now)) }
+    ensures { OnOk result (string_bytes into.new ≡ string_bytes into.old ++ row format (line_seen line.now)) }
 {
-    let text = row_text(alloc, form, line)?;
+    let text = row_text(alloc, format, line)?;
     push_escaped(text.as_str(), into)?;
     Ok(into.push('\n')?)
 }
@@ -85,14 +85,14 @@ pub(crate) fn push_row(
 /// Puts in a row for each line.
 pub(crate) fn push_rows(
     alloc: Global,
-    form: Form,
+    format: Format,
     lines: &[Line<'_>],
     into: &mut String,
 ) -> Result<(), NoMemory>
-    ensures { OnOk result (string_bytes into.new ≡ string_bytes into.old ++ rows form (lines_seen lines.now)) }
+    ensures { OnOk result (string_bytes into.new ≡ string_bytes into.old ++ rows format (lines_seen lines.now)) }
 {
     for line in lines {
-        push_row(alloc, form, line, into)?;
+        push_row(alloc, format, line, into)?;
     }
     Ok(())
 }

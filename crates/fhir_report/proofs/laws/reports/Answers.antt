@@ -10,4 +10,4 @@ returns-clause-promised c files survey s certificate of =
     promised files (c.surveys.ensures.packed files) survey s of certificate
 
 pub returns-clause-told : goal.returns-clause-told
-returns-clause-told c form files survey s certificate text of = report_told form files survey s certificate text of
+returns-clause-told c format files survey s certificate text of = report_told format files survey s certificate text of

@@ -6,8 +6,8 @@ use Rattle.fhir_report.proofs.reporting.text_of.Goals as goal
 
 pub returns : goal.returns
 returns c =
-    let first : string_bytes c.push_rows.new.into ≡ rows c.args.form (lines_seen c.args.found.now) = search rules in
-    let third : string_bytes c.push_row.new.into ≡ string_bytes c.push_rows-2.new.into ++ row c.args.form (text_line (counts_text c.args.counts)) =
+    let first : string_bytes c.push_rows.new.into ≡ rows c.args.format (lines_seen c.args.found.now) = search rules in
+    let third : string_bytes c.push_row.new.into ≡ string_bytes c.push_rows-2.new.into ++ row c.args.format (text_line (counts_text c.args.counts)) =
     search rules in
-    three_rows c.args.form (lines_seen c.args.found.now) (lines_seen c.args.judged.now) (text_line (counts_text c.args.counts))
+    three_rows c.args.format (lines_seen c.args.found.now) (lines_seen c.args.judged.now) (text_line (counts_text c.args.counts))
     (string_bytes c.push_rows.new.into) (string_bytes c.push_rows-2.new.into) (string_bytes c.push_row.new.into) first c.in_ok-push_rows-2.ensures third
