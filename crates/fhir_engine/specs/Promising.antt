@@ -15,8 +15,8 @@ use Rattle.fhir_engine.specs.Requests.{RequestValue, certify, validate, check, I
 use Rattle.fhir_engine.specs.Session.{SessionValue, schema_in}
 use Rattle.fhir_engine.specs.Standing.{AlwaysConforms}
 
--- The file was read. Its bytes spell a certificate, and each resource that conforms to its derived profile conforms to its base,
--- whatever unread rules mean that is fair.
+-- The file was read. Its bytes spell a certificate, and each resource that conforms to its derived profile conforms to its base, as
+-- does each typed item wherever it stands, whatever unread rules mean that is fair.
 abbrev pub Certified : SchemaValue → Option Text → Type 0
 Certified s file = (bytes : Text) × (file ≡ Some bytes) × Promises s bytes
 

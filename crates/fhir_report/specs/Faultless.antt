@@ -8,7 +8,7 @@ use Rattle.fhir_schema.specs.Schemas.{SchemaValue, schema_of}
 use Rattle.fhir_certificate.specs.Format.{Written, Spells}
 use Rattle.fhir_certificate.specs.Reading.{reading}
 use Rattle.fhir_cert_check.specs.Checking.{answer_of}
-use Rattle.fhir_cert_check.specs.Inclusion.{Includes}
+use Rattle.fhir_cert_check.specs.Inclusion.{Includes, IncludesTyped}
 use Rattle.fhir_findings.specs.Clean.{AreUsable}
 use Rattle.fhir_findings.specs.Finding.{all_unusable}
 use Rattle.fhir_report.specs.declared.reporting.CertificateFile.{CertificateFile}
@@ -21,9 +21,10 @@ CertificateValue = Text × Text
 abbrev pub IsRight : SchemaValue → Text → Type 0
 IsRight s bytes = answer_of (reading s bytes) s ≡ Ok None
 
--- what a right one promises: each resource that conforms to the derived profile that it spells conforms to its base
+-- what a right one promises: each resource that conforms to the derived profile that it spells conforms to its base, and so does
+-- each typed item, wherever it stands
 abbrev pub Promises : SchemaValue → Text → Type 0
-Promises s bytes = (w : Written) × Spells bytes w × Includes s w.derived w.base
+Promises s bytes = (w : Written) × Spells bytes w × Includes s w.derived w.base × IncludesTyped s w.derived w.base
 
 -- the same where there may be none
 abbrev pub IsRightIfAny : SchemaValue → Option CertificateValue → Type 0

@@ -15,4 +15,4 @@ pub returns-in_ok-wrong_reply-in-Ok-clause-promised :
 returns-in_ok-wrong_reply-in-Ok-clause-promised c zero =
     let right = is_right c.args.schema.now c.in-Ok.answer (ap status_of (sym c.in_ok-wrong_reply-in-Ok.ensures) ∙ zero) in
     let spelled = c.in-Ok.ensures.yes.0 right in
-    (spelled.1.0, spelled.1.1, c.in-Ok.ensures.includes right spelled.1.0 spelled.1.1)
+    (spelled.1.0, spelled.1.1, c.in-Ok.ensures.includes right spelled.1.0 spelled.1.1, c.in-Ok.ensures.items right spelled.1.0 spelled.1.1)
