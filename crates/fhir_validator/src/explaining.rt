@@ -107,6 +107,7 @@ impl<'s, 't, 'a, 'j> Judge<'s, 't, 'a, 'j> {
         ensures same { OnOk result (self.new ≡ self.old) }
         ensures lists { OnOk result (Lists self.old pair (types pair.node) listing.old listing.new) }
     {
+        roots_are_roots();
         match self.types_answer(pair)? {
             Answer::Holds => Ok(()),
             Answer::Fails => self.list_misfit(listing, pair),

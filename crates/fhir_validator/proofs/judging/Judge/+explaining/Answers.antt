@@ -109,7 +109,7 @@ list_ask-list_types-requires t c =
     let s = layout.schema in
     let p = c.args.pair in
     let asked = subst (λ a. IsToList layout c.args.listing.now p (ask_seen a)) c.in-Types.is c.requires.asked in
-    let ordered = ordered_in s (c.roots_are_roots.ensures.of_type s) (c.roots_are_roots.ensures.of_canonical s) (item_at layout p.item) p.node (types c.in-Types.node) asked.asked in
+    let ordered = ordered_in s (c.roots_are_roots.ensures.of_type s) (c.roots_are_roots.ensures.of_canonical s) (item_at layout p.item) p.node (types c.in-Types._node) asked.asked in
     (omega (arith, c.decreases), subst (λ m. IsToList layout c.args.listing.now p (types m)) ordered.1 asked)
 
 pub list_ask-returns-in-Types-clause-lists : goal.list_ask-returns-in-Types-clause-lists
@@ -118,7 +118,7 @@ list_ask-returns-in-Types-clause-lists t c =
     let s = layout.schema in
     let p = c.args.pair in
     let asked = subst (λ a. IsToList layout c.args.listing.now p (ask_seen a)) c.in-Types.is c.requires.asked in
-    let ordered = ordered_in s (c.roots_are_roots.ensures.of_type s) (c.roots_are_roots.ensures.of_canonical s) (item_at layout p.item) p.node (types c.in-Types.node) asked.asked in
+    let ordered = ordered_in s (c.roots_are_roots.ensures.of_type s) (c.roots_are_roots.ensures.of_canonical s) (item_at layout p.item) p.node (types c.in-Types._node) asked.asked in
     subst (λ a. OnOk c.list_types.result (Lists layout p (ask_seen a) c.args.listing.now c.list_types.new.listing)) (sym c.in-Types.is)
     (subst (λ m. OnOk c.list_types.result (Lists layout p (types m) c.args.listing.now c.list_types.new.listing)) (sym ordered.1) c.list_types.ensures.lists)
 
@@ -170,6 +170,12 @@ list_ask-returns-in-Child-clause-lists t c =
     subst (λ a. OnOk c.list_kid.result (Lists c.args.self.now c.args.pair (ask_seen a) c.args.listing.now c.list_kid.new.listing)) (sym c.in-Child.is) c.list_kid.ensures.lists
 
 -- ---- types
+
+pub list_types-types_answer-requires : goal.list_types-types_answer-requires
+list_types-types_answer-requires t c =
+    let s = c.args.self.now.schema in
+    let p = c.args.pair in
+    (ordered_in s (c.roots_are_roots.ensures.of_type s) (c.roots_are_roots.ensures.of_canonical s) (item_at c.args.self.now p.item) p.node (types p.node) c.requires.asked).0
 
 pub list_types-list_misfit-requires-clause-asked : goal.list_types-list_misfit-requires-clause-asked
 list_types-list_misfit-requires-clause-asked t c = rw c.in_ok-types_answer.ensures.same c.requires

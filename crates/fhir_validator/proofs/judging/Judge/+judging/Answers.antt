@@ -77,9 +77,10 @@ pub profile_answer-answer_of-requires : goal.profile_answer-answer_of-requires
 profile_answer-answer_of-requires t c =
     let layout = c.args.self.now in
     let q : Pair = record { item = c.args.pair.item; node = c.in-Some.node } in
+    let inner : is_root_node layout.schema c.args.pair.node ≡ false = assumption c.requires in
     let is : loaded layout.schema c.args.profile.now ≡ Some c.in-Some.node = sym (c.in-Some.ensures ∙ ap (λ s. loaded s c.args.profile.now) c.schema.ensures) in
     let h : weight layout q < weight layout c.args.pair =
-    lighter_root layout c.args.pair q refl c.requires.inner (c.roots_are_roots.ensures.of_canonical layout.schema c.args.profile.now c.in-Some.node is) in
+    lighter_root layout c.args.pair q refl inner (c.roots_are_roots.ensures.of_canonical layout.schema c.args.profile.now c.in-Some.node is) in
     omega (arith, h, c.decreases)
 
 pub types_answer-entry_answer-requires : goal.types_answer-entry_answer-requires

@@ -15,6 +15,6 @@ returns c =
     let p = c.args.pair in
     let rule = rule_name c.args.rule in
     let finding = c.in_ok-finding.finding in
-    of_made (Lists layout p (own rule c.args.node) old) (record old { issues = old.issues ++ Broken finding ∷ [] }) c.put_finding.new.listing c.put_finding.result c.put_finding.ensures
+    of_made (Lists layout p (own rule c.args.node) old) (record old { issues = old.issues ++ Broken finding ∷ [] }) c.put_finding.new.self c.put_finding.result c.put_finding.ensures
     (broken_lists layout p c.args.node old (own rule c.args.node) (says layout.schema (item_at layout p.item) rule c.args.node) finding c.requires.asked refl c.requires.fails
     c.in_ok-finding.ensures.node c.in_ok-finding.ensures.said c.in_ok-finding.ensures.named)
