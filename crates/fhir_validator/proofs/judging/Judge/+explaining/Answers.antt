@@ -175,7 +175,9 @@ pub list_types-types_answer-requires : goal.list_types-types_answer-requires
 list_types-types_answer-requires t c =
     let s = c.args.self.now.schema in
     let p = c.args.pair in
-    (ordered_in s (c.roots_are_roots.ensures.of_type s) (c.roots_are_roots.ensures.of_canonical s) (item_at c.args.self.now p.item) p.node (types p.node) c.requires.asked).0
+    record {
+      inner = (ordered_in s (c.roots_are_roots.ensures.of_type s) (c.roots_are_roots.ensures.of_canonical s) (item_at c.args.self.now p.item) p.node (types p.node) c.requires.asked).0;
+    }
 
 pub list_types-list_misfit-requires-clause-asked : goal.list_types-list_misfit-requires-clause-asked
 list_types-list_misfit-requires-clause-asked t c = rw c.in_ok-types_answer.ensures.same c.requires

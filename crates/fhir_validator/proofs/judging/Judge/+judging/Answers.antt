@@ -81,7 +81,7 @@ profile_answer-answer_of-requires t c =
     let is : loaded layout.schema c.args.profile.now ≡ Some c.in-Some.node = sym (c.in-Some.ensures ∙ ap (λ s. loaded s c.args.profile.now) c.schema.ensures) in
     let h : weight layout q < weight layout c.args.pair =
     lighter_root layout c.args.pair q refl inner (c.roots_are_roots.ensures.of_canonical layout.schema c.args.profile.now c.in-Some.node is) in
-    omega (arith, h, c.decreases)
+    omega (arith, h)
 
 pub types_answer-entry_answer-requires : goal.types_answer-entry_answer-requires
 types_answer-entry_answer-requires t c =

@@ -17,8 +17,8 @@ returns-in-Fails-clause-settles c = λ listing.
     let q : Pair = record { item = c.args.pair.item; node = c.args.root } in
     settles_same layout c.args.pair (λ m f. f c.args.root) Fails listing c.args.roots.now.items (subst (IsRight layout q) c.in-Fails.is c.in_ok-answer_of.ensures.exact) refl
 
-pub returns-clause-settles : goal.returns-clause-settles
-returns-clause-settles c = λ listing.
+pub returns-in_ok-push-in-Open-clause-settles : goal.returns-in_ok-push-in-Open-clause-settles
+returns-in_ok-push-in-Open-clause-settles c = λ listing.
     let layout = c.args.self.now in
     let p = c.args.pair in
     let r = c.args.root in
