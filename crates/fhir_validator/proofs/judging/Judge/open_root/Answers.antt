@@ -25,7 +25,7 @@ returns-in_ok-push-in-Open-clause-settles c = λ listing.
     let q : Pair = record { item = p.item; node = r } in
     let roots = c.args.roots.now.items in
     let more = c.push.new.self.items in
-    let e : more ≡ roots ++ r ∷ [] = c.in_ok-push.ensures.items in
+    let e : more ≡ roots ++ r ∷ [] = c.in_ok-push-in-Open.ensures.items in
     record {
       grows = grows_root layout p listing roots more r e (c.requires, subst (IsRight layout q) c.in-Open.is c.in_ok-answer_of.ensures.exact);
       settled = settled_led layout p.item (λ m f. f r) listing more (led_by_root listing roots more r e);
