@@ -16,13 +16,11 @@ use Rattle.fhir_conformance.specs.Positions.{kid_at}
 use Rattle.fhir_conformance.specs.Views.{ask_seen, asks_seen}
 use Rattle.fhir_conformance.specs.declared.ask.Ask.{Ask}
 use Rattle.fhir_validator.specs.declared.answer.Answer.{Answer}
-use Rattle.fhir_validator.specs.declared.layout.Layout.{Layout}
-use Rattle.fhir_validator.specs.declared.layout.Stand.{Stand}
 use Rattle.fhir_validator.specs.declared.pair.Pair.{Pair}
-use Rattle.fhir_validator.specs.Layouts.{spot_in, numbered, item_at, resource_of, AreStands, IsLayout}
+use Rattle.fhir_validator.specs.Layouts.{LayoutValue, spot_at, item_at, resource_of}
 use Rattle.fhir_validator.specs.Judging.{IsThere, IsRight, IsRightOf, IsOrdered}
 use Rattle.fhir_validator.proofs.Asking.{IsOfType, IsOfCanonical, are_ordered, conforms_to}
-use Rattle.fhir_validator.proofs.Rows.{test_at}
+use Rattle.fhir_validator.proofs.Rows.{test_at, own_nearest}
 
 pub weaker : {A E : Type 0} (P Q : A → Type 0) → ((a : A) → P a → Q a) → (r : Result A E) → IfOk r P → IfOk r Q
 weaker P Q f (Ok a) h = f a h
@@ -88,9 +86,9 @@ all_answered s roots others meaning around x n xs i b e h is =
     ∙ sym (conforms_to s roots others meaning around x n)
 
 -- the answer of a child is the answer to what is asked of it
-module _ (layout : Layout) (p : Pair) (position : ℕ) (n : NodeRef) where
+module _ (layout : LayoutValue) (p : Pair) (position : ℕ) (n : NodeRef) where
   abbrev s : SchemaValue
-  s = layout.schema.now
+  s = layout.schema
 
   abbrev x : Item
   x = item_at layout p.item
@@ -120,20 +118,13 @@ module _ (layout : Layout) (p : Pair) (position : ℕ) (n : NodeRef) where
   of_none e b around = sym (asked_of b around None e)
 
 -- the item of a number stands wherever the nearest resource is its own
-pub met_there : (layout : Layout) → IsLayout layout → (number : ℕ) → number < length layout.stands.items → (outermost : Item) (place : Place)
-    → IsThere layout number (around_of outermost place (resource_of layout number))
-met_there layout laid number within outermost place = each_nearest layout.schema.now layout.stands.items number within laid.stands
-  where
-    each_nearest : (s : SchemaValue) (stands : List Stand) (i : ℕ) → i < length stands → AreStands s stands
-        → nearest_to s (numbered (map spot_in stands) i).resource (numbered (map spot_in stands) i).itself ≡ (numbered (map spot_in stands) i).resource
-    each_nearest s [] i h each = absurd (omega arith)
-    each_nearest s (stand ∷ stands) zero h each = each.0.nearest
-    each_nearest s (stand ∷ stands) (suc i) h each = each_nearest s stands i (omega arith) each.1
+pub met_there : (layout : LayoutValue) (number : ℕ) (outermost : Item) (place : Place) → IsThere layout number (around_of outermost place (resource_of layout number))
+met_there layout number outermost place = own_nearest layout.schema (spot_at layout number).resource (item_at layout number)
 
 -- where it stands, as far as the nearest resource tells
-pub standing : Layout → ℕ → Around
+pub standing : LayoutValue → ℕ → Around
 standing layout number = around_of (item_at layout number) [] (resource_of layout number)
 
-pub stands_there : (layout : Layout) → IsLayout layout → (number : ℕ) → number < length layout.stands.items → IsThere layout number (standing layout number)
+pub stands_there : (layout : LayoutValue) (number : ℕ) → IsThere layout number (standing layout number)
 unfolding standing
-stands_there layout laid number within = met_there layout laid number within (item_at layout number) []
+stands_there layout number = met_there layout number (item_at layout number) []

@@ -2,8 +2,10 @@ mod Asking
 mod Concluding
 mod Faults
 mod Judged
+mod Kids
 mod Measures
 mod Pairs
 mod Rows
 mod Told
 mod Unsettled
+mod Whole

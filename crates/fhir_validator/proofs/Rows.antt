@@ -1,7 +1,8 @@
 -- The items of a resource in a row.
 use Rattle.std.proofs.Common.{◌≡◌, ◌<◌, ◌≤◌, ◌+◌, ℕ, zero, suc, Bool, true, false, Option, List, [], ◌∷◌, ◌++◌, map, length, take, get_or, refl, sym, ap, ◌∙◌, subst, arith, Some, None, ◌⊎◌, inl, inr}
 use Rattle.std.specs.List.{slice_get, AllByRecursion}
-use Rattle.std.specs.Prelude.{if◌then◌else◌}
+use Rattle.std.specs.Prelude.{if◌then◌else◌, nat_lt}
+use Rattle.std.proofs.lemmas.Bool.{ltb-true, lt-ltb, le-ltb}
 use Rattle.std.specs.Option.{option_map, option_map_or}
 use Rattle.std.proofs.lemmas.List.{get_or_append_left, get_or-append-add, length-append}
 use Rattle.std.proofs.lemmas.Option.{slice_get_past, slice_get-get_or}
@@ -13,7 +14,8 @@ use Rattle.fhir_instance.specs.View.{named_of, named_in}
 use Rattle.fhir_instance.specs.declared.typed.Kid.{Kid as Child}
 use Rattle.fhir_conformance.specs.Positions.{kid_at}
 use Rattle.fhir_conformance.specs.Conformance.{Interpretation, Around, nearest_to, is_resource_item, below, conforms, kid_tests}
-use Rattle.fhir_validator.specs.Layouts.{Spot, spot_of, spots_in, nowhere, numbered, kids_at, AreFrom, AreLaid}
+use Rattle.fhir_validator.specs.declared.layout.Stand.{Stand}
+use Rattle.fhir_validator.specs.Layouts.{LayoutValue, laid_out, Spot, spot_in, spot_of, spots_in, nowhere, numbered, place_in_row, spot_at, item_at, resource_of, kids_at, AreStands, AreFrom, AreLaid, IsLaid}
 
 slice_get_left : {A : Type 0} (xs ys : List A) (i : ℕ) → i < length xs → slice_get (xs ++ ys) i ≡ slice_get xs i
 slice_get_left [] ys i h = absurd (omega arith)
@@ -200,3 +202,77 @@ own_outermost s x = by_case (is_resource_item s x)
     by_case : (b : Bool) → (if b then x else x) ≡ x
     by_case true = refl
     by_case false = refl
+
+-- ---- what stands at a place
+
+pub all_at : {A : Type 0} (P : A → Type 0) (xs : List A) (i : ℕ) (x : A) → i < length xs → x ≡ get_or xs i x → AllByRecursion P xs → P x
+all_at P [] i x h is each = absurd (omega arith)
+all_at P (y ∷ ys) zero x h is each = subst P (sym is) each.0
+all_at P (y ∷ ys) (suc i) x h is each = all_at P ys i x (omega arith) is each.1
+
+nearest_at : (s : SchemaValue) (stands : List Stand) (i : ℕ) → i < length stands → AreStands s stands
+    → nearest_to s (numbered (map spot_in stands) i).resource (numbered (map spot_in stands) i).itself ≡ (numbered (map spot_in stands) i).resource
+nearest_at s [] i h each = absurd (omega arith)
+nearest_at s (stand ∷ stands) zero h each = each.0.nearest
+nearest_at s (stand ∷ stands) (suc i) h each = nearest_at s stands i (omega arith) each.1
+
+module _ (s : SchemaValue) (stands : List Stand) where
+  abbrev pub row : LayoutValue
+  row = laid_out s stands
+
+  pub long : length row.spots ≡ length stands
+  long = length-map stands spot_in
+
+  pub place_below : (number : ℕ) → number < length stands → place_in_row row number ≡ number
+  place_below number h = ap (λ b. if b then number else 0) (lt-ltb number (length row.spots) (omega (arith, h, long)))
+
+  pub place_past : (number : ℕ) → length stands ≤ number → place_in_row row number ≡ 0
+  place_past number h = ap (λ b. if b then number else 0) (le-ltb number (length row.spots) (omega (arith, h, long)))
+
+  pub place_within : (number : ℕ) → 0 < length stands → place_in_row row number < length row.spots
+  place_within number some = by_case (nat_lt number (length row.spots)) refl
+    where
+      by_case : (b : Bool) → nat_lt number (length row.spots) ≡ b → (if b then number else 0) < length row.spots
+      by_case true e = ltb-true number (length row.spots) e
+      by_case false e = omega (arith, some, long)
+
+  pub spot_found : (number i : ℕ) (stand : Stand) → i ≡ place_in_row row number → i < length stands → stand ≡ get_or stands i stand → spot_at row number ≡ spot_in stand
+  spot_found number i stand at h is = ap (numbered row.spots) (sym at) ∙ item_read spot_in stands i stand h is
+
+  -- what is true of a child's number
+  pub record IsKid (number position kid : ℕ) : Type 0 where
+    pub there : Some (item_at row kid) ≡ kid_at (kids_of (item_at row number)) position
+    pub near : resource_of row kid ≡ nearest_to s (resource_of row number) (item_at row kid)
+    pub behind : place_in_row row number < place_in_row row kid
+    pub within : place_in_row row kid < length row.spots
+
+  module _ (firsts : List ℕ) (laid : IsLaid s stands firsts) (number i : ℕ) (at : i ≡ place_in_row row number) where
+    inside_row : i < length stands
+    inside_row = subst (λ i. i < length stands) (sym at) (subst (λ n. place_in_row row number < n) long (place_within number laid.some))
+
+    here : numbered row.spots i ≡ spot_at row number
+    here = ap (numbered row.spots) at
+
+    pub kid_found : (position first : ℕ) → first ≡ get_or firsts i first → position < length (kids_at s row.spots i) → IsKid number position (first + position)
+    kid_found position first is h =
+        let inside : i < length firsts = omega (arith, laid.each, inside_row) in
+        let from : AreFrom s row.spots i first = subst (AreFrom s row.spots i) (sym (first_read firsts i first inside is)) (laid.laid i inside) in
+        let below : first + position < length stands = omega (arith, from.within, h, long) in
+        let same : place_in_row row (first + position) ≡ first + position = place_below (first + position) below in
+        let there : spot_at row (first + position) ≡ numbered row.spots (first + position) = ap (numbered row.spots) same in
+        let kid = found s row.spots i first position from h in
+        let spot = spot_at row (first + position) in
+        let around = (numbered row.spots i).resource in
+        let own : resource_of row number ≡ around =
+        subst (λ z. nearest_to s z.resource z.itself ≡ around) here (nearest_at s stands i inside_row laid.stood) in
+        record {
+          there = ap (λ z. Some z.itself) there ∙ kid.0 ∙ ap (λ z. kid_at (kids_of z.itself) position) here;
+          near =
+              ap (λ r. nearest_to s r spot.itself) (subst (λ z. z.resource ≡ nearest_to s around z.itself) (sym there) kid.1)
+              ∙ own_nearest s around spot.itself ∙ ap (λ r. nearest_to s r spot.itself) (sym own);
+          behind = omega (arith, same, at, from.behind);
+          within = omega (arith, same, below, long);
+        }
+
+    pub kid_missed : (position : ℕ) → length (kids_at s row.spots i) ≤ position → None ≡ kid_at (kids_of (item_at row number)) position
+    kid_missed position h = missed s row.spots i position h ∙ ap (λ z. kid_at (kids_of z.itself) position) here

@@ -13,7 +13,7 @@ use Rattle.fhir_facets.specs.Views.{unread_seen}
 use Rattle.fhir_facets.specs.declared.unread.Unread.{Unread}
 use Rattle.fhir_facets.specs.Unread.{Unread as UnreadRule}
 use Rattle.fhir_conformance.specs.Asks.{RuleName, Ask, own, asks}
-use Rattle.fhir_conformance.specs.Conformance.{Around, around_of, rule_holds}
+use Rattle.fhir_conformance.specs.Conformance.{Around, around_of, constant, ask_conforms, rule_holds}
 use Rattle.fhir_conformance.specs.Meeting.{Met, unread_at}
 use Rattle.fhir_conformance.specs.Views.{ask_seen, asks_seen}
 use Rattle.fhir_conformance.specs.declared.ask.Ask.{Ask as AskValue}
@@ -21,22 +21,32 @@ use Rattle.fhir_validator.specs.declared.answer.Answer.{Answer}
 use Rattle.fhir_validator.specs.declared.answer.Answer.TheVariants.{Holds, Open, Fails}
 use Rattle.fhir_validator.specs.declared.issue.Finding.{Finding}
 use Rattle.fhir_validator.specs.declared.issue.Issue.{Issue}
+use Rattle.fhir_validator.specs.declared.issue.Issue.TheVariants.{Broken}
 use Rattle.fhir_validator.specs.declared.issue.Site.{Site}
-use Rattle.fhir_validator.specs.declared.layout.Layout.{Layout}
 use Rattle.fhir_validator.specs.declared.pair.Pair.{Pair}
 use Rattle.fhir_validator.specs.Answers.{under}
 use Rattle.fhir_validator.specs.Judging.{IsThere, IsRightOf}
-use Rattle.fhir_validator.specs.Layouts.{item_at, resource_of, IsLayout}
+use Rattle.fhir_validator.specs.Layouts.{LayoutValue, item_at, resource_of}
 use Rattle.fhir_validator.specs.Issues.{Said, told_of, IsNamed, IsBroken, IsOpenAt, rule_said}
-use Rattle.fhir_validator.specs.Listing.{same_answer, side, is_filled, IsAllowed, IsAskedBy, IsHanging}
+use Rattle.fhir_validator.specs.Listing.{same_answer, side, is_filled, ListingValue, IsFound, IsAllowed, IsAskedBy, IsToList, IsHanging, Grown, Lists}
 use Rattle.fhir_validator.proofs.Judged.{met_there}
+use Rattle.fhir_validator.proofs.Rows.{all_pushed}
 
 pub on_ok : {A E : Type 0} (P Q : Type 0) → (P → Q) → (r : Result A E) → OnOk r P → OnOk r Q
 on_ok P Q f (Ok a) h = f h
 on_ok P Q f (Err e) h = h
 
-pub some_pushed : {A : Type 0} (xs ys : List A) (x : A) → ys ≡ xs ++ x ∷ [] → 0 < length ys
-some_pushed xs ys x e = omega (arith, ap length e, length-append xs (x ∷ []))
+pub on_both : {A E : Type 0} (P Q R : Type 0) → (P → Q → R) → (r : Result A E) → OnOk r P → OnOk r Q → OnOk r R
+on_both P Q R f (Ok a) h k = f h k
+on_both P Q R f (Err e) h k = tt
+
+-- what is so of what was made
+pub of_made : {A E : Type 0} (P : ListingValue → Type 0) (made new : ListingValue) (r : Result A E) → OnOk r (new ≡ made) → P made → OnOk r (P new)
+of_made P made new (Ok a) e h = subst P (sym e) h
+of_made P made new (Err e) f h = tt
+
+some_pushed : {A : Type 0} (xs : List A) (x : A) → 0 < length (xs ++ x ∷ [])
+some_pushed xs x = omega (arith, length-append xs (x ∷ []))
 
 module _ (issues : List Issue) (sites : List Site) where
   -- what fails, where `u` is what it comes to on the side that is wanted
@@ -102,24 +112,62 @@ asked_at s x n xs i d e h =
     long [] = refl
     long (x ∷ xs) = ap suc (long xs)
 
+pub same_is : (a w : Answer) → same_answer a w ≡ true → a ≡ w
+same_is Holds Holds e = refl
+same_is Holds Open e = absurd (false≢true e)
+same_is Holds Fails e = absurd (false≢true e)
+same_is Open Holds e = absurd (false≢true e)
+same_is Open Open e = refl
+same_is Open Fails e = absurd (false≢true e)
+same_is Fails Holds e = absurd (false≢true e)
+same_is Fails Open e = absurd (false≢true e)
+same_is Fails Fails e = refl
+
 pub is_open : (w : Answer) → same_answer w Open ≡ true → w ≡ Open
 is_open Holds e = absurd (false≢true e)
 is_open Open e = refl
 is_open Fails e = absurd (false≢true e)
 
--- what is put into a listing, if the pair is met
-module _ (layout : Layout) (laid : IsLayout layout) (p : Pair) (within : p.item < length layout.stands.items) (node : NodeRef) (outermost : Item) (profile : NodeRef) (place : Place)
-    (met : Met layout.schema.now outermost profile place (resource_of layout p.item) (item_at layout p.item) p.node) where
-  abbrev here : Around
-  here = around_of outermost place (resource_of layout p.item)
+-- what is filled stays so
+pub issue_kept : (w : Answer) (issues : List Issue) (sites : List Site) (x : Issue) → is_filled w issues sites → is_filled w (issues ++ x ∷ []) sites
+issue_kept Holds issues sites x h = tt
+issue_kept Open issues sites x h = h
+issue_kept Fails issues sites x h = some_pushed issues x
 
-  abbrev there : IsThere layout p.item here
-  there = met_there layout laid p.item within outermost place
+pub site_kept : (w : Answer) (issues : List Issue) (sites : List Site) (x : Site) → is_filled w issues sites → is_filled w issues (sites ++ x ∷ [])
+site_kept Holds issues sites x h = tt
+site_kept Open issues sites x h = some_pushed sites x
+site_kept Fails issues sites x h = h
 
-  pub broken_at : (ask : Ask) (said : Said) → IsAskedBy layout p ask → told_of layout.schema.now (item_at layout p.item) ask ≡ Some (node, said)
-      → IsRightOf layout p ask Fails → (finding : Finding) → finding.node ≡ node → rule_said finding.rule ≡ said
-      → IsNamed layout.schema.now node finding.url.now finding.id.now → IsBroken layout.schema.now outermost profile finding
-  broken_at ask said asked told fails finding e f named = record {
+abbrev pub IsMet : LayoutValue → Pair → Item → NodeRef → Place → Type 0
+IsMet layout p outermost profile place = Met layout.schema outermost profile place (resource_of layout p.item) (item_at layout p.item) p.node
+
+pub grown_none : (layout : LayoutValue) (p : Pair) (listing : ListingValue) → Grown layout p listing listing
+grown_none layout p listing = record { wanted = refl; kept = λ h. h; found = λ o profile place met h. h }
+
+pub grown_more : (layout : LayoutValue) (p : Pair) (one two three : ListingValue) → Grown layout p one two → Grown layout p two three → Grown layout p one three
+grown_more layout p one two three less more = record {
+  wanted = more.wanted ∙ less.wanted;
+  kept = λ h. more.kept (less.kept h);
+  found = λ o profile place met h. more.found o profile place met (less.found o profile place met h);
+}
+
+-- it grows by what another pair asks, which is met where this one is
+pub grown_by : (layout : LayoutValue) (p q : Pair) (old new : ListingValue)
+    → ((o : Item) (profile : NodeRef) (place : Place) → IsMet layout p o profile place → (other : Place) × IsMet layout q o profile other)
+    → Grown layout q old new → Grown layout p old new
+grown_by layout p q old new f grown = record {
+  wanted = grown.wanted;
+  kept = grown.kept;
+  found = λ o profile place met h. let there = f o profile place met in grown.found o profile there.0 there.1 h;
+}
+
+-- what is put into a listing
+module _ (layout : LayoutValue) (p : Pair) (node : NodeRef) (old : ListingValue) where
+  broken_at : (ask : Ask) (said : Said) (finding : Finding) → IsAskedBy layout p ask → told_of layout.schema (item_at layout p.item) ask ≡ Some (node, said)
+      → IsRightOf layout p ask Fails → finding.node ≡ node → rule_said finding.rule ≡ said → IsNamed layout.schema node finding.url.now finding.id.now
+      → (outermost : Item) (profile : NodeRef) (place : Place) → IsMet layout p outermost profile place → IsBroken layout.schema outermost profile finding
+  broken_at ask said finding asked told fails e f named outermost profile place met = record {
     place = place;
     resource = resource_of layout p.item;
     itself = item_at layout p.item;
@@ -127,34 +175,95 @@ module _ (layout : Layout) (laid : IsLayout layout) (p : Pair) (within : p.item 
     ask = ask;
     met = met;
     asked = asked;
-    fails = sym (fails true here there);
+    fails = sym (fails true (around_of outermost place (resource_of layout p.item)) (met_there layout p.item outermost place));
     told = told ∙ (λ j. Some (sym e j, sym f j));
-    named = subst (λ m. IsNamed layout.schema.now m finding.url.now finding.id.now) (sym e) named;
+    named = subst (λ m. IsNamed layout.schema m finding.url.now finding.id.now) (sym e) named;
   }
 
-  pub open_at : (rule : UnreadRule) → IsHanging layout p node rule → (site : Site) (unread : Unread) → site.node ≡ node → site.unread ≡ unread → unread_seen unread ≡ rule
-      → IsNamed layout.schema.now node site.url.now site.id.now → IsOpenAt layout.schema.now outermost profile site
-  open_at rule hanging site unread e f g named = record {
-    place = place;
-    resource = resource_of layout p.item;
-    itself = item_at layout p.item;
-    node = p.node;
-    ask = hanging.ask;
-    said = hanging.said;
-    met = met;
-    asked = hanging.asked;
-    told = hanging.told ∙ (λ j. Some (sym e j, hanging.said));
-    carried =
-        subst (λ m. Contains (unread_at layout.schema.now (item_at layout p.item) m) (unread_seen site.unread)) (sym e)
-        (subst (λ u. Contains (unread_at layout.schema.now (item_at layout p.item) node) u) (sym g ∙ ap unread_seen (sym f)) hanging.carried);
-    full = sym (hanging.hangs true here there);
-    empty = sym (hanging.hangs false here there);
-    named = subst (λ m. IsNamed layout.schema.now m site.url.now site.id.now) (sym e) named;
+  pub broken_lists : (ask : Ask) (said : Said) (finding : Finding) → IsToList layout old p ask → told_of layout.schema (item_at layout p.item) ask ≡ Some (node, said)
+      → IsRightOf layout p ask Fails → finding.node ≡ node → rule_said finding.rule ≡ said → IsNamed layout.schema node finding.url.now finding.id.now
+      → Lists layout p ask old (record old { issues = old.issues ++ Broken finding ∷ [] })
+  broken_lists ask said finding listed told fails e f named = record {
+    grown = record {
+      wanted = refl;
+      kept = issue_kept old.wanted old.issues old.sites (Broken finding);
+      found = λ o profile place met before. (
+        all_pushed (IsFound layout.schema o profile) old.issues (Broken finding) before.0 (broken_at ask said finding listed.asked told fails e f named o profile place met),
+        before.1,
+      );
+    };
+    told = λ around there.
+        told_broken (old.issues ++ Broken finding ∷ []) old.sites old.wanted
+        (ask_conforms layout.schema (constant true) listed.allowed.0 (item_at layout p.item) ask) (ask_conforms layout.schema (constant (side old.wanted)) around (item_at layout p.item) ask)
+        (fails true listed.allowed.0 listed.allowed.1) listed.allowed.2 (some_pushed old.issues (Broken finding));
+  }
+
+  open_at : (rule : UnreadRule) → IsHanging layout p node rule → (site : Site) (unread : Unread) → site.node ≡ node → site.unread ≡ unread → unread_seen unread ≡ rule
+      → IsNamed layout.schema node site.url.now site.id.now
+      → (outermost : Item) (profile : NodeRef) (place : Place) → IsMet layout p outermost profile place → IsOpenAt layout.schema outermost profile site
+  open_at rule hanging site unread e f g named outermost profile place met =
+      let here = around_of outermost place (resource_of layout p.item) in
+      let there = met_there layout p.item outermost place in
+      record {
+        place = place;
+        resource = resource_of layout p.item;
+        itself = item_at layout p.item;
+        node = p.node;
+        ask = hanging.ask;
+        said = hanging.said;
+        met = met;
+        asked = hanging.asked;
+        told = hanging.told ∙ (λ j. Some (sym e j, hanging.said));
+        carried =
+            subst (λ m. Contains (unread_at layout.schema (item_at layout p.item) m) (unread_seen site.unread)) (sym e)
+            (subst (λ u. Contains (unread_at layout.schema (item_at layout p.item) node) u) (sym g ∙ ap unread_seen (sym f)) hanging.carried);
+        full = sym (hanging.hangs true here there);
+        empty = sym (hanging.hangs false here there);
+        named = subst (λ m. IsNamed layout.schema m site.url.now site.id.now) (sym e) named;
+      }
+
+  pub site_grown : (rule : UnreadRule) → IsHanging layout p node rule → (site : Site) (unread : Unread) → site.node ≡ node → site.unread ≡ unread → unread_seen unread ≡ rule
+      → IsNamed layout.schema node site.url.now site.id.now → Grown layout p old (record old { sites = old.sites ++ site ∷ [] })
+  site_grown rule hanging site unread e f g named = record {
+    wanted = refl;
+    kept = site_kept old.wanted old.issues old.sites site;
+    found = λ o profile place met before. (before.0, all_pushed (IsOpenAt layout.schema o profile) old.sites site before.1 (open_at rule hanging site unread e f g named o profile place met));
+  }
+
+pub site_listed : (old : ListingValue) (site : Site) → 0 < length (old.sites ++ site ∷ [])
+site_listed old site = some_pushed old.sites site
+
+-- what may be listed may be so later
+pub to_list_since : (layout : LayoutValue) (p : Pair) (ask : Ask) (old new : ListingValue) → new.wanted ≡ old.wanted → IsToList layout old p ask → IsToList layout new p ask
+to_list_since layout p ask old new e h = record {
+  asked = h.asked;
+  allowed =
+      subst (λ w. (around : Around) × IsThere layout p.item around × IsAllowed w (ask_conforms layout.schema (constant true) around (item_at layout p.item) ask)) (sym e) h.allowed;
+}
+
+-- what is listed of an ask by its answer
+module _ (layout : LayoutValue) (p : Pair) (ask : Ask) (old : ListingValue) where
+  pub lists_held : IsRightOf layout p ask Holds → Lists layout p ask old old
+  lists_held right = record { grown = grown_none layout p old; told = λ around there. inl (sym (right (side old.wanted) around there)) }
+
+  pub lists_other : IsRightOf layout p ask Open → same_answer old.wanted Open ≡ false → Lists layout p ask old old
+  lists_other right other = record {
+    grown = grown_none layout p old;
+    told = λ around there.
+        told_other old.issues old.sites old.wanted (ask_conforms layout.schema (constant (side old.wanted)) around (item_at layout p.item) ask) (right (side old.wanted) around there) other;
+  }
+
+  pub lists_open : (new : ListingValue) → same_answer old.wanted Open ≡ true → 0 < length new.sites → Grown layout p old new → Lists layout p ask old new
+  lists_open new same some grown = record {
+    grown = grown;
+    told = λ around there.
+        let u = ask_conforms layout.schema (constant (side old.wanted)) around (item_at layout p.item) ask in
+        subst (λ w. IsTrue u ⊎ is_filled w new.issues new.sites) (sym grown.wanted) (told_open new.issues new.sites old.wanted u same some);
   }
 
 -- a rule by its item's own nearest resource, and where the item stands
-pub judged_there : (layout : Layout) (p : Pair) (rule : RuleName) (node : NodeRef) (a : Answer)
-    → ((b : Bool) → under b a ≡ rule_holds layout.schema.now (λ u. b) (resource_of layout p.item) (item_at layout p.item) rule node)
+pub judged_there : (layout : LayoutValue) (p : Pair) (rule : RuleName) (node : NodeRef) (a : Answer)
+    → ((b : Bool) → under b a ≡ rule_holds layout.schema (λ u. b) (resource_of layout p.item) (item_at layout p.item) rule node)
     → IsRightOf layout p (own rule node) a
 judged_there layout p rule node a right b around there =
-    right b ∙ ap (λ (r : Item). rule_holds layout.schema.now (λ u. b) r (item_at layout p.item) rule node) (sym there)
+    right b ∙ ap (λ (r : Item). rule_holds layout.schema (λ u. b) r (item_at layout p.item) rule node) (sym there)

@@ -1,47 +1,42 @@
 -- Pairs of a node and an item, and what is right of their answers (used by private contracts alone).
-use Rattle.std.specs.Prelude.{◌≡◌, ℕ, Bool, false, Some, Option, IsTrue}
-use Rattle.std.specs.BTreeMap.{get}
+use Rattle.std.specs.Prelude.{◌≡◌, ℕ, Bool, false, Some, IsTrue}
+use Rattle.std.specs.BTreeMap.{BTreeMap, get}
 use Rattle.fhir_nodes.specs.declared.node.NodeRef.{NodeRef}
 use Rattle.fhir_schema.specs.Schemas.{SchemaValue, is_root_node}
 use Rattle.fhir_facets.specs.Unread.{Meaning}
 use Rattle.fhir_conformance.specs.Asks.{Ask, own, types, profile, root, child}
 use Rattle.fhir_conformance.specs.Conformance.{Around, resource_at, constant, ask_conforms, conforms}
 use Rattle.fhir_validator.specs.declared.answer.Answer.{Answer}
-use Rattle.fhir_validator.specs.declared.known.Known.{Known}
-use Rattle.fhir_validator.specs.declared.layout.Layout.{Layout}
 use Rattle.fhir_validator.specs.declared.pair.Pair.{Pair}
 use Rattle.fhir_validator.specs.contracts.pair.PairOrd.TheImpl.{cmp-value}
 use Rattle.fhir_validator.specs.Answers.{under}
-use Rattle.fhir_validator.specs.Layouts.{item_at, resource_of}
+use Rattle.fhir_validator.specs.Layouts.{LayoutValue, item_at, resource_of}
 
 -- the item of a number stands there, as far as the nearest resource tells
-abbrev pub IsThere : Layout → ℕ → Around → Type 0
-IsThere layout number around = resource_at layout.schema.now around (item_at layout number) ≡ resource_of layout number
+abbrev pub IsThere : LayoutValue → ℕ → Around → Type 0
+IsThere layout number around = resource_at layout.schema around (item_at layout number) ≡ resource_of layout number
 
 -- an answer to what a pair asks
-abbrev pub IsRightOf : Layout → Pair → Ask → Answer → Type 0
+abbrev pub IsRightOf : LayoutValue → Pair → Ask → Answer → Type 0
 IsRightOf layout p ask a =
     (b : Bool) (around : Around) → IsThere layout p.item around
-    → under b a ≡ ask_conforms layout.schema.now (constant b) around (item_at layout p.item) ask
+    → under b a ≡ ask_conforms layout.schema (constant b) around (item_at layout p.item) ask
 
 -- an answer to a test by what unread rules mean, and by the roots that the item of a number conforms to
-abbrev pub IsRightOn : Layout → ℕ → (Meaning → (NodeRef → Bool) → Bool) → Answer → Type 0
+abbrev pub IsRightOn : LayoutValue → ℕ → (Meaning → (NodeRef → Bool) → Bool) → Answer → Type 0
 IsRightOn layout number test a =
     (b : Bool) (around : Around) → IsThere layout number around
-    → under b a ≡ test (λ unread. b) (conforms layout.schema.now (constant b) around (item_at layout number))
+    → under b a ≡ test (λ unread. b) (conforms layout.schema (constant b) around (item_at layout number))
 
 -- an answer to a pair
-abbrev pub IsRight : Layout → Pair → Answer → Type 0
+abbrev pub IsRight : LayoutValue → Pair → Answer → Type 0
 IsRight layout p a =
     (b : Bool) (around : Around) → IsThere layout p.item around
-    → under b a ≡ conforms layout.schema.now (constant b) around (item_at layout p.item) p.node
-
-abbrev pub known_in : Known → Pair → Option Answer
-known_in known p = get cmp-value.it known.answers p
+    → under b a ≡ conforms layout.schema (constant b) around (item_at layout p.item) p.node
 
 -- each answer that is known is right
-abbrev pub AreRight : Layout → Known → Type 0
-AreRight layout known = (p : Pair) (a : Answer) → known_in known p ≡ Some a → IsRight layout p a
+abbrev pub AreRight : LayoutValue → BTreeMap Pair Answer → Type 0
+AreRight layout answers = (p : Pair) (a : Answer) → get cmp-value.it answers p ≡ Some a → IsRight layout p a
 
 -- where a node asks for a root, or names it as a profile, that is one, and the node is none; nor is one that asks for types,
 -- which are its own

@@ -1,5 +1,5 @@
 -- The items of a resource in a row, each with the nearest resource at or around it (used by private contracts alone).
-use Rattle.std.specs.Prelude.{◌≡◌, ◌<◌, ◌≤◌, ◌+◌, ℕ, List, [], ◌∷◌, length, map, get_or, Option, None}
+use Rattle.std.specs.Prelude.{◌≡◌, ◌<◌, ◌≤◌, ◌+◌, ℕ, List, [], ◌∷◌, length, map, get_or, nat_lt, if◌then◌else◌, Option, None}
 use Rattle.std.specs.Option.{option_map}
 use Rattle.std.specs.List.{slice_get, AllByRecursion}
 use Rattle.fhir_schema.specs.Schemas.{SchemaValue}
@@ -7,7 +7,6 @@ use Rattle.fhir_instance.specs.Items.{Item, item, Kids, no_kids, kid, kids_of}
 use Rattle.fhir_instance.specs.View.{item_of}
 use Rattle.fhir_conformance.specs.Conformance.{nearest_to}
 use Rattle.fhir_conformance.specs.Views.{IsIndexOf}
-use Rattle.fhir_validator.specs.declared.layout.Layout.{Layout}
 use Rattle.fhir_validator.specs.declared.layout.Stand.{Stand}
 
 -- an item, and the nearest resource at or around it
@@ -35,17 +34,29 @@ nowhere = record { itself = nothing; resource = nothing }
 abbrev pub numbered : List Spot → ℕ → Spot
 numbered xs i = get_or xs i nowhere
 
--- the item of a number, and the nearest resource at or around it
-abbrev pub spot_at : Layout → ℕ → Spot
-spot_at layout number = numbered (map spot_in layout.stands.items) number
+-- the schema by which a resource was typed, and its items in a row
+pub record LayoutValue : Type 0 where
+  pub schema : SchemaValue
+  pub spots : List Spot
 
-abbrev pub item_at : Layout → ℕ → Item
+abbrev pub laid_out : SchemaValue → List Stand → LayoutValue
+laid_out s stands = record { schema = s; spots = map spot_in stands }
+
+-- the place of a number in the row: its own, or the first where it has none
+abbrev pub place_in_row : LayoutValue → ℕ → ℕ
+place_in_row layout number = if nat_lt number (length layout.spots) then number else 0
+
+-- the item of a number, and the nearest resource at or around it
+abbrev pub spot_at : LayoutValue → ℕ → Spot
+spot_at layout number = numbered layout.spots (place_in_row layout number)
+
+abbrev pub item_at : LayoutValue → ℕ → Item
 item_at layout number = (spot_at layout number).itself
 
-abbrev pub resource_of : Layout → ℕ → Item
-resource_of layout number = (spot_at layout number).resource
+abbrev pub resource_of : LayoutValue → ℕ → Item
+resource_of layout number = nearest_to layout.schema (spot_at layout number).resource (spot_at layout number).itself
 
-abbrev pub number_of : Layout → Option ℕ → Option Item
+abbrev pub number_of : LayoutValue → Option ℕ → Option Item
 number_of layout number = option_map (item_at layout) number
 
 -- its index has the item's children, and an item that is a resource is its own nearest
@@ -68,7 +79,9 @@ pub record AreFrom (s : SchemaValue) (xs : List Spot) (i first : ℕ) : Type 0 w
 abbrev pub AreLaid : SchemaValue → List Spot → List ℕ → Type 0
 AreLaid s xs firsts = (i : ℕ) → i < length firsts → AreFrom s xs i (get_or firsts i 0)
 
-pub record IsLayout (layout : Layout) : Type 0 where
-  pub stands : AreStands layout.schema.now layout.stands.items
-  pub each : length layout.firsts.items ≡ length layout.stands.items
-  pub laid : AreLaid layout.schema.now (map spot_in layout.stands.items) layout.firsts.items
+-- the items of a resource, with the number of each one's first child
+pub record IsLaid (s : SchemaValue) (stands : List Stand) (firsts : List ℕ) : Type 0 where
+  pub stood : AreStands s stands
+  pub each : length firsts ≡ length stands
+  pub laid : AreLaid s (map spot_in stands) firsts
+  pub some : 0 < length stands

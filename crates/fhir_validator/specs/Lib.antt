@@ -1,4 +1,5 @@
 pub mod Answers
+pub mod Coding
 pub mod Issues
 pub mod Judging
 pub mod Layouts

@@ -1,14 +1,16 @@
 -- What is listed of the pairs that fail, or of those that are open (used by private contracts alone).
-use Rattle.std.specs.Prelude.{◌≡◌, ◌<◌, ◌+◌, ℕ, Bool, true, false, List, length, Some, IsTrue, ◌⊎◌}
+use Rattle.std.specs.Prelude.{◌≡◌, ◌<◌, ◌+◌, ℕ, Bool, true, false, List, length, None, Some, IsTrue, ◌⊎◌}
 use Rattle.std.specs.List.{AllByRecursion, Contains}
 use Rattle.fhir_json.specs.Tree.{Text, Tree}
 use Rattle.fhir_json.specs.Grammar.{Reads}
 use Rattle.fhir_nodes.specs.declared.node.NodeRef.{NodeRef}
-use Rattle.fhir_schema.specs.Schemas.{SchemaValue}
-use Rattle.fhir_instance.specs.Items.{Item, Place}
+use Rattle.fhir_elements.specs.TypeEntry.{TypeEntry}
+use Rattle.fhir_schema.specs.Covers.{covers}
+use Rattle.fhir_schema.specs.Schemas.{SchemaValue, is_root_node, loaded, types as node_types}
+use Rattle.fhir_instance.specs.Items.{Item, Place, type_of}
 use Rattle.fhir_instance.specs.Typing.{Types}
-use Rattle.fhir_facets.specs.Unread.{Unread, Meaning}
-use Rattle.fhir_conformance.specs.Asks.{Ask, profile as as_profile, asks}
+use Rattle.fhir_facets.specs.Unread.{Unread, Meaning, profile as unread_profile}
+use Rattle.fhir_conformance.specs.Asks.{Ask, types as as_types, profile as as_profile, asks}
 use Rattle.fhir_conformance.specs.Conformance.{Around, outermost, constant, ask_conforms, conforms}
 use Rattle.fhir_conformance.specs.Meeting.{Met, unread_at}
 use Rattle.fhir_validator.specs.declared.answer.Answer.{Answer}
@@ -16,8 +18,6 @@ use Rattle.fhir_validator.specs.declared.answer.Answer.TheVariants as answers
 use Rattle.fhir_validator.specs.declared.issue.Issue.{Issue}
 use Rattle.fhir_validator.specs.declared.issue.Issue.TheVariants.{Misfit, Broken}
 use Rattle.fhir_validator.specs.declared.issue.Site.{Site}
-use Rattle.fhir_validator.specs.declared.layout.Layout.{Layout}
-use Rattle.fhir_validator.specs.declared.listing.Listing.{Listing}
 use Rattle.fhir_validator.specs.declared.pair.Pair.{Pair}
 use Rattle.fhir_validator.specs.declared.verdict.Verdict.{Verdict}
 use Rattle.fhir_validator.specs.declared.verdict.Verdict.TheVariants.{Conforms as Conforming, Violates, Open as Undecided}
@@ -25,7 +25,7 @@ use Rattle.fhir_validator.specs.declared.fault.Fault.{Fault}
 use Rattle.fhir_validator.specs.declared.fault.Fault.TheVariants.{Missing, Unusable, NotJson, NoMemory}
 use Rattle.fhir_validator.specs.Answers.{under}
 use Rattle.fhir_validator.specs.Verdicts.{AreSome}
-use Rattle.fhir_validator.specs.Layouts.{item_at, resource_of}
+use Rattle.fhir_validator.specs.Layouts.{LayoutValue, item_at, resource_of}
 use Rattle.fhir_validator.specs.Judging.{IsThere, IsRight, IsRightOf}
 use Rattle.fhir_validator.specs.Issues.{Said, told_of, IsBroken, IsOpenAt}
 
@@ -52,12 +52,14 @@ is_filled answers.Holds issues sites = Unit {0}
 is_filled answers.Open issues sites = 0 < length sites
 is_filled answers.Fails issues sites = 0 < length issues
 
-abbrev pub IsFilled : Answer → Listing → Type 0
-IsFilled wanted listing = is_filled wanted listing.issues.items listing.sites.items
+-- what is listed of the pairs that have an answer
+pub record ListingValue : Type 0 where
+  pub wanted : Answer
+  pub issues : List Issue
+  pub sites : List Site
 
--- something is listed, if a pair is marked
-abbrev pub IsMarked : Answer → Listing → Type 0
-IsMarked wanted listing = 0 < length listing.marks.keys → IsFilled wanted listing
+abbrev pub IsFilled : ListingValue → Type 0
+IsFilled listing = is_filled listing.wanted listing.issues listing.sites
 
 -- where what is open is listed, nothing fails
 abbrev pub IsAllowed : Answer → Bool → Type 0
@@ -65,87 +67,117 @@ IsAllowed answers.Holds holds = Unit {0}
 IsAllowed answers.Open holds = IsTrue holds
 IsAllowed answers.Fails holds = Unit {0}
 
-abbrev pub AskIsAllowed : Layout → Answer → Pair → Ask → Type 0
-AskIsAllowed layout wanted p ask =
+abbrev pub AskIsAllowed : LayoutValue → ListingValue → Pair → Ask → Type 0
+AskIsAllowed layout listing p ask =
     (around : Around) × IsThere layout p.item around
-    × IsAllowed wanted (ask_conforms layout.schema.now (constant true) around (item_at layout p.item) ask)
+    × IsAllowed listing.wanted (ask_conforms layout.schema (constant true) around (item_at layout p.item) ask)
 
-abbrev pub PairIsAllowed : Layout → Answer → Pair → Type 0
-PairIsAllowed layout wanted p =
+abbrev pub PairIsAllowed : LayoutValue → ListingValue → Pair → Type 0
+PairIsAllowed layout listing p =
     (around : Around) × IsThere layout p.item around
-    × IsAllowed wanted (conforms layout.schema.now (constant true) around (item_at layout p.item) p.node)
+    × IsAllowed listing.wanted (conforms layout.schema (constant true) around (item_at layout p.item) p.node)
 
 -- it holds, or something is listed
-abbrev pub AskIsTold : Layout → Answer → Pair → Ask → Listing → Type 0
-AskIsTold layout wanted p ask listing =
+abbrev pub AskIsTold : LayoutValue → ListingValue → Pair → Ask → ListingValue → Type 0
+AskIsTold layout old p ask new =
     (around : Around) → IsThere layout p.item around
-    → IsTrue (ask_conforms layout.schema.now (constant (side wanted)) around (item_at layout p.item) ask) ⊎ IsFilled wanted listing
+    → IsTrue (ask_conforms layout.schema (constant (side old.wanted)) around (item_at layout p.item) ask) ⊎ IsFilled new
 
-abbrev pub PairIsTold : Layout → Answer → Pair → Listing → Type 0
-PairIsTold layout wanted p listing =
+abbrev pub PairIsTold : LayoutValue → ListingValue → Pair → ListingValue → Type 0
+PairIsTold layout old p new =
     (around : Around) → IsThere layout p.item around
-    → IsTrue (conforms layout.schema.now (constant (side wanted)) around (item_at layout p.item) p.node) ⊎ IsFilled wanted listing
+    → IsTrue (conforms layout.schema (constant (side old.wanted)) around (item_at layout p.item) p.node) ⊎ IsFilled new
 
 -- what is listed is right
 abbrev pub IsFound : SchemaValue → Item → NodeRef → Issue → Type 0
 IsFound s outermost profile (Misfit misfit) = ⊥
 IsFound s outermost profile (Broken finding) = IsBroken s outermost profile finding
 
-abbrev pub AreFound : SchemaValue → Item → NodeRef → Listing → Type 0
+abbrev pub AreFound : SchemaValue → Item → NodeRef → ListingValue → Type 0
 AreFound s outermost profile listing =
-    AllByRecursion (IsFound s outermost profile) listing.issues.items × AllByRecursion (IsOpenAt s outermost profile) listing.sites.items
+    AllByRecursion (IsFound s outermost profile) listing.issues × AllByRecursion (IsOpenAt s outermost profile) listing.sites
 
 -- the pair asks for that
-abbrev pub IsAskedBy : Layout → Pair → Ask → Type 0
-IsAskedBy layout p ask = Contains (asks layout.schema.now (item_at layout p.item) p.node) ask
+abbrev pub IsAskedBy : LayoutValue → Pair → Ask → Type 0
+IsAskedBy layout p ask = Contains (asks layout.schema (item_at layout p.item) p.node) ask
+
+-- the pair asks for that, and it may be what is listed
+pub record IsToList (layout : LayoutValue) (listing : ListingValue) (p : Pair) (ask : Ask) : Type 0 where
+  pub asked : IsAskedBy layout p ask
+  pub allowed : AskIsAllowed layout listing p ask
 
 -- what is right of the old listing is right of the new, if the pair is met
-abbrev pub KeepsFound : Layout → Pair → Listing → Listing → Type 0
+abbrev pub KeepsFound : LayoutValue → Pair → ListingValue → ListingValue → Type 0
 KeepsFound layout p old new =
     (outermost : Item) (profile : NodeRef) (place : Place)
-    → Met layout.schema.now outermost profile place (resource_of layout p.item) (item_at layout p.item) p.node
-    → AreFound layout.schema.now outermost profile old → AreFound layout.schema.now outermost profile new
+    → Met layout.schema outermost profile place (resource_of layout p.item) (item_at layout p.item) p.node
+    → AreFound layout.schema outermost profile old → AreFound layout.schema outermost profile new
+
+-- what is listed grows, and is right if the pair is met
+pub record Grown (layout : LayoutValue) (p : Pair) (old new : ListingValue) : Type 0 where
+  pub wanted : new.wanted ≡ old.wanted
+  pub kept : IsFilled old → IsFilled new
+  pub found : KeepsFound layout p old new
+
+-- it grows, and what the pair asks holds, or something is listed
+pub record Lists (layout : LayoutValue) (p : Pair) (ask : Ask) (old new : ListingValue) : Type 0 where
+  pub grown : Grown layout p old new
+  pub told : AskIsTold layout old p ask new
 
 -- ---- what is put into a listing
 
--- what the pair asks fails, and this is to be said of it
-pub record IsToTell (layout : Layout) (p : Pair) (node : NodeRef) (said : Said) : Type 0 where
-  pub ask : Ask
-  pub asked : IsAskedBy layout p ask
-  pub fails : IsRightOf layout p ask answers.Fails
-  pub told : told_of layout.schema.now (item_at layout p.item) ask ≡ Some (node, said)
-
 -- what the pair asks is open, and the node carries the unread rule to its item
-pub record IsHanging (layout : Layout) (p : Pair) (node : NodeRef) (rule : Unread) : Type 0 where
+pub record IsHanging (layout : LayoutValue) (p : Pair) (node : NodeRef) (rule : Unread) : Type 0 where
   pub ask : Ask
   pub said : Said
   pub asked : IsAskedBy layout p ask
   pub hangs : IsRightOf layout p ask answers.Open
-  pub told : told_of layout.schema.now (item_at layout p.item) ask ≡ Some (node, said)
-  pub carried : Contains (unread_at layout.schema.now (item_at layout p.item) node) rule
+  pub told : told_of layout.schema (item_at layout p.item) ask ≡ Some (node, said)
+  pub carried : Contains (unread_at layout.schema (item_at layout p.item) node) rule
+
+-- the types of the pair's node are open
+pub record AreHanging (layout : LayoutValue) (p : Pair) : Type 0 where
+  pub inner : is_root_node layout.schema p.node ≡ false
+  pub asked : IsAskedBy layout p (as_types p.node)
+  pub hangs : IsRightOf layout p (as_types p.node) answers.Open
+
+-- the types of the pair's node are open, and that is one of them, which covers the item
+pub record IsEntry (layout : LayoutValue) (p : Pair) (entry : TypeEntry) : Type 0 where
+  pub hanging : AreHanging layout p
+  pub among : Contains (node_types layout.schema p.node) entry
+  pub covered : IsTrue (covers layout.schema entry.code (type_of (item_at layout p.item)))
+
+-- one of its profiles: the pair asks for its root, or it is unread and what the pair asks hangs on it
+pub record IsNamedBy (layout : LayoutValue) (p : Pair) (canonical : Text) : Type 0 where
+  pub hanging : loaded layout.schema canonical ≡ None → IsHanging layout p p.node (unread_profile canonical)
+  pub asked : (root : NodeRef) → loaded layout.schema canonical ≡ Some root → IsAskedBy layout p (as_profile root)
 
 -- the pair names the root as a profile, and whether its item conforms to it is open
-abbrev pub IsOpenRoot : Layout → Pair → NodeRef → Type 0
+abbrev pub IsOpenRoot : LayoutValue → Pair → NodeRef → Type 0
 IsOpenRoot layout p r = IsAskedBy layout p (as_profile r) × IsRight layout (record { item = p.item; node = r }) answers.Open
 
 -- a site is listed, or there is a root of which more is to be listed
-abbrev pub IsLed : Listing → List NodeRef → Type 0
-IsLed listing roots = 0 < length listing.sites.items + length roots
+abbrev pub IsLed : ListingValue → List NodeRef → Type 0
+IsLed listing roots = 0 < length listing.sites + length roots
 
--- What is listed and to be listed grows: what is right of the old is right of the new, if the pair is met.
-pub record Grows (layout : Layout) (p : Pair) (old new : Listing) (roots more : List NodeRef) : Type 0 where
-  pub marked : IsMarked answers.Open old → IsMarked answers.Open new
+-- What is listed and to be listed grows.
+pub record Grows (layout : LayoutValue) (p : Pair) (old new : ListingValue) (roots more : List NodeRef) : Type 0 where
+  pub grown : Grown layout p old new
   pub led : IsLed old roots → IsLed new more
-  pub found : KeepsFound layout p old new
   pub hanging : AllByRecursion (IsOpenRoot layout p) roots → AllByRecursion (IsOpenRoot layout p) more
 
 -- a test doesn't hang on what unread rules mean, or something is listed, or is to be
-abbrev pub IsSettled : Layout → ℕ → (Meaning → (NodeRef → Bool) → Bool) → Listing → List NodeRef → Type 0
+abbrev pub IsSettled : LayoutValue → ℕ → (Meaning → (NodeRef → Bool) → Bool) → ListingValue → List NodeRef → Type 0
 IsSettled layout number test listing roots =
     (around : Around) → IsThere layout number around
-    → (test (λ unread. true) (conforms layout.schema.now (constant true) around (item_at layout number))
-    ≡ test (λ unread. false) (conforms layout.schema.now (constant false) around (item_at layout number)))
+    → (test (λ unread. true) (conforms layout.schema (constant true) around (item_at layout number))
+    ≡ test (λ unread. false) (conforms layout.schema (constant false) around (item_at layout number)))
     ⊎ IsLed listing roots
+
+-- it grows, and the test is settled
+pub record Settles (layout : LayoutValue) (p : Pair) (test : Meaning → (NodeRef → Bool) → Bool) (old new : ListingValue) (roots more : List NodeRef) : Type 0 where
+  pub grows : Grows layout p old new roots more
+  pub settled : IsSettled layout p.item test new more
 
 -- ---- what a verdict lists
 

@@ -1,20 +1,19 @@
 //! The items of a resource, numbered.
 
 ghost use Rattle.std.specs.Prelude.{◌≡◌, ◌<◌, ◌++◌, length, map, IfOk, IfSome, OnOk};
-ghost use Rattle.std.specs.Option.{option_and_then};
-ghost use Rattle.std.specs.List.{slice_get};
 ghost use Rattle.fhir_instance.specs.View.{item_of};
 ghost use Rattle.fhir_instance.specs.Items.{kids_of};
 ghost use Rattle.fhir_conformance.specs.Conformance.{nearest_to};
 ghost use Rattle.fhir_conformance.specs.Positions.{kid_at};
 ghost use Rattle.fhir_conformance.specs.Views.{IsIndexOf};
-ghost use Rattle.fhir_validator.specs.Layouts.{spot_in, spot_of, spots_in, spot_at, item_at, resource_of, number_of, IsStand, AreStands, IsLayout};
+ghost use Rattle.fhir_validator.specs.Layouts.{place_in_row, spot_in, spot_of, spots_in, spot_at, item_at, resource_of, number_of, IsStand, AreStands};
 
 use fhir_conformance::Children;
 use fhir_instance::Typed;
 use fhir_json::NoMemory;
 use fhir_schema::Schema;
 use std::alloc::Global;
+use std::marker::Model;
 
 // An item, and where it stands.
 #[derive(Drop)]
@@ -29,13 +28,31 @@ struct Stand<'t, 'a, 'j> {
 }
 
 /// The items of a resource in a row: the outermost first, and the children of each side by side behind it. It keeps the
-/// schema by which they were typed.
+/// schema by which they were typed. A number that none of them has stands for the outermost.
 #[derive(Drop)]
 pub(crate) struct Layout<'s, 't, 'a, 'j> {
     pub(crate) schema: &'s Schema,
     stands: Vec<Stand<'t, 'a, 'j>>,
     // the number of each item's first child, or where that would stand
     firsts: Vec<usize>,
+}
+
+impl<'s, 't, 'a, 'j> Model for Layout<'s, 't, 'a, 'j> {
+    ghost use Rattle.fhir_validator.specs.Layouts.{LayoutValue};
+
+    ghost Value = { LayoutValue };
+
+    ghost use Rattle.fhir_schema.specs.contracts.schema.Schema as schemas;
+    ghost use Rattle.fhir_validator.specs.Coding.{item_code};
+    ghost use Rattle.std.specs.Coded.{codes};
+
+    ghost coded = { Prim.hlevel (codes, schemas.the_row.coded, item_code) };
+
+    ghost use Rattle.fhir_validator.specs.Layouts.{laid_out, IsLaid};
+
+    ghost view = { λ l. laid_out l.schema.now l.stands.items };
+
+    ghost invariant = { λ l. IsLaid l.schema.now l.stands.items l.firsts.items };
 }
 
 // The nearest resource at or around an item, where that is the nearest around it.
@@ -109,10 +126,9 @@ impl<'s, 't, 'a, 'j> Layout<'s, 't, 'a, 'j> {
         schema: &'s Schema,
         outermost: &'t Typed<'a, 'j>,
     ) -> Result<Layout<'s, 't, 'a, 'j>, NoMemory>
-        ensures schema { IfOk result (λ layout. layout.schema.now ≡ schema.now) }
-        ensures laid { IfOk result IsLayout }
-        ensures first { IfOk result (λ layout. spot_at layout 0 ≡ record { itself = item_of outermost.now; resource = item_of outermost.now }) }
-        ensures some { IfOk result (λ layout. 0 < length layout.stands.items) }
+        ensures schema { IfOk result (λ layout. layout.schema ≡ schema.now) }
+        ensures item { IfOk result (λ layout. item_at layout 0 ≡ item_of outermost.now) }
+        ensures resource { IfOk result (λ layout. resource_of layout 0 ≡ item_of outermost.now) }
     {
         let mut stands = Vec::new(alloc);
         let mut firsts: Vec<usize> = Vec::new(alloc);
@@ -132,42 +148,63 @@ impl<'s, 't, 'a, 'j> Layout<'s, 't, 'a, 'j> {
         })
     }
 
+    /// The schema.
+    pub(crate) fn schema(&self) -> &'s Schema
+        ensures { result.now ≡ self.now.schema }
+    {
+        self.schema
+    }
+
+    // The place of a number in the row.
+    fn place_in_row(&self, number: usize) -> usize
+        ensures place { result ≡ place_in_row self.now number }
+        ensures within { result < length self.now.spots }
+    {
+        if number < self.stands.len() {
+            number
+        } else {
+            0
+        }
+    }
+
+    fn stand_at(&self, number: usize) -> &Stand<'t, 'a, 'j>
+        ensures spot { spot_at self.now number ≡ spot_in result.now }
+        ensures stand { IsStand self.now.schema result.now }
+    {
+        &self.stands[self.place_in_row(number)]
+    }
+
     /// The nearest resource at or around the item of a number.
     pub(crate) fn resource(&self, number: usize) -> &'t Typed<'a, 'j>
-        requires { number < length self.now.stands.items }
         ensures { item_of result.now ≡ resource_of self.now number }
     {
-        self.stands[number].resource
+        self.stand_at(number).resource
     }
 
     /// The item of a number.
     pub(crate) fn item(&self, number: usize) -> &'t Typed<'a, 'j>
-        requires { number < length self.now.stands.items }
         ensures { item_of result.now ≡ item_at self.now number }
     {
-        self.stands[number].item
+        self.stand_at(number).item
     }
 
     /// Its children by their names.
     pub(crate) fn children(&self, number: usize) -> &Children<'t>
-        requires { number < length self.now.stands.items }
-        ensures { IsLayout self.now → IsIndexOf (item_at self.now number) result.now }
+        ensures { IsIndexOf (item_at self.now number) result.now }
     {
-        &self.stands[number].children
+        &self.stand_at(number).children
     }
 
     /// The number of its child at a position, if it has one.
     pub(crate) fn kid(&self, number: usize, position: usize) -> Option<usize>
-        requires laid { IsLayout self.now }
-        requires within { number < length self.now.stands.items }
         ensures kid { number_of self.now result ≡ kid_at (kids_of (item_at self.now number)) position }
         ensures near { IfSome result (λ kid. resource_of self.now kid
-            ≡ nearest_to self.now.schema.now (resource_of self.now number) (item_at self.now kid)) }
-        ensures behind { IfSome result (λ kid. number < kid) }
-        ensures within { IfSome result (λ kid. kid < length self.now.stands.items) }
+            ≡ nearest_to self.now.schema (resource_of self.now number) (item_at self.now kid)) }
+        ensures behind { IfSome result (λ kid. place_in_row self.now number < place_in_row self.now kid) }
+        ensures within { IfSome result (λ kid. place_in_row self.now kid < length self.now.spots) }
     {
         if position < self.item(number).kids().len() {
-            Some(self.firsts[number] + position)
+            Some(self.firsts[self.place_in_row(number)] + position)
         } else {
             None
         }
@@ -175,17 +212,14 @@ impl<'s, 't, 'a, 'j> Layout<'s, 't, 'a, 'j> {
 
     /// The number of its parent, if it has one.
     pub(crate) fn parent(&self, number: usize) -> Option<usize>
-        requires { number < length self.now.stands.items }
         ensures { IfSome result (λ parent. parent < number) }
     {
-        let parent = self.stands[number].parent;
+        let parent = self.stand_at(number).parent;
         if parent < number { Some(parent) } else { None }
     }
 
     /// Its position among all of its parent's children.
-    pub(crate) fn position(&self, number: usize) -> usize
-        requires { number < length self.now.stands.items }
-    {
-        self.stands[number].position
+    pub(crate) fn position(&self, number: usize) -> usize {
+        self.stand_at(number).position
     }
 }

@@ -24,7 +24,6 @@ mod fault;
 mod hanging;
 mod issue;
 mod judging;
-mod known;
 mod layout;
 mod listing;
 mod pair;

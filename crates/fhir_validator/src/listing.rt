@@ -1,31 +1,104 @@
 //! What is listed.
 
-ghost use Rattle.std.specs.Prelude.{◌≡◌, []};
+ghost use Rattle.std.specs.Prelude.{◌≡◌, ◌++◌, ◌∷◌, [], IfOk, IsTrue, OnOk};
+ghost use Rattle.fhir_validator.specs.Listing.{IsFilled};
 
-use crate::issue::{Issue, Site};
+use crate::answer::Answer;
+use crate::issue::{Finding, Issue, Site};
 use crate::pair::Pair;
+use fhir_json::NoMemory;
 use std::alloc::Global;
 use std::collections::BTreeSet;
+use std::marker::Model;
 
-/// What is listed of a verdict, and the pairs of which all is listed.
+/// What is listed of the pairs that have an answer, and the pairs of which all is listed.
 #[derive(Drop)]
 pub(crate) struct Listing<'s> {
-    pub(crate) marks: BTreeSet<Pair>,
-    pub(crate) issues: Vec<Issue<'s>>,
-    pub(crate) sites: Vec<Site<'s>>,
+    wanted: Answer,
+    marks: BTreeSet<Pair>,
+    issues: Vec<Issue<'s>>,
+    sites: Vec<Site<'s>>,
+}
+
+impl<'s> Model for Listing<'s> {
+    ghost use Rattle.std.specs.Prelude.{◌<◌, length};
+    ghost use Rattle.fhir_validator.specs.Listing.{ListingValue, is_filled};
+
+    ghost Value = { ListingValue };
+
+    ghost use Rattle.fhir_validator.specs.Coding.{json_code};
+    ghost use Rattle.std.specs.Coded.{codes};
+
+    ghost coded = { Prim.hlevel (codes, json_code) };
+
+    ghost view = { λ l. record { wanted = l.wanted; issues = l.issues.items; sites = l.sites.items } };
+
+    ghost invariant = { λ l. 0 < length l.marks.keys → is_filled l.wanted l.issues.items l.sites.items };
 }
 
 impl<'s> Listing<'s> {
-    /// Nothing.
-    pub(crate) fn new(alloc: Global) -> Listing<'s>
-        ensures marks { result.marks.keys ≡ [] }
-        ensures issues { result.issues.items ≡ [] }
-        ensures sites { result.sites.items ≡ [] }
+    /// Nothing of the pairs with that answer.
+    pub(crate) fn new(alloc: Global, wanted: Answer) -> Listing<'s>
+        ensures { result ≡ record { wanted = wanted; issues = []; sites = [] } }
     {
         Listing {
+            wanted,
             marks: BTreeSet::new(alloc),
             issues: Vec::new(alloc),
             sites: Vec::new(alloc),
         }
+    }
+
+    /// The answer of which is listed what it rests on.
+    pub(crate) fn wanted(&self) -> Answer
+        ensures { result ≡ self.now.wanted }
+    {
+        self.wanted
+    }
+
+    /// Whether all is listed of a pair. Something is, then.
+    pub(crate) fn is_marked(&self, pair: Pair) -> bool
+        ensures { IsTrue result → IsFilled self.now }
+    {
+        self.marks.contains(&pair)
+    }
+
+    /// Notes that all is listed of a pair.
+    pub(crate) fn mark(&mut self, pair: Pair) -> Result<(), NoMemory>
+        requires { IsFilled self.old }
+        ensures { self.new ≡ self.old }
+    {
+        self.marks.insert(pair)?;
+        Ok(())
+    }
+
+    /// Lists a rule that is broken.
+    pub(crate) fn put_finding(&mut self, finding: Finding<'s>) -> Result<(), NoMemory>
+        ensures { OnOk result (self.new ≡ record self.old { issues = self.old.issues ++ Issue.Broken finding.entry ∷ [] }) }
+    {
+        self.issues.push(Issue::Broken(finding))?;
+        Ok(())
+    }
+
+    /// Lists an unread rule.
+    pub(crate) fn put_site(&mut self, site: Site<'s>) -> Result<(), NoMemory>
+        ensures { OnOk result (self.new ≡ record self.old { sites = self.old.sites ++ site.entry ∷ [] }) }
+    {
+        self.sites.push(site)?;
+        Ok(())
+    }
+
+    /// The rules that are broken.
+    pub(crate) fn into_issues(self) -> Vec<Issue<'s>>
+        ensures { result.items ≡ self.entry.issues }
+    {
+        self.issues
+    }
+
+    /// The unread rules.
+    pub(crate) fn into_sites(self) -> Vec<Site<'s>>
+        ensures { result.items ≡ self.entry.sites }
+    {
+        self.sites
     }
 }

@@ -1,7 +1,5 @@
 //! Places in resources.
 
-ghost use Rattle.std.specs.Prelude.{◌<◌, length};
-
 use crate::layout::Layout;
 use fhir_instance::Kid;
 use fhir_json::NoMemory;
@@ -33,9 +31,7 @@ fn put_name(text: &mut String, name: &str) -> Result<(), AllocError> {
 }
 
 // How many of the children in front of a position have its name.
-fn index_of(layout: &Layout<'_, '_, '_, '_>, parent: usize, position: usize, name: &str) -> usize
-    requires { parent < length layout.now.stands.items }
-{
+fn index_of(layout: &Layout<'_, '_, '_, '_>, parent: usize, position: usize, name: &str) -> usize {
     let places = layout.children(parent).places(name);
     places.partition_point(|place| *place < position)
 }
@@ -45,9 +41,7 @@ fn put_step(
     layout: &Layout<'_, '_, '_, '_>,
     parent: usize,
     position: usize,
-) -> Result<(), AllocError>
-    requires { parent < length layout.now.stands.items }
-{
+) -> Result<(), AllocError> {
     let Some(kid) = layout.item(parent).kids().get(position) else {
         return Ok(());
     };
@@ -63,9 +57,7 @@ fn put_place(
     text: &mut String,
     layout: &Layout<'_, '_, '_, '_>,
     number: usize,
-) -> Result<(), AllocError>
-    requires { number < length layout.now.stands.items }
-{
+) -> Result<(), AllocError> {
     let Some(parent) = layout.parent(number) else {
         return text.push_str(layout.item(number).code());
     };
@@ -79,9 +71,7 @@ impl Place {
         alloc: Global,
         layout: &Layout<'_, '_, '_, '_>,
         number: usize,
-    ) -> Result<Place, NoMemory>
-        requires { number < length layout.now.stands.items }
-    {
+    ) -> Result<Place, NoMemory> {
         let mut text = String::new(alloc);
         put_place(&mut text, layout, number)?;
         Ok(Place { text })
@@ -93,9 +83,7 @@ impl Place {
         layout: &Layout<'_, '_, '_, '_>,
         number: usize,
         name: &str,
-    ) -> Result<Place, NoMemory>
-        requires { number < length layout.now.stands.items }
-    {
+    ) -> Result<Place, NoMemory> {
         let Place { mut text } = Place::of(alloc, layout, number)?;
         put_name(&mut text, name)?;
         Ok(Place { text })

@@ -1,18 +1,19 @@
 //! Findings and sites: what is said of a rule.
 
-ghost use Rattle.std.specs.Prelude.{◌≡◌, ◌<◌, length, Some, IfOk};
+ghost use Rattle.std.specs.Prelude.{◌≡◌, Some, IfOk};
 ghost use Rattle.std.specs.Option.{option_map_or, option_and_then};
 ghost use Rattle.fhir_schema.specs.Schemas.{element_at};
 ghost use Rattle.fhir_facets.specs.Counts.{least_of};
 ghost use Rattle.fhir_conformance.specs.Positions.{kid_at};
 ghost use Rattle.fhir_conformance.specs.Views.{rule_name, IsIndexOf};
-ghost use Rattle.fhir_instance.specs.Items.{Item, kids_of};
+ghost use Rattle.fhir_instance.specs.Items.{kids_of};
 ghost use Rattle.fhir_instance.specs.View.{item_of};
 ghost use Rattle.fhir_validator.specs.Issues.{rule_said, types, too_few, too_many, says, slices_said, set_at, key_at, IsNamed};
-ghost use Rattle.fhir_validator.specs.Layouts.{IsLayout, item_at};
+ghost use Rattle.fhir_validator.specs.Layouts.{item_at};
 
 use crate::issue::{Finding, Site};
-use crate::layout::Layout;
+use crate::judging::Judge;
+use crate::pair::Pair;
 use crate::place::Place;
 use crate::rule::Rule;
 use fhir_conformance::{Children, Rule as Asked, count_in, kid_at};
@@ -139,115 +140,94 @@ fn said<'s>(
     }
 }
 
-// The place of the child at a position of an item, or of the item itself.
-fn place_of_kid(
-    alloc: Global,
-    layout: &Layout<'_, '_, '_, '_>,
-    number: usize,
-    position: usize,
-) -> Result<Place, NoMemory>
-    requires laid { IsLayout layout.now }
-    requires within { number < length layout.now.stands.items }
-{
-    match layout.kid(number, position) {
-        Some(kid) => Place::of(alloc, layout, kid),
-        None => Place::of(alloc, layout, number),
+impl<'s, 't, 'a, 'j> Judge<'s, 't, 'a, 'j> {
+    // The place of the child at a position of a pair's item, or of the item itself.
+    fn place_of_kid(&self, pair: Pair, position: usize) -> Result<Place, NoMemory> {
+        let layout = self.layout();
+        let kid = layout.kid(pair.item, position);
+        Place::of(self.alloc(), layout, kid.unwrap_or(pair.item))
     }
-}
 
-// Where a rule is broken at an item.
-fn place_of(
-    alloc: Global,
-    layout: &Layout<'_, '_, '_, '_>,
-    number: usize,
-    rule: Asked<'_>,
-) -> Result<Place, NoMemory>
-    requires laid { IsLayout layout.now }
-    requires within { number < length layout.now.stands.items }
-{
-    match rule {
-        Asked::TooFew(name) => Place::below(alloc, layout, number, name),
-        Asked::TooMany(name) => Place::below(alloc, layout, number, name),
-        Asked::TooFewIn(name) => Place::below(alloc, layout, number, name),
-        Asked::TooManyIn(name) => Place::below(alloc, layout, number, name),
-        Asked::Apart(position) => place_of_kid(alloc, layout, number, position),
-        Asked::Sliced(position) => place_of_kid(alloc, layout, number, position),
-        _ => Place::of(alloc, layout, number),
+    // Where a rule is broken at a pair's item.
+    fn place_of(&self, pair: Pair, rule: Asked<'_>) -> Result<Place, NoMemory> {
+        let (alloc, layout) = (self.alloc(), self.layout());
+        match rule {
+            Asked::TooFew(name) => Place::below(alloc, layout, pair.item, name),
+            Asked::TooMany(name) => Place::below(alloc, layout, pair.item, name),
+            Asked::TooFewIn(name) => Place::below(alloc, layout, pair.item, name),
+            Asked::TooManyIn(name) => Place::below(alloc, layout, pair.item, name),
+            Asked::Apart(position) => self.place_of_kid(pair, position),
+            Asked::Sliced(position) => self.place_of_kid(pair, position),
+            _ => Place::of(alloc, layout, pair.item),
+        }
     }
-}
 
-/// The finding of a rule of a node that the item of a number breaks.
-pub(crate) fn finding_of<'s>(
-    alloc: Global,
-    layout: &Layout<'s, '_, '_, '_>,
-    number: usize,
-    rule: Asked<'s>,
-    node: NodeRef,
-) -> Result<Finding<'s>, NoMemory>
-    requires laid { IsLayout layout.now }
-    requires within { number < length layout.now.stands.items }
-    ensures node { IfOk result (λ finding. finding.node ≡ node) }
-    ensures said { IfOk result (λ finding. rule_said finding.rule
-        ≡ says layout.now.schema.now (item_at layout.now number) (rule_name rule.entry) node) }
-    ensures named { IfOk result (λ finding. IsNamed layout.now.schema.now node finding.url.now finding.id.now) }
-{
-    let (url, id) = layout.schema.name(node);
-    Ok(Finding {
-        rule: said(
-            layout.schema,
-            layout.item(number),
-            layout.children(number),
-            rule,
+    // What is to be said of a rule of a node, at a pair's item.
+    fn said_of(&self, pair: Pair, rule: Asked<'s>, node: NodeRef) -> Rule<'s>
+        ensures { rule_said result ≡ says self.now.schema (item_at self.now pair.item) (rule_name rule.entry) node }
+    {
+        let layout = self.layout();
+        let (item, children) = (layout.item(pair.item), layout.children(pair.item));
+        said(self.schema(), item, children, rule, node)
+    }
+
+    /// The finding of a rule of a node that the item of a pair breaks.
+    pub(crate) fn finding_of(
+        &self,
+        pair: Pair,
+        rule: Asked<'s>,
+        node: NodeRef,
+    ) -> Result<Finding<'s>, NoMemory>
+        ensures node { IfOk result (λ finding. finding.node ≡ node) }
+        ensures said { IfOk result (λ finding. rule_said finding.rule
+            ≡ says self.now.schema (item_at self.now pair.item) (rule_name rule.entry) node) }
+        ensures named { IfOk result (λ finding. IsNamed self.now.schema node finding.url.now finding.id.now) }
+    {
+        let (url, id) = self.schema().name(node);
+        let place = self.place_of(pair, rule)?;
+        Ok(Finding {
+            rule: self.said_of(pair, rule, node),
             node,
-        ),
-        node,
-        url,
-        id,
-        place: place_of(alloc, layout, number, rule)?,
-    })
-}
+            url,
+            id,
+            place,
+        })
+    }
 
-/// The finding that the item of a number is of none of the types of a node.
-pub(crate) fn misfit_of<'s>(
-    alloc: Global,
-    layout: &Layout<'s, '_, '_, '_>,
-    number: usize,
-    node: NodeRef,
-) -> Result<Finding<'s>, NoMemory>
-    requires { number < length layout.now.stands.items }
-    ensures node { IfOk result (λ finding. finding.node ≡ node) }
-    ensures said { IfOk result (λ finding. rule_said finding.rule ≡ types) }
-    ensures named { IfOk result (λ finding. IsNamed layout.now.schema.now node finding.url.now finding.id.now) }
-{
-    let (url, id) = layout.schema.name(node);
-    Ok(Finding {
-        rule: Rule::Types,
-        node,
-        url,
-        id,
-        place: Place::of(alloc, layout, number)?,
-    })
-}
+    /// The finding that the item of a pair is of none of the types of its node.
+    pub(crate) fn misfit_of(&self, pair: Pair) -> Result<Finding<'s>, NoMemory>
+        ensures node { IfOk result (λ finding. finding.node ≡ pair.node) }
+        ensures said { IfOk result (λ finding. rule_said finding.rule ≡ types) }
+        ensures named { IfOk result (λ finding. IsNamed self.now.schema pair.node finding.url.now finding.id.now) }
+    {
+        let (url, id) = self.schema().name(pair.node);
+        Ok(Finding {
+            rule: Rule::Types,
+            node: pair.node,
+            url,
+            id,
+            place: Place::of(self.alloc(), self.layout(), pair.item)?,
+        })
+    }
 
-/// The site of an unread rule that a node carries to the item of a number.
-pub(crate) fn site_of<'s>(
-    alloc: Global,
-    layout: &Layout<'s, '_, '_, '_>,
-    number: usize,
-    unread: Unread<'s>,
-    node: NodeRef,
-) -> Result<Site<'s>, NoMemory>
-    requires { number < length layout.now.stands.items }
-    ensures node { IfOk result (λ site. site.node ≡ node) }
-    ensures unread { IfOk result (λ site. site.unread ≡ unread.entry) }
-    ensures named { IfOk result (λ site. IsNamed layout.now.schema.now node site.url.now site.id.now) }
-{
-    let (url, id) = layout.schema.name(node);
-    Ok(Site {
-        unread,
-        node,
-        url,
-        id,
-        place: Place::of(alloc, layout, number)?,
-    })
+    /// The site of an unread rule that a node carries to the item of a pair.
+    pub(crate) fn site_of(
+        &self,
+        pair: Pair,
+        unread: Unread<'s>,
+        node: NodeRef,
+    ) -> Result<Site<'s>, NoMemory>
+        ensures node { IfOk result (λ site. site.node ≡ node) }
+        ensures unread { IfOk result (λ site. site.unread ≡ unread.entry) }
+        ensures named { IfOk result (λ site. IsNamed self.now.schema node site.url.now site.id.now) }
+    {
+        let (url, id) = self.schema().name(node);
+        Ok(Site {
+            unread,
+            node,
+            url,
+            id,
+            place: Place::of(self.alloc(), self.layout(), pair.item)?,
+        })
+    }
 }

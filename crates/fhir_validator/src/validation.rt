@@ -1,24 +1,21 @@
 //! Validation of resources.
 
-ghost use Rattle.std.specs.Prelude.{◌≡◌, ◌↔◌, ◌<◌, Bool, false, true, length, None, IfOk, IfErr, IsTrue};
+ghost use Rattle.std.specs.Prelude.{◌≡◌, ◌↔◌, false, true, None, IfOk, IfErr, IsTrue};
 ghost use Rattle.fhir_json.specs.Tree.{Text, Tree};
 ghost use Rattle.fhir_json.specs.Reading.{is_no_memory as is_fault_of_memory};
 ghost use Rattle.fhir_json.specs.Grammar.{Reads};
-ghost use Rattle.fhir_json.specs.Views.{tree_of};
 ghost use Rattle.fhir_schema.specs.Schemas.{root};
 ghost use Rattle.fhir_instance.specs.View.{item_of, is_no_memory};
 ghost use Rattle.fhir_conformance.specs.Conformance.{Interpretation, Conforms, constant};
 ghost use Rattle.fhir_validator.specs.Verdicts.{is_conforming, is_violating, IsExplained, Means};
-ghost use Rattle.fhir_validator.specs.Layouts.{IsLayout, item_at, resource_of};
-ghost use Rattle.fhir_validator.specs.Judging.{IsRight, AreRight};
-ghost use Rattle.fhir_validator.specs.Listing.{IsFilled, AreFound, IsVerdictAt, IsMisfitVerdict, IsVerdictOn, IsOfBytes};
+ghost use Rattle.fhir_validator.specs.Layouts.{item_at, resource_of};
+ghost use Rattle.fhir_validator.specs.Judging.{IsRight};
+ghost use Rattle.fhir_validator.specs.Listing.{is_filled, AreFound, IsVerdictAt, IsMisfitVerdict, IsVerdictOn, IsOfBytes};
 
 use crate::answer::Answer;
-use crate::explaining::list_pair;
 use crate::fault::Fault;
-use crate::issue::{Issue, Site};
-use crate::judging::answer_of;
-use crate::known::Known;
+use crate::issue::Issue;
+use crate::judging::Judge;
 use crate::layout::Layout;
 use crate::listing::Listing;
 use crate::pair::Pair;
@@ -29,47 +26,21 @@ use fhir_json::{JsonFault, NoMemory, one_tree};
 use fhir_schema::{NodeRef, Schema};
 use std::alloc::Global;
 
-// What a pair of the outermost item rests on, which has that answer.
+// What the outermost item's pair with a node rests on, which has that answer.
 fn listing_of<'s>(
     alloc: Global,
-    layout: &Layout<'s, '_, '_, '_>,
-    known: &mut Known,
+    judge: &mut Judge<'s, '_, '_, '_>,
     wanted: Answer,
     pair: Pair,
 ) -> Result<Listing<'s>, NoMemory>
-    requires laid { IsLayout layout.now }
-    requires within { pair.item < length layout.now.stands.items }
-    requires right { AreRight layout.now known.old }
-    requires whole { resource_of layout.now pair.item ≡ item_at layout.now pair.item }
-    requires wanted { IsRight layout.now pair wanted }
-    ensures filled { IfOk result (IsFilled wanted) }
-    ensures found { IfOk result (AreFound layout.now.schema.now (item_at layout.now pair.item) pair.node) }
+    requires whole { resource_of judge.old pair.item ≡ item_at judge.old pair.item }
+    requires wanted { IsRight judge.old pair wanted }
+    ensures filled { IfOk result (λ listing. is_filled wanted listing.issues listing.sites) }
+    ensures found { IfOk result (AreFound judge.old.schema (item_at judge.old pair.item) pair.node) }
 {
-    let mut listing: Listing<'s> = Listing::new(alloc);
-    list_pair(alloc, layout, known, wanted, &mut listing, pair)?;
+    let mut listing = Listing::new(alloc, wanted);
+    judge.list_pair(&mut listing, pair)?;
     Ok(listing)
-}
-
-fn issues_in(listing: Listing<'_>) -> Vec<Issue<'_>>
-    ensures { result.items ≡ listing.entry.issues.items }
-{
-    let Listing {
-        marks: _,
-        issues,
-        sites: _,
-    } = listing;
-    issues
-}
-
-fn sites_in(listing: Listing<'_>) -> Vec<Site<'_>>
-    ensures { result.items ≡ listing.entry.sites.items }
-{
-    let Listing {
-        marks: _,
-        issues: _,
-        sites,
-    } = listing;
-    sites
 }
 
 // The verdict on an item at a root.
@@ -81,18 +52,17 @@ fn verdict_at<'s>(
 ) -> Result<Verdict<'s>, NoMemory>
     ensures { IfOk result (IsVerdictAt schema.now (item_of item.now) node) }
 {
-    let layout = Layout::of(alloc, schema, item)?;
-    let mut known = Known::new(alloc);
+    let mut judge = Judge::new(alloc, Layout::of(alloc, schema, item)?);
     let pair = Pair { item: 0, node };
-    match answer_of(alloc, &layout, &mut known, pair)? {
+    match judge.answer_of(pair)? {
         Answer::Holds => Ok(Verdict::Conforms),
         Answer::Open => {
-            let listing = listing_of(alloc, &layout, &mut known, Answer::Open, pair)?;
-            Ok(Verdict::Open(sites_in(listing)))
+            let listing = listing_of(alloc, &mut judge, Answer::Open, pair)?;
+            Ok(Verdict::Open(listing.into_sites()))
         }
         Answer::Fails => {
-            let listing = listing_of(alloc, &layout, &mut known, Answer::Fails, pair)?;
-            Ok(Verdict::Violates(issues_in(listing)))
+            let listing = listing_of(alloc, &mut judge, Answer::Fails, pair)?;
+            Ok(Verdict::Violates(listing.into_issues()))
         }
     }
 }

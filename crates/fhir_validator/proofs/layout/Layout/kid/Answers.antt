@@ -1,49 +1,29 @@
-use Rattle.std.proofs.Common.{◌≡◌, ◌<◌, length, map, arith, sym, ap, ◌∙◌, subst}
-use Rattle.std.proofs.lemmas.List.{length-map}
+use Rattle.std.proofs.Common.{refl, ap, ◌∙◌}
 use Rattle.fhir_instance.specs.Items.{kids_of}
-use Rattle.fhir_validator.specs.Layouts.{spot_in, item_at, resource_of, kids_at, AreFrom}
-use Rattle.fhir_validator.proofs.Rows.{found, missed, count_of, first_read}
+use Rattle.fhir_validator.specs.Layouts.{place_in_row}
+use Rattle.fhir_validator.proofs.Kids.{is_kid, is_none}
 use Rattle.fhir_validator.proofs.layout.Layout.kid.Goals as goal
 
 pub returns-then-position-kids-clause-kid : goal.returns-then-position-kids-clause-kid
 returns-then-position-kids-clause-kid c =
-    let layout = c.args.self.now in
-    let xs = map spot_in layout.stands.items in
-    let n : length (kids_at layout.schema.now xs c.args.number) ≡ length c.kids.result.now =
-    count_of layout.schema.now (resource_of layout c.args.number) c.kids.result.now (item_at layout c.args.number) (c.kids.ensures ∙ ap kids_of c.item.ensures) in
-    let h : c.args.number < length layout.firsts.items = omega (arith, c.requires.laid.each, c.requires.within) in
-    let first = first_read layout.firsts.items c.args.number c.index.result.now h c.index.ensures in
-    (found layout.schema.now xs c.args.number c.index.result.now c.args.position
-    (subst (AreFrom layout.schema.now xs c.args.number) (sym first) (c.requires.laid.laid c.args.number h)) (omega (arith, n, c.if-position-kids.true))).0
+    let inside = c.self.inside in
+    (is_kid inside.schema.now inside.stands.items inside.firsts.items c.self.invariant c.kids.result.now c.args.number c.place_in_row.result c.args.self.now c.self.view_is
+    c.args.position c.index.result.now c.place_in_row.ensures.place (c.kids.ensures ∙ ap kids_of c.item.ensures) c.index.ensures c.if-position-kids.true).there
 
 pub returns-then-position-kids-clause-near : goal.returns-then-position-kids-clause-near
 returns-then-position-kids-clause-near c =
-    let layout = c.args.self.now in
-    let xs = map spot_in layout.stands.items in
-    let n : length (kids_at layout.schema.now xs c.args.number) ≡ length c.kids.result.now =
-    count_of layout.schema.now (resource_of layout c.args.number) c.kids.result.now (item_at layout c.args.number) (c.kids.ensures ∙ ap kids_of c.item.ensures) in
-    let h : c.args.number < length layout.firsts.items = omega (arith, c.requires.laid.each, c.requires.within) in
-    let first = first_read layout.firsts.items c.args.number c.index.result.now h c.index.ensures in
-    (found layout.schema.now xs c.args.number c.index.result.now c.args.position
-    (subst (AreFrom layout.schema.now xs c.args.number) (sym first) (c.requires.laid.laid c.args.number h)) (omega (arith, n, c.if-position-kids.true))).1
+    let inside = c.self.inside in
+    (is_kid inside.schema.now inside.stands.items inside.firsts.items c.self.invariant c.kids.result.now c.args.number c.place_in_row.result c.args.self.now c.self.view_is
+    c.args.position c.index.result.now c.place_in_row.ensures.place (c.kids.ensures ∙ ap kids_of c.item.ensures) c.index.ensures c.if-position-kids.true).near
 
-pub returns-then-position-kids-clause-within : goal.returns-then-position-kids-clause-within
-returns-then-position-kids-clause-within c =
-    let layout = c.args.self.now in
-    let xs = map spot_in layout.stands.items in
-    let n : length (kids_at layout.schema.now xs c.args.number) ≡ length c.kids.result.now =
-    count_of layout.schema.now (resource_of layout c.args.number) c.kids.result.now (item_at layout c.args.number) (c.kids.ensures ∙ ap kids_of c.item.ensures) in
-    let h : c.args.number < length layout.firsts.items = omega (arith, c.requires.laid.each, c.requires.within) in
-    let first = first_read layout.firsts.items c.args.number c.index.result.now h c.index.ensures in
-    let from : AreFrom layout.schema.now xs c.args.number c.index.result.now =
-    subst (AreFrom layout.schema.now xs c.args.number) (sym first) (c.requires.laid.laid c.args.number h) in
-    let e : length xs ≡ length layout.stands.items = length-map layout.stands.items spot_in in
-    omega (arith, from.within, n, e, c.if-position-kids.true)
+pub returns-then-position-kids-clause-behind : goal.returns-then-position-kids-clause-behind
+returns-then-position-kids-clause-behind c =
+    let inside = c.self.inside in
+    (is_kid inside.schema.now inside.stands.items inside.firsts.items c.self.invariant c.kids.result.now c.args.number c.place_in_row.result c.args.self.now c.self.view_is
+    c.args.position c.index.result.now c.place_in_row.ensures.place (c.kids.ensures ∙ ap kids_of c.item.ensures) c.index.ensures c.if-position-kids.true).behind
 
 pub returns-else-position-kids-clause-kid : goal.returns-else-position-kids-clause-kid
 returns-else-position-kids-clause-kid c =
-    let layout = c.args.self.now in
-    let xs = map spot_in layout.stands.items in
-    let n : length (kids_at layout.schema.now xs c.args.number) ≡ length c.kids.result.now =
-    count_of layout.schema.now (resource_of layout c.args.number) c.kids.result.now (item_at layout c.args.number) (c.kids.ensures ∙ ap kids_of c.item.ensures) in
-    missed layout.schema.now xs c.args.number c.args.position (omega (arith, n, c.if-position-kids.false))
+    let inside = c.self.inside in
+    is_none inside.schema.now inside.stands.items inside.firsts.items c.self.invariant c.kids.result.now c.args.number (place_in_row c.args.self.now c.args.number) c.args.self.now c.self.view_is
+    c.args.position refl (c.kids.ensures ∙ ap kids_of c.item.ensures) c.if-position-kids.false
