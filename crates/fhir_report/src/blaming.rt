@@ -174,6 +174,21 @@ impl<'s> Blamed<'s> {
         format!(in alloc; "type {}: {unusable}", self.code(entry))
     }
 
+    fn primitive_text(self, alloc: Global) -> Result<String, AllocError> {
+        format!(in alloc; "FHIR has no primitive type `{}`", self.code(None))
+    }
+
+    fn repeated_text(self, alloc: Global, place: usize) -> Result<String, AllocError> {
+        format!(in alloc; "the type `{}` stands twice", self.code(Some(place)))
+    }
+
+    fn missing_text(self, alloc: Global, entry: Option<usize>) -> Result<String, AllocError> {
+        format!(in alloc;
+            "no definition of type {} in this package",
+            self.code(entry)
+        )
+    }
+
     fn parent_text(self, alloc: Global) -> Result<String, AllocError> {
         let up = up_of(self.own_id()).unwrap_or("");
         format!(in alloc; "the snapshot has no element `{up}` above it")
@@ -241,21 +256,12 @@ impl<'s> Blamed<'s> {
             Cause::WrongField(name) => field_text(alloc, name),
             Cause::TwoForms(stem) => format!(in alloc; "`{stem}` is given in two types"),
             Cause::WrongBound(stem) => self.bound_text(alloc, stem),
-            Cause::UnknownPrimitive => {
-                format!(in alloc; "FHIR has no primitive type `{}`", self.code(None))
-            }
+            Cause::UnknownPrimitive => self.primitive_text(alloc),
             Cause::MinOverMax => self.bounds_text(alloc),
-            Cause::RepeatedType(place) => {
-                format!(in alloc; "the type `{}` stands twice", self.code(Some(place)))
-            }
+            Cause::RepeatedType(place) => self.repeated_text(alloc, place),
             Cause::MissingId => missing_id_text(alloc, self.blame.element),
             Cause::UnreadableId => format!(in alloc; "`{}` is no id of an element", self.own_id()),
-            Cause::MissingType(entry) => {
-                format!(in alloc;
-                    "no definition of type {} in this package",
-                    self.code(entry)
-                )
-            }
+            Cause::MissingType(entry) => self.missing_text(alloc, entry),
             Cause::UnusableType {
                 entry,
                 definition,
