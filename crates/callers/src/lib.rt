@@ -54,7 +54,7 @@ ghost use Rattle.fhir_engine.specs.Requests.{InvocationValue};
 use fhir_cert_check::{Answer, check_bytes};
 use fhir_certificate::CertFault;
 use fhir_codes::expand;
-use fhir_conformance::{Children, asks};
+use fhir_conformance::{KidsByName, asks};
 use fhir_decimal::Decimal;
 use fhir_definition::Definition;
 use fhir_elements::{ElementDef, ElementFault};
@@ -260,8 +260,8 @@ pub fn count_asks(
 ) -> Result<usize, NoMemory>
     ensures { Gives (λ n. n) result (length (asks schema.now (item_of item.now) node)) }
 {
-    let children = Children::of(alloc, item)?;
-    let asked = asks(alloc, schema, item, &children, node)?;
+    let kids_by_name = KidsByName::of(alloc, item)?;
+    let asked = asks(alloc, schema, item, &kids_by_name, node)?;
     Ok(asked.len())
 }
 

@@ -10,7 +10,7 @@ use Rattle.fhir_certificate.specs.declared.pair.NodePair.{NodePair}
 use Rattle.fhir_certificate.specs.declared.pair.Pair.{Pair}
 use Rattle.fhir_certificate.specs.declared.pair.Pair.TheVariants.{Item, Kids}
 use Rattle.fhir_certificate.specs.Certificate.{CertificateValue}
-use Rattle.fhir_cert_check.specs.Rules.{rules_of, failing, is_local}
+use Rattle.fhir_cert_check.specs.Rules.{rules_of, failing_rule, is_local}
 use Rattle.fhir_cert_check.specs.Rule.{RuleName}
 use Rattle.fhir_cert_check.specs.Rule.{root as no_roots}
 use Rattle.fhir_cert_check.specs.Checking.{same_nodes, is_among, roots_of, IsRight, IsCertificate, pairs_of, first_in, wrong_with}
@@ -32,11 +32,11 @@ is_none-None None h = refl
 is_none-None (Some x) h = absurd (false≢true h)
 
 -- a pair that fails no rule is local, and the other way round
-pub local_at : (s : SchemaValue) (pairs : Pair → Bool) (p : Pair) → failing pairs s p ≡ None → IsTrue (is_local pairs s p)
+pub local_at : (s : SchemaValue) (pairs : Pair → Bool) (p : Pair) → failing_rule pairs s p ≡ None → IsTrue (is_local pairs s p)
 local_at s pairs p e = sym (is_none-first_of (rules_of pairs s p)) ∙ ap is_none e
 
-pub fails_none : (s : SchemaValue) (pairs : Pair → Bool) (p : Pair) → IsTrue (is_local pairs s p) → failing pairs s p ≡ None
-fails_none s pairs p h = is_none-None (failing pairs s p) (is_none-first_of (rules_of pairs s p) ∙ h)
+pub fails_none : (s : SchemaValue) (pairs : Pair → Bool) (p : Pair) → IsTrue (is_local pairs s p) → failing_rule pairs s p ≡ None
+fails_none s pairs p h = is_none-None (failing_rule pairs s p) (is_none-first_of (rules_of pairs s p) ∙ h)
 
 module _ (wrap : NodePair → Pair) (f : Pair → Option RuleName) where
   -- where none of a list fails, a pair that is among them doesn't
@@ -65,26 +65,26 @@ either_none None p e = (refl, e)
 either_none (Some x) p e = absurd (none-some x (sym e))
 
 module _ (s : SchemaValue) (c : CertificateValue) (roots : NodePair) (are_roots : roots_of s c ≡ Some roots) where
-  is_certificate : (b : Bool) → is_among c (Item roots) ≡ b → (if b then first_in (failing (is_among c) s) (pairs_of c) else Some (Item roots, no_roots)) ≡ None
+  is_certificate : (b : Bool) → is_among c (Item roots) ≡ b → (if b then first_in (failing_rule (is_among c) s) (pairs_of c) else Some (Item roots, no_roots)) ≡ None
       → IsCertificate s c
   is_certificate false is e = absurd (none-some (Item roots, no_roots) (sym e))
   is_certificate true is e =
-      let parts = either_none (first_in (failing (is_among c) s) (map Item c.items)) (first_in (failing (is_among c) s) (map Kids c.kids))
-      (sym (first_in-append (failing (is_among c) s) (map Item c.items) (map Kids c.kids)) ∙ e) in
+      let parts = either_none (first_in (failing_rule (is_among c) s) (map Item c.items)) (first_in (failing_rule (is_among c) s) (map Kids c.kids))
+      (sym (first_in-append (failing_rule (is_among c) s) (map Item c.items) (map Kids c.kids)) ∙ e) in
       record { roots = roots; are_roots = are_roots; rooted = is; right = each parts.0 parts.1 }
     where
-      each : first_in (failing (is_among c) s) (map Item c.items) ≡ None → first_in (failing (is_among c) s) (map Kids c.kids) ≡ None → IsRight s (is_among c)
-      each items kids (Item p) h = local_at s (is_among c) (Item p) (none_fails Item (failing (is_among c) s) c.items items p h)
-      each items kids (Kids p) h = local_at s (is_among c) (Kids p) (none_fails Kids (failing (is_among c) s) c.kids kids p h)
+      each : first_in (failing_rule (is_among c) s) (map Item c.items) ≡ None → first_in (failing_rule (is_among c) s) (map Kids c.kids) ≡ None → IsRight s (is_among c)
+      each items kids (Item p) h = local_at s (is_among c) (Item p) (none_fails Item (failing_rule (is_among c) s) c.items items p h)
+      each items kids (Kids p) h = local_at s (is_among c) (Kids p) (none_fails Kids (failing_rule (is_among c) s) c.kids kids p h)
 
   nothing_wrong : IsCertificate s c → wrong_with s c roots ≡ None
   nothing_wrong cert =
       let rooted = subst (λ p. IsTrue (is_among c (Item p))) (same_Some cert.roots roots (sym cert.are_roots ∙ are_roots)) cert.rooted in
       cond-true (is_among c (Item roots)) _ _ rooted
-      ∙ first_in-append (failing (is_among c) s) (map Item c.items) (map Kids c.kids)
-      ∙ ap (λ o. option_or o (first_in (failing (is_among c) s) (map Kids c.kids)))
-      (all_fine Item (failing (is_among c) s) c.items (λ p h. fails_none s (is_among c) (Item p) (cert.right (Item p) h)))
-      ∙ all_fine Kids (failing (is_among c) s) c.kids (λ p h. fails_none s (is_among c) (Kids p) (cert.right (Kids p) h))
+      ∙ first_in-append (failing_rule (is_among c) s) (map Item c.items) (map Kids c.kids)
+      ∙ ap (λ o. option_or o (first_in (failing_rule (is_among c) s) (map Kids c.kids)))
+      (all_fine Item (failing_rule (is_among c) s) c.items (λ p h. fails_none s (is_among c) (Item p) (cert.right (Item p) h)))
+      ∙ all_fine Kids (failing_rule (is_among c) s) c.kids (λ p h. fails_none s (is_among c) (Kids p) (cert.right (Kids p) h))
 
   pub wrong_or_not : (wrong_with s c roots ≡ None) ↔ IsCertificate s c
   wrong_or_not = (is_certificate (is_among c (Item roots)) refl, nothing_wrong)

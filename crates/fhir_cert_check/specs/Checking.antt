@@ -12,7 +12,7 @@ use Rattle.fhir_certificate.specs.declared.fault.CertFault.{CertFault}
 use Rattle.fhir_certificate.specs.declared.fault.CertFault.TheVariants.{UnknownNode}
 use Rattle.fhir_certificate.specs.Certificate.{CertificateValue}
 use Rattle.fhir_certificate.specs.Judging.{Stands}
-use Rattle.fhir_cert_check.specs.Rules.{failing, is_local}
+use Rattle.fhir_cert_check.specs.Rules.{failing_rule, is_local}
 use Rattle.fhir_cert_check.specs.Rule.{RuleName}
 use Rattle.fhir_cert_check.specs.Rule.{root as no_roots}
 
@@ -50,13 +50,13 @@ pairs_of c = map Item c.items ++ map Kids c.kids
 
 -- the first pair that fails a rule, with that rule
 abbrev pub first_in : (Pair → Option RuleName) → List Pair → Option (Pair × RuleName)
-first_in failing [] = None
-first_in failing (p ∷ ps) = option_map_or (λ rule. Some (p, rule)) (failing p) (first_in failing ps)
+first_in failing_rule [] = None
+first_in failing_rule (p ∷ ps) = option_map_or (λ rule. Some (p, rule)) (failing_rule p) (first_in failing_rule ps)
 
 -- where the pairs that count are those that pass the test
 abbrev pub first_wrong : SchemaValue → (Pair → Bool) → NodePair → List Pair → Option (Pair × RuleName)
 first_wrong s pairs roots order =
-    if pairs (Item roots) then first_in (failing pairs s) order else Some (Item roots, no_roots)
+    if pairs (Item roots) then first_in (failing_rule pairs s) order else Some (Item roots, no_roots)
 
 -- what is wrong with the certificate first, if anything: that it lacks the pair of the roots, or a pair of its own
 abbrev pub wrong_with : SchemaValue → CertificateValue → NodePair → Option (Pair × RuleName)

@@ -20,7 +20,7 @@ AreSame ps qs = (p : NodePair) → list_any (same_nodes p) ps ≡ list_any (same
 -- whichever pairs fail, the first that does is the same in both lists
 abbrev pub FailAlike : List NodePair → List NodePair → Type 0
 FailAlike ps qs =
-    (wrap : NodePair → Pair) (failing : Pair → Option RuleName) → first_in failing (map wrap ps) ≡ first_in failing (map wrap qs)
+    (wrap : NodePair → Pair) (failing_rule : Pair → Option RuleName) → first_in failing_rule (map wrap ps) ≡ first_in failing_rule (map wrap qs)
 
 -- a set and an order of the pairs of a list
 pub record AreDistinct (set order pairs : List NodePair) : Type 0 where

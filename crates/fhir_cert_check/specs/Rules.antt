@@ -221,8 +221,8 @@ module _ (pairs : Pair → Bool) where
     rules_of (Kids p) = kids_rules p.derived p.base
 
     -- the first rule that a pair fails
-    abbrev pub failing : Pair → Option RuleName
-    failing p = first_of (rules_of p)
+    abbrev pub failing_rule : Pair → Option RuleName
+    failing_rule p = first_of (rules_of p)
 
     -- the pair fails no rule
     abbrev pub is_local : Pair → Bool

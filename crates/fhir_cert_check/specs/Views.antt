@@ -36,7 +36,7 @@ wrong_in (No pair rule) = Some (pair, rule_name rule)
 
 -- a pair that was found, with the rule that it fails
 abbrev pub failing_seen : Option (Pair × Rule) → Option (Pair × RuleName)
-failing_seen failing = option_map (λ f. (f.0, rule_name f.1)) failing
+failing_seen failing_rule = option_map (λ f. (f.0, rule_name f.1)) failing_rule
 
 abbrev pub rule_seen : Option Rule → Option RuleName
 rule_seen rule = option_map rule_name rule

@@ -10,7 +10,7 @@ ghost use Rattle.fhir_certificate.specs.Certificate.{fits};
 ghost use Rattle.fhir_certificate.specs.Format.{Written, Spells};
 ghost use Rattle.fhir_certificate.specs.Faults.{Means, is_no_memory};
 ghost use Rattle.fhir_certificate.specs.Reading.{reading};
-ghost use Rattle.fhir_cert_check.specs.Rules.{failing, is_local};
+ghost use Rattle.fhir_cert_check.specs.Rules.{failing_rule, is_local};
 ghost use Rattle.fhir_cert_check.specs.Checking.{is_among, roots_of, IsCertificate, pairs_of, first_in, first_wrong, wrong_with, answer_of, SpellsCertificate};
 ghost use Rattle.fhir_cert_check.specs.Inclusion.{IncludesItems, Includes};
 ghost use Rattle.fhir_cert_check.specs.Views.{failing_seen, rule_seen, is_yes, wrong_in};
@@ -27,8 +27,8 @@ use fhir_json::NoMemory;
 use fhir_schema::Schema;
 use std::alloc::Global;
 
-fn failing<'s>(schema: &'s Schema, pairs: &PairSet, pair: Pair) -> Option<Rule<'s>>
-    ensures { rule_seen result ≡ failing (has_in pairs.now) schema.now pair }
+fn failing_rule<'s>(schema: &'s Schema, pairs: &PairSet, pair: Pair) -> Option<Rule<'s>>
+    ensures { rule_seen result ≡ failing_rule (has_in pairs.now) schema.now pair }
 {
     match pair {
         Pair::Item(nodes) => item_failing(schema, pairs, nodes.derived, nodes.base),
@@ -40,10 +40,10 @@ fn failing<'s>(schema: &'s Schema, pairs: &PairSet, pair: Pair) -> Option<Rule<'
 type Wrong<'s> = Option<(Pair, Rule<'s>)>;
 
 fn first_item<'s>(schema: &'s Schema, pairs: &PairSet, nodes: &[NodePair]) -> Wrong<'s>
-    ensures { failing_seen result ≡ first_in (failing (has_in pairs.now) schema.now) (map variants.Item nodes.now) }
+    ensures { failing_seen result ≡ first_in (failing_rule (has_in pairs.now) schema.now) (map variants.Item nodes.now) }
 {
     for pair in nodes {
-        if let Some(rule) = failing(schema, pairs, Pair::Item(*pair)) {
+        if let Some(rule) = failing_rule(schema, pairs, Pair::Item(*pair)) {
             return Some((Pair::Item(*pair), rule));
         }
     }
@@ -51,10 +51,10 @@ fn first_item<'s>(schema: &'s Schema, pairs: &PairSet, nodes: &[NodePair]) -> Wr
 }
 
 fn first_kids<'s>(schema: &'s Schema, pairs: &PairSet, nodes: &[NodePair]) -> Wrong<'s>
-    ensures { failing_seen result ≡ first_in (failing (has_in pairs.now) schema.now) (map variants.Kids nodes.now) }
+    ensures { failing_seen result ≡ first_in (failing_rule (has_in pairs.now) schema.now) (map variants.Kids nodes.now) }
 {
     for pair in nodes {
-        if let Some(rule) = failing(schema, pairs, Pair::Kids(*pair)) {
+        if let Some(rule) = failing_rule(schema, pairs, Pair::Kids(*pair)) {
             return Some((Pair::Kids(*pair), rule));
         }
     }
@@ -64,7 +64,7 @@ fn first_kids<'s>(schema: &'s Schema, pairs: &PairSet, nodes: &[NodePair]) -> Wr
 // The first pair that fails a rule: each is judged once, however often it stands in the certificate.
 fn first_wrong<'s>(schema: &'s Schema, pairs: &PairSet, certificate: &Certificate) -> Wrong<'s>
     requires { OrdersFirsts pairs.now certificate.now }
-    ensures { failing_seen result ≡ first_in (failing (has_in pairs.now) schema.now) (pairs_of certificate.now) }
+    ensures { failing_seen result ≡ first_in (failing_rule (has_in pairs.now) schema.now) (pairs_of certificate.now) }
 {
     match first_item(schema, pairs, pairs.items()) {
         Some(wrong) => Some(wrong),
@@ -131,12 +131,12 @@ pub fn first_failing<'s>(
     certificate: &Certificate,
     pair: Pair,
 ) -> Result<Option<Rule<'s>>, NoMemory>
-    ensures first { Gives rule_seen result (failing (is_among certificate.now) schema.now pair) }
+    ensures first { Gives rule_seen result (failing_rule (is_among certificate.now) schema.now pair) }
     ensures right { IfOk result (λ rule. (rule_seen rule ≡ None)
         ↔ IsTrue (is_local (is_among certificate.now) schema.now pair)) }
 {
     let pairs = PairSet::of(alloc, certificate)?;
-    Ok(failing(schema, &pairs, pair))
+    Ok(failing_rule(schema, &pairs, pair))
 }
 
 /// Whether bytes are a right certificate, or else its first pair that fails a rule, with that rule. The refusals are

@@ -6,7 +6,7 @@ ghost use Rattle.fhir_package.specs.Definitions.{Definitions};
 ghost use Rattle.fhir_nodes.specs.declared.node.NodeRef.{NodeRef};
 ghost use Rattle.fhir_schema.specs.Schemas.{SchemaValue, schema_of};
 ghost use Rattle.fhir_certificate.specs.declared.pair.Pair.{Pair};
-ghost use Rattle.fhir_cert_check.specs.Rules.{has_item_pair, failing, is_local};
+ghost use Rattle.fhir_cert_check.specs.Rules.{has_item_pair, failing_rule, is_local};
 ghost use Rattle.fhir_certificate.specs.Certificate.{CertificateValue};
 ghost use Rattle.fhir_cert_check.specs.Checking.{IsRight, IsCertificate};
 ghost use Rattle.fhir_cert_check.specs.Asked.{asked_for, is_of_nodes};
@@ -42,7 +42,7 @@ pub fn certificates_include()
 /// the first that fails, and the pair is right by both sets or by neither.
 pub fn rules_look_at_asked()
     ensures first { (s : SchemaValue) (some others : Pair → Bool) (p : Pair)
-        → ((q : Pair) → Contains (asked_for s p) q → some q ≡ others q) → failing some s p ≡ failing others s p }
+        → ((q : Pair) → Contains (asked_for s p) q → some q ≡ others q) → failing_rule some s p ≡ failing_rule others s p }
     ensures right { (s : SchemaValue) (some others : Pair → Bool) (p : Pair)
         → ((q : Pair) → Contains (asked_for s p) q → some q ≡ others q) → is_local some s p ≡ is_local others s p }
 {}

@@ -59,7 +59,7 @@ pub enum Rule<'s> {
 
 impl<'s> Rule<'s> {
     // The rule's word, the key or the name that it is about, and the name of the slice.
-    fn named(&self) -> (&'static str, Option<&'s str>, Option<&'s str>)
+    fn word_and_names(&self) -> (&'static str, Option<&'s str>, Option<&'s str>)
         ensures word { result.0.now ≡ word_of (rule_name self.now) }
         ensures about { text_seen result.1 ≡ about (rule_name self.now) }
         ensures slice { text_seen result.2 ≡ slice_of (rule_name self.now) }
@@ -88,14 +88,14 @@ impl<'s> Rule<'s> {
     pub fn word(&self) -> &'static str
         ensures { result.now ≡ word_of (rule_name self.now) }
     {
-        self.named().0
+        self.word_and_names().0
     }
 
     /// The name of the slice that the rule is about.
     pub fn slice(&self) -> Option<&'s str>
         ensures { text_seen result ≡ slice_of (rule_name self.now) }
     {
-        self.named().2
+        self.word_and_names().2
     }
 }
 
@@ -103,7 +103,7 @@ impl fmt::Display for Rule<'_> {
     ghost output = { λ rule. Some (rule_text (rule_name rule)) };
 
     fn fmt<W: fmt::Write>(&self, f: &mut fmt::Formatter<W>) -> fmt::Result {
-        match self.named() {
+        match self.word_and_names() {
             (word, Some(name), Some(slice)) => write!(f, "{word} {name}:{slice}"),
             (word, Some(name), None) => write!(f, "{word} {name}"),
             (word, None, _) => write!(f, "{word}"),

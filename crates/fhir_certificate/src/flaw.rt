@@ -20,7 +20,7 @@ use std::alloc::Global;
 
 /// What stands on a line of a certificate.
 #[derive(Clone, Copy, Debug, PartialEq, Eq)]
-pub enum Part {
+pub enum LinePart {
     /// Bytes of UTF-8.
     Utf8,
     /// The line that names the format.
@@ -41,7 +41,7 @@ pub enum Part {
 #[derive(Clone, Copy, Debug, PartialEq, Eq)]
 pub enum FlawKind<'a> {
     /// `C1`: this doesn't stand there.
-    Expected(Part),
+    Expected(LinePart),
     /// `C2`: no definition at the url can be used.
     Definition(&'a str),
     /// `C2`: the definition at the url has no element of the id.
@@ -185,11 +185,11 @@ impl<'a> FlawList<'a> {
             return Ok(());
         }
         if text == "end" {
-            self.put(line, FlawKind::Expected(Part::LineFeed))
+            self.put(line, FlawKind::Expected(LinePart::LineFeed))
         } else if text.as_bytes().starts_with(b"end\n") {
-            self.put(line.saturating_add(1), FlawKind::Expected(Part::Nothing))
+            self.put(line.saturating_add(1), FlawKind::Expected(LinePart::Nothing))
         } else {
-            self.put(line, FlawKind::Expected(Part::PairOrEnd))
+            self.put(line, FlawKind::Expected(LinePart::PairOrEnd))
         }
     }
 
@@ -216,14 +216,14 @@ impl<'a> FlawList<'a> {
             → OnOk result (is_empty self.new.found.items ≡ is_some (certificate_of schema.now w)) }
     {
         let Some(rest) = behind_line("fhirprof-certificate 1", text) else {
-            return self.put(1, FlawKind::Expected(Part::FirstLine));
+            return self.put(1, FlawKind::Expected(LinePart::FirstLine));
         };
         let Some((derived, rest)) = field_line("derived", rest) else {
-            return self.put(2, FlawKind::Expected(Part::Derived));
+            return self.put(2, FlawKind::Expected(LinePart::Derived));
         };
         self.take_url(alloc, schema, 2, derived)?;
         let Some((base, rest)) = field_line("base", rest) else {
-            return self.put(3, FlawKind::Expected(Part::Base));
+            return self.put(3, FlawKind::Expected(LinePart::Base));
         };
         self.take_url(alloc, schema, 3, base)?;
         self.take_pairs(alloc, schema, rest)
@@ -245,7 +245,7 @@ pub fn flaws<'a>(alloc: Global, schema: &Schema, bytes: &'a [u8]) -> Result<Vec<
         Ok(text) => flaws.take_text(alloc, schema, text)?,
         Err(error) => {
             let line = position_of(bytes, error.valid_up_to()).line;
-            flaws.put(line, FlawKind::Expected(Part::Utf8))?;
+            flaws.put(line, FlawKind::Expected(LinePart::Utf8))?;
         }
     }
     Ok(flaws.found)

@@ -29,7 +29,7 @@ mod writing;
 
 pub use certificate::{Certificate, fits};
 pub use fault::CertFault;
-pub use flaw::{Flaw, FlawKind, Part, flaws};
+pub use flaw::{Flaw, FlawKind, LinePart, flaws};
 pub use laws::{format_agrees, written_back, written_back_in_packages};
 pub use lines::MAX_PAIRS;
 pub use pair::{NodePair, Pair};

@@ -12,12 +12,12 @@ use Rattle.fhir_schema.specs.Schemas.{SchemaValue, element_at, target, holder, s
 use Rattle.fhir_schema.specs.Covers.{covers}
 use Rattle.fhir_instance.specs.Items.{Item, type_of}
 use Rattle.fhir_conformance.specs.Positions.{members}
-use Rattle.fhir_conformance.specs.Asks.{RuleName, root_type, fixed, pattern, range, length_limit, binding, too_few, too_many, too_few_in, too_many_in, apart, sliced, constraint}
+use Rattle.fhir_conformance.specs.Asks.{ElementRuleName, root_type, fixed, pattern, range, length_limit, binding, too_few, too_many, too_few_in, too_many_in, apart, in_a_slice, constraint}
 use Rattle.fhir_conformance.specs.Asks.{Ask, own, types, profile, root, child, places_of, constraint_ask, own_constraint_asks, constraint_asks, child_ask, apart_ask, in_slice_ask, slice_asks, sliced_asks, named_asks, slot_asks, roots_named, entry_roots, profile_asks, own_root, slots_ask, kids_asks, root_asks, inner_asks}
 use Rattle.fhir_conformance.proofs.Lists.{all_of_each, all_join, all_gathered, all_mapped}
 
 -- the rules that an element has of the children of a name
-abbrev pub IsOfKids : RuleName → Type 0
+abbrev pub IsOfKids : ElementRuleName → Type 0
 IsOfKids root_type = ⊥
 IsOfKids fixed = ⊥
 IsOfKids pattern = ⊥
@@ -29,11 +29,11 @@ IsOfKids (too_many name) = Unit {0}
 IsOfKids (too_few_in name) = Unit {0}
 IsOfKids (too_many_in name) = Unit {0}
 IsOfKids (apart position) = Unit {0}
-IsOfKids (sliced position) = Unit {0}
+IsOfKids (in_a_slice position) = Unit {0}
 IsOfKids (constraint position) = ⊥
 
 -- of children, a node asks rules of their number and of its slices, and what each conforms to
-module _ (P : Ask → Type 0) (of_rule : (rule : RuleName) (m : NodeRef) → IsOfKids rule → P (own rule m))
+module _ (P : Ask → Type 0) (of_rule : (rule : ElementRuleName) (m : NodeRef) → IsOfKids rule → P (own rule m))
     (of_child : (i : ℕ) (m : NodeRef) → P (child i m)) where
   children : (m : NodeRef) (places : List ℕ) → AllByRecursion P (map (child_ask m) places)
   children m places = all_mapped P (child_ask m) places (all_of_each (λ i. P (child i m)) (λ i. of_child i m) places)
@@ -57,7 +57,7 @@ module _ (P : Ask → Type 0) (of_rule : (rule : RuleName) (m : NodeRef) → IsO
           (all_of_each (λ slice. AllByRecursion P (slice_asks s x name places n slice)) (of_slice s x name places n) (slices s n))
 
       closed : (b : Bool) → AllByRecursion P (if b then map (in_slice_ask n) places else [])
-      closed true = all_mapped P (in_slice_ask n) places (all_of_each (λ i. P (own (sliced i) n)) (λ i. of_rule (sliced i) n tt) places)
+      closed true = all_mapped P (in_slice_ask n) places (all_of_each (λ i. P (own (in_a_slice i) n)) (λ i. of_rule (in_a_slice i) n tt) places)
       closed false = tt
 
       by_case : (none is_closed : Bool)
@@ -125,7 +125,7 @@ IsOf s x n (own (too_many name) m) = Unit {0}
 IsOf s x n (own (too_few_in name) m) = Unit {0}
 IsOf s x n (own (too_many_in name) m) = Unit {0}
 IsOf s x n (own (apart position) m) = Unit {0}
-IsOf s x n (own (sliced position) m) = Unit {0}
+IsOf s x n (own (in_a_slice position) m) = Unit {0}
 IsOf s x n (own (constraint position) m) = (m ≡ n) ⊎ (target s n ≡ Some m)
 IsOf s x n (types m) = m ≡ n
 IsOf s x n (profile r) = (canonical : Text) × (loaded s canonical ≡ Some r)
@@ -133,7 +133,7 @@ IsOf s x n (root r) = type_root s (type_of x) ≡ Some r
 IsOf s x n (child i m) = Unit {0}
 
 module _ (s : SchemaValue) (x : Item) (n : NodeRef) where
-  kids_rule_is_of : (rule : RuleName) (m : NodeRef) → IsOfKids rule → IsOf s x n (own rule m)
+  kids_rule_is_of : (rule : ElementRuleName) (m : NodeRef) → IsOfKids rule → IsOf s x n (own rule m)
   kids_rule_is_of root_type m is = absurd is
   kids_rule_is_of fixed m is = absurd is
   kids_rule_is_of pattern m is = absurd is
@@ -145,7 +145,7 @@ module _ (s : SchemaValue) (x : Item) (n : NodeRef) where
   kids_rule_is_of (too_few_in name) m is = tt
   kids_rule_is_of (too_many_in name) m is = tt
   kids_rule_is_of (apart position) m is = tt
-  kids_rule_is_of (sliced position) m is = tt
+  kids_rule_is_of (in_a_slice position) m is = tt
   kids_rule_is_of (constraint position) m is = absurd is
 
   kids_are_of : AllByRecursion (IsOf s x n) (kids_asks s x n)

@@ -19,12 +19,12 @@ use Rattle.fhir_schema.specs.Expressions.{constraint_at}
 use Rattle.fhir_instance.specs.Items.{Item, type_of}
 use Rattle.fhir_fp_syntax.specs.Expression.{Expression}
 use Rattle.fhir_fp_eval.specs.Meaning.{is_true}
-use Rattle.fhir_facets.specs.declared.kinds.Kind.{Kind}
+use Rattle.fhir_facets.specs.declared.scale.Scale.{Scale}
 use Rattle.fhir_facets.specs.Unread.{Unread, Meaning, range, target, profile, binding}
 use Rattle.fhir_facets.specs.Seen.{Seen}
-use Rattle.fhir_facets.specs.Ranges.{kind_of_bound, kind_holds, bound_holds}
+use Rattle.fhir_facets.specs.Ranges.{scale_of_bound, scale_holds, bound_holds}
 use Rattle.fhir_facets.specs.Targets.{has_targets, referred_type, target_holds, targets_hold}
-use Rattle.fhir_facets.specs.Bindings.{binding_to, decided, binding_holds}
+use Rattle.fhir_facets.specs.Bindings.{binding_to, decision, binding_holds}
 use Rattle.fhir_facets.specs.Carried.{bound_unread, range_unread, target_unread, profile_unread, binding_unread}
 use Rattle.fhir_conformance.specs.Conformance.{seen, profile_holds, profiles_hold, entry_holds, types_hold, is_untyped, range_at, binding_at, at_element, unread_constraint, constraint_passes}
 use Rattle.fhir_conformance.specs.Meeting.{targets_unread, entry_unread, set_unread, constraint_unread, constraints_unread, element_unread, unread_at}
@@ -159,12 +159,12 @@ module _ (s : SchemaValue) (m m' : Meaning) where
   bound_step : (side : Ordering → Bool) (x : Seen) (o : Option Property) → AreCarried m m' (option_map_or bound_unread o [])
       → IsTrue (option_map_or (bound_holds side m x) o true) → IsTrue (option_map_or (bound_holds side m' x) o true)
   bound_step side x None each holds = holds
-  bound_step side x (Some p) each holds = by_case (kind_of_bound p.0) each holds
+  bound_step side x (Some p) each holds = by_case (scale_of_bound p.0) each holds
     where
-      by_case : (o : Option Kind) → AreCarried m m' (if is_none o then range p.0 p.1 ∷ [] else [])
-          → IsTrue (option_map_or (kind_holds side p.1 x) o (m (range p.0 p.1))) → IsTrue (option_map_or (kind_holds side p.1 x) o (m' (range p.0 p.1)))
+      by_case : (o : Option Scale) → AreCarried m m' (if is_none o then range p.0 p.1 ∷ [] else [])
+          → IsTrue (option_map_or (scale_holds side p.1 x) o (m (range p.0 p.1))) → IsTrue (option_map_or (scale_holds side p.1 x) o (m' (range p.0 p.1)))
       by_case None each holds = each.0 holds
-      by_case (Some kind) each holds = holds
+      by_case (Some scale) each holds = holds
 
   element_step : (x : Item) (e : Element) → AreCarried m m' (range_unread e) → IsTrue (range_at m x e) → IsTrue (range_at m' x e)
   element_step x e each holds =
@@ -190,7 +190,7 @@ module _ (s : SchemaValue) (m m' : Meaning) where
       → IsTrue (option_map_or (λ canonical. binding_holds m (binding_to s canonical) (seen x)) o true)
       → IsTrue (option_map_or (λ canonical. binding_holds m' (binding_to s canonical) (seen x)) o true)
   set_step x None each holds = holds
-  set_step x (Some canonical) each holds = decided_step (seen x) canonical (decided (binding_to s canonical) (seen x)) each holds
+  set_step x (Some canonical) each holds = decided_step (seen x) canonical (decision (binding_to s canonical) (seen x)) each holds
 
   pub binding_step : (x : Item) (n : NodeRef) → AreCarried m m' (unread_at s x n) → IsTrue (at_element s (binding_at s m x) n)
       → IsTrue (at_element s (binding_at s m' x) n)

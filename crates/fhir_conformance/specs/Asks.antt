@@ -15,22 +15,22 @@ use Rattle.fhir_conformance.specs.Positions.{members}
 use Rattle.fhir_instance.specs.Items.{Item, Kids, no_kids, kid, kids_of, type_of}
 
 -- a rule that is judged at an item by itself
-pub data RuleName : Type 0 where
+pub data ElementRuleName : Type 0 where
   -- the item is of the type that the root's definition defines or constrains
-  root_type : RuleName
-  fixed pattern range length_limit binding : RuleName
+  root_type : ElementRuleName
+  fixed pattern range length_limit binding : ElementRuleName
   -- the children of a name are enough, and not too many
-  too_few too_many : (name : List ℕ) → RuleName
+  too_few too_many : (name : List ℕ) → ElementRuleName
   -- so are those of them that belong to the slice which the node is
-  too_few_in too_many_in : (name : List ℕ) → RuleName
+  too_few_in too_many_in : (name : List ℕ) → ElementRuleName
   -- the child at that position is in no two of the element's slices, and in one of them
-  apart sliced : (position : ℕ) → RuleName
+  apart in_a_slice : (position : ℕ) → ElementRuleName
   -- the constraint at that position among the element's
-  constraint : (position : ℕ) → RuleName
+  constraint : (position : ℕ) → ElementRuleName
 
 pub data Ask : Type 0 where
   -- a rule of that node's element
-  own : RuleName → NodeRef → Ask
+  own : ElementRuleName → NodeRef → Ask
   -- the item is of one of the node's types, and conforms to one of the profiles that the type names
   types : NodeRef → Ask
   -- Whether the item conforms to that root is asked, since a type names it as a profile. The item needn't: one profile
@@ -74,7 +74,7 @@ abbrev pub apart_ask : NodeRef → ℕ → Ask
 apart_ask n i = own (apart i) n
 
 abbrev pub in_slice_ask : NodeRef → ℕ → Ask
-in_slice_ask n i = own (sliced i) n
+in_slice_ask n i = own (in_a_slice i) n
 
 -- of the children of a name, which stand at these places: those that belong to a slice conform to it, and are enough, and not
 -- too many

@@ -26,7 +26,7 @@ use Rattle.fhir_facets.specs.Targets.{targets_hold}
 use Rattle.fhir_facets.specs.Bindings.{binding_to, binding_holds, IsFair}
 use Rattle.fhir_facets.specs.Counts.{are_enough, are_within}
 use Rattle.fhir_slicing.specs.Belonging.{is_apart, is_sliced}
-use Rattle.fhir_conformance.specs.Asks.{RuleName, root_type, fixed, pattern, range, length_limit, binding, too_few, too_many, too_few_in, too_many_in, apart, sliced, constraint}
+use Rattle.fhir_conformance.specs.Asks.{ElementRuleName, root_type, fixed, pattern, range, length_limit, binding, too_few, too_many, too_few_in, too_many_in, apart, in_a_slice, constraint}
 use Rattle.fhir_conformance.specs.Asks.{Ask, own, types as of_types, profile as as_profile, root as as_root, child, places_of, root_asks, inner_asks}
 use Rattle.fhir_conformance.specs.Positions.{at_kid, members}
 
@@ -104,7 +104,7 @@ module _ (s : SchemaValue) (m : Meaning) (roots : NodeRef → Bool) (x : Item) w
 
 -- the rules of a node, where that is the nearest resource at or around the item
 module _ (s : SchemaValue) (m : Meaning) (resource x : Item) where
-  abbrev pub rule_holds : RuleName → NodeRef → Bool
+  abbrev pub rule_holds : ElementRuleName → NodeRef → Bool
   rule_holds root_type n = covers s (type_at s n) (type_of x)
   rule_holds fixed n = at_element s (fixed_at x) n
   rule_holds pattern n = at_element s (pattern_at x) n
@@ -116,7 +116,7 @@ module _ (s : SchemaValue) (m : Meaning) (resource x : Item) where
   rule_holds (too_few_in name) n = at_element s (λ e. are_enough e (count_in s n name x)) n
   rule_holds (too_many_in name) n = at_element s (λ e. are_within e (count_in s n name x)) n
   rule_holds (apart position) n = at_kid true (is_apart s n) x position
-  rule_holds (sliced position) n = at_kid true (is_sliced s n) x position
+  rule_holds (in_a_slice position) n = at_kid true (is_sliced s n) x position
   rule_holds (constraint position) n = option_map_or (constraint_passes s m resource x) (constraint_at s n position) true
 
   -- ---- all that a node asks, where these are the roots that the item conforms to, and these the tests of its children

@@ -10,15 +10,15 @@ use Rattle.std.specs.Ordering.{nat_cmp}
 use Rattle.std.specs.Str.{bytes_eq}
 use Rattle.fhir_json.specs.Tree.{Text}
 use Rattle.fhir_instance.specs.Items.{Item}
-use Rattle.fhir_conformance.specs.Asks.{RuleName, root_type, fixed, pattern, range, length_limit, binding, too_few, too_many, too_few_in, too_many_in, apart, sliced, constraint}
+use Rattle.fhir_conformance.specs.Asks.{ElementRuleName, root_type, fixed, pattern, range, length_limit, binding, too_few, too_many, too_few_in, too_many_in, apart, in_a_slice, constraint}
 use Rattle.fhir_conformance.specs.Asks.{own, types, profile, root, child, places_of}
 use Rattle.fhir_conformance.specs.Asks.{Ask as Asked}
 use Rattle.fhir_conformance.specs.declared.ask.Ask.{Ask}
 use Rattle.fhir_conformance.specs.declared.ask.Ask.TheVariants.{Own, Types, Profile, Root, Child}
-use Rattle.fhir_conformance.specs.declared.ask.Rule.{Rule}
-use Rattle.fhir_conformance.specs.declared.ask.Rule.TheVariants as rules
+use Rattle.fhir_conformance.specs.declared.ask.ElementRule.{ElementRule}
+use Rattle.fhir_conformance.specs.declared.ask.ElementRule.TheVariants as rules
 
-abbrev pub rule_name : Rule → RuleName
+abbrev pub rule_name : ElementRule → ElementRuleName
 rule_name rules.RootType = root_type
 rule_name rules.Fixed = fixed
 rule_name rules.Pattern = pattern
@@ -30,7 +30,7 @@ rule_name (rules.TooMany name) = too_many name.now
 rule_name (rules.TooFewIn name) = too_few_in name.now
 rule_name (rules.TooManyIn name) = too_many_in name.now
 rule_name (rules.Apart position) = apart position
-rule_name (rules.Sliced position) = sliced position
+rule_name (rules.InASlice position) = in_a_slice position
 rule_name (rules.Constraint position) = constraint position
 
 abbrev pub ask_seen : Ask → Asked

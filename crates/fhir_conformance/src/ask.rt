@@ -4,7 +4,7 @@ use fhir_schema::NodeRef;
 
 /// A rule of a node's element, which is judged at an item by itself.
 #[derive(Clone, Copy, Debug, PartialEq, Eq)]
-pub enum Rule<'s> {
+pub enum ElementRule<'s> {
     /// The item is of the type that the root's definition defines or constrains.
     RootType,
     /// The item's value is the fixed one.
@@ -28,7 +28,7 @@ pub enum Rule<'s> {
     /// The child at that position among all children is in no two of the element's slices.
     Apart(usize),
     /// The child at that position among all children is in one of the element's slices.
-    Sliced(usize),
+    InASlice(usize),
     /// The constraint at that position among the element's is true.
     Constraint(usize),
 }
@@ -37,7 +37,7 @@ pub enum Rule<'s> {
 #[derive(Clone, Copy, Debug)]
 pub enum Ask<'s> {
     /// A rule of that node's element holds.
-    Own(Rule<'s>, NodeRef),
+    Own(ElementRule<'s>, NodeRef),
     /// The item is of one of the types of that node, where it names any, and conforms to one of the profiles that the
     /// type names.
     Types(NodeRef),

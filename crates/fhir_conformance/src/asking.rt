@@ -10,8 +10,8 @@ ghost use Rattle.fhir_instance.specs.View.{item_of};
 ghost use Rattle.fhir_conformance.specs.Asks.{facet_asks, constraint_ask, own_constraint_asks, constraint_asks, slot_asks, kids_asks, own_root, root_asks, inner_asks, asks};
 ghost use Rattle.fhir_conformance.specs.Views.{asks_seen, IsIndexOf};
 
-use crate::ask::{Ask, Rule};
-use crate::children::Children;
+use crate::ask::{Ask, ElementRule};
+use crate::kids_by_name::KidsByName;
 use crate::profiles::put_profiles;
 use crate::sliced::put_named;
 use fhir_instance::Typed;
@@ -32,18 +32,18 @@ fn constraints_of(schema: &Schema, node: NodeRef) -> usize
 fn put_facets(asked: &mut Vec<Ask<'_>>, node: NodeRef) -> Result<(), NoMemory>
     ensures { OnOk result (asks_seen asked.new.items ≡ asks_seen asked.old.items ++ facet_asks node) }
 {
-    asked.push(Ask::Own(Rule::Fixed, node))?;
-    asked.push(Ask::Own(Rule::Pattern, node))?;
-    asked.push(Ask::Own(Rule::Range, node))?;
-    asked.push(Ask::Own(Rule::Length, node))?;
-    asked.push(Ask::Own(Rule::Binding, node))?;
+    asked.push(Ask::Own(ElementRule::Fixed, node))?;
+    asked.push(Ask::Own(ElementRule::Pattern, node))?;
+    asked.push(Ask::Own(ElementRule::Range, node))?;
+    asked.push(Ask::Own(ElementRule::Length, node))?;
+    asked.push(Ask::Own(ElementRule::Binding, node))?;
     Ok(())
 }
 
 fn put_constraint(asked: &mut Vec<Ask<'_>>, node: NodeRef, position: usize) -> Result<(), NoMemory>
     ensures { OnOk result (asks_seen asked.new.items ≡ asks_seen asked.old.items ++ constraint_ask node position ∷ []) }
 {
-    asked.push(Ask::Own(Rule::Constraint(position), node))?;
+    asked.push(Ask::Own(ElementRule::Constraint(position), node))?;
     Ok(())
 }
 
@@ -86,11 +86,11 @@ fn put_slot<'s>(
     asked: &mut Vec<Ask<'s>>,
     schema: &Schema,
     item: &Typed<'_, '_>,
-    children: &Children<'_>,
+    kids_by_name: &KidsByName<'_>,
     node: NodeRef,
     slot: &'s Slot,
 ) -> Result<(), NoMemory>
-    requires { IsIndexOf (item_of item.now) children.now }
+    requires { IsIndexOf (item_of item.now) kids_by_name.now }
     ensures { OnOk result (asks_seen asked.new.items
         ≡ asks_seen asked.old.items ++ slot_asks schema.now (item_of item.now) node slot.now) }
 {
@@ -98,7 +98,7 @@ fn put_slot<'s>(
         definition: node.definition,
         element: slot.entry(),
     };
-    let places = children.places(slot.name());
+    let places = kids_by_name.places(slot.name());
     put_named(asked, schema, item, slot.name(), places, entry)
 }
 
@@ -106,16 +106,16 @@ fn put_slots<'s>(
     asked: &mut Vec<Ask<'s>>,
     schema: &Schema,
     item: &Typed<'_, '_>,
-    children: &Children<'_>,
+    kids_by_name: &KidsByName<'_>,
     node: NodeRef,
     slots: &'s [Slot],
 ) -> Result<(), NoMemory>
-    requires { IsIndexOf (item_of item.now) children.now }
+    requires { IsIndexOf (item_of item.now) kids_by_name.now }
     ensures { OnOk result (asks_seen asked.new.items
         ≡ asks_seen asked.old.items ++ flat_map (slot_asks schema.now (item_of item.now) node) slots.now) }
 {
     for slot in slots {
-        put_slot(asked, schema, item, children, node, slot)?;
+        put_slot(asked, schema, item, kids_by_name, node, slot)?;
     }
     Ok(())
 }
@@ -125,15 +125,15 @@ fn put_kids<'s>(
     asked: &mut Vec<Ask<'s>>,
     schema: &'s Schema,
     item: &Typed<'_, '_>,
-    children: &Children<'_>,
+    kids_by_name: &KidsByName<'_>,
     node: NodeRef,
 ) -> Result<(), NoMemory>
-    requires { IsIndexOf (item_of item.now) children.now }
+    requires { IsIndexOf (item_of item.now) kids_by_name.now }
     ensures { OnOk result (asks_seen asked.new.items
         ≡ asks_seen asked.old.items ++ kids_asks schema.now (item_of item.now) node) }
 {
     match schema.holder(node) {
-        Some(holder) => put_slots(asked, schema, item, children, holder, schema.slots(holder)),
+        Some(holder) => put_slots(asked, schema, item, kids_by_name, holder, schema.slots(holder)),
         None => Ok(()),
     }
 }
@@ -156,27 +156,27 @@ fn put_root_asks<'s>(
     asked: &mut Vec<Ask<'s>>,
     schema: &'s Schema,
     item: &Typed<'_, '_>,
-    children: &Children<'_>,
+    kids_by_name: &KidsByName<'_>,
     root: NodeRef,
 ) -> Result<(), NoMemory>
-    requires { IsIndexOf (item_of item.now) children.now }
+    requires { IsIndexOf (item_of item.now) kids_by_name.now }
     ensures { OnOk result (asks_seen asked.new.items
         ≡ asks_seen asked.old.items ++ root_asks schema.now (item_of item.now) root) }
 {
-    asked.push(Ask::Own(Rule::RootType, root))?;
+    asked.push(Ask::Own(ElementRule::RootType, root))?;
     put_facets(asked, root)?;
     put_constraints(asked, schema, root)?;
-    put_kids(asked, schema, item, children, root)
+    put_kids(asked, schema, item, kids_by_name, root)
 }
 
 fn put_inner_asks<'s>(
     asked: &mut Vec<Ask<'s>>,
     schema: &'s Schema,
     item: &Typed<'_, '_>,
-    children: &Children<'_>,
+    kids_by_name: &KidsByName<'_>,
     node: NodeRef,
 ) -> Result<(), NoMemory>
-    requires { IsIndexOf (item_of item.now) children.now }
+    requires { IsIndexOf (item_of item.now) kids_by_name.now }
     ensures { OnOk result (asks_seen asked.new.items
         ≡ asks_seen asked.old.items ++ inner_asks schema.now (item_of item.now) node) }
 {
@@ -185,24 +185,24 @@ fn put_inner_asks<'s>(
     put_constraints(asked, schema, node)?;
     put_own_root(asked, schema, item)?;
     put_profiles(asked, schema, item, node)?;
-    put_kids(asked, schema, item, children, node)
+    put_kids(asked, schema, item, kids_by_name, node)
 }
 
 fn put_asks<'s>(
     asked: &mut Vec<Ask<'s>>,
     schema: &'s Schema,
     item: &Typed<'_, '_>,
-    children: &Children<'_>,
+    kids_by_name: &KidsByName<'_>,
     node: NodeRef,
 ) -> Result<(), NoMemory>
-    requires { IsIndexOf (item_of item.now) children.now }
+    requires { IsIndexOf (item_of item.now) kids_by_name.now }
     ensures { OnOk result (asks_seen asked.new.items
         ≡ asks_seen asked.old.items ++ asks schema.now (item_of item.now) node) }
 {
     if schema.is_root(node) {
-        put_root_asks(asked, schema, item, children, node)
+        put_root_asks(asked, schema, item, kids_by_name, node)
     } else {
-        put_inner_asks(asked, schema, item, children, node)
+        put_inner_asks(asked, schema, item, kids_by_name, node)
     }
 }
 
@@ -215,13 +215,13 @@ pub fn asks<'s>(
     alloc: Global,
     schema: &'s Schema,
     item: &Typed<'_, '_>,
-    children: &Children<'_>,
+    kids_by_name: &KidsByName<'_>,
     node: NodeRef,
 ) -> Result<Vec<Ask<'s>>, NoMemory>
-    requires { IsIndexOf (item_of item.now) children.now }
+    requires { IsIndexOf (item_of item.now) kids_by_name.now }
     ensures { Gives (λ asked. asks_seen asked.items) result (asks schema.now (item_of item.now) node) }
 {
     let mut asked: Vec<Ask<'s>> = Vec::new(alloc);
-    put_asks(&mut asked, schema, item, children, node)?;
+    put_asks(&mut asked, schema, item, kids_by_name, node)?;
     Ok(asked)
 }

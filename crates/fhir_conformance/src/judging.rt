@@ -16,8 +16,8 @@ ghost use Rattle.fhir_conformance.specs.Asks.{constraint as constraint_rule};
 ghost use Rattle.fhir_conformance.specs.Meeting.{entry_unread, set_unread, constraint_unread, unread_at};
 ghost use Rattle.fhir_conformance.specs.Views.{rule_name, IsIndexOf};
 
-use crate::ask::Rule;
-use crate::children::Children;
+use crate::ask::ElementRule;
+use crate::kids_by_name::KidsByName;
 use crate::members::{count_in, is_apart_at, is_sliced_at};
 use fhir_elements::{ConstraintDef, ElementDef, TypeEntry};
 use fhir_facets::{
@@ -38,17 +38,6 @@ fn view_of<'t, 'j>(item: &'t Typed<'_, 'j>) -> View<'t, 'j>
         code: item.code(),
         json: item.json(),
         has_kids: !item.kids().is_empty(),
-    }
-}
-
-fn judged<'s>(holds: bool) -> Holding<'s>
-    ensures exact { (b : Bool) → holding_under b result ≡ holds }
-    ensures decided { IsCarried [] result }
-{
-    if holds {
-        Holding::Holds
-    } else {
-        Holding::Fails
     }
 }
 
@@ -184,7 +173,7 @@ fn judge_expression<'s, 't, 'a, 'j>(
         resource,
         context: item,
     };
-    Ok(judged(holds(alloc, expression, &env, item)?))
+    Ok(Holding::of(holds(alloc, expression, &env, item)?))
 }
 
 fn judge_constraint<'s, 't, 'a, 'j>(
@@ -230,27 +219,27 @@ fn has_no_more(schema: &Schema, node: NodeRef, count: usize) -> bool
 fn has_enough_in(
     schema: &Schema,
     item: &Typed<'_, '_>,
-    children: &Children<'_>,
+    kids_by_name: &KidsByName<'_>,
     node: NodeRef,
     name: &str,
 ) -> bool
-    requires { IsIndexOf (item_of item.now) children.now }
+    requires { IsIndexOf (item_of item.now) kids_by_name.now }
     ensures { result ≡ at_element schema.now (λ e. are_enough e (count_in schema.now node name.now (item_of item.now))) node }
 {
-    has_enough(schema, node, count_in(schema, item, children, node, name))
+    has_enough(schema, node, count_in(schema, item, kids_by_name, node, name))
 }
 
 fn has_no_more_in(
     schema: &Schema,
     item: &Typed<'_, '_>,
-    children: &Children<'_>,
+    kids_by_name: &KidsByName<'_>,
     node: NodeRef,
     name: &str,
 ) -> bool
-    requires { IsIndexOf (item_of item.now) children.now }
+    requires { IsIndexOf (item_of item.now) kids_by_name.now }
     ensures { result ≡ at_element schema.now (λ e. are_within e (count_in schema.now node name.now (item_of item.now))) node }
 {
-    has_no_more(schema, node, count_in(schema, item, children, node, name))
+    has_no_more(schema, node, count_in(schema, item, kids_by_name, node, name))
 }
 
 /// Whether a rule of a node's element holds of an item, of which these are the children, and that the nearest resource at
@@ -261,29 +250,29 @@ pub fn judge<'s, 't, 'a, 'j>(
     schema: &'s Schema,
     resource: &'t Typed<'a, 'j>,
     item: &'t Typed<'a, 'j>,
-    children: &Children<'_>,
-    rule: Rule<'s>,
+    kids_by_name: &KidsByName<'_>,
+    rule: ElementRule<'s>,
     node: NodeRef,
 ) -> Result<Holding<'s>, NoMemory>
-    requires { IsIndexOf (item_of item.now) children.now }
+    requires { IsIndexOf (item_of item.now) kids_by_name.now }
     ensures exact { IfOk result (λ h. (b : Bool) → holding_under b h
         ≡ rule_holds schema.now (λ unread. b) (item_of resource.now) (item_of item.now) (rule_name rule.entry) node) }
     ensures carried { IfOk result (λ h. IsCarried (unread_at schema.now (item_of item.now) node) h) }
 {
     match rule {
-        Rule::RootType => Ok(judged(schema.covers(schema.type_code(node), item.code()))),
-        Rule::Fixed => Ok(judge_fixed(schema, item, node)),
-        Rule::Pattern => Ok(judge_pattern(schema, item, node)),
-        Rule::Range => Ok(judge_range(schema, item, node)),
-        Rule::Length => Ok(judge_length(schema, item, node)),
-        Rule::Binding => Ok(judge_binding(schema, item, node)),
-        Rule::TooFew(name) => Ok(judged(has_enough(schema, node, children.places(name).len()))),
-        Rule::TooMany(name) => Ok(judged(has_no_more(schema, node, children.places(name).len()))),
-        Rule::TooFewIn(name) => Ok(judged(has_enough_in(schema, item, children, node, name))),
-        Rule::TooManyIn(name) => Ok(judged(has_no_more_in(schema, item, children, node, name))),
-        Rule::Apart(position) => Ok(judged(is_apart_at(schema, item, node, position))),
-        Rule::Sliced(position) => Ok(judged(is_sliced_at(schema, item, node, position))),
-        Rule::Constraint(position) => {
+        ElementRule::RootType => Ok(Holding::of(schema.covers(schema.type_code(node), item.code()))),
+        ElementRule::Fixed => Ok(judge_fixed(schema, item, node)),
+        ElementRule::Pattern => Ok(judge_pattern(schema, item, node)),
+        ElementRule::Range => Ok(judge_range(schema, item, node)),
+        ElementRule::Length => Ok(judge_length(schema, item, node)),
+        ElementRule::Binding => Ok(judge_binding(schema, item, node)),
+        ElementRule::TooFew(name) => Ok(Holding::of(has_enough(schema, node, kids_by_name.places(name).len()))),
+        ElementRule::TooMany(name) => Ok(Holding::of(has_no_more(schema, node, kids_by_name.places(name).len()))),
+        ElementRule::TooFewIn(name) => Ok(Holding::of(has_enough_in(schema, item, kids_by_name, node, name))),
+        ElementRule::TooManyIn(name) => Ok(Holding::of(has_no_more_in(schema, item, kids_by_name, node, name))),
+        ElementRule::Apart(position) => Ok(Holding::of(is_apart_at(schema, item, node, position))),
+        ElementRule::InASlice(position) => Ok(Holding::of(is_sliced_at(schema, item, node, position))),
+        ElementRule::Constraint(position) => {
             judge_constraint(alloc, schema, resource, item, node, position)
         }
     }

@@ -35,7 +35,7 @@ pub fn fair_meanings()
 {}
 
 /// Where no pair of node and item that is met carries an unread rule, all meanings agree.
-pub fn decided()
+pub fn meanings_agree()
     ensures { (s : SchemaValue) (x : Item) (n : NodeRef)
         → ((place : Place) (r y : Item) (m : NodeRef) → Met s x n place r y m → unread_at s y m ≡ [])
         → (one other : Interpretation)

@@ -17,8 +17,8 @@
 //! ) -> Result<usize, NoMemory>
 //!     ensures { Gives (λ n. n) result (length (asks schema.now (item_of item.now) node)) }
 //! {
-//!     let children = Children::of(alloc, item)?;
-//!     let asked = asks(alloc, schema, item, &children, node)?;
+//!     let kids_by_name = KidsByName::of(alloc, item)?;
+//!     let asked = asks(alloc, schema, item, &kids_by_name, node)?;
 //!     Ok(asked.len())
 //! }
 //! ```
@@ -26,24 +26,24 @@
 //! The contracts to read first are those of [`asks`] and [`judge`]. `specs/Asks.antt` has what a node asks,
 //! `specs/Conformance.antt` when an item conforms to a node and a resource to a profile, and `specs/Meeting.antt` which pairs of
 //! node and item a resource meets; the contract of [`example`] shows the definitions at work on a small package. Unread rules
-//! may mean anything: the contracts of [`positive`] and [`decided`] say what hangs on them.
+//! may mean anything: the contracts of [`positive`] and [`meanings_agree`] say what hangs on them.
 #![tactic(auto)]
 
 mod ask;
 mod asking;
-mod children;
 mod judging;
+mod kids_by_name;
 mod laws;
 mod members;
 mod profiles;
 mod sliced;
 
-pub use ask::{Ask, Rule};
+pub use ask::{Ask, ElementRule};
 pub use asking::asks;
-pub use children::Children;
 pub use judging::{judge, judge_entry};
+pub use kids_by_name::KidsByName;
 pub use laws::{
-    decided, example, fair_meanings, letters_example, positive, questions_example,
+    example, fair_meanings, letters_example, meanings_agree, positive, questions_example,
     roots_ask_no_root, values_example,
 };
 pub use members::{count_in, kid_at};

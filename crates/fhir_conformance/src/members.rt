@@ -10,7 +10,7 @@ ghost use Rattle.fhir_conformance.specs.Positions.{kid_at, at_kid, members};
 ghost use Rattle.fhir_conformance.specs.Conformance.{count_in};
 ghost use Rattle.fhir_conformance.specs.Views.{IsIndexOf};
 
-use crate::children::Children;
+use crate::kids_by_name::KidsByName;
 use fhir_instance::Typed;
 use fhir_schema::{NodeRef, Schema};
 use fhir_slicing::{belongs, is_apart, is_sliced};
@@ -89,12 +89,12 @@ fn count_members(schema: &Schema, item: &Typed<'_, '_>, slice: NodeRef, places: 
 pub fn count_in(
     schema: &Schema,
     item: &Typed<'_, '_>,
-    children: &Children<'_>,
+    kids_by_name: &KidsByName<'_>,
     slice: NodeRef,
     name: &str,
 ) -> usize
-    requires { IsIndexOf (item_of item.now) children.now }
+    requires { IsIndexOf (item_of item.now) kids_by_name.now }
     ensures { result ≡ count_in schema.now slice name.now (item_of item.now) }
 {
-    count_members(schema, item, slice, children.places(name))
+    count_members(schema, item, slice, kids_by_name.places(name))
 }

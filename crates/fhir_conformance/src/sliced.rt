@@ -9,7 +9,7 @@ ghost use Rattle.fhir_conformance.specs.Positions.{at_kid, members};
 ghost use Rattle.fhir_conformance.specs.Asks.{child_ask, apart_ask, in_slice_ask, slice_asks, sliced_asks, named_asks};
 ghost use Rattle.fhir_conformance.specs.Views.{asks_seen};
 
-use crate::ask::{Ask, Rule};
+use crate::ask::{Ask, ElementRule};
 use crate::members::is_member;
 use fhir_instance::Typed;
 use fhir_json::NoMemory;
@@ -73,8 +73,8 @@ fn put_slice<'s>(
         element: slice.entry(),
     };
     put_members(asked, schema, item, places, entry)?;
-    asked.push(Ask::Own(Rule::TooFewIn(name), entry))?;
-    asked.push(Ask::Own(Rule::TooManyIn(name), entry))?;
+    asked.push(Ask::Own(ElementRule::TooFewIn(name), entry))?;
+    asked.push(Ask::Own(ElementRule::TooManyIn(name), entry))?;
     Ok(())
 }
 
@@ -100,7 +100,7 @@ fn put_apart(asked: &mut Vec<Ask<'_>>, node: NodeRef, places: &[usize]) -> Resul
     ensures { OnOk result (asks_seen asked.new.items ≡ asks_seen asked.old.items ++ map (apart_ask node) places.now) }
 {
     for place in places {
-        asked.push(Ask::Own(Rule::Apart(*place), node))?;
+        asked.push(Ask::Own(ElementRule::Apart(*place), node))?;
     }
     Ok(())
 }
@@ -109,7 +109,7 @@ fn put_in_slices(asked: &mut Vec<Ask<'_>>, node: NodeRef, places: &[usize]) -> R
     ensures { OnOk result (asks_seen asked.new.items ≡ asks_seen asked.old.items ++ map (in_slice_ask node) places.now) }
 {
     for place in places {
-        asked.push(Ask::Own(Rule::Sliced(*place), node))?;
+        asked.push(Ask::Own(ElementRule::InASlice(*place), node))?;
     }
     Ok(())
 }
@@ -162,8 +162,8 @@ pub(crate) fn put_named<'s>(
     ensures { OnOk result (asks_seen asked.new.items ≡ asks_seen asked.old.items
         ++ named_asks schema.now (item_of item.now) name.now places.now node) }
 {
-    asked.push(Ask::Own(Rule::TooFew(name), node))?;
-    asked.push(Ask::Own(Rule::TooMany(name), node))?;
+    asked.push(Ask::Own(ElementRule::TooFew(name), node))?;
+    asked.push(Ask::Own(ElementRule::TooMany(name), node))?;
     put_places(asked, node, places)?;
     put_sliced(asked, schema, item, name, places, node)
 }

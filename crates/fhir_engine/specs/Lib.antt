@@ -1,6 +1,6 @@
 pub mod Standing
 pub mod Status
-pub mod Telling
+pub mod WrongText
 pub mod Requests
 pub mod Words
 pub mod Views

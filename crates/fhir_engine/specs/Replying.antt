@@ -13,7 +13,7 @@ use Rattle.fhir_cert_check.specs.Checking.{answer_of}
 use Rattle.fhir_engine.specs.declared.reply.Reply.{Reply}
 use Rattle.fhir_engine.specs.declared.reply.Reply.TheVariants.{Answer, Fault}
 use Rattle.fhir_engine.specs.Status.{code_of}
-use Rattle.fhir_engine.specs.Telling.{wrong_text}
+use Rattle.fhir_engine.specs.WrongText.{wrong_text}
 
 -- a status, and what is written to standard output, or told on standard error
 pub data ReplyValue : Type 0 where

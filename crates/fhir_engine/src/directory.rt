@@ -120,7 +120,7 @@ fn file_of<R: Files + AllocGlobal>(
     }
 }
 
-fn found<R: Files + AllocGlobal + Clone + Drop, P: Progress>(
+fn open_request<R: Files + AllocGlobal + Clone + Drop, P: Progress>(
     rt: &R,
     request: &Request<'_>,
     progress: &mut P,
@@ -131,7 +131,7 @@ fn found<R: Files + AllocGlobal + Clone + Drop, P: Progress>(
 }
 
 // Those where nothing is opened.
-fn unopened<'w>(alloc: Global, asked: Result<Invocation<'w>, WordsFault>) -> Opened<'w>
+fn nothing_opened<'w>(alloc: Global, asked: Result<Invocation<'w>, WordsFault>) -> Opened<'w>
     ensures { asked_seen result.asked ≡ asked_seen asked.entry }
 {
     Opened {
@@ -150,14 +150,14 @@ pub fn open_asked<'w, R: Files + AllocGlobal + Clone + Drop, P: Progress>(
     ensures { (asked_seen result.asked ≡ asked_seen asked.entry) ⊎ (asked_seen result.asked ≡ Err WordsFault.NoMemory) }
 {
     let Ok(Invocation::Request(request)) = asked else {
-        return unopened(rt.alloc(), asked);
+        return nothing_opened(rt.alloc(), asked);
     };
-    match found(rt, &request, progress) {
+    match open_request(rt, &request, progress) {
         Ok((folder, file)) => Opened {
             asked,
             folder,
             file,
         },
-        Err(NoMemory) => unopened(rt.alloc(), Err(WordsFault::NoMemory)),
+        Err(NoMemory) => nothing_opened(rt.alloc(), Err(WordsFault::NoMemory)),
     }
 }

@@ -34,7 +34,7 @@ mod meter;
 mod reply;
 mod request;
 mod session;
-mod telling;
+mod wrong_reply;
 mod version;
 
 pub use directory::{Opened, bytes_at, directory_at, open_asked};

@@ -127,7 +127,7 @@ fn program<'a>(alloc: Global) -> Result<Command<'a>, AllocError> {
 }
 
 // What words ask for that `clap` gives back with an error of a kind.
-fn unmatched<'w>(kind: ErrorKind) -> Result<Invocation<'w>, WordsFault>
+fn of_error_kind<'w>(kind: ErrorKind) -> Result<Invocation<'w>, WordsFault>
     ensures { IfErr result (λ fault. (fault ≡ WordsFault.NoMemory) ↔ (kind ≡ ErrorKind.OutOfMemory)) }
 {
     match kind {
@@ -261,7 +261,7 @@ pub fn invocation_of<'w>(alloc: Global, words: &'w [String]) -> Result<Invocatio
 fn other_invocation<'w>(alloc: Global, words: &'w [String]) -> Result<Invocation<'w>, WordsFault> {
     let matches = match program(alloc)?.try_get_matches_from(words) {
         Ok(matches) => matches,
-        Err(error) => return unmatched(error.kind()),
+        Err(error) => return of_error_kind(error.kind()),
     };
     let Some((name, matches)) = matches.subcommand() else {
         return Err(WordsFault::Usage);

@@ -50,7 +50,7 @@ impl<'f> Model for Session<'f> {
 }
 
 // What is answered where files are no package, by the fault for which they are none.
-fn refused(alloc: Global, fault: &FileFault<'_>) -> Result<Reply, AllocError>
+fn refusal(alloc: Global, fault: &FileFault<'_>) -> Result<Reply, AllocError>
     ensures { IfOk result (λ r. reply_seen r ≡ refused_reply (fault_seen fault.now)) }
 {
     fault_reply(alloc, fault.number(), fault.subject())

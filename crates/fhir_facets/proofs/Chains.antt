@@ -9,8 +9,8 @@ use Rattle.std.specs.Option.{option_map, option_and_then}
 use Rattle.fhir_json.specs.Tree.{Tree}
 use Rattle.fhir_decimal.specs.Value.{value_order}
 use Rattle.fhir_prims.specs.Order.{moment_order, is_same_moment}
-use Rattle.fhir_facets.specs.declared.kinds.Kind.{Kind}
-use Rattle.fhir_facets.specs.declared.kinds.Kind.TheVariants.{Number, Moment, Time}
+use Rattle.fhir_facets.specs.declared.scale.Scale.{Scale}
+use Rattle.fhir_facets.specs.declared.scale.Scale.TheVariants.{Number, Moment, Time}
 use Rattle.fhir_facets.specs.Ranges.{number_in, fields_in, is_beyond}
 
 module _ {X : Type 0} {E : X → X → Bool} {C : X → X → Option Ordering} (o : IsPartialOrder E C) where
@@ -64,19 +64,19 @@ module _ {X : Type 0} (C : X → X → Option Ordering) (side : Ordering → Boo
 -- ---- of values in trees
 
 pub record Chained (side : Ordering → Bool) : Type 0 where
-  pub chain : (kind : Kind) (a b c : Tree) → is_beyond side kind a b ≡ true → is_beyond side kind b c ≡ true → is_beyond side kind a c ≡ true
+  pub chain : (scale : Scale) (a b c : Tree) → is_beyond side scale a b ≡ true → is_beyond side scale b c ≡ true → is_beyond side scale a c ≡ true
 
 module _ (values : IsTotalOrder value_order) (moments : IsPartialOrder is_same_moment moment_order) where
   value_partial : IsPartialOrder (eq_by_cmp value_order) (λ x y. Some (value_order x y))
   value_partial = po values (λ x y. refl)
 
-  le_at : (kind : Kind) (a b c : Tree) → is_beyond is_le kind a b ≡ true → is_beyond is_le kind b c ≡ true → is_beyond is_le kind a c ≡ true
+  le_at : (scale : Scale) (a b c : Tree) → is_beyond is_le scale a b ≡ true → is_beyond is_le scale b c ≡ true → is_beyond is_le scale a c ≡ true
   le_at Number a b c =
       total_chain (λ x y. Some (value_order x y)) is_le (le_chain value_partial) value_order (λ x y. refl) (number_in a) (number_in b) (number_in c)
   le_at Moment a b c = read_chain moment_order is_le (le_chain moments) (fields_in a) (fields_in b) (fields_in c)
   le_at Time a b c = read_chain moment_order is_le (le_chain moments) (fields_in a) (fields_in b) (fields_in c)
 
-  ge_at : (kind : Kind) (a b c : Tree) → is_beyond is_ge kind a b ≡ true → is_beyond is_ge kind b c ≡ true → is_beyond is_ge kind a c ≡ true
+  ge_at : (scale : Scale) (a b c : Tree) → is_beyond is_ge scale a b ≡ true → is_beyond is_ge scale b c ≡ true → is_beyond is_ge scale a c ≡ true
   ge_at Number a b c =
       total_chain (λ x y. Some (value_order x y)) is_ge (ge_chain value_partial) value_order (λ x y. refl) (number_in a) (number_in b) (number_in c)
   ge_at Moment a b c = read_chain moment_order is_ge (ge_chain moments) (fields_in a) (fields_in b) (fields_in c)

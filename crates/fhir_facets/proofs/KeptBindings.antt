@@ -13,7 +13,7 @@ use Rattle.fhir_schema.specs.Schemas.{SchemaValue, concepts_at}
 use Rattle.fhir_facets.specs.declared.lookup.Lookup.{Lookup}
 use Rattle.fhir_facets.specs.declared.lookup.Lookup.TheVariants.{ByCode, ByCoding, ByOneCoding}
 use Rattle.fhir_facets.specs.Seen.{Seen}
-use Rattle.fhir_facets.specs.Bindings.{lookup_of, has_coding, has_one_coding, is_in, Binding, binding_to, decided, binding_holds, lies_within, binding_narrower, IsFair}
+use Rattle.fhir_facets.specs.Bindings.{lookup_of, has_coding, has_one_coding, is_in, Binding, binding_to, decision, binding_holds, lies_within, binding_narrower, IsFair}
 use Rattle.fhir_facets.specs.Unread.{Unread, Meaning, binding}
 use Rattle.fhir_facets.proofs.Alike.{text_is}
 use Rattle.fhir_facets.proofs.Keeping.{mapped}
@@ -72,5 +72,5 @@ module _ (concepts_kept : (a b : Concepts) → IsTrue (set.is_subset a b) → (c
 pub binding_more : (m larger : Meaning) → ((u : Unread) → IsTrue (m u) → IsTrue (larger u)) → (b : Binding) (x : Seen)
     → IsTrue (binding_holds m b x) → IsTrue (binding_holds larger b x)
 binding_more m larger more b x =
-    mapped (λ holds. holds) (λ holds. holds) (decided b x) (m (binding b.canonical)) (larger (binding b.canonical)) (λ holds h. h)
+    mapped (λ holds. holds) (λ holds. holds) (decision b x) (m (binding b.canonical)) (larger (binding b.canonical)) (λ holds h. h)
     (more (binding b.canonical))

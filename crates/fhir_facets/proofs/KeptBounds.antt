@@ -6,10 +6,10 @@ use Rattle.std.specs.Ordering.{is_le, is_ge}
 use Rattle.std.specs.Str.{bytes_eq}
 use Rattle.std.proofs.lemmas.Bool.{and_parts, and_from, false≢true}
 use Rattle.fhir_json.specs.Tree.{Text, Tree, Property}
-use Rattle.fhir_facets.specs.declared.kinds.Kind.{Kind}
-use Rattle.fhir_facets.specs.declared.kinds.Kind.TheVariants.{Number, Moment, Time}
+use Rattle.fhir_facets.specs.declared.scale.Scale.{Scale}
+use Rattle.fhir_facets.specs.declared.scale.Scale.TheVariants.{Number, Moment, Time}
 use Rattle.fhir_facets.specs.Identity.{identical}
-use Rattle.fhir_facets.specs.Ranges.{same_kind, kind_of_code, kind_of_bound, is_beyond, kind_holds, bound_holds, is_same_bound, is_narrow_bound, bound_narrower}
+use Rattle.fhir_facets.specs.Ranges.{same_scale, scale_of_code, scale_of_bound, is_beyond, scale_holds, bound_holds, is_same_bound, is_narrow_bound, bound_narrower}
 use Rattle.fhir_facets.specs.Ranges.{Range, range_holds, side_narrower, range_narrower}
 use Rattle.fhir_facets.specs.Seen.{Seen}
 use Rattle.fhir_facets.specs.Unread.{Unread, Meaning, range}
@@ -17,7 +17,7 @@ use Rattle.fhir_facets.proofs.Alike.{same_tree, text_is}
 use Rattle.fhir_facets.proofs.Chains.{Chained}
 use Rattle.fhir_facets.proofs.Keeping.{mapped, kept_if}
 
-one_kind : (k l : Kind) → same_kind k l ≡ true → k ≡ l
+one_kind : (k l : Scale) → same_scale k l ≡ true → k ≡ l
 one_kind Number Number h = refl
 one_kind Number Moment h = absurd (false≢true h)
 one_kind Number Time h = absurd (false≢true h)
@@ -34,33 +34,33 @@ same_property p q h =
     ap (λ (name : Text). (name, p.1)) (text_is p.0 q.0 both.0) ∙ ap (λ (t : Tree). (q.0, t)) (same_tree p.1 q.1 both.1)
 
 module _ (side : Ordering → Bool) (chained : Chained side) (m : Meaning) (x : Seen) where
-  kind_kept : (p q : Tree) (kind : Kind) → is_beyond side kind p q ≡ true → IsTrue (kind_holds side p x kind) → IsTrue (kind_holds side q x kind)
-  kind_kept p q kind narrow =
-      kept_if (option_map_or (same_kind kind) (kind_of_code x.type) false)
-      (option_map_or (λ value. is_beyond side kind value p) x.json true)
-      (option_map_or (λ value. is_beyond side kind value q) x.json true)
-      (mapped (λ value. is_beyond side kind value p) (λ value. is_beyond side kind value q) x.json true true
-      (λ value h. chained.chain kind value p q h narrow) (λ h. h))
+  scale_kept : (p q : Tree) (scale : Scale) → is_beyond side scale p q ≡ true → IsTrue (scale_holds side p x scale) → IsTrue (scale_holds side q x scale)
+  scale_kept p q scale narrow =
+      kept_if (option_map_or (same_scale scale) (scale_of_code x.type) false)
+      (option_map_or (λ value. is_beyond side scale value p) x.json true)
+      (option_map_or (λ value. is_beyond side scale value q) x.json true)
+      (mapped (λ value. is_beyond side scale value p) (λ value. is_beyond side scale value q) x.json true true
+      (λ value h. chained.chain scale value p q h narrow) (λ h. h))
 
-  -- a bound of the kind k
-  read_kept : (p q : Property) (k : Kind) (own : Option Kind) → IsTrue (option_map_or (same_kind k) own false) → is_beyond side k p.1 q.1 ≡ true
-      → IsTrue (option_map_or (kind_holds side p.1 x) own (m (range p.0 p.1))) → IsTrue (kind_holds side q.1 x k)
+  -- a bound on the scale k
+  read_kept : (p q : Property) (k : Scale) (own : Option Scale) → IsTrue (option_map_or (same_scale k) own false) → is_beyond side k p.1 q.1 ≡ true
+      → IsTrue (option_map_or (scale_holds side p.1 x) own (m (range p.0 p.1))) → IsTrue (scale_holds side q.1 x k)
   read_kept p q k None same narrow h = absurd (false≢true same)
   read_kept p q k (Some l) same narrow h =
-      kind_kept p.1 q.1 k narrow (ap (kind_holds side p.1 x) (one_kind k l same) ∙ h)
+      scale_kept p.1 q.1 k narrow (ap (scale_holds side p.1 x) (one_kind k l same) ∙ h)
 
-  by_kind : (p q : Property) (kind : Option Kind) → kind_of_bound q.0 ≡ kind
-      → IsTrue (option_map_or (is_narrow_bound side p q.1) kind (is_same_bound p q)) → IsTrue (bound_holds side m x p)
-      → IsTrue (option_map_or (kind_holds side q.1 x) kind (m (range q.0 q.1)))
-  by_kind p q None is narrow h =
-      sym (ap (λ (k : Option Kind). option_map_or (kind_holds side q.1 x) k (m (range q.0 q.1))) is)
+  by_scale : (p q : Property) (scale : Option Scale) → scale_of_bound q.0 ≡ scale
+      → IsTrue (option_map_or (is_narrow_bound side p q.1) scale (is_same_bound p q)) → IsTrue (bound_holds side m x p)
+      → IsTrue (option_map_or (scale_holds side q.1 x) scale (m (range q.0 q.1)))
+  by_scale p q None is narrow h =
+      sym (ap (λ (k : Option Scale). option_map_or (scale_holds side q.1 x) k (m (range q.0 q.1))) is)
       ∙ sym (ap (bound_holds side m x) (same_property p q narrow)) ∙ h
-  by_kind p q (Some k) is narrow h =
-      let both = and_parts (option_map_or (same_kind k) (kind_of_bound p.0) false) (is_beyond side k p.1 q.1) narrow in
-      read_kept p q k (kind_of_bound p.0) both.0 both.1 h
+  by_scale p q (Some k) is narrow h =
+      let both = and_parts (option_map_or (same_scale k) (scale_of_bound p.0) false) (is_beyond side k p.1 q.1) narrow in
+      read_kept p q k (scale_of_bound p.0) both.0 both.1 h
 
   bound_kept : (p q : Property) → IsTrue (bound_narrower side p q) → IsTrue (bound_holds side m x p) → IsTrue (bound_holds side m x q)
-  bound_kept p q narrow h = by_kind p q (kind_of_bound q.0) refl narrow h
+  bound_kept p q narrow h = by_scale p q (scale_of_bound q.0) refl narrow h
 
   pub side_kept : (own base : Option Property) → IsTrue (side_narrower side own base) → IsTrue (option_map_or (bound_holds side m x) own true)
       → IsTrue (option_map_or (bound_holds side m x) base true)
@@ -80,7 +80,7 @@ range_kept le ge m r base x narrow h =
 module _ (m larger : Meaning) (more : (u : Unread) → IsTrue (m u) → IsTrue (larger u)) (x : Seen) where
   bound_more : (side : Ordering → Bool) (p : Property) → IsTrue (bound_holds side m x p) → IsTrue (bound_holds side larger x p)
   bound_more side p =
-      mapped (kind_holds side p.1 x) (kind_holds side p.1 x) (kind_of_bound p.0) (m (range p.0 p.1)) (larger (range p.0 p.1)) (λ k h. h)
+      mapped (scale_holds side p.1 x) (scale_holds side p.1 x) (scale_of_bound p.0) (m (range p.0 p.1)) (larger (range p.0 p.1)) (λ k h. h)
       (more (range p.0 p.1))
 
   pub range_more : (r : Range) → IsTrue (range_holds m r x) → IsTrue (range_holds larger r x)

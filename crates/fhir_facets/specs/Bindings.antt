@@ -69,11 +69,11 @@ abbrev pub binding_to : SchemaValue → Text → Binding
 binding_to s canonical = record { canonical = canonical; concepts = concepts_at s canonical }
 
 -- whether the item is in the set, where the set is known and the item is looked up
-abbrev pub decided : Binding → Seen → Option Bool
-decided b x = option_and_then (λ s. option_map (λ how. is_in how s x) (lookup_of x)) b.concepts
+abbrev pub decision : Binding → Seen → Option Bool
+decision b x = option_and_then (λ s. option_map (λ how. is_in how s x) (lookup_of x)) b.concepts
 
 abbrev pub binding_holds : Meaning → Binding → Seen → Bool
-binding_holds m b x = option_map_or (λ holds. holds) (decided b x) (m (binding b.canonical))
+binding_holds m b x = option_map_or (λ holds. holds) (decision b x) (m (binding b.canonical))
 
 -- a set within another, where both are known
 abbrev pub lies_within : Option Concepts → Option Concepts → Bool

@@ -6,11 +6,11 @@ use Rattle.fhir_elements.specs.Element.{Element}
 use Rattle.fhir_schema.specs.Schemas.{SchemaValue, loaded}
 use Rattle.fhir_facets.specs.Unread.{Unread, range, target, profile, binding}
 use Rattle.fhir_facets.specs.Seen.{Seen}
-use Rattle.fhir_facets.specs.Bindings.{Binding, decided}
-use Rattle.fhir_facets.specs.Ranges.{kind_of_bound}
+use Rattle.fhir_facets.specs.Bindings.{Binding, decision}
+use Rattle.fhir_facets.specs.Ranges.{scale_of_bound}
 
 abbrev pub bound_unread : Property → List Unread
-bound_unread p = if is_none (kind_of_bound p.0) then range p.0 p.1 ∷ [] else []
+bound_unread p = if is_none (scale_of_bound p.0) then range p.0 p.1 ∷ [] else []
 
 abbrev pub range_unread : Element → List Unread
 range_unread e = option_map_or bound_unread e.min_value [] ++ option_map_or bound_unread e.max_value []
@@ -22,4 +22,4 @@ abbrev pub profile_unread : SchemaValue → Text → List Unread
 profile_unread s canonical = if is_none (loaded s canonical) then profile canonical ∷ [] else []
 
 abbrev pub binding_unread : Binding → Seen → List Unread
-binding_unread b x = if is_some (decided b x) then [] else binding b.canonical ∷ []
+binding_unread b x = if is_some (decision b x) then [] else binding b.canonical ∷ []

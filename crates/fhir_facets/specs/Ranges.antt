@@ -16,38 +16,38 @@ use Rattle.fhir_prims.specs.Values.{prim_of}
 use Rattle.fhir_prims.specs.Order.{Fields, moment_order}
 use Rattle.fhir_prims.specs.Reading.{fields_of}
 use Rattle.fhir_definition.specs.Bounds.{bound_type}
-use Rattle.fhir_facets.specs.declared.kinds.Kind.{Kind}
-use Rattle.fhir_facets.specs.declared.kinds.Kind.TheVariants.{Number, Moment, Time}
+use Rattle.fhir_facets.specs.declared.scale.Scale.{Scale}
+use Rattle.fhir_facets.specs.declared.scale.Scale.TheVariants.{Number, Moment, Time}
 use Rattle.fhir_facets.specs.Unread.{Meaning, range}
 use Rattle.fhir_facets.specs.Identity.{identical}
 use Rattle.fhir_facets.specs.Seen.{Seen}
 
--- ---- the kinds of values that have an order
+-- ---- the scales of values that have an order
 
-abbrev pub kind_of : PrimType → Option Kind
-kind_of Integer = Some Number
-kind_of UnsignedInt = Some Number
-kind_of PositiveInt = Some Number
-kind_of Decimal = Some Number
-kind_of Date = Some Moment
-kind_of DateTime = Some Moment
-kind_of Instant = Some Moment
-kind_of TimeOfDay = Some Time
-kind_of _ = None
+abbrev pub scale_of : PrimType → Option Scale
+scale_of Integer = Some Number
+scale_of UnsignedInt = Some Number
+scale_of PositiveInt = Some Number
+scale_of Decimal = Some Number
+scale_of Date = Some Moment
+scale_of DateTime = Some Moment
+scale_of Instant = Some Moment
+scale_of TimeOfDay = Some Time
+scale_of _ = None
 
-abbrev pub same_kind : Kind → Kind → Bool
-same_kind Number Number = true
-same_kind Moment Moment = true
-same_kind Time Time = true
-same_kind _ _ = false
+abbrev pub same_scale : Scale → Scale → Bool
+same_scale Number Number = true
+same_scale Moment Moment = true
+same_scale Time Time = true
+same_scale _ _ = false
 
 -- that of the items of a type
-abbrev pub kind_of_code : Text → Option Kind
-kind_of_code code = option_and_then kind_of (prim_of code)
+abbrev pub scale_of_code : Text → Option Scale
+scale_of_code code = option_and_then scale_of (prim_of code)
 
 -- that of a bound, by its property
-abbrev pub kind_of_bound : Text → Option Kind
-kind_of_bound property = option_and_then kind_of (bound_type property)
+abbrev pub scale_of_bound : Text → Option Scale
+scale_of_bound property = option_and_then scale_of (bound_type property)
 
 -- ---- their order
 
@@ -63,37 +63,37 @@ number_order t u = option_and_then (λ a. option_map (value_order a) (number_in 
 abbrev pub field_order_of : Tree → Tree → Option Ordering
 field_order_of t u = option_and_then (λ a. option_and_then (moment_order a) (fields_in u)) (fields_in t)
 
--- two values of one kind may have no order
-abbrev pub order_of : Kind → Tree → Tree → Option Ordering
+-- two values on one scale may have no order
+abbrev pub order_of : Scale → Tree → Tree → Option Ordering
 order_of Number t u = number_order t u
 order_of Moment t u = field_order_of t u
 order_of Time t u = field_order_of t u
 
 -- ---- one bound, of the lower side or of the upper
 
-abbrev pub is_beyond : (Ordering → Bool) → Kind → Tree → Tree → Bool
-is_beyond side kind value bound = is_some_and side (order_of kind value bound)
+abbrev pub is_beyond : (Ordering → Bool) → Scale → Tree → Tree → Bool
+is_beyond side scale value bound = is_some_and side (order_of scale value bound)
 
--- a value of its kind isn't outside; an item without a value, or of another kind, is passed over
-abbrev pub kind_holds : (Ordering → Bool) → Tree → Seen → Kind → Bool
-kind_holds side bound x kind =
-    if option_map_or (same_kind kind) (kind_of_code x.type) false
-    then option_map_or (λ value. is_beyond side kind value bound) x.json true else true
+-- a value on its scale isn't outside; an item without a value, or on another scale, is passed over
+abbrev pub scale_holds : (Ordering → Bool) → Tree → Seen → Scale → Bool
+scale_holds side bound x scale =
+    if option_map_or (same_scale scale) (scale_of_code x.type) false
+    then option_map_or (λ value. is_beyond side scale value bound) x.json true else true
 
 abbrev pub bound_holds : (Ordering → Bool) → Meaning → Seen → Property → Bool
-bound_holds side m x p = option_map_or (kind_holds side p.1 x) (kind_of_bound p.0) (m (range p.0 p.1))
+bound_holds side m x p = option_map_or (scale_holds side p.1 x) (scale_of_bound p.0) (m (range p.0 p.1))
 
 -- unread bounds: their texts are one
 abbrev pub is_same_bound : Property → Property → Bool
 is_same_bound p q = bytes_eq p.0 q.0 && identical p.1 q.1
 
--- as narrow as a bound of that kind
-abbrev pub is_narrow_bound : (Ordering → Bool) → Property → Tree → Kind → Bool
-is_narrow_bound side p base kind =
-    option_map_or (same_kind kind) (kind_of_bound p.0) false && is_beyond side kind p.1 base
+-- as narrow as a bound on that scale
+abbrev pub is_narrow_bound : (Ordering → Bool) → Property → Tree → Scale → Bool
+is_narrow_bound side p base scale =
+    option_map_or (same_scale scale) (scale_of_bound p.0) false && is_beyond side scale p.1 base
 
 abbrev pub bound_narrower : (Ordering → Bool) → Property → Property → Bool
-bound_narrower side p q = option_map_or (is_narrow_bound side p q.1) (kind_of_bound q.0) (is_same_bound p q)
+bound_narrower side p q = option_map_or (is_narrow_bound side p q.1) (scale_of_bound q.0) (is_same_bound p q)
 
 -- ---- both bounds of an element
 

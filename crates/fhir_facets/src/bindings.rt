@@ -2,7 +2,7 @@
 
 ghost use Rattle.std.specs.Prelude.{◌≡◌};
 ghost use Rattle.std.specs.Option.{option_copied};
-ghost use Rattle.fhir_facets.specs.Bindings.{binding_to, decided, binding_holds, lies_within, binding_narrower};
+ghost use Rattle.fhir_facets.specs.Bindings.{binding_to, decision, binding_holds, lies_within, binding_narrower};
 ghost use Rattle.fhir_facets.specs.Carried.{binding_unread};
 ghost use Rattle.fhir_facets.specs.Views.{binding_seen, holding_under, view_seen, IsCarried};
 
@@ -37,8 +37,8 @@ impl<'s> Binding<'s> {
         }
     }
 
-    fn decided(&self, view: &View<'_, '_>) -> Option<bool>
-        ensures { result ≡ decided (binding_seen self.now) (view_seen view.now) }
+    fn decision(&self, view: &View<'_, '_>) -> Option<bool>
+        ensures { result ≡ decision (binding_seen self.now) (view_seen view.now) }
     {
         let set = self.concepts?;
         let how = lookup_of(view)?;
@@ -63,7 +63,7 @@ impl<'s> Facet<'s, View<'_, '_>> for Binding<'s> {
     ghost is_narrower = { λ binding base. binding_narrower (binding_seen binding) (binding_seen base) };
 
     fn holds(&self, asked: &View<'_, '_>) -> Holding<'s> {
-        match self.decided(asked) {
+        match self.decision(asked) {
             Some(holds) => Holding::of(holds),
             None => Holding::Unread(Unread::Binding(self.canonical)),
         }

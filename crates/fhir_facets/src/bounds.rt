@@ -8,12 +8,12 @@ ghost use Rattle.fhir_decimal.specs.Value.{value_of};
 ghost use Rattle.fhir_decimal.specs.Views.{parts_seen};
 ghost use Rattle.fhir_prims.specs.Views.{fields_seen};
 ghost use Rattle.fhir_facets.specs.Carried.{bound_unread};
-ghost use Rattle.fhir_facets.specs.Ranges.{number_in, fields_in, number_order, field_order_of, order_of, is_beyond, kind_holds, bound_holds, is_same_bound, is_narrow_bound, bound_narrower, same_kind, kind_of_code, kind_of_bound};
+ghost use Rattle.fhir_facets.specs.Ranges.{number_in, fields_in, number_order, field_order_of, order_of, is_beyond, scale_holds, bound_holds, is_same_bound, is_narrow_bound, bound_narrower, same_scale, scale_of_code, scale_of_bound};
 ghost use Rattle.fhir_facets.specs.Views.{side_test, holding_under, view_seen, IsCarried};
 
 use crate::holding::Holding;
 use crate::identity::identical;
-use crate::kinds::{Kind, kind_of_bound, kind_of_code, same_kind};
+use crate::scale::{Scale, scale_of_bound, scale_of_code, same_scale};
 use crate::unread::Unread;
 use crate::view::View;
 use fhir_decimal::Decimal;
@@ -81,41 +81,41 @@ fn field_order(left: &Json<'_>, right: &Json<'_>) -> Option<Ordering>
     }
 }
 
-fn order_of(kind: Kind, left: &Json<'_>, right: &Json<'_>) -> Option<Ordering>
-    ensures { result ≡ order_of kind (tree_of left.now) (tree_of right.now) }
+fn order_of(scale: Scale, left: &Json<'_>, right: &Json<'_>) -> Option<Ordering>
+    ensures { result ≡ order_of scale (tree_of left.now) (tree_of right.now) }
 {
-    match kind {
-        Kind::Number => number_order(left, right),
-        Kind::Moment | Kind::Time => field_order(left, right),
+    match scale {
+        Scale::Number => number_order(left, right),
+        Scale::Moment | Scale::Time => field_order(left, right),
     }
 }
 
-fn is_beyond(side: Side, kind: Kind, value: &Json<'_>, bound: &Json<'_>) -> bool
-    ensures { result ≡ is_beyond (side_test side) kind (tree_of value.now) (tree_of bound.now) }
+fn is_beyond(side: Side, scale: Scale, value: &Json<'_>, bound: &Json<'_>) -> bool
+    ensures { result ≡ is_beyond (side_test side) scale (tree_of value.now) (tree_of bound.now) }
 {
-    match order_of(kind, value, bound) {
+    match order_of(scale, value, bound) {
         Some(order) => is_inside(side, order),
         None => false,
     }
 }
 
-fn has_kind(kind: Kind, code: &str) -> bool
-    ensures { result ≡ option_map_or (same_kind kind) (kind_of_code code.now) false }
+fn has_scale(scale: Scale, code: &str) -> bool
+    ensures { result ≡ option_map_or (same_scale scale) (scale_of_code code.now) false }
 {
-    match kind_of_code(code) {
-        Some(other) => same_kind(kind, other),
+    match scale_of_code(code) {
+        Some(other) => same_scale(scale, other),
         None => false,
     }
 }
 
-fn kind_holds(side: Side, bound: &Json<'_>, view: &View<'_, '_>, kind: Kind) -> bool
-    ensures { result ≡ kind_holds (side_test side) (tree_of bound.now) (view_seen view.now) kind }
+fn scale_holds(side: Side, bound: &Json<'_>, view: &View<'_, '_>, scale: Scale) -> bool
+    ensures { result ≡ scale_holds (side_test side) (tree_of bound.now) (view_seen view.now) scale }
 {
-    if !has_kind(kind, view.code) {
+    if !has_scale(scale, view.code) {
         return true;
     }
     match view.json {
-        Some(value) => is_beyond(side, kind, value, bound),
+        Some(value) => is_beyond(side, scale, value, bound),
         None => true,
     }
 }
@@ -130,8 +130,8 @@ pub(crate) fn bound_holds<'a>(
         ≡ bound_holds (side_test side) (λ u. b) (view_seen view.now) (property_of bound.now) }
     ensures carried { IsCarried (bound_unread (property_of bound.now)) result }
 {
-    match kind_of_bound(bound.name.as_str()) {
-        Some(kind) => Holding::of(kind_holds(side, &bound.value, view, kind)),
+    match scale_of_bound(bound.name.as_str()) {
+        Some(scale) => Holding::of(scale_holds(side, &bound.value, view, scale)),
         None => Holding::Unread(Unread::Range(bound)),
     }
 }
@@ -142,27 +142,27 @@ fn is_same_bound(own: &Member<'_>, base: &Member<'_>) -> bool
     own.name.as_str() == base.name.as_str() && identical(&own.value, &base.value)
 }
 
-fn has_kind_of_bound(kind: Kind, property: &str) -> bool
-    ensures { result ≡ option_map_or (same_kind kind) (kind_of_bound property.now) false }
+fn has_scale_of_bound(scale: Scale, property: &str) -> bool
+    ensures { result ≡ option_map_or (same_scale scale) (scale_of_bound property.now) false }
 {
-    match kind_of_bound(property) {
-        Some(other) => same_kind(kind, other),
+    match scale_of_bound(property) {
+        Some(other) => same_scale(scale, other),
         None => false,
     }
 }
 
-fn is_narrow_bound(side: Side, own: &Member<'_>, base: &Json<'_>, kind: Kind) -> bool
-    ensures { result ≡ is_narrow_bound (side_test side) (property_of own.now) (tree_of base.now) kind }
+fn is_narrow_bound(side: Side, own: &Member<'_>, base: &Json<'_>, scale: Scale) -> bool
+    ensures { result ≡ is_narrow_bound (side_test side) (property_of own.now) (tree_of base.now) scale }
 {
-    has_kind_of_bound(kind, own.name.as_str()) && is_beyond(side, kind, &own.value, base)
+    has_scale_of_bound(scale, own.name.as_str()) && is_beyond(side, scale, &own.value, base)
 }
 
 /// Whether a bound is as narrow as another of its side.
 pub(crate) fn bound_narrower(side: Side, own: &Member<'_>, base: &Member<'_>) -> bool
     ensures { result ≡ bound_narrower (side_test side) (property_of own.now) (property_of base.now) }
 {
-    match kind_of_bound(base.name.as_str()) {
-        Some(kind) => is_narrow_bound(side, own, &base.value, kind),
+    match scale_of_bound(base.name.as_str()) {
+        Some(scale) => is_narrow_bound(side, own, &base.value, scale),
         None => is_same_bound(own, base),
     }
 }

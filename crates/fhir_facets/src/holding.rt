@@ -19,7 +19,7 @@ pub enum Holding<'a> {
 
 impl<'a> Holding<'a> {
     /// What a test comes to.
-    pub(crate) fn of(holds: bool) -> Holding<'a>
+    pub fn of(holds: bool) -> Holding<'a>
         ensures decided { (b : Bool) → holding_under b result ≡ holds }
         ensures carried { (rules : List Rule) → IsCarried rules result }
     {

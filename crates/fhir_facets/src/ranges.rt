@@ -16,7 +16,7 @@ use fhir_json::Member;
 
 /// The least and the greatest value that an item may have, each if there is one (FHIR R4, ElementDefinition, minValue[x]
 /// and maxValue[x]). Numbers are compared by value, and dates, moments and times of day by their fields, where they have an
-/// order; a bound of another type is an unread rule. An item of another kind than a bound's, or without a value, is passed
+/// order; a bound of another type is an unread rule. An item on another scale than a bound's, or without a value, is passed
 /// over.
 ///
 /// A bound is read anew each time, in time linear in its text and with no memory taken.

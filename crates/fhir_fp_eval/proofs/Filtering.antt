@@ -7,7 +7,7 @@ use Rattle.fhir_fp_syntax.specs.declared.expr.Filter.{Filter}
 use Rattle.fhir_fp_syntax.specs.declared.expr.Filter.TheVariants.{Where, Exists, All}
 use Rattle.fhir_fp_eval.specs.declared.fault.EvalFault.{EvalFault}
 use Rattle.fhir_fp_eval.specs.Values.{Plain, truth, World}
-use Rattle.fhir_fp_eval.specs.Meaning.{◌>>=◌, Found, den, asked, kept, filtered_by, is_empty, verdict}
+use Rattle.fhir_fp_eval.specs.Meaning.{◌>>=◌, Found, den, criteria_hold, values_where, filtered_by, is_empty, verdict}
 
 kept_step : (r : Result Bool EvalFault) (s : Found) (v : Plain) (us fs : List Plain) → ((ws : List Plain) → s ≡ Ok ws → ws ≡ fs)
     → (r >>= λ b. (s >>= λ ws. Ok (if b then v ∷ ws else ws))) ≡ Ok us → us ≡ cond (verdict r) (v ∷ fs) fs
@@ -16,10 +16,10 @@ kept_step (Ok false) (Ok ws) v us fs same h = let e : ws ≡ us = cc in sym e �
 kept_step (Ok b) (Err e) v us fs same h = absurd cc
 kept_step (Err e) s v us fs same h = absurd cc
 
-kept_filter : (c : Plain → Found) (vs us : List Plain) → kept c vs ≡ Ok us → us ≡ filter (λ v. verdict (asked c v)) vs
-unfolding kept
+kept_filter : (c : Plain → Found) (vs us : List Plain) → values_where c vs ≡ Ok us → us ≡ filter (λ v. verdict (criteria_hold c v)) vs
+unfolding values_where
 kept_filter c [] us h = let e : [] ≡ us = cc in sym e
-kept_filter c (v ∷ vs) us h = kept_step (asked c v) (kept c vs) v us (filter (λ v. verdict (asked c v)) vs) (kept_filter c vs) h
+kept_filter c (v ∷ vs) us h = kept_step (criteria_hold c v) (values_where c vs) v us (filter (λ v. verdict (criteria_hold c v)) vs) (kept_filter c vs) h
 
 any_step : (b : Bool) (v : Plain) (us : List Plain) → not (is_empty (cond b (v ∷ us) us)) ≡ (b || not (is_empty us))
 any_step true v us = refl
@@ -53,19 +53,19 @@ given_step (Ok xs) (Err e) vs us f is h = absurd cc
 given_step (Err e) s vs us f is h = absurd cc
 
 module _ (w : World) (a c : Expression) (x : Plain) (vs us : List Plain) (is : den w a x ≡ Ok vs) where
-  given : (f : Filter) → den w (filtered f a c) x ≡ Ok us → us ≡ filtered_by f vs (filter (λ v. verdict (asked (den w c) v)) vs)
+  given : (f : Filter) → den w (filtered f a c) x ≡ Ok us → us ≡ filtered_by f vs (filter (λ v. verdict (criteria_hold (den w c) v)) vs)
   unfolding den
   given f h =
-      let here : (kept (den w c) vs >>= λ ws. Ok (filtered_by f vs ws)) ≡ Ok us =
-      sym (ap (λ (r : Found). r >>= λ vs. (kept (den w c) vs >>= λ ws. Ok (filtered_by f vs ws))) is) ∙ h in
-      let p = given_step (Ok vs) (kept (den w c) vs) vs us f refl here in
+      let here : (values_where (den w c) vs >>= λ ws. Ok (filtered_by f vs ws)) ≡ Ok us =
+      sym (ap (λ (r : Found). r >>= λ vs. (values_where (den w c) vs >>= λ ws. Ok (filtered_by f vs ws))) is) ∙ h in
+      let p = given_step (Ok vs) (values_where (den w c) vs) vs us f refl here in
       p.2 ∙ ap (filtered_by f vs) (kept_filter (den w c) vs p.0 p.1)
 
-  pub where_keeps : den w (filtered Where a c) x ≡ Ok us → us ≡ filter (λ v. verdict (asked (den w c) v)) vs
+  pub where_keeps : den w (filtered Where a c) x ≡ Ok us → us ≡ filter (λ v. verdict (criteria_hold (den w c) v)) vs
   where_keeps h = given Where h
 
-  pub exists_any : den w (filtered Exists a c) x ≡ Ok us → us ≡ truth (list_any (λ v. verdict (asked (den w c) v)) vs) ∷ []
-  exists_any h = given Exists h ∙ ap (λ (b : Bool). truth b ∷ []) (any_kept (λ v. verdict (asked (den w c) v)) vs)
+  pub exists_any : den w (filtered Exists a c) x ≡ Ok us → us ≡ truth (list_any (λ v. verdict (criteria_hold (den w c) v)) vs) ∷ []
+  exists_any h = given Exists h ∙ ap (λ (b : Bool). truth b ∷ []) (any_kept (λ v. verdict (criteria_hold (den w c) v)) vs)
 
-  pub all_each : den w (filtered All a c) x ≡ Ok us → us ≡ truth (list_all (λ v. verdict (asked (den w c) v)) vs) ∷ []
-  all_each h = given All h ∙ ap (λ (b : Bool). truth b ∷ []) (all_kept (λ v. verdict (asked (den w c) v)) vs)
+  pub all_each : den w (filtered All a c) x ≡ Ok us → us ≡ truth (list_all (λ v. verdict (criteria_hold (den w c) v)) vs) ∷ []
+  all_each h = given All h ∙ ap (λ (b : Bool). truth b ∷ []) (all_kept (λ v. verdict (criteria_hold (den w c) v)) vs)

@@ -3,7 +3,7 @@ use Rattle.std.proofs.Common.{◌≡◌, ℕ, suc, ◌+◌, ◌<◌, ◌≤◌, 
 use Rattle.fhir_instance.specs.Items.{Item, item, Kids, no_kids, kid, type_of, kids_of, kids_in}
 use Rattle.fhir_instance.specs.declared.typed.Kid.{Kid}
 use Rattle.fhir_instance.specs.View.{named_of, named_in}
-use Rattle.fhir_fp_eval.specs.Values.{item_content}
+use Rattle.fhir_fp_eval.specs.Values.{item_value}
 use Rattle.fhir_fp_eval.specs.Equality.{same_said, if_same, equal, equal_kids}
 use Rattle.fhir_fp_eval.specs.Meaning.{descendants, descendants_in}
 
@@ -22,7 +22,7 @@ pub descendants_out : (x : Item) → descendants x ≡ descendants_in (kids_of x
 descendants_out (item type json ks) = refl
 
 pub equal_out : (x y : Item)
-    → equal x y ≡ same_said (item_content x) (item_content y) (if_same (type_of x) (type_of y) (equal_kids (kids_of x) (kids_of y)))
+    → equal x y ≡ same_said (item_value x) (item_value y) (if_same (type_of x) (type_of y) (equal_kids (kids_of x) (kids_of y)))
 equal_out (item a v ks) (item b w ls) = refl
 
 -- a child isn't higher than all children together

@@ -7,7 +7,7 @@ use Rattle.fhir_fp_eval.specs.declared.value.Value.{Value}
 use Rattle.fhir_fp_eval.specs.Faults.{is_no_memory}
 use Rattle.fhir_fp_eval.specs.Values.{Plain}
 use Rattle.fhir_fp_eval.specs.Views.{plain_of, plains_of}
-use Rattle.fhir_fp_eval.specs.Meaning.{◌>>=◌, Found, asked, kept, with_next}
+use Rattle.fhir_fp_eval.specs.Meaning.{◌>>=◌, Found, criteria_hold, values_where, with_next}
 
 -- what was kept before, and then the rest
 abbrev pub in_front : List Plain → Found → Found
@@ -28,21 +28,21 @@ next false front v (Ok ws) = refl
 next b front v (Err e) = refl
 
 module _ (c : Plain → Found) (vs : List Value) (i : ℕ) (x : Value) (below : i < length vs) (is : x ≡ get_or vs i x) (whole : Found) (front : List Plain)
-    (so_far : in_front front (kept c (plains_of (drop i vs))) ≡ whole) where
-  opened : whole ≡ (asked c (plain_of x) >>= λ b. in_front front (kept c (plains_of (drop (i + 1) vs)) >>= λ ws. Ok (cond b (plain_of x ∷ ws) ws)))
-  unfolding kept
+    (so_far : in_front front (values_where c (plains_of (drop i vs))) ≡ whole) where
+  opened : whole ≡ (criteria_hold c (plain_of x) >>= λ b. in_front front (values_where c (plains_of (drop (i + 1) vs)) >>= λ ws. Ok (cond b (plain_of x ∷ ws) ws)))
+  unfolding values_where
   opened =
       let now : plains_of (drop i vs) ≡ plain_of x ∷ plains_of (drop (i + 1) vs) = ap plains_of (drop_more vs i x below) ∙ ap (λ (y : Value). plain_of y ∷ plains_of (drop (i + 1) vs)) (sym is) in
-      sym so_far ∙ ap (λ us. in_front front (kept c us)) now ∙ bind_bind (asked c (plain_of x)) _ _
+      sym so_far ∙ ap (λ us. in_front front (values_where c us)) now ∙ bind_bind (criteria_hold c (plain_of x)) _ _
 
-  pub kept_fails : (e : EvalFault) → IsFault (is_no_memory e) e (asked c (plain_of x)) → IsFault (is_no_memory e) e whole
-  kept_fails e h = fault_bind (is_no_memory e) e (asked c (plain_of x)) _ whole opened h
+  pub kept_fails : (e : EvalFault) → IsFault (is_no_memory e) e (criteria_hold c (plain_of x)) → IsFault (is_no_memory e) e whole
+  kept_fails e h = fault_bind (is_no_memory e) e (criteria_hold c (plain_of x)) _ whole opened h
 
-  pub kept_goes : (b : Bool) → asked c (plain_of x) ≡ Ok b → in_front (with_next b front (plain_of x)) (kept c (plains_of (drop (i + 1) vs))) ≡ whole
+  pub kept_goes : (b : Bool) → criteria_hold c (plain_of x) ≡ Ok b → in_front (with_next b front (plain_of x)) (values_where c (plains_of (drop (i + 1) vs))) ≡ whole
   kept_goes b h =
-      sym (opened ∙ ap (λ (r : Result Bool EvalFault). r >>= (λ b. in_front front (kept c (plains_of (drop (i + 1) vs)) >>= λ ws. Ok (cond b (plain_of x ∷ ws) ws)))) h ∙ next b front (plain_of x) (kept c (plains_of (drop (i + 1) vs))))
+      sym (opened ∙ ap (λ (r : Result Bool EvalFault). r >>= (λ b. in_front front (values_where c (plains_of (drop (i + 1) vs)) >>= λ ws. Ok (cond b (plain_of x ∷ ws) ws)))) h ∙ next b front (plain_of x) (values_where c (plains_of (drop (i + 1) vs))))
 
-pub kept_ends : (c : Plain → Found) (vs : List Value) (i : ℕ) (whole : Found) (front : List Plain) → length vs ≤ i → in_front front (kept c (plains_of (drop i vs))) ≡ whole → whole ≡ Ok front
-unfolding kept
+pub kept_ends : (c : Plain → Found) (vs : List Value) (i : ℕ) (whole : Found) (front : List Plain) → length vs ≤ i → in_front front (values_where c (plains_of (drop i vs))) ≡ whole → whole ≡ Ok front
+unfolding values_where
 kept_ends c vs i whole front h so_far =
-    sym so_far ∙ ap (λ (us : List Value). in_front front (kept c (plains_of us))) (drop_all i vs h) ∙ ap (λ (us : List Plain). Ok us) (append-nil front)
+    sym so_far ∙ ap (λ (us : List Value). in_front front (values_where c (plains_of us))) (drop_all i vs h) ∙ ap (λ (us : List Plain). Ok us) (append-nil front)

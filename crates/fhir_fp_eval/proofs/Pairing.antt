@@ -6,21 +6,21 @@ use Rattle.fhir_instance.specs.declared.typed.Kid.{Kid}
 use Rattle.fhir_instance.specs.View.{named_in}
 use Rattle.fhir_fp_eval.specs.declared.value.Value.{Value}
 use Rattle.fhir_fp_eval.specs.Views.{plains_of}
-use Rattle.fhir_fp_eval.specs.Equality.{Answer, kleene_and, equal_kids, pairs}
+use Rattle.fhir_fp_eval.specs.Equality.{Kleene, kleene_and, equal_kids, pairs}
 
-and_false : (p : Answer) → kleene_and p (Some false) ≡ Some false
+and_false : (p : Kleene) → kleene_and p (Some false) ≡ Some false
 and_false None = refl
 and_false (Some true) = refl
 and_false (Some false) = refl
 
 -- something is left on the right
-pub kids_left : (all : Answer) (xs ys : List Kid) (i : ℕ) (whole : Answer) → length xs ≤ i → 0 < length ys
+pub kids_left : (all : Kleene) (xs ys : List Kid) (i : ℕ) (whole : Kleene) → length xs ≤ i → 0 < length ys
     → kleene_and all (equal_kids (kids_in (named_in (drop i xs))) (kids_in (named_in ys))) ≡ whole → Some false ≡ whole
 kids_left all xs [] i whole done some is = absurd (omega arith)
 kids_left all xs (y ∷ ys) i whole done some is =
     sym (and_false all) ∙ sym (ap (λ (zs : List Kid). kleene_and all (equal_kids (kids_in (named_in zs)) (kids_in (named_in (y ∷ ys))))) (drop_all i xs done)) ∙ is
 
-pub pairs_left : (all : Answer) (xs ys : List Value) (i : ℕ) (whole : Answer) → length xs ≤ i → 0 < length ys
+pub pairs_left : (all : Kleene) (xs ys : List Value) (i : ℕ) (whole : Kleene) → length xs ≤ i → 0 < length ys
     → kleene_and all (pairs (plains_of (drop i xs)) (plains_of ys)) ≡ whole → Some false ≡ whole
 unfolding pairs
 pairs_left all xs [] i whole done some is = absurd (omega arith)

@@ -9,7 +9,7 @@ use Rattle.fhir_fp_syntax.specs.Expression as expressions
 use Rattle.fhir_fp_eval.specs.declared.fault.EvalFault.{EvalFault}
 use Rattle.fhir_fp_eval.specs.Faults.{is_no_memory}
 use Rattle.fhir_fp_eval.specs.Values.{Plain, World}
-use Rattle.fhir_fp_eval.specs.Meaning.{◌>>=◌, Found, children_of, applied, tested, combined, kept, filtered_by, den}
+use Rattle.fhir_fp_eval.specs.Meaning.{◌>>=◌, Found, children_of, function_result, type_test_result, operator_result, values_where, filtered_by, den}
 use Rattle.fhir_fp_eval.specs.Spines.{base_of, spine, made_of, steps_of}
 
 -- ---- the steps
@@ -40,10 +40,10 @@ den_climbed w x resource = refl
 den_climbed w x context = refl
 den_climbed w x (name n) = refl
 den_climbed w x (child a n) = ap (λ (r : Found). r >>= λ vs. Ok (children_of n vs)) (den_climbed w x a)
-den_climbed w x (call f a) = ap (λ (r : Found). r >>= λ vs. applied f vs) (den_climbed w x a)
-den_climbed w x (typed f a t) = ap (λ (r : Found). r >>= λ vs. tested w.schema f t vs) (den_climbed w x a)
-den_climbed w x (filtered f a c) = ap (λ (r : Found). r >>= λ vs. (kept (den w c) vs >>= λ ws. Ok (filtered_by f vs ws))) (den_climbed w x a)
-den_climbed w x (binary op a b) = ap (λ (r : Found). r >>= λ vs. (den w b x >>= λ ws. combined w.schema op vs ws)) (den_climbed w x a)
+den_climbed w x (call f a) = ap (λ (r : Found). r >>= λ vs. function_result f vs) (den_climbed w x a)
+den_climbed w x (typed f a t) = ap (λ (r : Found). r >>= λ vs. type_test_result w.schema f t vs) (den_climbed w x a)
+den_climbed w x (filtered f a c) = ap (λ (r : Found). r >>= λ vs. (values_where (den w c) vs >>= λ ws. Ok (filtered_by f vs ws))) (den_climbed w x a)
+den_climbed w x (binary op a b) = ap (λ (r : Found). r >>= λ vs. (den w b x >>= λ ws. operator_result w.schema op vs ws)) (den_climbed w x a)
 
 pub climbed_last : (w : World) (x : Plain) (es : List Expression) (e : Expression) (r : Found) → climbed w x (es ++ e ∷ []) r ≡ climbed w x es (r >>= made_of w x e)
 climbed_last w x [] e r = refl

@@ -13,7 +13,7 @@ use Rattle.fhir_schema.specs.Covers.{derives}
 use Rattle.fhir_instance.specs.Items.{Item, Kids, no_kids, kid, type_of, kids_of}
 use Rattle.fhir_fp_eval.specs.declared.fault.EvalFault.{EvalFault}
 use Rattle.fhir_fp_eval.specs.declared.fault.EvalFault.TheVariants.{Kind}
-use Rattle.fhir_fp_eval.specs.Values.{Plain, node, Content, number_of, string_of, moment_of, time_of, item_content, content}
+use Rattle.fhir_fp_eval.specs.Values.{Plain, node, SystemValue, number_of, string_of, moment_of, time_of, item_value, system_value}
 use Rattle.fhir_fp_eval.specs.Equality.{equal, is_yes}
 
 -- an order, none where two values of one kind have none, or a fault
@@ -21,14 +21,14 @@ abbrev pub Compared : Type 0
 Compared = Result (Option Ordering) EvalFault
 
 -- numbers by value, strings by their bytes, moments and times of day as far as they have an order
-abbrev pub content_order : Content → Content → Compared
-content_order (number_of a) (number_of b) = Ok (Some (value_order a b))
-content_order (string_of a) (string_of b) = Ok (Some (slice_cmp nat_cmp a b))
-content_order (moment_of a) (moment_of b) = Ok (moment_order a b)
-content_order (moment_of a) (time_of b) = Ok None
-content_order (time_of a) (moment_of b) = Ok None
-content_order (time_of a) (time_of b) = Ok (moment_order a b)
-content_order _ _ = Err Kind
+abbrev pub system_value_order : SystemValue → SystemValue → Compared
+system_value_order (number_of a) (number_of b) = Ok (Some (value_order a b))
+system_value_order (string_of a) (string_of b) = Ok (Some (slice_cmp nat_cmp a b))
+system_value_order (moment_of a) (moment_of b) = Ok (moment_order a b)
+system_value_order (moment_of a) (time_of b) = Ok None
+system_value_order (time_of a) (moment_of b) = Ok None
+system_value_order (time_of a) (time_of b) = Ok (moment_order a b)
+system_value_order _ _ = Err Kind
 
 -- ---- quantities (FHIR R4, Data Types, Quantity; FHIRPath N1, section 6.2)
 
@@ -39,13 +39,13 @@ first_named name (kid n x ks) = if bytes_eq n name then Some x else first_named 
 abbrev pub child : Text → Item → Option Item
 child name x = first_named name (kids_of x)
 
-abbrev pub number_in : Content → Option Value
+abbrev pub number_in : SystemValue → Option Value
 number_in (number_of v) = Some v
 number_in _ = None
 
 -- the number of its child `value`
 abbrev pub amount : Item → Option Value
-amount x = option_and_then (λ y. option_and_then number_in (item_content y)) (child (codes "value") x)
+amount x = option_and_then (λ y. option_and_then number_in (item_value y)) (child (codes "value") x)
 
 abbrev pub both_or_none : Option Item → Option Item → Bool
 both_or_none (Some x) (Some y) = is_yes (equal x y)
@@ -76,8 +76,8 @@ item_order s x y = if is_quantity s x && is_quantity s y then Ok (quantity_order
 -- ---- two values
 
 -- where neither says anything, this other order
-abbrev pub order_said : Option Content → Option Content → Compared → Compared
-order_said (Some a) (Some b) otherwise = content_order a b
+abbrev pub order_said : Option SystemValue → Option SystemValue → Compared → Compared
+order_said (Some a) (Some b) otherwise = system_value_order a b
 order_said (Some a) None otherwise = Err Kind
 order_said None (Some b) otherwise = Err Kind
 order_said None None otherwise = otherwise
@@ -88,4 +88,4 @@ node_order s _ _ = Err Kind
 
 -- values have an order by what they say, and quantities by their parts
 unfoldable pub order_of : SchemaValue → Plain → Plain → Compared
-order_of s x y = order_said (content x) (content y) (node_order s x y)
+order_of s x y = order_said (system_value x) (system_value y) (node_order s x y)

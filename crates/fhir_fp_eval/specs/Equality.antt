@@ -8,39 +8,39 @@ use Rattle.fhir_json.specs.Tree.{Text}
 use Rattle.fhir_decimal.specs.Value.{is_same_value}
 use Rattle.fhir_prims.specs.Order.{moment_order}
 use Rattle.fhir_instance.specs.Items.{Item, item, Kids, no_kids, kid}
-use Rattle.fhir_fp_eval.specs.Values.{Plain, node, Content, boolean_of, number_of, string_of, moment_of, time_of, item_content, content}
+use Rattle.fhir_fp_eval.specs.Values.{Plain, node, SystemValue, boolean_of, number_of, string_of, moment_of, time_of, item_value, system_value}
 
 -- a truth, or undecided
-abbrev pub Answer : Type 0
-Answer = Option Bool
+abbrev pub Kleene : Type 0
+Kleene = Option Bool
 
-abbrev pub kleene_and : Answer → Answer → Answer
+abbrev pub kleene_and : Kleene → Kleene → Kleene
 kleene_and (Some false) q = Some false
 kleene_and (Some true) q = q
 kleene_and None (Some false) = Some false
 kleene_and None (Some true) = None
 kleene_and None None = None
 
-abbrev pub kleene_or : Answer → Answer → Answer
+abbrev pub kleene_or : Kleene → Kleene → Kleene
 kleene_or (Some true) q = Some true
 kleene_or (Some false) q = q
 kleene_or None (Some true) = Some true
 kleene_or None (Some false) = None
 kleene_or None None = None
 
-abbrev pub kleene_not : Answer → Answer
+abbrev pub kleene_not : Kleene → Kleene
 kleene_not (Some b) = Some (not b)
 kleene_not None = None
 
-abbrev pub kleene_xor : Answer → Answer → Answer
+abbrev pub kleene_xor : Kleene → Kleene → Kleene
 kleene_xor (Some a) (Some b) = Some (if a then not b else b)
 kleene_xor (Some a) None = None
 kleene_xor None q = None
 
-abbrev pub kleene_implies : Answer → Answer → Answer
+abbrev pub kleene_implies : Kleene → Kleene → Kleene
 kleene_implies p q = kleene_or (kleene_not p) q
 
-abbrev pub is_yes : Answer → Bool
+abbrev pub is_yes : Kleene → Bool
 is_yes (Some b) = b
 is_yes None = false
 
@@ -51,33 +51,33 @@ same_truth true b = b
 same_truth false b = not b
 
 -- Numbers are equal by value, and moments as far as their order decides. What differs in kind is not equal.
-abbrev pub same_content : Content → Content → Answer
-same_content (boolean_of a) (boolean_of b) = Some (same_truth a b)
-same_content (number_of a) (number_of b) = Some (is_same_value a b)
-same_content (string_of a) (string_of b) = Some (bytes_eq a b)
-same_content (moment_of a) (moment_of b) = option_map is_eq (moment_order a b)
-same_content (time_of a) (time_of b) = option_map is_eq (moment_order a b)
-same_content _ _ = Some false
+abbrev pub same_system_value : SystemValue → SystemValue → Kleene
+same_system_value (boolean_of a) (boolean_of b) = Some (same_truth a b)
+same_system_value (number_of a) (number_of b) = Some (is_same_value a b)
+same_system_value (string_of a) (string_of b) = Some (bytes_eq a b)
+same_system_value (moment_of a) (moment_of b) = option_map is_eq (moment_order a b)
+same_system_value (time_of a) (time_of b) = option_map is_eq (moment_order a b)
+same_system_value _ _ = Some false
 
 -- where neither says anything, this other answer
-abbrev pub same_said : Option Content → Option Content → Answer → Answer
-same_said (Some a) (Some b) otherwise = same_content a b
+abbrev pub same_said : Option SystemValue → Option SystemValue → Kleene → Kleene
+same_said (Some a) (Some b) otherwise = same_system_value a b
 same_said (Some a) None otherwise = Some false
 same_said None (Some b) otherwise = Some false
 same_said None None otherwise = otherwise
 
 -- ---- items
 
-abbrev pub if_same : Text → Text → Answer → Answer
+abbrev pub if_same : Text → Text → Kleene → Kleene
 if_same a b otherwise = if bytes_eq a b then otherwise else Some false
 
 -- Items are equal by what they say, and where they say nothing if they are of one type, with equal children, pair by pair.
 abbrev mutual
-  pub equal : Item → Item → Answer
+  pub equal : Item → Item → Kleene
   equal (item a v ks) (item b w ls) =
-      same_said (item_content (item a v ks)) (item_content (item b w ls)) (if_same a b (equal_kids ks ls))
+      same_said (item_value (item a v ks)) (item_value (item b w ls)) (if_same a b (equal_kids ks ls))
 
-  pub equal_kids : Kids → Kids → Answer
+  pub equal_kids : Kids → Kids → Kleene
   equal_kids no_kids no_kids = Some true
   equal_kids no_kids (kid m y ls) = Some false
   equal_kids (kid n x ks) no_kids = Some false
@@ -85,21 +85,21 @@ abbrev mutual
 
 -- ---- values and lists of them
 
-abbrev pub same_node : Plain → Plain → Answer
+abbrev pub same_node : Plain → Plain → Kleene
 same_node (node x) (node y) = equal x y
 same_node _ _ = Some false
 
 -- values are equal by what they say, and items that say nothing by their parts
-unfoldable pub alike : Plain → Plain → Answer
-alike x y = same_said (content x) (content y) (same_node x y)
+unfoldable pub alike : Plain → Plain → Kleene
+alike x y = same_said (system_value x) (system_value y) (same_node x y)
 
-unfoldable pub pairs : List Plain → List Plain → Answer
+unfoldable pub pairs : List Plain → List Plain → Kleene
 pairs [] [] = Some true
 pairs [] (y ∷ ys) = Some false
 pairs (x ∷ xs) [] = Some false
 pairs (x ∷ xs) (y ∷ ys) = kleene_and (alike x y) (pairs xs ys)
 
-abbrev pub equality : List Plain → List Plain → Answer
+abbrev pub equality : List Plain → List Plain → Kleene
 equality [] ws = None
 equality (v ∷ vs) [] = None
 equality (v ∷ vs) (w ∷ ws) = pairs (v ∷ vs) (w ∷ ws)

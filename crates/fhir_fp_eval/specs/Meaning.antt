@@ -23,9 +23,9 @@ use Rattle.fhir_fp_syntax.specs.declared.expr.TypeTest.{TypeTest}
 use Rattle.fhir_fp_syntax.specs.declared.expr.TypeTest.TheVariants as tests
 use Rattle.fhir_fp_eval.specs.declared.fault.EvalFault.{EvalFault}
 use Rattle.fhir_fp_eval.specs.declared.fault.EvalFault.TheVariants.{Several, Kind}
-use Rattle.fhir_fp_eval.specs.Values.{Plain, node, truth, number, text, World, Content, boolean_of, number_of, item_content, content}
+use Rattle.fhir_fp_eval.specs.Values.{Plain, node, truth, number, text, World, SystemValue, boolean_of, number_of, item_value, system_value}
 use Rattle.fhir_fp_eval.specs.Literals.{literal_value}
-use Rattle.fhir_fp_eval.specs.Equality.{Answer, kleene_and, kleene_or, kleene_not, kleene_xor, kleene_implies, is_yes, has, equality}
+use Rattle.fhir_fp_eval.specs.Equality.{Kleene, kleene_and, kleene_or, kleene_not, kleene_xor, kleene_implies, is_yes, has, equality}
 use Rattle.fhir_fp_eval.specs.Comparing.{Compared, order_of}
 
 abbrev pub Found : Type 0
@@ -40,28 +40,28 @@ abbrev pub ◌>>=◌ : {A B : Type 0} → Result A EvalFault → (A → Result B
 -- ---- truth
 
 -- what is no boolean is true, where a boolean is wanted (FHIRPath N1, section 4.5)
-abbrev pub truth_in : Option Content → Bool
+abbrev pub truth_in : Option SystemValue → Bool
 truth_in (Some (boolean_of b)) = b
 truth_in _ = true
 
-abbrev pub truth_of : List Plain → Result Answer EvalFault
+abbrev pub truth_of : List Plain → Result Kleene EvalFault
 truth_of [] = Ok None
-truth_of (x ∷ []) = Ok (Some (truth_in (content x)))
+truth_of (x ∷ []) = Ok (Some (truth_in (system_value x)))
 truth_of (x ∷ y ∷ xs) = Err Several
 
-abbrev pub answer : Answer → List Plain
+abbrev pub answer : Kleene → List Plain
 answer None = []
 answer (Some b) = truth b ∷ []
 
 -- ---- children
 
 -- the name of a choice is written without `[x]` (FHIR R4, FHIRPath, polymorphism)
-abbrev pub spelled : Text → Text
-spelled element = if is_choice element then take (length element - 3) element else element
+abbrev pub path_name : Text → Text
+path_name element = if is_choice element then take (length element - 3) element else element
 
 abbrev pub kids_named : Text → Kids → List Item
 kids_named n no_kids = []
-kids_named n (kid m x ks) = if bytes_eq (spelled m) n then x ∷ kids_named n ks else kids_named n ks
+kids_named n (kid m x ks) = if bytes_eq (path_name m) n then x ∷ kids_named n ks else kids_named n ks
 
 abbrev pub all_kids : Kids → List Item
 all_kids no_kids = []
@@ -103,7 +103,7 @@ first_of (x ∷ xs) = x ∷ []
 
 -- one item that has the value of a primitive
 abbrev pub has_value : List Plain → Bool
-has_value (node x ∷ []) = is_some (item_content x)
+has_value (node x ∷ []) = is_some (item_value x)
 has_value vs = false
 
 -- what stands once
@@ -129,22 +129,22 @@ unfoldable pub at_from : ℕ → Value → List Plain → List Plain
 at_from n v [] = []
 at_from n v (x ∷ xs) = if is_same_value v (count n) then x ∷ [] else at_from (suc n) v xs
 
-abbrev pub at_content : Option Content → List Plain → Found
-at_content (Some (number_of v)) vs = if is_whole_value v then Ok (at_from 0 v vs) else Err Kind
-at_content _ vs = Err Kind
+abbrev pub at_system_value : Option SystemValue → List Plain → Found
+at_system_value (Some (number_of v)) vs = if is_whole_value v then Ok (at_from 0 v vs) else Err Kind
+at_system_value _ vs = Err Kind
 
-abbrev pub indexed : List Plain → List Plain → Found
-indexed vs [] = Ok []
-indexed vs (x ∷ []) = at_content (content x) vs
-indexed vs (x ∷ y ∷ xs) = Err Several
+abbrev pub at_index : List Plain → List Plain → Found
+at_index vs [] = Ok []
+at_index vs (x ∷ []) = at_system_value (system_value x) vs
+at_index vs (x ∷ y ∷ xs) = Err Several
 
 -- one value against one other
-abbrev pub compared : SchemaValue → List Plain → List Plain → Compared
-compared s [] ws = Ok None
-compared s (v ∷ vs) [] = Ok None
-compared s (v ∷ []) (w ∷ []) = order_of s v w
-compared s (v ∷ []) (w ∷ x ∷ ws) = Err Several
-compared s (v ∷ x ∷ vs) (w ∷ ws) = Err Several
+abbrev pub order_between : SchemaValue → List Plain → List Plain → Compared
+order_between s [] ws = Ok None
+order_between s (v ∷ vs) [] = Ok None
+order_between s (v ∷ []) (w ∷ []) = order_of s v w
+order_between s (v ∷ []) (w ∷ x ∷ ws) = Err Several
+order_between s (v ∷ x ∷ vs) (w ∷ ws) = Err Several
 
 -- whether the order passes the test
 abbrev pub in_order : (Ordering → Bool) → Compared → Found
@@ -152,15 +152,15 @@ in_order test r = r >>= λ o. Ok (answer (option_map test o))
 
 -- ---- functions and operators
 
-abbrev pub applied : Function → List Plain → Found
-applied functions.Exists vs = Ok (truth (not (is_empty vs)) ∷ [])
-applied functions.Empty vs = Ok (truth (is_empty vs) ∷ [])
-applied functions.Count vs = Ok (number (count (length vs)) ∷ [])
-applied functions.First vs = Ok (first_of vs)
-applied functions.Children vs = Ok (below (λ x. all_kids (kids_of x)) vs)
-applied functions.Descendants vs = Ok (below descendants vs)
-applied functions.Not vs = truth_of vs >>= λ p. Ok (answer (kleene_not p))
-applied functions.HasValue vs = Ok (truth (has_value vs) ∷ [])
+abbrev pub function_result : Function → List Plain → Found
+function_result functions.Exists vs = Ok (truth (not (is_empty vs)) ∷ [])
+function_result functions.Empty vs = Ok (truth (is_empty vs) ∷ [])
+function_result functions.Count vs = Ok (number (count (length vs)) ∷ [])
+function_result functions.First vs = Ok (first_of vs)
+function_result functions.Children vs = Ok (below (λ x. all_kids (kids_of x)) vs)
+function_result functions.Descendants vs = Ok (below descendants vs)
+function_result functions.Not vs = truth_of vs >>= λ p. Ok (answer (kleene_not p))
+function_result functions.HasValue vs = Ok (truth (has_value vs) ∷ [])
 
 -- the item's type is this one, or derives from it; a plain value is of no type
 abbrev pub of_type : SchemaValue → Text → Plain → Bool
@@ -171,43 +171,43 @@ unfoldable pub of_types : SchemaValue → Text → List Plain → List Plain
 of_types s t [] = []
 of_types s t (x ∷ xs) = if of_type s t x then x ∷ of_types s t xs else of_types s t xs
 
-abbrev pub tested : SchemaValue → TypeTest → Text → List Plain → Found
-tested s tests.OfType t vs = Ok (of_types s t vs)
-tested s f t [] = Ok []
-tested s tests.Is t (x ∷ []) = Ok (truth (of_type s t x) ∷ [])
-tested s tests.As t (x ∷ []) = Ok (of_types s t (x ∷ []))
-tested s f t (x ∷ y ∷ xs) = Err Several
+abbrev pub type_test_result : SchemaValue → TypeTest → Text → List Plain → Found
+type_test_result s tests.OfType t vs = Ok (of_types s t vs)
+type_test_result s f t [] = Ok []
+type_test_result s tests.Is t (x ∷ []) = Ok (truth (of_type s t x) ∷ [])
+type_test_result s tests.As t (x ∷ []) = Ok (of_types s t (x ∷ []))
+type_test_result s f t (x ∷ y ∷ xs) = Err Several
 
-abbrev pub of_truths : (Answer → Answer → Answer) → List Plain → List Plain → Found
+abbrev pub of_truths : (Kleene → Kleene → Kleene) → List Plain → List Plain → Found
 of_truths f vs ws = truth_of vs >>= λ p. (truth_of ws >>= λ q. Ok (answer (f p q)))
 
-abbrev pub combined : SchemaValue → Operator → List Plain → List Plain → Found
-combined s operators.Index vs ws = indexed vs ws
-combined s operators.Intersect vs ws = Ok (shared ws [] vs)
-combined s operators.Union vs ws = Ok (joined (joined [] vs) ws)
-combined s operators.Less vs ws = in_order is_lt (compared s vs ws)
-combined s operators.LessOrEqual vs ws = in_order is_le (compared s vs ws)
-combined s operators.Greater vs ws = in_order is_gt (compared s vs ws)
-combined s operators.GreaterOrEqual vs ws = in_order is_ge (compared s vs ws)
-combined s operators.Equal vs ws = Ok (answer (equality vs ws))
-combined s operators.NotEqual vs ws = Ok (answer (kleene_not (equality vs ws)))
-combined s operators.In vs ws = member_of vs ws
-combined s operators.Contains vs ws = member_of ws vs
-combined s operators.And vs ws = of_truths kleene_and vs ws
-combined s operators.Or vs ws = of_truths kleene_or vs ws
-combined s operators.Xor vs ws = of_truths kleene_xor vs ws
-combined s operators.Implies vs ws = of_truths kleene_implies vs ws
+abbrev pub operator_result : SchemaValue → Operator → List Plain → List Plain → Found
+operator_result s operators.Index vs ws = at_index vs ws
+operator_result s operators.Intersect vs ws = Ok (shared ws [] vs)
+operator_result s operators.Union vs ws = Ok (joined (joined [] vs) ws)
+operator_result s operators.Less vs ws = in_order is_lt (order_between s vs ws)
+operator_result s operators.LessOrEqual vs ws = in_order is_le (order_between s vs ws)
+operator_result s operators.Greater vs ws = in_order is_gt (order_between s vs ws)
+operator_result s operators.GreaterOrEqual vs ws = in_order is_ge (order_between s vs ws)
+operator_result s operators.Equal vs ws = Ok (answer (equality vs ws))
+operator_result s operators.NotEqual vs ws = Ok (answer (kleene_not (equality vs ws)))
+operator_result s operators.In vs ws = member_of vs ws
+operator_result s operators.Contains vs ws = member_of ws vs
+operator_result s operators.And vs ws = of_truths kleene_and vs ws
+operator_result s operators.Or vs ws = of_truths kleene_or vs ws
+operator_result s operators.Xor vs ws = of_truths kleene_xor vs ws
+operator_result s operators.Implies vs ws = of_truths kleene_implies vs ws
 
 -- ---- what is evaluated for each value
 
 -- whether c is true of the value
-abbrev pub asked : (Plain → Found) → Plain → Result Bool EvalFault
-asked c v = c v >>= λ r. (truth_of r >>= λ p. Ok (is_yes p))
+abbrev pub criteria_hold : (Plain → Found) → Plain → Result Bool EvalFault
+criteria_hold c v = c v >>= λ r. (truth_of r >>= λ p. Ok (is_yes p))
 
 -- the values of which c is true
-unfoldable pub kept : (Plain → Found) → List Plain → Found
-kept c [] = Ok []
-kept c (v ∷ vs) = asked c v >>= λ b. (kept c vs >>= λ ws. Ok (if b then v ∷ ws else ws))
+unfoldable pub values_where : (Plain → Found) → List Plain → Found
+values_where c [] = Ok []
+values_where c (v ∷ vs) = criteria_hold c v >>= λ b. (values_where c vs >>= λ ws. Ok (if b then v ∷ ws else ws))
 
 -- one value more, if the criteria are true of it
 abbrev pub with_next : Bool → List Plain → Plain → List Plain
@@ -233,10 +233,10 @@ den w resource x = Ok (node w.resource ∷ [])
 den w context x = Ok (node w.context ∷ [])
 den w (name n) x = Ok (starts w.schema n x)
 den w (child a n) x = den w a x >>= λ vs. Ok (children_of n vs)
-den w (call f a) x = den w a x >>= λ vs. applied f vs
-den w (typed f a t) x = den w a x >>= λ vs. tested w.schema f t vs
-den w (filtered f a c) x = den w a x >>= λ vs. (kept (den w c) vs >>= λ ws. Ok (filtered_by f vs ws))
-den w (binary op a b) x = den w a x >>= λ vs. (den w b x >>= λ ws. combined w.schema op vs ws)
+den w (call f a) x = den w a x >>= λ vs. function_result f vs
+den w (typed f a t) x = den w a x >>= λ vs. type_test_result w.schema f t vs
+den w (filtered f a c) x = den w a x >>= λ vs. (values_where (den w c) vs >>= λ ws. Ok (filtered_by f vs ws))
+den w (binary op a b) x = den w a x >>= λ vs. (den w b x >>= λ ws. operator_result w.schema op vs ws)
 
 -- a fault isn't true
 abbrev pub verdict : Result Bool EvalFault → Bool
@@ -245,4 +245,4 @@ verdict (Err e) = false
 
 -- the truth of what the expression gives at the item is true
 unfoldable pub is_true : World → Expression → Item → Bool
-is_true w e x = verdict (asked (den w e) (node x))
+is_true w e x = verdict (criteria_hold (den w e) (node x))

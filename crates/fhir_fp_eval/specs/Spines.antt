@@ -4,7 +4,7 @@ use Rattle.std.specs.Borrow.{Bor}
 use Rattle.fhir_fp_syntax.specs.declared.expr.Expr.{Expr}
 use Rattle.fhir_fp_syntax.specs.Expression.{Expression, child, call, typed, filtered, binary, expression_of}
 use Rattle.fhir_fp_eval.specs.Values.{Plain, World}
-use Rattle.fhir_fp_eval.specs.Meaning.{◌>>=◌, Found, children_of, applied, tested, combined, kept, filtered_by, den}
+use Rattle.fhir_fp_eval.specs.Meaning.{◌>>=◌, Found, children_of, function_result, type_test_result, operator_result, values_where, filtered_by, den}
 
 -- the first operand
 abbrev pub base_of : Expression → Option Expression
@@ -27,10 +27,10 @@ spine e = e ∷ []
 -- what the expression makes of its first operand's values; without a first operand, what it gives
 abbrev pub made_of : World → Plain → Expression → List Plain → Found
 made_of w x (child a n) vs = Ok (children_of n vs)
-made_of w x (call f a) vs = applied f vs
-made_of w x (typed f a t) vs = tested w.schema f t vs
-made_of w x (filtered f a c) vs = kept (den w c) vs >>= λ ws. Ok (filtered_by f vs ws)
-made_of w x (binary op a b) vs = den w b x >>= λ ws. combined w.schema op vs ws
+made_of w x (call f a) vs = function_result f vs
+made_of w x (typed f a t) vs = type_test_result w.schema f t vs
+made_of w x (filtered f a c) vs = values_where (den w c) vs >>= λ ws. Ok (filtered_by f vs ws)
+made_of w x (binary op a b) vs = den w b x >>= λ ws. operator_result w.schema op vs ws
 made_of w x e vs = den w e x
 
 abbrev pub steps_of : List (Bor Expr) → List Expression

@@ -27,13 +27,13 @@ pub record World : Type 0 where
 
 -- ---- what a value says, apart from where it stands
 
-pub data Content : Type 0 where
-  boolean_of : Bool → Content
-  number_of : Value → Content
-  string_of : Text → Content
+pub data SystemValue : Type 0 where
+  boolean_of : Bool → SystemValue
+  number_of : Value → SystemValue
+  string_of : Text → SystemValue
   -- a date or a moment, and a time of day
-  moment_of : Fields → Content
-  time_of : Fields → Content
+  moment_of : Fields → SystemValue
+  time_of : Fields → SystemValue
 
 -- the types whose items are moments (FHIR R4, Data Types, date, dateTime, instant)
 abbrev pub is_moment_type : Text → Bool
@@ -41,25 +41,25 @@ is_moment_type type =
     bytes_eq type (codes "date") || (bytes_eq type (codes "dateTime") || bytes_eq type (codes "instant"))
 
 -- what the text of a type says
-abbrev pub text_content : Text → Text → Option Content
-text_content type s =
+abbrev pub text_value : Text → Text → Option SystemValue
+text_value type s =
     if is_moment_type type then option_map moment_of (fields_of s)
     else (if bytes_eq type (codes "time") then option_map time_of (fields_of s) else Some (string_of s))
 
-abbrev pub json_content : Text → Tree → Option Content
-json_content type null = None
-json_content type (boolean b) = Some (boolean_of b)
-json_content type (number_text s) = option_map (λ p. number_of (value_of p)) (parts s)
-json_content type (string s) = text_content type s
-json_content type (array ts) = None
-json_content type (object ms) = None
+abbrev pub json_value : Text → Tree → Option SystemValue
+json_value type null = None
+json_value type (boolean b) = Some (boolean_of b)
+json_value type (number_text s) = option_map (λ p. number_of (value_of p)) (parts s)
+json_value type (string s) = text_value type s
+json_value type (array ts) = None
+json_value type (object ms) = None
 
 -- what an item says: the value of a primitive. The others say nothing by themselves
-abbrev pub item_content : Item → Option Content
-item_content x = option_and_then (json_content (type_of x)) (json_of x)
+abbrev pub item_value : Item → Option SystemValue
+item_value x = option_and_then (json_value (type_of x)) (json_of x)
 
-abbrev pub content : Plain → Option Content
-content (node x) = item_content x
-content (truth b) = Some (boolean_of b)
-content (number v) = Some (number_of v)
-content (text s) = Some (string_of s)
+abbrev pub system_value : Plain → Option SystemValue
+system_value (node x) = item_value x
+system_value (truth b) = Some (boolean_of b)
+system_value (number v) = Some (number_of v)
+system_value (text s) = Some (string_of s)

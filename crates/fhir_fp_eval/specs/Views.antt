@@ -6,10 +6,10 @@ use Rattle.fhir_instance.specs.View.{item_of}
 use Rattle.fhir_fp_eval.specs.declared.value.Value.{Value}
 use Rattle.fhir_fp_eval.specs.declared.value.Value.TheVariants as values
 use Rattle.fhir_fp_eval.specs.declared.value.Env.{Env}
-use Rattle.fhir_fp_eval.specs.declared.content.Content.{Content}
-use Rattle.fhir_fp_eval.specs.declared.content.Content.TheVariants as contents
+use Rattle.fhir_fp_eval.specs.declared.system_value.SystemValue.{SystemValue}
+use Rattle.fhir_fp_eval.specs.declared.system_value.SystemValue.TheVariants as contents
 use Rattle.fhir_fp_eval.specs.Values.{boolean_of, number_of, string_of, moment_of, time_of}
-use Rattle.fhir_fp_eval.specs.Values.{Content as Said}
+use Rattle.fhir_fp_eval.specs.Values.{SystemValue as Said}
 use Rattle.fhir_fp_eval.specs.Values.{Plain, node, truth, number, text, World}
 
 abbrev pub plain_of : Value → Plain
@@ -24,9 +24,9 @@ plains_of vs = map plain_of vs
 abbrev pub world_of : Env → World
 world_of e = record { schema = e.schema.now; resource = item_of e.resource.now; context = item_of e.context.now }
 
-abbrev pub content_seen : Content → Said
-content_seen (contents.Boolean b) = boolean_of b
-content_seen (contents.Number n) = number_of (number_seen n)
-content_seen (contents.Text s) = string_of s.now
-content_seen (contents.Moment m) = moment_of (fields_seen m)
-content_seen (contents.Time m) = time_of (fields_seen m)
+abbrev pub system_value_seen : SystemValue → Said
+system_value_seen (contents.Boolean b) = boolean_of b
+system_value_seen (contents.Number n) = number_of (number_seen n)
+system_value_seen (contents.Text s) = string_of s.now
+system_value_seen (contents.Moment m) = moment_of (fields_seen m)
+system_value_seen (contents.Time m) = time_of (fields_seen m)

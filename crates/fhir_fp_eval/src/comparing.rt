@@ -6,11 +6,11 @@ ghost use Rattle.fhir_decimal.specs.Numbers.{number_seen};
 ghost use Rattle.fhir_instance.specs.Items.{kids_in};
 ghost use Rattle.fhir_instance.specs.View.{item_of, named_in};
 ghost use Rattle.fhir_fp_eval.specs.Faults.{is_no_memory};
-ghost use Rattle.fhir_fp_eval.specs.Views.{plain_of, plains_of, content_seen};
-ghost use Rattle.fhir_fp_eval.specs.Comparing.{content_order, first_named, child, number_in, amount, both_or_none, same_child, same_unit, amount_order, quantity_order, is_quantity, item_order, node_order, order_of};
-ghost use Rattle.fhir_fp_eval.specs.Meaning.{compared};
+ghost use Rattle.fhir_fp_eval.specs.Views.{plain_of, plains_of, system_value_seen};
+ghost use Rattle.fhir_fp_eval.specs.Comparing.{system_value_order, first_named, child, number_in, amount, both_or_none, same_child, same_unit, amount_order, quantity_order, is_quantity, item_order, node_order, order_of};
+ghost use Rattle.fhir_fp_eval.specs.Meaning.{order_between};
 
-use crate::content::{Content, content_of, item_content};
+use crate::system_value::{SystemValue, system_value_of, item_value};
 use crate::equality::equal;
 use crate::fault::EvalFault;
 use crate::truths::is_yes;
@@ -21,16 +21,16 @@ use fhir_prims::cmp_moment;
 use fhir_schema::Schema;
 use std::cmp::Ordering;
 
-fn content_order(left: Content<'_>, right: Content<'_>) -> Result<Option<Ordering>, EvalFault>
-    ensures { GivesOr is_no_memory (λ o. o) result (content_order (content_seen left.entry) (content_seen right.entry)) }
+fn system_value_order(left: SystemValue<'_>, right: SystemValue<'_>) -> Result<Option<Ordering>, EvalFault>
+    ensures { GivesOr is_no_memory (λ o. o) result (system_value_order (system_value_seen left.entry) (system_value_seen right.entry)) }
 {
     match (left, right) {
-        (Content::Number(left), Content::Number(right)) => Ok(Some(left.cmp(&right))),
-        (Content::Text(left), Content::Text(right)) => Ok(Some(left.cmp(right))),
-        (Content::Moment(left), Content::Moment(right)) => Ok(cmp_moment(&left, &right)),
-        (Content::Moment(_), Content::Time(_)) => Ok(None),
-        (Content::Time(_), Content::Moment(_)) => Ok(None),
-        (Content::Time(left), Content::Time(right)) => Ok(cmp_moment(&left, &right)),
+        (SystemValue::Number(left), SystemValue::Number(right)) => Ok(Some(left.cmp(&right))),
+        (SystemValue::Text(left), SystemValue::Text(right)) => Ok(Some(left.cmp(right))),
+        (SystemValue::Moment(left), SystemValue::Moment(right)) => Ok(cmp_moment(&left, &right)),
+        (SystemValue::Moment(_), SystemValue::Time(_)) => Ok(None),
+        (SystemValue::Time(_), SystemValue::Moment(_)) => Ok(None),
+        (SystemValue::Time(left), SystemValue::Time(right)) => Ok(cmp_moment(&left, &right)),
         _ => Err(EvalFault::Kind),
     }
 }
@@ -52,11 +52,11 @@ fn child<'e, 'a, 'j>(item: &'e Typed<'a, 'j>, name: &str) -> Option<&'e Typed<'a
     first_named(item.kids(), name)
 }
 
-fn number_in<'e>(said: Option<Content<'e>>) -> Option<Number<'e>>
-    ensures { option_map number_seen result ≡ option_and_then number_in (option_map content_seen said.entry) }
+fn number_in<'e>(said: Option<SystemValue<'e>>) -> Option<Number<'e>>
+    ensures { option_map number_seen result ≡ option_and_then number_in (option_map system_value_seen said.entry) }
 {
     match said {
-        Some(Content::Number(number)) => Some(number),
+        Some(SystemValue::Number(number)) => Some(number),
         _ => None,
     }
 }
@@ -65,7 +65,7 @@ fn amount<'e>(item: &'e Typed<'_, '_>) -> Option<Number<'e>>
     ensures { option_map number_seen result ≡ amount (item_of item.now) }
 {
     match child(item, "value") {
-        Some(value) => number_in(item_content(value)),
+        Some(value) => number_in(item_value(value)),
         None => None,
     }
 }
@@ -157,8 +157,8 @@ fn order_of(
 ) -> Result<Option<Ordering>, EvalFault>
     ensures { GivesOr is_no_memory (λ o. o) result (order_of schema.now (plain_of left.entry) (plain_of right.entry)) }
 {
-    match (content_of(left), content_of(right)) {
-        (Some(said), Some(other)) => content_order(said, other),
+    match (system_value_of(left), system_value_of(right)) {
+        (Some(said), Some(other)) => system_value_order(said, other),
         (Some(_), None) => Err(EvalFault::Kind),
         (None, Some(_)) => Err(EvalFault::Kind),
         (None, None) => node_order(schema, left, right),
@@ -166,12 +166,12 @@ fn order_of(
 }
 
 /// The order of the one value of the left and that of the right; none where a side is empty.
-pub(crate) fn compared(
+pub(crate) fn order_between(
     schema: &Schema,
     left: &[Value<'_, '_, '_>],
     right: &[Value<'_, '_, '_>],
 ) -> Result<Option<Ordering>, EvalFault>
-    ensures { GivesOr is_no_memory (λ o. o) result (compared schema.now (plains_of left.now) (plains_of right.now)) }
+    ensures { GivesOr is_no_memory (λ o. o) result (order_between schema.now (plains_of left.now) (plains_of right.now)) }
 {
     match (left, right) {
         ([], _) => Ok(None),

@@ -6,10 +6,10 @@ ghost use Rattle.fhir_prims.specs.Order.{moment_order};
 ghost use Rattle.fhir_prims.specs.Views.{fields_seen};
 ghost use Rattle.fhir_instance.specs.Items.{kids_in};
 ghost use Rattle.fhir_instance.specs.View.{item_of, named_of, named_in};
-ghost use Rattle.fhir_fp_eval.specs.Equality.{same_content, if_same, equal, equal_kids, same_node, alike, pairs, equality, has};
-ghost use Rattle.fhir_fp_eval.specs.Views.{plain_of, plains_of, content_seen};
+ghost use Rattle.fhir_fp_eval.specs.Equality.{same_system_value, if_same, equal, equal_kids, same_node, alike, pairs, equality, has};
+ghost use Rattle.fhir_fp_eval.specs.Views.{plain_of, plains_of, system_value_seen};
 
-use crate::content::{Content, content_of, item_content};
+use crate::system_value::{SystemValue, system_value_of, item_value};
 use crate::truths::{is_yes, kleene_and, same_truth};
 use crate::value::Value;
 use fhir_instance::{Kid, Typed};
@@ -24,15 +24,15 @@ fn same_moment(left: &Moment<'_>, right: &Moment<'_>) -> Option<bool>
     }
 }
 
-fn same_content(left: Content<'_>, right: Content<'_>) -> Option<bool>
-    ensures { result ≡ same_content (content_seen left.entry) (content_seen right.entry) }
+fn same_system_value(left: SystemValue<'_>, right: SystemValue<'_>) -> Option<bool>
+    ensures { result ≡ same_system_value (system_value_seen left.entry) (system_value_seen right.entry) }
 {
     match (left, right) {
-        (Content::Boolean(left), Content::Boolean(right)) => Some(same_truth(left, right)),
-        (Content::Number(left), Content::Number(right)) => Some(left.eq_value(&right)),
-        (Content::Text(left), Content::Text(right)) => Some(left == right),
-        (Content::Moment(left), Content::Moment(right)) => same_moment(&left, &right),
-        (Content::Time(left), Content::Time(right)) => same_moment(&left, &right),
+        (SystemValue::Boolean(left), SystemValue::Boolean(right)) => Some(same_truth(left, right)),
+        (SystemValue::Number(left), SystemValue::Number(right)) => Some(left.eq_value(&right)),
+        (SystemValue::Text(left), SystemValue::Text(right)) => Some(left == right),
+        (SystemValue::Moment(left), SystemValue::Moment(right)) => same_moment(&left, &right),
+        (SystemValue::Time(left), SystemValue::Time(right)) => same_moment(&left, &right),
         _ => Some(false),
     }
 }
@@ -43,8 +43,8 @@ fn same_content(left: Content<'_>, right: Content<'_>) -> Option<bool>
 pub(crate) fn equal(left: &Typed<'_, '_>, right: &Typed<'_, '_>) -> Option<bool>
     ensures { result ≡ equal (item_of left.now) (item_of right.now) }
 {
-    match (item_content(left), item_content(right)) {
-        (Some(said), Some(other)) => same_content(said, other),
+    match (item_value(left), item_value(right)) {
+        (Some(said), Some(other)) => same_system_value(said, other),
         (Some(_), None) => Some(false),
         (None, Some(_)) => Some(false),
         (None, None) => {
@@ -103,8 +103,8 @@ fn same_node(left: Value<'_, '_, '_>, right: Value<'_, '_, '_>) -> Option<bool>
 pub(crate) fn alike(left: Value<'_, '_, '_>, right: Value<'_, '_, '_>) -> Option<bool>
     ensures { result ≡ alike (plain_of left.entry) (plain_of right.entry) }
 {
-    match (content_of(left), content_of(right)) {
-        (Some(said), Some(other)) => same_content(said, other),
+    match (system_value_of(left), system_value_of(right)) {
+        (Some(said), Some(other)) => same_system_value(said, other),
         (Some(_), None) => Some(false),
         (None, Some(_)) => Some(false),
         (None, None) => same_node(left, right),

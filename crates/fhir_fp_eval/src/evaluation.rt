@@ -9,16 +9,16 @@ ghost use Rattle.fhir_fp_eval.specs.Values.{node, number};
 ghost use Rattle.fhir_fp_eval.specs.Literals.{literal_value};
 ghost use Rattle.fhir_fp_eval.specs.Faults.{is_no_memory};
 ghost use Rattle.fhir_fp_eval.specs.Views.{plain_of, plains_of, world_of};
-ghost use Rattle.fhir_fp_eval.specs.Meaning.{asked, with_next, kept, filtered_by, den, verdict, is_true};
+ghost use Rattle.fhir_fp_eval.specs.Meaning.{criteria_hold, with_next, values_where, filtered_by, den, verdict, is_true};
 ghost use Rattle.fhir_fp_eval.specs.Spines.{base_of, spine, made_of, steps_of};
 
 use crate::fault::EvalFault;
 use crate::lists::{children_of, is_empty, single};
 use crate::literals::literal;
-use crate::operators::combined;
+use crate::operators::operator_result;
 use crate::truths::{is_yes, truth_of};
 use crate::value::{Env, Value};
-use crate::words::{applied, starts, tested};
+use crate::words::{function_result, starts, type_test_result};
 use fhir_decimal::Number;
 use fhir_fp_syntax::{Expr, Filter};
 use fhir_instance::Typed;
@@ -64,14 +64,14 @@ fn keep_if<'e, 'a, 'j>(
 
 // Whether the criteria are true of the value.
 #[cycle(evaluate)]
-fn asked<'e, 'a, 'j>(
+fn criteria_hold<'e, 'a, 'j>(
     alloc: Global,
     env: &Env<'e, 'a, 'j>,
     criteria: &'e Expr,
     this: Value<'e, 'a, 'j>,
 ) -> Result<bool, EvalFault>
     ensures { GivesOr is_no_memory (λ b. b) result
-        (asked (den (world_of env.now) (expression_of criteria.now)) (plain_of this.entry)) }
+        (criteria_hold (den (world_of env.now) (expression_of criteria.now)) (plain_of this.entry)) }
 {
     let values = evaluate(alloc, env, criteria, this)?;
     Ok(is_yes(truth_of(&values)?))
@@ -79,18 +79,18 @@ fn asked<'e, 'a, 'j>(
 
 // The values of which the criteria are true. All are looked at.
 #[cycle(evaluate)]
-fn kept<'e, 'a, 'j>(
+fn values_where<'e, 'a, 'j>(
     alloc: Global,
     env: &Env<'e, 'a, 'j>,
     criteria: &'e Expr,
     values: &[Value<'e, 'a, 'j>],
 ) -> Result<Vec<Value<'e, 'a, 'j>>, EvalFault>
     ensures { GivesOr is_no_memory (λ v. plains_of v.items) result
-        (kept (den (world_of env.now) (expression_of criteria.now)) (plains_of values.now)) }
+        (values_where (den (world_of env.now) (expression_of criteria.now)) (plains_of values.now)) }
 {
     let mut found = Vec::new(alloc);
     for value in values {
-        let holds = asked(alloc, env, criteria, *value)?;
+        let holds = criteria_hold(alloc, env, criteria, *value)?;
         keep_if(&mut found, holds, *value)?;
     }
     Ok(found)
@@ -153,15 +153,15 @@ fn made_of<'e, 'a, 'j>(
         Expr::Context => single(alloc, Value::Node(env.context)),
         Expr::Name(name) => starts(alloc, env.schema, name.as_str(), this),
         Expr::Child(_, name) => children_of(alloc, name.as_str(), values),
-        Expr::Call(function, _) => applied(alloc, *function, values),
-        Expr::Typed(test, _, name) => tested(alloc, env.schema, *test, name.as_str(), values),
+        Expr::Call(function, _) => function_result(alloc, *function, values),
+        Expr::Typed(test, _, name) => type_test_result(alloc, env.schema, *test, name.as_str(), values),
         Expr::Filtered(filter, _, criteria) => {
-            let found = kept(alloc, env, criteria, values)?;
+            let found = values_where(alloc, env, criteria, values)?;
             filtered_by(alloc, *filter, values, found)
         }
         Expr::Binary(operator, _, right) => {
             let others = evaluate(alloc, env, right, this)?;
-            combined(alloc, env.schema, *operator, values, &others)
+            operator_result(alloc, env.schema, *operator, values, &others)
         }
     }
 }
@@ -218,7 +218,7 @@ fn holds_in<'e, 'a, 'j>(
         resource,
         context,
     };
-    match asked(alloc, &env, expr, Value::Node(item)) {
+    match criteria_hold(alloc, &env, expr, Value::Node(item)) {
         Ok(holds) => Ok(holds),
         Err(fault) => match fault {
             EvalFault::Several => Ok(false),

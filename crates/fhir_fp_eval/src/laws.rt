@@ -15,7 +15,7 @@ ghost use Rattle.fhir_fp_syntax.specs.declared.expr.Filter.{Filter};
 ghost use Rattle.fhir_fp_syntax.specs.declared.expr.Filter.TheVariants.{Where, Exists, All};
 ghost use Rattle.fhir_fp_eval.specs.declared.fault.EvalFault.{EvalFault};
 ghost use Rattle.fhir_fp_eval.specs.Values.{Plain, node, truth, World};
-ghost use Rattle.fhir_fp_eval.specs.Meaning.{den, asked, verdict, is_true};
+ghost use Rattle.fhir_fp_eval.specs.Meaning.{den, criteria_hold, verdict, is_true};
 ghost use Rattle.fhir_fp_eval.specs.Example.{is, none, table, truths, given_by};
 
 /// The truth tables of `and`, `or`, `xor` and `implies`, whose rows and columns are `true`, `false` and `{}`, and `not()`
@@ -50,18 +50,18 @@ pub fn faults_pass()
     ensures right { (w : World) (op : Operator) (a b : Expression) (x : Plain) (vs : List Plain) (e : EvalFault)
         → den w a x ≡ Ok vs → den w b x ≡ Err e → den w (binary op a b) x ≡ Err e }
     ensures asked { (w : World) (f : Filter) (a c : Expression) (x : Plain) (vs : List Plain) (v : Plain) (e : EvalFault)
-        → den w a x ≡ Ok vs → Contains vs v → asked (den w c) v ≡ Err e → IsErr (den w (filtered f a c) x) }
+        → den w a x ≡ Ok vs → Contains vs v → criteria_hold (den w c) v ≡ Err e → IsErr (den w (filtered f a c) x) }
 {}
 
 /// Of the values that an expression gives, `where(c)` gives those of which c is true, in their order; `exists(c)` says whether
 /// it is true of any, and `all(c)` whether of each (FHIRPath N1, sections 5.1 and 5.2). So it is where there is no fault.
 pub fn criteria()
     ensures where_true { (w : World) (a c : Expression) (x : Plain) (vs us : List Plain) → den w a x ≡ Ok vs
-        → den w (filtered Where a c) x ≡ Ok us → us ≡ filter (λ v. verdict (asked (den w c) v)) vs }
+        → den w (filtered Where a c) x ≡ Ok us → us ≡ filter (λ v. verdict (criteria_hold (den w c) v)) vs }
     ensures exists { (w : World) (a c : Expression) (x : Plain) (vs us : List Plain) → den w a x ≡ Ok vs
-        → den w (filtered Exists a c) x ≡ Ok us → us ≡ truth (list_any (λ v. verdict (asked (den w c) v)) vs) ∷ [] }
+        → den w (filtered Exists a c) x ≡ Ok us → us ≡ truth (list_any (λ v. verdict (criteria_hold (den w c) v)) vs) ∷ [] }
     ensures all { (w : World) (a c : Expression) (x : Plain) (vs us : List Plain) → den w a x ≡ Ok vs
-        → den w (filtered All a c) x ≡ Ok us → us ≡ truth (list_all (λ v. verdict (asked (den w c) v)) vs) ∷ [] }
+        → den w (filtered All a c) x ≡ Ok us → us ≡ truth (list_all (λ v. verdict (criteria_hold (den w c) v)) vs) ∷ [] }
 {}
 
 /// `a and b` is true where both are, and an expression that gives nothing, or has a fault, is not true.

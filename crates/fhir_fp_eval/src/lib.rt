@@ -30,7 +30,6 @@
 #![tactic(auto)]
 
 mod comparing;
-mod content;
 mod equality;
 mod evaluation;
 mod fault;
@@ -39,6 +38,7 @@ mod lists;
 mod literals;
 mod operators;
 mod sets;
+mod system_value;
 mod truths;
 mod value;
 mod words;

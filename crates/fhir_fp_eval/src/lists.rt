@@ -7,7 +7,7 @@ ghost use Rattle.fhir_instance.specs.View.{item_of};
 ghost use Rattle.fhir_fp_eval.specs.Faults.{is_no_memory};
 ghost use Rattle.fhir_fp_eval.specs.Values.{node};
 ghost use Rattle.fhir_fp_eval.specs.Views.{plain_of, plains_of};
-ghost use Rattle.fhir_fp_eval.specs.Meaning.{spelled, kids_named, all_kids, descendants, below, children_of, first_of, answer, is_empty};
+ghost use Rattle.fhir_fp_eval.specs.Meaning.{path_name, kids_named, all_kids, descendants, below, children_of, first_of, answer, is_empty};
 
 use crate::fault::EvalFault;
 use crate::value::Value;
@@ -38,8 +38,8 @@ pub(crate) fn answer<'e, 'a, 'j>(
 }
 
 // The name of an element in a path, which a choice has without its `[x]`.
-fn spelled(name: &str) -> &str
-    ensures { result.now ≡ spelled name.now }
+fn path_name(name: &str) -> &str
+    ensures { result.now ≡ path_name name.now }
 {
     if name.as_bytes().ends_with(b"[x]") {
         &name[..name.len() - 3]
@@ -57,7 +57,7 @@ pub(crate) fn push_children<'e, 'a, 'j>(
         ≡ plains_of out.old.items ++ map node (kids_named name.now (kids_of (item_of item.now)))) }
 {
     for kid in item.kids() {
-        if spelled(kid.name()) == name {
+        if path_name(kid.name()) == name {
             out.push(Value::Node(kid.item()))?;
         }
     }

@@ -6,16 +6,16 @@ ghost use Rattle.fhir_json.specs.Memory.{GivesOr};
 ghost use Rattle.fhir_fp_eval.specs.Equality.{kleene_and, kleene_or, kleene_xor, kleene_implies};
 ghost use Rattle.fhir_fp_eval.specs.Faults.{is_no_memory};
 ghost use Rattle.fhir_fp_eval.specs.Views.{plains_of};
-ghost use Rattle.fhir_fp_eval.specs.Meaning.{of_truths, compared, in_order, combined};
+ghost use Rattle.fhir_fp_eval.specs.Meaning.{of_truths, order_between, in_order, operator_result};
 
-use crate::comparing::compared;
+use crate::comparing::order_between;
 use crate::equality::equality;
 use crate::fault::EvalFault;
 use crate::lists::answer;
 use crate::sets::{intersection, member_of, union};
 use crate::truths::{kleene_and, kleene_implies, kleene_not, kleene_or, kleene_xor, truth_of};
 use crate::value::Value;
-use crate::words::indexed;
+use crate::words::at_index;
 use fhir_fp_syntax::Operator;
 use fhir_schema::Schema;
 use std::alloc::Global;
@@ -71,9 +71,9 @@ fn less_of<'e, 'a, 'j>(
     right: &[Value<'e, 'a, 'j>],
 ) -> Result<Vec<Value<'e, 'a, 'j>>, EvalFault>
     ensures { GivesOr is_no_memory (λ v. plains_of v.items) result
-        (in_order is_lt (compared schema.now (plains_of left.now) (plains_of right.now))) }
+        (in_order is_lt (order_between schema.now (plains_of left.now) (plains_of right.now))) }
 {
-    match compared(schema, left, right)? {
+    match order_between(schema, left, right)? {
         Some(order) => answer(alloc, Some(order.is_lt())),
         None => answer(alloc, None),
     }
@@ -86,9 +86,9 @@ fn at_most_of<'e, 'a, 'j>(
     right: &[Value<'e, 'a, 'j>],
 ) -> Result<Vec<Value<'e, 'a, 'j>>, EvalFault>
     ensures { GivesOr is_no_memory (λ v. plains_of v.items) result
-        (in_order is_le (compared schema.now (plains_of left.now) (plains_of right.now))) }
+        (in_order is_le (order_between schema.now (plains_of left.now) (plains_of right.now))) }
 {
-    match compared(schema, left, right)? {
+    match order_between(schema, left, right)? {
         Some(order) => answer(alloc, Some(order.is_le())),
         None => answer(alloc, None),
     }
@@ -101,9 +101,9 @@ fn greater_of<'e, 'a, 'j>(
     right: &[Value<'e, 'a, 'j>],
 ) -> Result<Vec<Value<'e, 'a, 'j>>, EvalFault>
     ensures { GivesOr is_no_memory (λ v. plains_of v.items) result
-        (in_order is_gt (compared schema.now (plains_of left.now) (plains_of right.now))) }
+        (in_order is_gt (order_between schema.now (plains_of left.now) (plains_of right.now))) }
 {
-    match compared(schema, left, right)? {
+    match order_between(schema, left, right)? {
         Some(order) => answer(alloc, Some(order.is_gt())),
         None => answer(alloc, None),
     }
@@ -116,16 +116,16 @@ fn at_least_of<'e, 'a, 'j>(
     right: &[Value<'e, 'a, 'j>],
 ) -> Result<Vec<Value<'e, 'a, 'j>>, EvalFault>
     ensures { GivesOr is_no_memory (λ v. plains_of v.items) result
-        (in_order is_ge (compared schema.now (plains_of left.now) (plains_of right.now))) }
+        (in_order is_ge (order_between schema.now (plains_of left.now) (plains_of right.now))) }
 {
-    match compared(schema, left, right)? {
+    match order_between(schema, left, right)? {
         Some(order) => answer(alloc, Some(order.is_ge())),
         None => answer(alloc, None),
     }
 }
 
 /// What an operator gives.
-pub(crate) fn combined<'e, 'a, 'j>(
+pub(crate) fn operator_result<'e, 'a, 'j>(
     alloc: Global,
     schema: &Schema,
     operator: Operator,
@@ -133,10 +133,10 @@ pub(crate) fn combined<'e, 'a, 'j>(
     right: &[Value<'e, 'a, 'j>],
 ) -> Result<Vec<Value<'e, 'a, 'j>>, EvalFault>
     ensures { GivesOr is_no_memory (λ v. plains_of v.items) result
-        (combined schema.now operator (plains_of left.now) (plains_of right.now)) }
+        (operator_result schema.now operator (plains_of left.now) (plains_of right.now)) }
 {
     match operator {
-        Operator::Index => indexed(alloc, left, right),
+        Operator::Index => at_index(alloc, left, right),
         Operator::Intersect => intersection(alloc, left, right),
         Operator::Union => union(alloc, left, right),
         Operator::Less => less_of(alloc, schema, left, right),

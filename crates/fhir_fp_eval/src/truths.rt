@@ -5,9 +5,9 @@ ghost use Rattle.fhir_json.specs.Memory.{GivesOr};
 ghost use Rattle.fhir_fp_eval.specs.Equality.{kleene_and, kleene_or, kleene_not, kleene_xor, kleene_implies, is_yes, same_truth};
 ghost use Rattle.fhir_fp_eval.specs.Faults.{is_no_memory};
 ghost use Rattle.fhir_fp_eval.specs.Meaning.{truth_in, truth_of};
-ghost use Rattle.fhir_fp_eval.specs.Views.{plains_of, content_seen};
+ghost use Rattle.fhir_fp_eval.specs.Views.{plains_of, system_value_seen};
 
-use crate::content::{Content, content_of};
+use crate::system_value::{SystemValue, system_value_of};
 use crate::fault::EvalFault;
 use crate::value::Value;
 
@@ -81,11 +81,11 @@ pub(crate) fn same_truth(left: bool, right: bool) -> bool
     if left { right } else { !right }
 }
 
-fn truth_in(said: Option<Content<'_>>) -> bool
-    ensures { result ≡ truth_in (option_map content_seen said.entry) }
+fn truth_in(said: Option<SystemValue<'_>>) -> bool
+    ensures { result ≡ truth_in (option_map system_value_seen said.entry) }
 {
     match said {
-        Some(Content::Boolean(flag)) => flag,
+        Some(SystemValue::Boolean(flag)) => flag,
         _ => true,
     }
 }
@@ -96,7 +96,7 @@ pub(crate) fn truth_of(values: &[Value<'_, '_, '_>]) -> Result<Option<bool>, Eva
 {
     match values {
         [] => Ok(None),
-        [value] => Ok(Some(truth_in(content_of(*value)))),
+        [value] => Ok(Some(truth_in(system_value_of(*value)))),
         _ => Err(EvalFault::Several),
     }
 }

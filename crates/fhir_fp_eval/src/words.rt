@@ -4,10 +4,10 @@ ghost use Rattle.std.specs.Prelude.{◌≡◌, ◌∷◌, [], option_map, Ok};
 ghost use Rattle.fhir_json.specs.Memory.{GivesOr};
 ghost use Rattle.fhir_decimal.specs.Numbers.{number_seen};
 ghost use Rattle.fhir_fp_eval.specs.Faults.{is_no_memory};
-ghost use Rattle.fhir_fp_eval.specs.Views.{plain_of, plains_of, content_seen};
-ghost use Rattle.fhir_fp_eval.specs.Meaning.{starts, applied, has_value, of_type, of_types, tested, at_from, at_content, indexed};
+ghost use Rattle.fhir_fp_eval.specs.Views.{plain_of, plains_of, system_value_seen};
+ghost use Rattle.fhir_fp_eval.specs.Meaning.{starts, function_result, has_value, of_type, of_types, type_test_result, at_from, at_system_value, at_index};
 
-use crate::content::{Content, content_of, item_content};
+use crate::system_value::{SystemValue, system_value_of, item_value};
 use crate::fault::EvalFault;
 use crate::lists::{
     all_children, all_descendants, answer, children_of, first_of, is_empty, single,
@@ -47,14 +47,14 @@ fn of_types<'e, 'a, 'j>(
 }
 
 /// What `ofType`, `is` and `as` give.
-pub(crate) fn tested<'e, 'a, 'j>(
+pub(crate) fn type_test_result<'e, 'a, 'j>(
     alloc: Global,
     schema: &Schema,
     test: TypeTest,
     name: &str,
     values: &[Value<'e, 'a, 'j>],
 ) -> Result<Vec<Value<'e, 'a, 'j>>, EvalFault>
-    ensures { GivesOr is_no_memory (λ v. plains_of v.items) result (tested schema.now test name.now (plains_of values.now)) }
+    ensures { GivesOr is_no_memory (λ v. plains_of v.items) result (type_test_result schema.now test name.now (plains_of values.now)) }
 {
     if let TypeTest::OfType = test {
         return of_types(alloc, schema, name, values);
@@ -94,7 +94,7 @@ fn value_has_value(value: Value<'_, '_, '_>) -> bool
     ensures { result ≡ has_value (plain_of value.entry ∷ []) }
 {
     match value {
-        Value::Node(item) => item_content(item).is_some(),
+        Value::Node(item) => item_value(item).is_some(),
         _ => false,
     }
 }
@@ -109,12 +109,12 @@ fn has_value(values: &[Value<'_, '_, '_>]) -> bool
 }
 
 /// What a function without an argument gives.
-pub(crate) fn applied<'e, 'a, 'j>(
+pub(crate) fn function_result<'e, 'a, 'j>(
     alloc: Global,
     function: Function,
     values: &[Value<'e, 'a, 'j>],
 ) -> Result<Vec<Value<'e, 'a, 'j>>, EvalFault>
-    ensures { GivesOr is_no_memory (λ v. plains_of v.items) result (applied function (plains_of values.now)) }
+    ensures { GivesOr is_no_memory (λ v. plains_of v.items) result (function_result function (plains_of values.now)) }
 {
     match function {
         Function::Exists => single(alloc, Value::Truth(!is_empty(values))),
@@ -145,16 +145,16 @@ fn at_number<'e, 'a, 'j>(
     }
 }
 
-fn at_content<'e, 'a, 'j>(
+fn at_system_value<'e, 'a, 'j>(
     alloc: Global,
-    said: Option<Content<'_>>,
+    said: Option<SystemValue<'_>>,
     values: &[Value<'e, 'a, 'j>],
 ) -> Result<Vec<Value<'e, 'a, 'j>>, EvalFault>
     ensures { GivesOr is_no_memory (λ v. plains_of v.items) result
-        (at_content (option_map content_seen said.entry) (plains_of values.now)) }
+        (at_system_value (option_map system_value_seen said.entry) (plains_of values.now)) }
 {
     match said {
-        Some(Content::Number(number)) => {
+        Some(SystemValue::Number(number)) => {
             if number.is_whole() {
                 at_number(alloc, number, values)
             } else {
@@ -166,16 +166,16 @@ fn at_content<'e, 'a, 'j>(
 }
 
 /// What `a[i]` gives.
-pub(crate) fn indexed<'e, 'a, 'j>(
+pub(crate) fn at_index<'e, 'a, 'j>(
     alloc: Global,
     values: &[Value<'e, 'a, 'j>],
     index: &[Value<'_, '_, '_>],
 ) -> Result<Vec<Value<'e, 'a, 'j>>, EvalFault>
-    ensures { GivesOr is_no_memory (λ v. plains_of v.items) result (indexed (plains_of values.now) (plains_of index.now)) }
+    ensures { GivesOr is_no_memory (λ v. plains_of v.items) result (at_index (plains_of values.now) (plains_of index.now)) }
 {
     match index {
         [] => Ok(Vec::new(alloc)),
-        [place] => at_content(alloc, content_of(*place), values),
+        [place] => at_system_value(alloc, system_value_of(*place), values),
         _ => Err(EvalFault::Several),
     }
 }

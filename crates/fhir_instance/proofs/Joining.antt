@@ -22,7 +22,7 @@ use Rattle.fhir_forms.specs.Forms.{Form, is_primitive, companion_name}
 use Rattle.fhir_schema.specs.Schemas.{SchemaValue}
 use Rattle.fhir_instance.specs.Items.{Named}
 use Rattle.fhir_instance.specs.Typing.{Frame, Value, Halves, both, joined, value_of, held_of, values_of, if_not_null, where_true, place_items, items_from, form_items, held_by, side_by_side, kids_by, is_null, under, item_with, is_known, object_kids, forms_in}
-use Rattle.fhir_instance.specs.declared.frame.Part.TheVariants as parts
+use Rattle.fhir_instance.specs.declared.role.ObjectRole.TheVariants as roles
 use Rattle.fhir_instance.specs.declared.spelled.Places.{Places}
 use Rattle.fhir_instance.specs.Found.{fields_in, value_in_hand, halves_in_hand, held_at, one_items, given, IsWithin, ArePlaces, uncompanied}
 use Rattle.fhir_instance.specs.Spelled.{place_from, places_from, are_known}
@@ -184,7 +184,7 @@ module _ (s : SchemaValue) (f : Form) where
 
 pub companion_same : (s : SchemaValue) (f : Form) (prim : PrimType) (below : Option NodeRef) (v : Option (Bor Json)) (t : Tree) (code : Text)
     (inner : Option (List Named)) → f.content ≡ Primitive prim below → code ≡ f.code → option_map_or (lexical prim) (tree_seen v) true ≡ true
-    → inner ≡ kids_by parts.Companion below (value_of s t) → under f (item_with code (tree_seen v) inner) ≡ place_items s f (given s v, Some (value_of s t))
+    → inner ≡ kids_by roles.Companion below (value_of s t) → under f (item_with code (tree_seen v) inner) ≡ place_items s f (given s v, Some (value_of s t))
 companion_same s f prim below None t code inner is code_is fits inner_is = rw (is, code_is, inner_is) refl
 companion_same s f prim below (Some j) t code inner is code_is fits inner_is = rw (is, code_is, inner_is, fits) refl
 

@@ -9,7 +9,7 @@ use Rattle.fhir_schema.specs.Schemas.{SchemaValue}
 use Rattle.fhir_instance.specs.Items.{Named}
 use Rattle.fhir_instance.specs.Typing.{Frame, is_known}
 use Rattle.fhir_instance.specs.declared.spelled.Spelled.{Spelled}
-use Rattle.fhir_instance.specs.Spelled.{count_front, meaning, spelled_at, spelled_from, are_known}
+use Rattle.fhir_instance.specs.Spelled.{count_front, property_meant, spelled_at, spelled_from, are_known}
 
 pub drop_at : {X : Type 0} (xs : List X) (i : ℕ) (x : X) → i < length xs → x ≡ get_or xs i x → drop i xs ≡ x ∷ drop (i + 1) xs
 drop_at xs i x h e = rw (add-one, drop-cons xs i x) (ap (λ y. y ∷ drop (suc i) xs) (sym e))
@@ -42,12 +42,12 @@ front : (ms : List Member) (i : ℕ) (m : Member) → i < length ms → m ≡ ge
 front ms i m h e = ap (λ (l : List Member). names (members_view l)) (drop_at ms i m h e)
 
 pub spelled_more : (s : SchemaValue) (fr : Frame) (ms : List Member) (i : ℕ) (m : Member) (old new all : List Spelled) → i < length ms → m ≡ get_or ms i m
-    → new ≡ old ++ spelled_at i (meaning s fr (property_of m).0) → old ++ spelled_from s fr i (names (members_view (drop i ms))) ≡ all
+    → new ≡ old ++ spelled_at i (property_meant s fr (property_of m).0) → old ++ spelled_from s fr i (names (members_view (drop i ms))) ≡ all
     → new ++ spelled_from s fr (i + 1) (names (members_view (drop (i + 1) ms))) ≡ all
 spelled_more s fr ms i m old new all h e is was =
     ap (λ (l : List Spelled). l ++ spelled_from s fr (i + 1) (names (members_view (drop (i + 1) ms)))) is
-    ∙ ap (λ (k : ℕ). (old ++ spelled_at i (meaning s fr (property_of m).0)) ++ spelled_from s fr k (names (members_view (drop (i + 1) ms)))) (add-one i)
-    ∙ append_assoc old (spelled_at i (meaning s fr (property_of m).0)) (spelled_from s fr (suc i) (names (members_view (drop (i + 1) ms))))
+    ∙ ap (λ (k : ℕ). (old ++ spelled_at i (property_meant s fr (property_of m).0)) ++ spelled_from s fr k (names (members_view (drop (i + 1) ms)))) (add-one i)
+    ∙ append_assoc old (spelled_at i (property_meant s fr (property_of m).0)) (spelled_from s fr (suc i) (names (members_view (drop (i + 1) ms))))
     ∙ ap (λ (ns : List Text). old ++ spelled_from s fr i ns) (sym (front ms i m h e)) ∙ was
 
 known_step : (b c : Bool) (old : Option (List Named)) → cond c (cond b old None) None ≡ cond (b && c) old None

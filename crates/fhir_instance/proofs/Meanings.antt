@@ -10,9 +10,9 @@ use Rattle.fhir_json.specs.Tree.{Text}
 use Rattle.fhir_json.specs.Sound.{is_among, differ}
 use Rattle.fhir_forms.specs.declared.form.Property.{Property}
 use Rattle.fhir_forms.specs.Forms.{Form, is_primitive, companion_name, spells, spellings_from, property_of, are_apart}
-use Rattle.fhir_instance.specs.Typing.{is_of_part}
-use Rattle.fhir_instance.specs.Spelled.{where_of_part}
-use Rattle.fhir_instance.specs.declared.frame.Part.{Part}
+use Rattle.fhir_instance.specs.Typing.{is_of_role}
+use Rattle.fhir_instance.specs.Spelled.{where_of_role}
+use Rattle.fhir_instance.specs.declared.role.ObjectRole.{ObjectRole}
 
 -- ---- texts
 
@@ -180,78 +180,78 @@ form_meant n (g ∷ fs) x p e = go (spells g x) refl (λ k. form_meant (suc n) f
         let sum : suc n + r.0 ≡ n + suc r.0 = omega arith in
         (suc r.0, r.1, r.2, r.3, r.4 ∙ ap (λ (k : ℕ). meant k r.1 x) sum)
 
--- ---- those of one part
+-- ---- those of one role
 
-of_part_at : (part : Part) (x : Text) (fs : List Form) (d : ℕ) (f : Form) → slice_get fs d ≡ Some f → is_of_part part f ≡ true → spells f x ≡ true
-    → list_any (λ g. spells g x) (filter (is_of_part part) fs) ≡ true
-of_part_at part x [] d f e q s = absurd cc
-of_part_at part x (g ∷ fs) zero f e q s =
-    let same : g ≡ f = cc in rw (ap (is_of_part part) same ∙ q, ap (λ (k : Form). spells k x) same ∙ s) refl
-of_part_at part x (g ∷ fs) (suc d) f e q s = go (is_of_part part g) refl (spells g x) refl (of_part_at part x fs d f e q s)
+of_role_at : (role : ObjectRole) (x : Text) (fs : List Form) (d : ℕ) (f : Form) → slice_get fs d ≡ Some f → is_of_role role f ≡ true → spells f x ≡ true
+    → list_any (λ g. spells g x) (filter (is_of_role role) fs) ≡ true
+of_role_at role x [] d f e q s = absurd cc
+of_role_at role x (g ∷ fs) zero f e q s =
+    let same : g ≡ f = cc in rw (ap (is_of_role role) same ∙ q, ap (λ (k : Form). spells k x) same ∙ s) refl
+of_role_at role x (g ∷ fs) (suc d) f e q s = go (is_of_role role g) refl (spells g x) refl (of_role_at role x fs d f e q s)
   where
-    go : (a : Bool) → is_of_part part g ≡ a → (b : Bool) → spells g x ≡ b → list_any (λ g. spells g x) (filter (is_of_part part) fs) ≡ true
-        → list_any (λ g. spells g x) (filter (is_of_part part) (g ∷ fs)) ≡ true
+    go : (a : Bool) → is_of_role role g ≡ a → (b : Bool) → spells g x ≡ b → list_any (λ g. spells g x) (filter (is_of_role role) fs) ≡ true
+        → list_any (λ g. spells g x) (filter (is_of_role role) (g ∷ fs)) ≡ true
     go true a_is true b_is h = rw (a_is, b_is) refl
     go true a_is false b_is h = rw (a_is, b_is) h
     go false a_is b b_is h = rw a_is h
 
-find_of_part : (part : Part) (x : Text) (fs : List Form) → list_any (λ g. spells g x) (filter (is_of_part part) fs) ≡ true
-    → (d : ℕ) × (f : Form) × (slice_get fs d ≡ Some f) × (is_of_part part f ≡ true) × (spells f x ≡ true)
-find_of_part part x [] h = absurd cc
-find_of_part part x (g ∷ fs) h = go (λ e. let r = find_of_part part x fs e in (suc r.0, r.1, r.2, r.3, r.4)) (is_of_part part g) refl (spells g x) refl
+find_of_role : (role : ObjectRole) (x : Text) (fs : List Form) → list_any (λ g. spells g x) (filter (is_of_role role) fs) ≡ true
+    → (d : ℕ) × (f : Form) × (slice_get fs d ≡ Some f) × (is_of_role role f ≡ true) × (spells f x ≡ true)
+find_of_role role x [] h = absurd cc
+find_of_role role x (g ∷ fs) h = go (λ e. let r = find_of_role role x fs e in (suc r.0, r.1, r.2, r.3, r.4)) (is_of_role role g) refl (spells g x) refl
   where
-    go : (list_any (λ g. spells g x) (filter (is_of_part part) fs) ≡ true
-        → (d : ℕ) × (f : Form) × (slice_get (g ∷ fs) d ≡ Some f) × (is_of_part part f ≡ true) × (spells f x ≡ true)) → (a : Bool) → is_of_part part g ≡ a
-        → (b : Bool) → spells g x ≡ b → (d : ℕ) × (f : Form) × (slice_get (g ∷ fs) d ≡ Some f) × (is_of_part part f ≡ true) × (spells f x ≡ true)
+    go : (list_any (λ g. spells g x) (filter (is_of_role role) fs) ≡ true
+        → (d : ℕ) × (f : Form) × (slice_get (g ∷ fs) d ≡ Some f) × (is_of_role role f ≡ true) × (spells f x ≡ true)) → (a : Bool) → is_of_role role g ≡ a
+        → (b : Bool) → spells g x ≡ b → (d : ℕ) × (f : Form) × (slice_get (g ∷ fs) d ≡ Some f) × (is_of_role role f ≡ true) × (spells f x ≡ true)
     go later true a_is true b_is = (0, g, refl, a_is, b_is)
     go later true a_is false b_is = later (rw (a_is, b_is) at h)
     go later false a_is b b_is = later (rw a_is at h)
 
--- a form of the part means the names that it spells
-pub part_means : (part : Part) (fs : List Form) (x : Text) (d : ℕ) (f : Form) → IsTrue (are_apart fs) → slice_get fs d ≡ Some f → is_of_part part f ≡ true
-    → spells f x ≡ true → option_and_then (where_of_part part fs) (property_of fs x) ≡ Some (meant d f x)
-part_means part fs x d f h e q s =
+-- a form of the role means the names that it spells
+pub role_means : (role : ObjectRole) (fs : List Form) (x : Text) (d : ℕ) (f : Form) → IsTrue (are_apart fs) → slice_get fs d ≡ Some f → is_of_role role f ≡ true
+    → spells f x ≡ true → option_and_then (where_of_role role fs) (property_of fs x) ≡ Some (meant d f x)
+role_means role fs x d f h e q s =
     let sum : 0 + d ≡ d = omega arith in
     let found = means_form 0 fs x d f h e s ∙ ap (λ (k : ℕ). Some (meant k f x)) sum in
     rw (found, e, q) refl
 
--- what a name means is a form of the part
-pub meant_of_part : (part : Part) (fs : List Form) (x : Text) (p : Property) → option_and_then (where_of_part part fs) (property_of fs x) ≡ Some p
-    → (f : Form) × (slice_get fs p.form ≡ Some f) × (is_of_part part f ≡ true) × (spells f x ≡ true) × (p ≡ meant p.form f x)
-meant_of_part part fs x p e = go (property_of fs x) refl e
+-- what a name means is a form of the role
+pub meant_of_role : (role : ObjectRole) (fs : List Form) (x : Text) (p : Property) → option_and_then (where_of_role role fs) (property_of fs x) ≡ Some p
+    → (f : Form) × (slice_get fs p.form ≡ Some f) × (is_of_role role f ≡ true) × (spells f x ≡ true) × (p ≡ meant p.form f x)
+meant_of_role role fs x p e = go (property_of fs x) refl e
   where
-    part_of : (b : Bool) (q : Property) (f : Form) → is_of_part part f ≡ b → slice_get fs q.form ≡ Some f → spells f x ≡ true → q ≡ meant q.form f x
-        → where_of_part part fs q ≡ Some p → (f : Form) × (slice_get fs p.form ≡ Some f) × (is_of_part part f ≡ true) × (spells f x ≡ true) ×
+    role_of : (b : Bool) (q : Property) (f : Form) → is_of_role role f ≡ b → slice_get fs q.form ≡ Some f → spells f x ≡ true → q ≡ meant q.form f x
+        → where_of_role role fs q ≡ Some p → (f : Form) × (slice_get fs p.form ≡ Some f) × (is_of_role role f ≡ true) × (spells f x ≡ true) ×
         (p ≡ meant p.form f x)
-    part_of true q f is at s q_is e =
+    role_of true q f is at s q_is e =
         let e2 : Some q ≡ Some p = sym (rw (at, is) refl) ∙ e in
         let same : q ≡ p = cc in
         (f, ap (λ (k : Property). slice_get fs k.form) (sym same) ∙ at, is, s, sym same ∙ q_is ∙ ap (λ (k : Property). meant k.form f x) same)
-    part_of false q f is at s q_is e =
+    role_of false q f is at s q_is e =
         let e2 : None ≡ Some p = sym (rw (at, is) refl) ∙ e in absurd cc
 
-    go : (o : Option Property) → property_of fs x ≡ o → option_and_then (where_of_part part fs) o ≡ Some p
-        → (f : Form) × (slice_get fs p.form ≡ Some f) × (is_of_part part f ≡ true) × (spells f x ≡ true) × (p ≡ meant p.form f x)
+    go : (o : Option Property) → property_of fs x ≡ o → option_and_then (where_of_role role fs) o ≡ Some p
+        → (f : Form) × (slice_get fs p.form ≡ Some f) × (is_of_role role f ≡ true) × (spells f x ≡ true) × (p ≡ meant p.form f x)
     go None is e = absurd cc
     go (Some q) is e =
         let r = form_meant 0 fs x q is in
         let sum : 0 + r.0 ≡ r.0 = omega arith in
         let q_is : q ≡ meant r.0 r.1 x = r.4 ∙ ap (λ (k : ℕ). meant k r.1 x) sum in
         let at : slice_get fs q.form ≡ Some r.1 = ap (λ (k : Property). slice_get fs k.form) q_is ∙ r.2 in
-        part_of (is_of_part part r.1) q r.1 refl at r.3 (q_is ∙ ap (λ (k : Property). meant k.form r.1 x) (sym q_is)) e
+        role_of (is_of_role role r.1) q r.1 refl at r.3 (q_is ∙ ap (λ (k : Property). meant k.form r.1 x) (sym q_is)) e
 
--- a name means something where some form of the part spells it
-pub meaning_found : (part : Part) (fs : List Form) (x : Text) → IsTrue (are_apart fs)
-    → is_some (option_and_then (where_of_part part fs) (property_of fs x)) ≡ list_any (λ f. spells f x) (filter (is_of_part part) fs)
-meaning_found part fs x h = go (list_any (λ f. spells f x) (filter (is_of_part part) fs)) refl (option_and_then (where_of_part part fs) (property_of fs x)) refl
+-- a name means something where some form of the role spells it
+pub property_meant_found : (role : ObjectRole) (fs : List Form) (x : Text) → IsTrue (are_apart fs)
+    → is_some (option_and_then (where_of_role role fs) (property_of fs x)) ≡ list_any (λ f. spells f x) (filter (is_of_role role) fs)
+property_meant_found role fs x h = go (list_any (λ f. spells f x) (filter (is_of_role role) fs)) refl (option_and_then (where_of_role role fs) (property_of fs x)) refl
   where
-    go : (b : Bool) → list_any (λ f. spells f x) (filter (is_of_part part) fs) ≡ b → (o : Option Property)
-        → option_and_then (where_of_part part fs) (property_of fs x) ≡ o → is_some o ≡ b
+    go : (b : Bool) → list_any (λ f. spells f x) (filter (is_of_role role) fs) ≡ b → (o : Option Property)
+        → option_and_then (where_of_role role fs) (property_of fs x) ≡ o → is_some o ≡ b
     go true is (Some p) o_is = refl
     go true is None o_is =
-        let r = find_of_part part x fs is in
-        let e = part_means part fs x r.0 r.1 h r.2 r.3 r.4 in absurd cc
+        let r = find_of_role role x fs is in
+        let e = role_means role fs x r.0 r.1 h r.2 r.3 r.4 in absurd cc
     go false is None o_is = refl
     go false is (Some p) o_is =
-        let r = meant_of_part part fs x p o_is in
-        let e = of_part_at part x fs p.form r.0 r.1 r.2 r.3 in absurd cc
+        let r = meant_of_role role fs x p o_is in
+        let e = of_role_at role x fs p.form r.0 r.1 r.2 r.3 in absurd cc

@@ -110,8 +110,8 @@ named_forms s fields n (f ∷ fs) ks is =
             rw e (ih ys b_is ∙ ap (λ l. Some l) (sym (named_append n xs ys ∙ ap (λ l. l ++ named n ys) (dropped_from s n f places xs e a_is))
             ∙ ap (named n) same))
 
-pub accounted : (s : SchemaValue) (fr : Frame) (fields : List Field) (kids : List Named) → object_kids s fr fields ≡ Some kids → Accounts s fr fields kids
-accounted s fr fields kids is = go (nat_lt 0 (length fields)) refl (list_all (λ x. is_known s fr x.name) fields) refl
+pub accounts_for_each_property : (s : SchemaValue) (fr : Frame) (fields : List Field) (kids : List Named) → object_kids s fr fields ≡ Some kids → Accounts s fr fields kids
+accounts_for_each_property s fr fields kids is = go (nat_lt 0 (length fields)) refl (list_all (λ x. is_known s fr x.name) fields) refl
   where
     go : (a : Bool) → nat_lt 0 (length fields) ≡ a → (b : Bool) → list_all (λ x. is_known s fr x.name) fields ≡ b → Accounts s fr fields kids
     go true a_is true b_is =

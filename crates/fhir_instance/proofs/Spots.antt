@@ -7,11 +7,11 @@ use Rattle.fhir_json.specs.Tree.{Text}
 use Rattle.fhir_forms.specs.declared.form.Property.{Property}
 use Rattle.fhir_forms.specs.Forms.{Form, is_primitive, companion_name, spells, are_apart}
 use Rattle.fhir_schema.specs.Schemas.{SchemaValue, forms}
-use Rattle.fhir_instance.specs.Typing.{Frame, is_of_part}
+use Rattle.fhir_instance.specs.Typing.{Frame, is_of_role}
 use Rattle.fhir_instance.specs.declared.spelled.Spelled.{Spelled}
 use Rattle.fhir_instance.specs.declared.spelled.Places.{Places}
-use Rattle.fhir_instance.specs.Spelled.{meaning, spelled_from, of_form, places_among, places_from}
-use Rattle.fhir_instance.proofs.Meanings.{same_text, turned, part_means, meant_of_part}
+use Rattle.fhir_instance.specs.Spelled.{property_meant, spelled_from, of_form, places_among, places_from}
+use Rattle.fhir_instance.proofs.Meanings.{same_text, turned, role_means, meant_of_role}
 
 itself : (k : ℕ) → nat_eq k k ≡ true
 itself k = grind (arith, nat_tests)
@@ -30,33 +30,33 @@ longer f = go (bytes_eq (companion_name f) f.property) refl
 
 module _ (s : SchemaValue) (fr : Frame) where
   -- what is a form's is one of the frame's
-  pub one_of_part : (n : ℕ) (names : List Text) (k : ℕ) (e : Spelled) (es : List Spelled) → of_form k (spelled_from s fr n names) ≡ e ∷ es
-      → (f : Form) × (slice_get (forms s fr.node) k ≡ Some f) × (is_of_part fr.part f ≡ true)
-  one_of_part n [] k e es h = absurd cc
-  one_of_part n (x ∷ names) k e es h = go (meaning s fr x) refl (λ t. one_of_part (suc n) names k e es t)
+  pub one_of_role : (n : ℕ) (names : List Text) (k : ℕ) (e : Spelled) (es : List Spelled) → of_form k (spelled_from s fr n names) ≡ e ∷ es
+      → (f : Form) × (slice_get (forms s fr.node) k ≡ Some f) × (is_of_role fr.role f ≡ true)
+  one_of_role n [] k e es h = absurd cc
+  one_of_role n (x ∷ names) k e es h = go (property_meant s fr x) refl (λ t. one_of_role (suc n) names k e es t)
     where
-      go : (o : Option Property) → meaning s fr x ≡ o → (of_form k (spelled_from s fr (suc n) names) ≡ e ∷ es
-          → (f : Form) × (slice_get (forms s fr.node) k ≡ Some f) × (is_of_part fr.part f ≡ true))
-          → (f : Form) × (slice_get (forms s fr.node) k ≡ Some f) × (is_of_part fr.part f ≡ true)
+      go : (o : Option Property) → property_meant s fr x ≡ o → (of_form k (spelled_from s fr (suc n) names) ≡ e ∷ es
+          → (f : Form) × (slice_get (forms s fr.node) k ≡ Some f) × (is_of_role fr.role f ≡ true))
+          → (f : Form) × (slice_get (forms s fr.node) k ≡ Some f) × (is_of_role fr.role f ≡ true)
       go None is later = later (rw is at h)
       go (Some p) is later = here (nat_eq k p.form) refl
         where
-          here : (b : Bool) → nat_eq k p.form ≡ b → (f : Form) × (slice_get (forms s fr.node) k ≡ Some f) × (is_of_part fr.part f ≡ true)
+          here : (b : Bool) → nat_eq k p.form ≡ b → (f : Form) × (slice_get (forms s fr.node) k ≡ Some f) × (is_of_role fr.role f ≡ true)
           here true k_is =
-              let r = meant_of_part fr.part (forms s fr.node) x p is in
+              let r = meant_of_role fr.role (forms s fr.node) x p is in
               (r.0, ap (λ (j : ℕ). slice_get (forms s fr.node) j) (same_number k p.form k_is) ∙ r.1, r.2)
           here false k_is = later (rw (is, k_is) at h)
 
   module _ (k : ℕ) (f : Form) (apart : IsTrue (are_apart (forms s fr.node))) (at : slice_get (forms s fr.node) k ≡ Some f)
-      (q : is_of_part fr.part f ≡ true) where
+      (q : is_of_role fr.role f ≡ true) where
     -- one property more, before the others: one that the form spells
     spelled_value : (n : ℕ) (x : Text) (names : List Text) → bytes_eq x f.property ≡ true
         → places_among (of_form k (spelled_from s fr (suc n) names)) ≡ places_from (suc n) names f
         → places_among (of_form k (spelled_from s fr n (x ∷ names))) ≡ places_from n (x ∷ names) f
     spelled_value n x names e ih =
         let spelt : spells f x ≡ true = rw e refl in
-        let means : meaning s fr x ≡ Some (record { form = k; is_companion = false }) =
-        part_means fr.part (forms s fr.node) x k f apart at q spelt ∙ rw e refl in
+        let means : property_meant s fr x ≡ Some (record { form = k; is_companion = false }) =
+        role_means fr.role (forms s fr.node) x k f apart at q spelt ∙ rw e refl in
         let value : bytes_eq f.property x ≡ true = turned x f.property true e in
         let companion : bytes_eq (companion_name f) x ≡ false = ap (λ (y : Text). bytes_eq (companion_name f) y) (same_text x f.property e) ∙ longer f in
         rw (means, itself k, value, companion) (ap (λ (p : Places). record { value = Some n; companion = p.companion }) ih)
@@ -67,8 +67,8 @@ module _ (s : SchemaValue) (fr : Frame) where
         → places_among (of_form k (spelled_from s fr n (x ∷ names))) ≡ places_from n (x ∷ names) f
     spelled_companion n x names prim d e ih =
         let spelt : spells f x ≡ true = rw (d, prim, e) refl in
-        let means : meaning s fr x ≡ Some (record { form = k; is_companion = true }) =
-        part_means fr.part (forms s fr.node) x k f apart at q spelt ∙ rw d refl in
+        let means : property_meant s fr x ≡ Some (record { form = k; is_companion = true }) =
+        role_means fr.role (forms s fr.node) x k f apart at q spelt ∙ rw d refl in
         let value : bytes_eq f.property x ≡ false = turned x f.property false d in
         let companion : bytes_eq (companion_name f) x ≡ true = turned x (companion_name f) true e in
         rw (means, itself k, value, companion, prim) (ap (λ (p : Places). record { value = p.value; companion = Some n }) ih)
@@ -76,15 +76,15 @@ module _ (s : SchemaValue) (fr : Frame) where
     -- one that it doesn't spell
     elsewhere : (n : ℕ) (x : Text) (names : List Text) → spells f x ≡ false
         → of_form k (spelled_from s fr n (x ∷ names)) ≡ of_form k (spelled_from s fr (suc n) names)
-    elsewhere n x names d = go (meaning s fr x) refl
+    elsewhere n x names d = go (property_meant s fr x) refl
       where
-        go : (o : Option Property) → meaning s fr x ≡ o → of_form k (spelled_from s fr n (x ∷ names)) ≡ of_form k (spelled_from s fr (suc n) names)
+        go : (o : Option Property) → property_meant s fr x ≡ o → of_form k (spelled_from s fr n (x ∷ names)) ≡ of_form k (spelled_from s fr (suc n) names)
         go None is = rw is refl
         go (Some p) is = here (nat_eq k p.form) refl
           where
             here : (b : Bool) → nat_eq k p.form ≡ b → of_form k (spelled_from s fr n (x ∷ names)) ≡ of_form k (spelled_from s fr (suc n) names)
             here true k_is =
-                let r = meant_of_part fr.part (forms s fr.node) x p is in
+                let r = meant_of_role fr.role (forms s fr.node) x p is in
                 let same : slice_get (forms s fr.node) k ≡ Some r.0 = ap (λ (j : ℕ). slice_get (forms s fr.node) j) (same_number k p.form k_is) ∙ r.1 in
                 let one : f ≡ r.0 = cc in
                 let clash : true ≡ false = sym r.3 ∙ ap (λ (g : Form). spells g x) (sym one) ∙ d in absurd cc

@@ -9,14 +9,14 @@ use Rattle.fhir_json.specs.Views.{members_view}
 use Rattle.fhir_forms.specs.Forms.{Form, are_apart}
 use Rattle.fhir_schema.specs.Schemas.{SchemaValue, forms}
 use Rattle.fhir_instance.specs.Items.{Named}
-use Rattle.fhir_instance.specs.Typing.{Frame, is_of_part, forms_in, both, joined, form_items, items_from}
+use Rattle.fhir_instance.specs.Typing.{Frame, is_of_role, forms_in, both, joined, form_items, items_from}
 use Rattle.fhir_instance.specs.Found.{fields_in, held_at}
 use Rattle.fhir_instance.specs.declared.spelled.Spelled.{Spelled}
 use Rattle.fhir_instance.specs.declared.spelled.Places.{Places}
 use Rattle.fhir_instance.specs.Spelled.{spelled_from, of_form, count_front, first_form, places_among, places_from}
 use Rattle.fhir_instance.proofs.Joining.{both_first, both_both, both_nothing, form_held}
 use Rattle.fhir_instance.proofs.Ordered.{Ascends, none_below, front_is, behind_front, others_behind, ascends_lower}
-use Rattle.fhir_instance.proofs.Spots.{one_of_part, places_found}
+use Rattle.fhir_instance.proofs.Spots.{one_of_role, places_found}
 
 itself : (k : ℕ) → nat_eq k k ≡ true
 itself k = grind (arith, nat_tests)
@@ -152,20 +152,20 @@ module _ (s : SchemaValue) (fr : Frame) (ms : List Member) where
       go (inr same) = (e, of_form e.form es, sym same ∙ here, here)
 
   first_at : (es : List Spelled) → IsRest es → 0 < length es → (f : Form) × (slice_get (forms s fr.node) (first_form es) ≡ Some f) ×
-      (is_of_part fr.part f ≡ true)
+      (is_of_role fr.role f ≡ true)
   first_at es r some =
       let h = head_found es r some in
-      one_of_part s fr 0 (names (members_view ms)) (first_form es) h.0 h.1 h.2
+      one_of_role s fr 0 (names (members_view ms)) (first_form es) h.0 h.1 h.2
 
   pub first_within : (es : List Spelled) → IsRest es → 0 < length es → first_form es < length (forms s fr.node)
   first_within es r some = let h = first_at es r some in get_within (forms s fr.node) (first_form es) h.0 h.1
 
-  first_is : (es : List Spelled) (f : Form) → IsRest es → 0 < length es → slice_get (forms s fr.node) (first_form es) ≡ Some f → is_of_part fr.part f ≡ true
+  first_is : (es : List Spelled) (f : Form) → IsRest es → 0 < length es → slice_get (forms s fr.node) (first_form es) ≡ Some f → is_of_role fr.role f ≡ true
   first_is es f r some at =
       let h = first_at es r some in
       let both_are : Some h.0 ≡ Some f = sym h.1 ∙ at in
       let same : h.0 ≡ f = cc in
-      ap (is_of_part fr.part) (sym same) ∙ h.2
+      ap (is_of_role fr.role) (sym same) ∙ h.2
 
   -- its form's properties are where its names are
   pub first_places : (es : List Spelled) (f : Form) (at : Places) → IsTrue (are_apart (forms s fr.node)) → IsRest es → 0 < length es
@@ -226,25 +226,25 @@ module _ (s : SchemaValue) (fr : Frame) (ms : List Member) where
   pub all_items : (es : List Spelled) → IsTrue (are_apart (forms s fr.node)) → ((k : ℕ) → of_form k es ≡ of_form k all_spelled)
       → rest_items es ≡ joined (map (form_items s (fields_in s ms)) (forms_in s fr))
   all_items es apart stable =
-      items_all (form_items s (fields_in s ms)) (is_of_part fr.part) 0 (forms s fr.node) es
+      items_all (form_items s (fields_in s ms)) (is_of_role fr.role) 0 (forms s fr.node) es
       (λ d f at is none. has d f at is (sym (stable d) ∙ ap (λ (k : ℕ). of_form k es) (sym (zero_plus d)) ∙ none))
       (λ d f at is. ap (λ (k : ℕ). of_form k es) (zero_plus d) ∙ stable d ∙ hasnt d f at is (of_form d all_spelled) refl)
     where
       zero_plus : (d : ℕ) → 0 + d ≡ d
       zero_plus d = omega arith
 
-      has : (d : ℕ) (f : Form) → slice_get (forms s fr.node) d ≡ Some f → is_of_part fr.part f ≡ true → of_form d all_spelled ≡ []
+      has : (d : ℕ) (f : Form) → slice_get (forms s fr.node) d ≡ Some f → is_of_role fr.role f ≡ true → of_form d all_spelled ≡ []
           → form_items s (fields_in s ms) f ≡ Some []
       has d f at is none =
           let nowhere : places_among [] ≡ places_from 0 (names (members_view ms)) f =
           ap places_among (sym none) ∙ places_found s fr d f apart at is 0 (names (members_view ms)) in
           sym (form_held s ms f (places_among []) nowhere)
 
-      hasnt : (d : ℕ) (f : Form) → slice_get (forms s fr.node) d ≡ Some f → is_of_part fr.part f ≡ false → (l : List Spelled) → of_form d all_spelled ≡ l
+      hasnt : (d : ℕ) (f : Form) → slice_get (forms s fr.node) d ≡ Some f → is_of_role fr.role f ≡ false → (l : List Spelled) → of_form d all_spelled ≡ l
           → l ≡ []
       hasnt d f at is [] l_is = refl
       hasnt d f at is (e ∷ l) l_is =
-          let r = one_of_part s fr 0 (names (members_view ms)) d e l l_is in
+          let r = one_of_role s fr 0 (names (members_view ms)) d e l l_is in
           let both_are : Some r.0 ≡ Some f = sym r.1 ∙ at in
           let same : r.0 ≡ f = cc in
-          let clash : true ≡ false = sym r.2 ∙ ap (is_of_part fr.part) same ∙ is in absurd cc
+          let clash : true ≡ false = sym r.2 ∙ ap (is_of_role fr.role) same ∙ is in absurd cc

@@ -16,7 +16,7 @@ use Rattle.fhir_schema.specs.Schemas.{SchemaValue}
 use Rattle.fhir_instance.specs.Items.{Item, Named}
 use Rattle.fhir_instance.specs.Typing.{Frame, Value, Held, Field, Halves, value_of, held_of, fields_of, if_not_null, place_items, under, is_null, plain_item}
 use Rattle.fhir_instance.specs.View.{named_in}
-use Rattle.fhir_instance.specs.declared.frame.Part.{Part}
+use Rattle.fhir_instance.specs.declared.role.ObjectRole.{ObjectRole}
 use Rattle.fhir_instance.specs.declared.found.Found.{Found}
 use Rattle.fhir_instance.specs.declared.spelled.Places.{Places}
 
@@ -24,8 +24,8 @@ use Rattle.fhir_instance.specs.declared.spelled.Places.{Places}
 abbrev pub kids_found : Found → Option (List Named)
 kids_found f = if is_some f.misfit then None else Some (named_in f.kids.items)
 
-abbrev pub frame_of : NodeRef → Part → Frame
-frame_of node part = record { node = node; part = part }
+abbrev pub frame_of : NodeRef → ObjectRole → Frame
+frame_of node role = record { node = node; role = role }
 
 abbrev pub fields_in : SchemaValue → List Member → List Field
 fields_in s ms = fields_of s (members_view ms)

@@ -7,19 +7,19 @@ use Rattle.fhir_json.specs.Tree.{Text}
 use Rattle.fhir_forms.specs.declared.form.Property.{Property}
 use Rattle.fhir_forms.specs.Forms.{Form, is_primitive, companion_name}
 use Rattle.fhir_schema.specs.Schemas.{SchemaValue, forms, property}
-use Rattle.fhir_instance.specs.Typing.{Frame, is_of_part, is_known, where_true}
-use Rattle.fhir_instance.specs.declared.frame.Part.{Part}
+use Rattle.fhir_instance.specs.Typing.{Frame, is_of_role, is_known, where_true}
+use Rattle.fhir_instance.specs.declared.role.ObjectRole.{ObjectRole}
 use Rattle.fhir_instance.specs.declared.spelled.Spelled.{Spelled}
 use Rattle.fhir_instance.specs.declared.spelled.Places.{Places}
 
 -- ---- by the names of the properties
 
 -- what the name means where its form is one of the frame's
-abbrev pub where_of_part : Part → List Form → Property → Option Property
-where_of_part part fs p = option_and_then (λ f. where_true (is_of_part part f) p) (slice_get fs p.form)
+abbrev pub where_of_role : ObjectRole → List Form → Property → Option Property
+where_of_role role fs p = option_and_then (λ f. where_true (is_of_role role f) p) (slice_get fs p.form)
 
-abbrev pub meaning : SchemaValue → Frame → Text → Option Property
-meaning s frame name = option_and_then (where_of_part frame.part (forms s frame.node)) (property s frame.node name)
+abbrev pub property_meant : SchemaValue → Frame → Text → Option Property
+property_meant s frame name = option_and_then (where_of_role frame.role (forms s frame.node)) (property s frame.node name)
 
 -- a property at a place among the others
 abbrev pub spelled_at : ℕ → Option Property → List Spelled
@@ -29,7 +29,7 @@ spelled_at at (Some p) = record { form = p.form; is_companion = p.is_companion; 
 -- the properties that are a form's, of those whose places begin at a number
 abbrev pub spelled_from : SchemaValue → Frame → ℕ → List Text → List Spelled
 spelled_from s frame at [] = []
-spelled_from s frame at (name ∷ names) = spelled_at at (meaning s frame name) ++ spelled_from s frame (suc at) names
+spelled_from s frame at (name ∷ names) = spelled_at at (property_meant s frame name) ++ spelled_from s frame (suc at) names
 
 abbrev pub are_known : SchemaValue → Frame → List Text → Bool
 are_known s frame names = list_all (is_known s frame) names

@@ -18,38 +18,38 @@ use Rattle.fhir_forms.specs.declared.form.Content.TheVariants.{Primitive, System
 use Rattle.fhir_forms.specs.Forms.{Form, is_primitive, companion_name, spells}
 use Rattle.fhir_schema.specs.Schemas.{SchemaValue, forms, resource_root}
 use Rattle.fhir_instance.specs.Items.{Item, item, no_kids, Named, kids_in}
-use Rattle.fhir_instance.specs.declared.frame.Part.{Part}
-use Rattle.fhir_instance.specs.declared.frame.Part.TheVariants as parts
+use Rattle.fhir_instance.specs.declared.role.ObjectRole.{ObjectRole}
+use Rattle.fhir_instance.specs.declared.role.ObjectRole.TheVariants as roles
 
 -- ---- frames: which properties an object may have
 
 -- an object is typed by a node, as that of an element, of a resource, or of the companion of a primitive
 pub record Frame : Type 0 where
   pub node : NodeRef
-  pub part : Part
+  pub role : ObjectRole
 
 -- the property that names the type of a resource
 abbrev pub names_type : Text → Bool
 names_type name = bytes_eq name (codes "resourceType")
 
 -- In a resource `resourceType` is no element, whatever its type has. A companion has an id and extensions alone.
-abbrev pub is_of_part : Part → Form → Bool
-is_of_part parts.Element f = true
-is_of_part parts.Resource f = not (names_type f.property)
-is_of_part parts.Companion f = bytes_eq f.name (codes "id") || bytes_eq f.name (codes "extension")
+abbrev pub is_of_role : ObjectRole → Form → Bool
+is_of_role roles.Element f = true
+is_of_role roles.Resource f = not (names_type f.property)
+is_of_role roles.Companion f = bytes_eq f.name (codes "id") || bytes_eq f.name (codes "extension")
 
-abbrev pub names_type_in : Part → Text → Bool
-names_type_in parts.Element name = false
-names_type_in parts.Resource name = names_type name
-names_type_in parts.Companion name = false
+abbrev pub names_type_in : ObjectRole → Text → Bool
+names_type_in roles.Element name = false
+names_type_in roles.Resource name = names_type name
+names_type_in roles.Companion name = false
 
 -- the forms of an object's elements
 abbrev pub forms_in : SchemaValue → Frame → List Form
-forms_in s frame = filter (is_of_part frame.part) (forms s frame.node)
+forms_in s frame = filter (is_of_role frame.role) (forms s frame.node)
 
 -- the property is an element's, or names the type
 abbrev pub is_known : SchemaValue → Frame → Text → Bool
-is_known s frame name = list_any (λ f. spells f name) (forms_in s frame) || names_type_in frame.part name
+is_known s frame name = list_any (λ f. spells f name) (forms_in s frame) || names_type_in frame.role name
 
 -- ---- what an object's properties hold
 
@@ -93,16 +93,16 @@ abbrev pub plain_item : Bool → Text → Tree → Option Item
 plain_item is_right code t = where_true is_right (item code (Some t) no_kids)
 
 -- the children of an object that a node types
-abbrev pub kids_by : Part → Option NodeRef → Value → Option (List Named)
-kids_by part below v = option_and_then (λ n. v.kids_as (record { node = n; part = part })) below
+abbrev pub kids_by : ObjectRole → Option NodeRef → Value → Option (List Named)
+kids_by role below v = option_and_then (λ n. v.kids_as (record { node = n; role = role })) below
 
 -- a primitive, by its value and its companion: either may be absent, but not both
 abbrev pub primitive_item : PrimType → Option NodeRef → Text → Option Value → Option Value → Option Item
 primitive_item prim below code None None = None
 primitive_item prim below code (Some v) None = plain_item (lexical prim v.json) code v.json
-primitive_item prim below code None (Some c) = item_with code None (kids_by parts.Companion below c)
+primitive_item prim below code None (Some c) = item_with code None (kids_by roles.Companion below c)
 primitive_item prim below code (Some v) (Some c) =
-    if lexical prim v.json then item_with code (Some v.json) (kids_by parts.Companion below c) else None
+    if lexical prim v.json then item_with code (Some v.json) (kids_by roles.Companion below c) else None
 
 -- a text of one of FHIRPath's own types isn't empty
 abbrev pub is_filled_text : Tree → Bool
@@ -112,11 +112,11 @@ abbrev pub system_item : Text → Value → Option Item
 system_item code v = plain_item (is_filled_text v.json) code v.json
 
 abbrev pub complex_item : Option NodeRef → Text → Value → Option Item
-complex_item below code v = item_with code (Some v.json) (kids_by parts.Element below v)
+complex_item below code v = item_with code (Some v.json) (kids_by roles.Element below v)
 
 -- a resource of the type that its `resourceType` names, if a resource may be of that
 abbrev pub resource_of_type : SchemaValue → Value → Text → Option Item
-resource_of_type s v code = item_with code (Some v.json) (kids_by parts.Resource (resource_root s code) v)
+resource_of_type s v code = item_with code (Some v.json) (kids_by roles.Resource (resource_root s code) v)
 
 abbrev pub resource_item : SchemaValue → Value → Option Item
 resource_item s v = option_and_then (resource_of_type s v) (text_in (codes "resourceType") v.json)

@@ -3,12 +3,12 @@
 ghost use Rattle.std.specs.Prelude.{◌≡◌, nat_lt, length, map, IfOk, OnOk, None, Some, if◌then◌else◌};
 ghost use Rattle.fhir_json.specs.Views.{tree_of};
 ghost use Rattle.fhir_schema.specs.Schemas.{resource_root};
-ghost use Rattle.fhir_instance.specs.declared.frame.Part.TheVariants as parts;
+ghost use Rattle.fhir_instance.specs.declared.role.ObjectRole.TheVariants as roles;
 ghost use Rattle.fhir_instance.specs.Typing.{kids_as, kids_by, object_kids, both, joined, items_from, place_items, resource_item, resource_of_type, under, complex_item, value_of};
 ghost use Rattle.fhir_instance.specs.Found.{kids_found, frame_of, fields_in, held_at, held_in_hand, value_in_hand, given, ArePlaces};
 
 use crate::found::{Found, Spot, Spots};
-use crate::frame::Part;
+use crate::role::ObjectRole;
 use crate::leaves::{add_primitive, add_system, add_untyped, check_value, is_null, type_named};
 use crate::misfit::{MisfitKind, kind_of, kind_of_single};
 use crate::pairs::add_both;
@@ -25,13 +25,13 @@ fn kids_of<'a, 'j>(
     schema: &'a Schema,
     json: &'a Json<'j>,
     node: NodeRef,
-    part: Part,
+    role: ObjectRole,
 ) -> Result<Found<'a, 'j>, AllocError>
-    ensures { IfOk result (λ f. kids_found f ≡ kids_as schema.now (tree_of json.now) (frame_of node part)) }
+    ensures { IfOk result (λ f. kids_found f ≡ kids_as schema.now (tree_of json.now) (frame_of node role)) }
 {
     match json {
-        Json::Obj(members) => object_kids(alloc, schema, members, node, part),
-        _ => Ok(Found::refused(alloc, kind_of(json))),
+        Json::Obj(members) => object_kids(alloc, schema, members, node, role),
+        _ => Ok(Found::of_misfit(alloc, kind_of(json))),
     }
 }
 
@@ -42,13 +42,13 @@ fn kids_by<'a, 'j>(
     schema: &'a Schema,
     json: &'a Json<'j>,
     below: Option<NodeRef>,
-    part: Part,
+    role: ObjectRole,
 ) -> Result<Found<'a, 'j>, AllocError>
-    ensures { IfOk result (λ f. kids_found f ≡ kids_by part below (value_of schema.now (tree_of json.now))) }
+    ensures { IfOk result (λ f. kids_found f ≡ kids_by role below (value_of schema.now (tree_of json.now))) }
 {
     match below {
-        Some(node) => kids_of(alloc, schema, json, node, part),
-        None => Ok(Found::refused(alloc, kind_of(json))),
+        Some(node) => kids_of(alloc, schema, json, node, role),
+        None => Ok(Found::of_misfit(alloc, kind_of(json))),
     }
 }
 
@@ -58,16 +58,16 @@ fn object_kids<'a, 'j>(
     schema: &'a Schema,
     members: &'a Vec<Member<'j>>,
     node: NodeRef,
-    part: Part,
+    role: ObjectRole,
 ) -> Result<Found<'a, 'j>, AllocError>
     ensures { IfOk result (λ f. kids_found f
-        ≡ object_kids schema.now (frame_of node part) (fields_in schema.now members.now.items)) }
+        ≡ object_kids schema.now (frame_of node role) (fields_in schema.now members.now.items)) }
 {
     if members.len() == 0 {
-        return Ok(Found::refused(alloc, MisfitKind::Empty));
+        return Ok(Found::of_misfit(alloc, MisfitKind::Empty));
     }
     let mut found: Found<'a, 'j> = Found::with_room(alloc, room_for(members))?;
-    let spelled = sorted_in(alloc, schema, node, part, members, &mut found)?;
+    let spelled = sorted_in(alloc, schema, node, role, members, &mut found)?;
     schema.forms_are_apart(node);
     let forms = schema.forms(node);
     let mut tally = Tally::new();
@@ -294,7 +294,7 @@ pub(crate) fn add_companion<'a, 'j>(
         return Ok(());
     };
     check_value(alloc, prim, value, spots.value, found);
-    let inner = kids_by(alloc, schema, companion, below, Part::Companion)?;
+    let inner = kids_by(alloc, schema, companion, below, ObjectRole::Companion)?;
     found.add(form, form.code(), value, inner, spots.companion)
 }
 
@@ -336,7 +336,7 @@ fn add_complex<'a, 'j>(
     ensures { OnOk result (kids_found found.new ≡ both (kids_found found.old)
         (under form.now (complex_item below form.now.code (value_of schema.now (tree_of json.now))))) }
 {
-    let inner = kids_by(alloc, schema, json, below, Part::Element)?;
+    let inner = kids_by(alloc, schema, json, below, ObjectRole::Element)?;
     found.add(form, form.code(), Some(json), inner, spot)
 }
 
@@ -385,10 +385,10 @@ pub(crate) fn resource_kids<'a, 'j>(
     code: &str,
 ) -> Result<Found<'a, 'j>, AllocError>
     ensures { IfOk result (λ f. kids_found f
-        ≡ kids_by parts.Resource (resource_root schema.now code.now) (value_of schema.now (tree_of json.now))) }
+        ≡ kids_by roles.Resource (resource_root schema.now code.now) (value_of schema.now (tree_of json.now))) }
 {
     match schema.resource_root(code) {
-        Some(node) => kids_of(alloc, schema, json, node, Part::Resource),
-        None => Ok(Found::refused_at(alloc, MisfitKind::UnknownType, "resourceType")),
+        Some(node) => kids_of(alloc, schema, json, node, ObjectRole::Resource),
+        None => Ok(Found::of_misfit_at(alloc, MisfitKind::UnknownType, "resourceType")),
     }
 }

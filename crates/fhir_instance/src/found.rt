@@ -87,7 +87,7 @@ pub(crate) struct Step<'a> {
 
 /// A misfit in an object: which of its properties has it, and where in that it is.
 #[derive(Debug, Drop)]
-pub(crate) struct Flaw<'a> {
+pub(crate) struct FoundMisfit<'a> {
     pub(crate) kind: MisfitKind,
     pub(crate) at: usize,
     // whether it is found before the values in the property are looked at
@@ -98,9 +98,9 @@ pub(crate) struct Flaw<'a> {
     pub(crate) steps: Vec<Step<'a>>,
 }
 
-impl<'a> Flaw<'a> {
-    fn in_value(alloc: Global, kind: MisfitKind, property: Option<&'a str>) -> Flaw<'a> {
-        Flaw {
+impl<'a> FoundMisfit<'a> {
+    fn in_value(alloc: Global, kind: MisfitKind, property: Option<&'a str>) -> FoundMisfit<'a> {
+        FoundMisfit {
             kind,
             at: 0,
             is_early: false,
@@ -109,8 +109,8 @@ impl<'a> Flaw<'a> {
         }
     }
 
-    fn in_property(alloc: Global, kind: MisfitKind, spot: Spot<'a>, is_early: bool) -> Flaw<'a> {
-        Flaw {
+    fn in_property(alloc: Global, kind: MisfitKind, spot: Spot<'a>, is_early: bool) -> FoundMisfit<'a> {
+        FoundMisfit {
             kind,
             at: spot.at,
             is_early,
@@ -129,7 +129,7 @@ impl<'a> Flaw<'a> {
 #[derive(Drop)]
 pub(crate) struct Found<'a, 'j> {
     pub(crate) kids: Vec<Kid<'a, 'j>>,
-    pub(crate) misfit: Option<Flaw<'a>>,
+    pub(crate) misfit: Option<FoundMisfit<'a>>,
 }
 
 impl<'a, 'j> Found<'a, 'j> {
@@ -142,22 +142,22 @@ impl<'a, 'j> Found<'a, 'j> {
     }
 
     /// The value itself has no item.
-    pub(crate) fn refused(alloc: Global, kind: MisfitKind) -> Found<'a, 'j>
+    pub(crate) fn of_misfit(alloc: Global, kind: MisfitKind) -> Found<'a, 'j>
         ensures { kids_found result ≡ None }
     {
         Found {
             kids: Vec::new(alloc),
-            misfit: Some(Flaw::in_value(alloc, kind, None)),
+            misfit: Some(FoundMisfit::in_value(alloc, kind, None)),
         }
     }
 
     /// The value's property has no item.
-    pub(crate) fn refused_at(alloc: Global, kind: MisfitKind, property: &'a str) -> Found<'a, 'j>
+    pub(crate) fn of_misfit_at(alloc: Global, kind: MisfitKind, property: &'a str) -> Found<'a, 'j>
         ensures { kids_found result ≡ None }
     {
         Found {
             kids: Vec::new(alloc),
-            misfit: Some(Flaw::in_value(alloc, kind, Some(property))),
+            misfit: Some(FoundMisfit::in_value(alloc, kind, Some(property))),
         }
     }
 
@@ -166,33 +166,33 @@ impl<'a, 'j> Found<'a, 'j> {
         ensures { IsTrue result → kids_found self.now ≡ None }
     {
         match &self.misfit {
-            Some(flaw) => flaw.precedes(at, is_early),
+            Some(misfit) => misfit.precedes(at, is_early),
             None => false,
         }
     }
 
     // Notes a misfit. The first is kept.
-    fn keep(&mut self, flaw: Flaw<'a>)
+    fn keep(&mut self, misfit: FoundMisfit<'a>)
         ensures { kids_found self.new ≡ None }
     {
-        if self.is_before(flaw.at, flaw.is_early) {
+        if self.is_before(misfit.at, misfit.is_early) {
             return;
         }
-        self.misfit = Some(flaw);
+        self.misfit = Some(misfit);
     }
 
     /// Notes that a property has no item, because of its values.
     pub(crate) fn refuse(&mut self, alloc: Global, kind: MisfitKind, spot: Spot<'a>)
         ensures { kids_found self.new ≡ None }
     {
-        self.keep(Flaw::in_property(alloc, kind, spot, false));
+        self.keep(FoundMisfit::in_property(alloc, kind, spot, false));
     }
 
     /// Notes that a property has no item, whatever its values.
     pub(crate) fn refuse_early(&mut self, alloc: Global, kind: MisfitKind, spot: Spot<'a>)
         ensures { kids_found self.new ≡ None }
     {
-        self.keep(Flaw::in_property(alloc, kind, spot, true));
+        self.keep(FoundMisfit::in_property(alloc, kind, spot, true));
     }
 
     /// Notes a null. Null stands for nothing in an array of primitives alone, and there beside something.
@@ -228,24 +228,24 @@ impl<'a, 'j> Found<'a, 'j> {
     // Notes a misfit inside a child.
     fn refuse_inside(
         &mut self,
-        flaw: Flaw<'a>,
+        misfit: FoundMisfit<'a>,
         form: &'a Form,
         spot: Spot<'a>,
     ) -> Result<(), AllocError>
         ensures { OnOk result (kids_found self.new ≡ None) }
     {
-        let mut flaw = flaw;
-        flaw.at = spot.at;
-        flaw.is_early = false;
-        if flaw.property.is_none() {
-            flaw.property = Some(spot.property);
+        let mut misfit = misfit;
+        misfit.at = spot.at;
+        misfit.is_early = false;
+        if misfit.property.is_none() {
+            misfit.property = Some(spot.property);
         } else {
-            flaw.steps.push(Step {
+            misfit.steps.push(Step {
                 name: form.name(),
                 index: spot.index,
             })?;
         }
-        self.keep(flaw);
+        self.keep(misfit);
         Ok(())
     }
 
@@ -272,7 +272,7 @@ impl<'a, 'j> Found<'a, 'j> {
     {
         let Found { kids, misfit } = inner;
         match misfit {
-            Some(flaw) => self.refuse_inside(flaw, form, spot),
+            Some(misfit) => self.refuse_inside(misfit, form, spot),
             None => self.push(form, Typed { code, json, kids }),
         }
     }

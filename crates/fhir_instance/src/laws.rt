@@ -14,7 +14,7 @@ pub fn one_item()
 
 /// What it is that an object has these children: each of its properties is an element's or names its type, and under each
 /// name stand the items that are typed from that element's properties.
-pub fn accounted()
+pub fn accounts_for_each_property()
     ensures { (s : SchemaValue) (frame : Frame) (fields : List Field) (kids : List Named)
         → object_kids s frame fields ≡ Some kids → Accounts s frame fields kids }
 {}

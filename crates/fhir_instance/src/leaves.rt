@@ -226,16 +226,16 @@ pub(crate) fn add_untyped<'a, 'j>(
 ) -> Result<(), AllocError>
     ensures { OnOk result (kids_found found.new ≡ None) }
 {
-    let inner = untyped(alloc, json);
+    let inner = misfit_of_untyped(alloc, json);
     found.add(form, form.code(), Some(json), inner, spot)
 }
 
-fn untyped<'a, 'j>(alloc: Global, json: &Json<'_>) -> Found<'a, 'j>
+fn misfit_of_untyped<'a, 'j>(alloc: Global, json: &Json<'_>) -> Found<'a, 'j>
     ensures { kids_found result ≡ None }
 {
     let kind = kind_of(json);
     if !json.is_object() || kind == MisfitKind::Empty {
-        return Found::refused(alloc, kind);
+        return Found::of_misfit(alloc, kind);
     }
-    Found::refused_at(alloc, MisfitKind::UnknownType, "resourceType")
+    Found::of_misfit_at(alloc, MisfitKind::UnknownType, "resourceType")
 }

@@ -16,25 +16,25 @@
 //!
 //! The contract to read first is that of [`type_resource`]: a value has the item that it answers, and where it answers a
 //! misfit it has none. `specs/Items.antt` has items, and `specs/Typing.antt` which item a tree is; the contract of
-//! [`typing_example`] shows the definitions at work on one small package, and that of [`accounted`] says what typing comes
-//! to. A function whose proof needs a law calls it, which does nothing.
+//! [`typing_example`] shows the definitions at work on one small package, and that of [`accounts_for_each_property`] says
+//! what typing comes to. A function whose proof needs a law calls it, which does nothing.
 #![tactic(auto)]
 
 mod children;
 mod examples;
 mod found;
-mod frame;
 mod laws;
 mod leaves;
 mod misfit;
 mod pairs;
 mod placing;
 mod resource;
+mod role;
 mod spelled;
 mod typed;
 
 pub use examples::typing_example;
-pub use laws::{accounted, one_item};
+pub use laws::{accounts_for_each_property, one_item};
 pub use misfit::{Misfit, MisfitKind};
 pub use resource::type_resource;
 pub use typed::{Kid, Typed};

@@ -21,7 +21,7 @@ pub enum MisfitKind {
     Unparallel,
     /// No `resourceType`, or one that names no type that a resource may be of.
     UnknownType,
-    /// A growth of memory was refused. Nothing is said of the value.
+    /// A growth of memory was of_misfit. Nothing is said of the value.
     NoMemory,
 }
 

@@ -7,7 +7,7 @@ ghost use Rattle.fhir_instance.specs.View.{item_of, is_no_memory, IsNoItem};
 ghost use Rattle.fhir_instance.specs.Found.{kids_found};
 
 use crate::children::resource_kids;
-use crate::found::{Flaw, Found, Step};
+use crate::found::{FoundMisfit, Found, Step};
 use crate::leaves::type_named;
 use crate::misfit::{Misfit, MisfitKind, kind_of};
 use crate::typed::Typed;
@@ -31,28 +31,28 @@ fn put_step(place: &mut String, step: Step<'_>) -> Result<(), AllocError> {
 }
 
 // The place of a misfit, as it's written. Where the outermost has no type that is known, there is none.
-fn place_of(alloc: Global, code: &str, flaw: &Flaw<'_>) -> Result<Option<String>, AllocError> {
-    let Some(property) = flaw.property else {
+fn place_of(alloc: Global, code: &str, misfit: &FoundMisfit<'_>) -> Result<Option<String>, AllocError> {
+    let Some(property) = misfit.property else {
         return Ok(None);
     };
-    if flaw.kind == MisfitKind::UnknownType && flaw.steps.is_empty() {
+    if misfit.kind == MisfitKind::UnknownType && misfit.steps.is_empty() {
         return Ok(None);
     }
     let mut place = String::from_str(alloc, code)?;
-    let mut i = flaw.steps.len();
+    let mut i = misfit.steps.len();
     while i > 0 {
         i -= 1;
-        put_step(&mut place, flaw.steps[i])?;
+        put_step(&mut place, misfit.steps[i])?;
     }
     place.push('.')?;
     place.push_str(property)?;
     Ok(Some(place))
 }
 
-fn misfit_of(alloc: Global, code: &str, flaw: &Flaw<'_>) -> Misfit {
-    match place_of(alloc, code, flaw) {
+fn misfit_of(alloc: Global, code: &str, misfit: &FoundMisfit<'_>) -> Misfit {
+    match place_of(alloc, code, misfit) {
         Ok(place) => Misfit {
-            kind: flaw.kind,
+            kind: misfit.kind,
             place,
         },
         Err(_) => no_memory(),
@@ -68,7 +68,7 @@ fn no_memory() -> Misfit
     }
 }
 
-fn typed<'a, 'j>(
+fn item_or_misfit<'a, 'j>(
     alloc: Global,
     code: &'a str,
     json: &'a Json<'j>,
@@ -80,7 +80,7 @@ fn typed<'a, 'j>(
 {
     let Found { kids, misfit } = found;
     match misfit {
-        Some(flaw) => Err(misfit_of(alloc, code, &flaw)),
+        Some(misfit) => Err(misfit_of(alloc, code, &misfit)),
         None => Ok(Typed {
             code,
             json: Some(json),
@@ -116,7 +116,7 @@ pub fn type_resource<'a, 'j>(
         });
     };
     match resource_kids(alloc, schema, json, code) {
-        Ok(found) => typed(alloc, code, json, found),
+        Ok(found) => item_or_misfit(alloc, code, json, found),
         Err(_) => Err(no_memory()),
     }
 }

@@ -7,12 +7,12 @@ ghost use Rattle.fhir_json.specs.Tree.{names};
 ghost use Rattle.fhir_json.specs.Views.{members_view};
 ghost use Rattle.fhir_json.specs.Views.{property_of as name_and_value};
 ghost use Rattle.fhir_forms.specs.Forms.{spells};
-ghost use Rattle.fhir_instance.specs.Typing.{names_type_in, is_of_part, is_known, forms_in};
+ghost use Rattle.fhir_instance.specs.Typing.{names_type_in, is_of_role, is_known, forms_in};
 ghost use Rattle.fhir_instance.specs.Found.{frame_of, kids_found};
-ghost use Rattle.fhir_instance.specs.Spelled.{meaning, where_of_part, spelled_at, spelled_from, are_known, of_form, count_front, first_form, value_among, companion_among, places_among};
+ghost use Rattle.fhir_instance.specs.Spelled.{property_meant, where_of_role, spelled_at, spelled_from, are_known, of_form, count_front, first_form, value_among, companion_among, places_among};
 
 use crate::found::{Found, Spot};
-use crate::frame::Part;
+use crate::role::ObjectRole;
 use crate::misfit::MisfitKind;
 use fhir_json::Member;
 use fhir_schema::{Form, NodeRef, Property, Schema};
@@ -40,43 +40,43 @@ fn name_in<'m>(member: &'m Member<'_>) -> &'m str
     member.name.as_str()
 }
 
-fn is_of_part(part: Part, form: &Form) -> bool
-    ensures { result ≡ is_of_part part form.now }
+fn is_of_role(role: ObjectRole, form: &Form) -> bool
+    ensures { result ≡ is_of_role role form.now }
 {
-    match part {
-        Part::Element => true,
-        Part::Resource => form.property() != "resourceType",
-        Part::Companion => form.name() == "id" || form.name() == "extension",
+    match role {
+        ObjectRole::Element => true,
+        ObjectRole::Resource => form.property() != "resourceType",
+        ObjectRole::Companion => form.name() == "id" || form.name() == "extension",
     }
 }
 
-fn names_type_in(part: Part, name: &str) -> bool
-    ensures { result ≡ names_type_in part name.now }
+fn names_type_in(role: ObjectRole, name: &str) -> bool
+    ensures { result ≡ names_type_in role name.now }
 {
-    match part {
-        Part::Resource => name == "resourceType",
-        Part::Element => false,
-        Part::Companion => false,
+    match role {
+        ObjectRole::Resource => name == "resourceType",
+        ObjectRole::Element => false,
+        ObjectRole::Companion => false,
     }
 }
 
-fn where_of_part(part: Part, forms: &[Form], property: Property) -> Option<Property>
-    ensures { result ≡ where_of_part part forms.now property }
+fn where_of_role(role: ObjectRole, forms: &[Form], property: Property) -> Option<Property>
+    ensures { result ≡ where_of_role role forms.now property }
 {
     match forms.get(property.form) {
-        Some(form) if is_of_part(part, form) => Some(property),
+        Some(form) if is_of_role(role, form) => Some(property),
         _ => None,
     }
 }
 
 // What the name of a property means in an object.
-fn meaning(schema: &Schema, node: NodeRef, part: Part, name: &str) -> Option<Property>
-    ensures meaning { result ≡ meaning schema.now (frame_of node part) name.now }
-    ensures found { is_some result ≡ list_any (λ f. spells f name.now) (forms_in schema.now (frame_of node part)) }
+fn property_meant(schema: &Schema, node: NodeRef, role: ObjectRole, name: &str) -> Option<Property>
+    ensures property_meant { result ≡ property_meant schema.now (frame_of node role) name.now }
+    ensures found { is_some result ≡ list_any (λ f. spells f name.now) (forms_in schema.now (frame_of node role)) }
 {
     schema.forms_are_apart(node);
     match schema.property(node, name) {
-        Some(property) => where_of_part(part, schema.forms(node), property),
+        Some(property) => where_of_role(role, schema.forms(node), property),
         None => None,
     }
 }
@@ -86,26 +86,26 @@ fn put<'a, 'j>(
     alloc: Global,
     schema: &Schema,
     node: NodeRef,
-    part: Part,
+    role: ObjectRole,
     member: &'a Member<'j>,
     at: usize,
     all: &mut Vec<Spelled>,
     found: &mut Found<'a, 'j>,
 ) -> Result<(), AllocError>
     ensures all { OnOk result (all.new.items ≡ all.old.items
-        ++ spelled_at at (meaning schema.now (frame_of node part) (name_and_value member.now).0)) }
+        ++ spelled_at at (property_meant schema.now (frame_of node role) (name_and_value member.now).0)) }
     ensures found { OnOk result (kids_found found.new
-        ≡ (if is_known schema.now (frame_of node part) (name_and_value member.now).0 then kids_found found.old else None)) }
+        ≡ (if is_known schema.now (frame_of node role) (name_and_value member.now).0 then kids_found found.old else None)) }
 {
     let name = name_in(member);
-    match meaning(schema, node, part, name) {
+    match property_meant(schema, node, role, name) {
         Some(property) => all.push(Spelled {
             form: property.form,
             is_companion: property.is_companion,
             at,
         })?,
         None => {
-            if !names_type_in(part, name) {
+            if !names_type_in(role, name) {
                 found.refuse(alloc, MisfitKind::UnknownProperty, Spot::of(member, at, 0));
             }
         }
@@ -118,19 +118,19 @@ fn spelled_in<'a, 'j>(
     alloc: Global,
     schema: &Schema,
     node: NodeRef,
-    part: Part,
+    role: ObjectRole,
     members: &'a Vec<Member<'j>>,
     found: &mut Found<'a, 'j>,
 ) -> Result<Vec<Spelled>, AllocError>
     ensures spelled { IfOk result (λ v. v.items
-        ≡ spelled_from schema.now (frame_of node part) 0 (names (members_view members.now.items))) }
+        ≡ spelled_from schema.now (frame_of node role) 0 (names (members_view members.now.items))) }
     ensures found { OnOk result (kids_found found.new
-        ≡ (if are_known schema.now (frame_of node part) (names (members_view members.now.items))
+        ≡ (if are_known schema.now (frame_of node role) (names (members_view members.now.items))
         then kids_found found.old else None)) }
 {
     let mut all = Vec::with_capacity(alloc, members.len())?;
     for i in 0..members.len() {
-        put(alloc, schema, node, part, &members[i], i, &mut all, found)?;
+        put(alloc, schema, node, role, &members[i], i, &mut all, found)?;
     }
     Ok(all)
 }
@@ -148,18 +148,18 @@ pub(crate) fn sorted_in<'a, 'j>(
     alloc: Global,
     schema: &Schema,
     node: NodeRef,
-    part: Part,
+    role: ObjectRole,
     members: &'a Vec<Member<'j>>,
     found: &mut Found<'a, 'j>,
 ) -> Result<Vec<Spelled>, AllocError>
     ensures ascends { IfOk result (λ v. IsNonDecreasingBy (λ e. e.form) v.items) }
     ensures spelled { IfOk result (λ v. (form : ℕ) → of_form form v.items
-        ≡ of_form form (spelled_from schema.now (frame_of node part) 0 (names (members_view members.now.items)))) }
+        ≡ of_form form (spelled_from schema.now (frame_of node role) 0 (names (members_view members.now.items)))) }
     ensures found { OnOk result (kids_found found.new
-        ≡ (if are_known schema.now (frame_of node part) (names (members_view members.now.items))
+        ≡ (if are_known schema.now (frame_of node role) (names (members_view members.now.items))
         then kids_found found.old else None)) }
 {
-    let mut all = spelled_in(alloc, schema, node, part, members, found)?;
+    let mut all = spelled_in(alloc, schema, node, role, members, found)?;
     sort_by_form(&mut all)?;
     Ok(all)
 }

@@ -11,14 +11,14 @@ ghost use Rattle.fhir_registry.specs.Outcomes.{severity_of, HasSeverity, IsOutco
 
 use fhir_instance::{Misfit, MisfitKind};
 use fhir_json::{Json, Member, NoMemory, write};
-use fhir_validator::{Fault, Finding, Issue, Rule, Site, Verdict};
+use fhir_validator::{Breach, BrokenRule, Fault, Issue, Site, Verdict};
 use std::alloc::{AllocError, Global};
 use std::borrow::CowStr;
 use std::collections::BTreeSet;
 
 /// What an issue says: one of `OperationOutcome.issue`.
 #[derive(Debug, Drop)]
-struct Said {
+struct OutcomeIssue {
     severity: &'static str,
     code: &'static str,
     diagnostics: String,
@@ -71,11 +71,11 @@ fn push_expression(
     Ok(())
 }
 
-impl Said {
+impl OutcomeIssue {
     fn into_json(self, alloc: Global) -> Result<Json<'static>, AllocError>
         ensures { IfOk result (λ json. HasSeverity self.severity.now (tree_of json)) }
     {
-        let Said {
+        let OutcomeIssue {
             severity,
             code,
             diagnostics,
@@ -90,10 +90,10 @@ impl Said {
     }
 }
 
-fn conforming(alloc: Global) -> Result<Said, AllocError>
-    ensures { IfOk result (λ said. said.severity.now ≡ codes "information") }
+fn conforming_issue(alloc: Global) -> Result<OutcomeIssue, AllocError>
+    ensures { IfOk result (λ issue. issue.severity.now ≡ codes "information") }
 {
-    Ok(Said {
+    Ok(OutcomeIssue {
         severity: "information",
         code: "informational",
         diagnostics: String::from_str(alloc, "conforms")?,
@@ -108,14 +108,14 @@ fn misfit_code(kind: MisfitKind) -> &'static str {
     }
 }
 
-fn misfit_said(alloc: Global, misfit: &Misfit) -> Result<Said, AllocError>
-    ensures { IfOk result (λ said. said.severity.now ≡ codes "error") }
+fn misfit_issue(alloc: Global, misfit: &Misfit) -> Result<OutcomeIssue, AllocError>
+    ensures { IfOk result (λ issue. issue.severity.now ≡ codes "error") }
 {
     let expression = match &misfit.place {
         Some(place) => Some(String::from_str(alloc, place.as_str())?),
         None => None,
     };
-    Ok(Said {
+    Ok(OutcomeIssue {
         severity: "error",
         code: misfit_code(misfit.kind),
         diagnostics: format!(in alloc; "{}", misfit.kind)?,
@@ -123,44 +123,44 @@ fn misfit_said(alloc: Global, misfit: &Misfit) -> Result<Said, AllocError>
     })
 }
 
-fn rule_code(rule: &Rule<'_>) -> &'static str {
+fn rule_code(rule: &BrokenRule<'_>) -> &'static str {
     match rule {
-        Rule::RootType(_)
-        | Rule::Types
-        | Rule::TooMany { .. }
-        | Rule::InSlices(_, _)
-        | Rule::InNoSlice => "structure",
-        Rule::Fixed | Rule::Pattern | Rule::Range | Rule::Length => "value",
-        Rule::Binding(_) => "code-invalid",
-        Rule::TooFew { .. } => "required",
-        Rule::Constraint(_) => "invariant",
+        BrokenRule::RootType(_)
+        | BrokenRule::Types
+        | BrokenRule::TooMany { .. }
+        | BrokenRule::InSlices(_, _)
+        | BrokenRule::InNoSlice => "structure",
+        BrokenRule::Fixed | BrokenRule::Pattern | BrokenRule::Range | BrokenRule::Length => "value",
+        BrokenRule::Binding(_) => "code-invalid",
+        BrokenRule::TooFew { .. } => "required",
+        BrokenRule::Constraint(_) => "invariant",
     }
 }
 
-fn finding_said(alloc: Global, finding: &Finding<'_>) -> Result<Said, AllocError>
-    ensures { IfOk result (λ said. said.severity.now ≡ codes "error") }
+fn breach_issue(alloc: Global, breach: &Breach<'_>) -> Result<OutcomeIssue, AllocError>
+    ensures { IfOk result (λ issue. issue.severity.now ≡ codes "error") }
 {
-    Ok(Said {
+    Ok(OutcomeIssue {
         severity: "error",
-        code: rule_code(&finding.rule),
-        diagnostics: format!(in alloc; "{} ({}#{})", finding.rule, finding.url, finding.id)?,
-        expression: Some(format!(in alloc; "{}", finding.place)?),
+        code: rule_code(&breach.rule),
+        diagnostics: format!(in alloc; "{} ({}#{})", breach.rule, breach.url, breach.id)?,
+        expression: Some(format!(in alloc; "{}", breach.place)?),
     })
 }
 
-fn issue_said(alloc: Global, issue: &Issue<'_>) -> Result<Said, AllocError>
-    ensures { IfOk result (λ said. said.severity.now ≡ codes "error") }
+fn outcome_issue(alloc: Global, issue: &Issue<'_>) -> Result<OutcomeIssue, AllocError>
+    ensures { IfOk result (λ issue. issue.severity.now ≡ codes "error") }
 {
     match issue {
-        Issue::Misfit(misfit) => misfit_said(alloc, misfit),
-        Issue::Broken(finding) => finding_said(alloc, finding),
+        Issue::Misfit(misfit) => misfit_issue(alloc, misfit),
+        Issue::Broken(breach) => breach_issue(alloc, breach),
     }
 }
 
-fn site_said(alloc: Global, site: &Site<'_>) -> Result<Said, AllocError>
-    ensures { IfOk result (λ said. said.severity.now ≡ codes "warning") }
+fn site_issue(alloc: Global, site: &Site<'_>) -> Result<OutcomeIssue, AllocError>
+    ensures { IfOk result (λ issue. issue.severity.now ≡ codes "warning") }
 {
-    Ok(Said {
+    Ok(OutcomeIssue {
         severity: "warning",
         code: "not-supported",
         diagnostics: format!(in alloc; "unread {} ({}#{})", site.unread, site.url, site.id)?,
@@ -168,10 +168,10 @@ fn site_said(alloc: Global, site: &Site<'_>) -> Result<Said, AllocError>
     })
 }
 
-fn fatal(code: &'static str, diagnostics: String) -> Said
+fn fatal_issue(code: &'static str, diagnostics: String) -> OutcomeIssue
     ensures { result.severity.now ≡ codes "fatal" }
 {
-    Said {
+    OutcomeIssue {
         severity: "fatal",
         code,
         diagnostics,
@@ -179,17 +179,17 @@ fn fatal(code: &'static str, diagnostics: String) -> Said
     }
 }
 
-fn fault_said(alloc: Global, profile: &str, fault: Fault) -> Result<Said, NoMemory>
-    ensures severity { IfOk result (λ said. said.severity.now ≡ codes "fatal") }
-    ensures memory { IfOk result (λ said. fault ≡ faults.NoMemory → ⊥) }
+fn fault_issue(alloc: Global, profile: &str, fault: Fault) -> Result<OutcomeIssue, NoMemory>
+    ensures severity { IfOk result (λ issue. issue.severity.now ≡ codes "fatal") }
+    ensures memory { IfOk result (λ issue. fault ≡ faults.NoMemory → ⊥) }
 {
     match fault {
-        Fault::Missing => Ok(fatal("not-found", format!(in alloc; "V1 {profile}")?)),
-        Fault::Unusable(reason) => Ok(fatal(
+        Fault::Missing => Ok(fatal_issue("not-found", format!(in alloc; "V1 {profile}")?)),
+        Fault::Unusable(reason) => Ok(fatal_issue(
             "not-supported",
             format!(in alloc; "V2 {profile} {reason}")?,
         )),
-        Fault::NotJson(fault) => Ok(fatal("structure", format!(in alloc; "V3 {fault}")?)),
+        Fault::NotJson(fault) => Ok(fatal_issue("structure", format!(in alloc; "V3 {fault}")?)),
         Fault::NoMemory => Err(NoMemory),
     }
 }
@@ -221,29 +221,29 @@ impl Issues {
     }
 
     // Puts an issue behind the others, if it isn't among them.
-    fn add(&mut self, alloc: Global, said: Said) -> Result<(), NoMemory>
+    fn add(&mut self, alloc: Global, issue: OutcomeIssue) -> Result<(), NoMemory>
         ensures kept { btree_set_len self.old.texts ≡ length self.old.issues.items
             → OnOk result (btree_set_len self.new.texts ≡ length self.new.issues.items) }
         ensures some { OnOk result (0 < btree_set_len self.new.texts) }
-        ensures severity { All (HasSeverity said.severity.now) (trees_of self.old.issues.items)
-            → OnOk result (All (HasSeverity said.severity.now) (trees_of self.new.issues.items)) }
+        ensures severity { All (HasSeverity issue.severity.now) (trees_of self.old.issues.items)
+            → OnOk result (All (HasSeverity issue.severity.now) (trees_of self.new.issues.items)) }
     {
-        let issue = said.into_json(alloc)?;
-        let text = write(alloc, &issue)?;
+        let json = issue.into_json(alloc)?;
+        let text = write(alloc, &json)?;
         if is_new(&mut self.texts, text)? {
-            Ok(self.issues.push(issue)?)
+            Ok(self.issues.push(json)?)
         } else {
             Ok(())
         }
     }
 }
 
-fn one(alloc: Global, said: Said) -> Result<Vec<Json<'static>>, NoMemory>
+fn one(alloc: Global, issue: OutcomeIssue) -> Result<Vec<Json<'static>>, NoMemory>
     ensures some { IfOk result (λ all. 0 < length all.items) }
-    ensures severity { IfOk result (λ all. All (HasSeverity said.severity.now) (trees_of all.items)) }
+    ensures severity { IfOk result (λ all. All (HasSeverity issue.severity.now) (trees_of all.items)) }
 {
-    let issue = said.into_json(alloc)?;
-    Ok(vec![in alloc; issue]?)
+    let json = issue.into_json(alloc)?;
+    Ok(vec![in alloc; json]?)
 }
 
 #[tactic(auto, using(crate::proofs::Items::none_issued))]
@@ -253,7 +253,7 @@ fn violations(alloc: Global, issues: &Vec<Issue<'_>>) -> Result<Vec<Json<'static
 {
     let mut all = Issues::new(alloc);
     for issue in issues {
-        all.add(alloc, issue_said(alloc, issue)?)?;
+        all.add(alloc, outcome_issue(alloc, issue)?)?;
     }
     Ok(all.issues)
 }
@@ -265,7 +265,7 @@ fn warnings(alloc: Global, sites: &Vec<Site<'_>>) -> Result<Vec<Json<'static>>, 
 {
     let mut all = Issues::new(alloc);
     for site in sites {
-        all.add(alloc, site_said(alloc, site)?)?;
+        all.add(alloc, site_issue(alloc, site)?)?;
     }
     Ok(all.issues)
 }
@@ -280,10 +280,10 @@ fn issues_of(
     ensures memory { IfOk result (λ all. validated.now ≡ Err faults.NoMemory → ⊥) }
 {
     match validated {
-        Ok(Verdict::Conforms) => one(alloc, conforming(alloc)?),
+        Ok(Verdict::Conforms) => one(alloc, conforming_issue(alloc)?),
         Ok(Verdict::Violates(issues)) => violations(alloc, issues),
         Ok(Verdict::Open(sites)) => warnings(alloc, sites),
-        Err(fault) => one(alloc, fault_said(alloc, profile, *fault)?),
+        Err(fault) => one(alloc, fault_issue(alloc, profile, *fault)?),
     }
 }
 

@@ -9,22 +9,22 @@ use crate::failing::no_text;
 use crate::line::{FaultNumber, Line};
 use crate::narrowing::rule_words;
 use fhir_cert_check::Rule;
-use fhir_certificate::{CertFault, Flaw, FlawKind, Pair, Part};
+use fhir_certificate::{CertFault, Flaw, FlawKind, Pair, LinePart};
 use fhir_json::NoMemory;
 use fhir_schema::{NodeRef, Schema};
 use std::alloc::{AllocError, Global};
 
-fn part_words(part: Part) -> &'static str {
+fn part_words(part: LinePart) -> &'static str {
     match part {
-        Part::Utf8 => "bytes of UTF-8 were expected",
-        Part::FirstLine => "`fhirprof-certificate 1` was expected",
-        Part::Derived => "`derived`, a tab and a url were expected",
-        Part::Base => "`base`, a tab and a url were expected",
-        Part::PairOrEnd => {
+        LinePart::Utf8 => "bytes of UTF-8 were expected",
+        LinePart::FirstLine => "`fhirprof-certificate 1` was expected",
+        LinePart::Derived => "`derived`, a tab and a url were expected",
+        LinePart::Base => "`base`, a tab and a url were expected",
+        LinePart::PairOrEnd => {
             "`item` or `kids` with the url and the id of two elements, parted by tabs, or `end`, was expected"
         }
-        Part::LineFeed => "a line feed was expected behind `end`",
-        Part::Nothing => "nothing was expected behind the line `end`",
+        LinePart::LineFeed => "a line feed was expected behind `end`",
+        LinePart::Nothing => "nothing was expected behind the line `end`",
     }
 }
 

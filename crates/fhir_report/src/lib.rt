@@ -32,7 +32,7 @@ mod laws;
 mod line;
 mod narrowing;
 mod reporting;
-mod telling;
+mod finding_lines;
 mod wording;
 mod writing;
 
@@ -42,5 +42,5 @@ pub use laws::{reports, rows_are_lines};
 pub use line::{FaultNumber, Line};
 pub use narrowing::rule_words;
 pub use reporting::{CertificateFile, Report, Subject, report_on};
-pub use telling::Teller;
+pub use finding_lines::finding_line;
 pub use writing::Format;

@@ -220,7 +220,7 @@ fn slice_bounds_text(
 }
 
 // What an element says by a field.
-fn said(
+fn field_text(
     alloc: Global,
     schema: &Schema,
     node: NodeRef,
@@ -243,7 +243,7 @@ fn said(
     }
 }
 
-fn compared(
+fn comparison_text(
     alloc: Global,
     schema: &Schema,
     nodes: NodePair,
@@ -252,8 +252,8 @@ fn compared(
 ) -> Result<String, NoMemory>
     ensures { IfOk result (λ text. (more : Text) × (string_bytes text ≡ rule_text (rule_name rule.entry) ++ codes ": " ++ more)) }
 {
-    let derived = said(alloc, schema, nodes.derived, field)?;
-    let base = said(alloc, schema, nodes.base, field)?;
+    let derived = field_text(alloc, schema, nodes.derived, field)?;
+    let base = field_text(alloc, schema, nodes.base, field)?;
     Ok(format!(in alloc;
         "{rule}: {derived} in the derived profile isn't within {base} of the base"
     )?)
@@ -270,7 +270,7 @@ pub fn rule_words(
     ensures { IfOk result (λ text. (more : Text) × (string_bytes text ≡ rule_text (rule_name rule.entry) ++ codes ": " ++ more)) }
 {
     match shown_of(rule) {
-        Shown::Compared(field) => compared(alloc, schema, nodes_of(pair), rule, field),
+        Shown::Compared(field) => comparison_text(alloc, schema, nodes_of(pair), rule, field),
         Shown::Lacking(text) => Ok(format!(in alloc; "{rule}: {text}")?),
     }
 }

@@ -12,7 +12,7 @@ ghost use Rattle.fhir_report.specs.Growing.{Grows};
 
 use crate::certificates::{flaw_line, no_line};
 use crate::line::{FaultNumber, Line};
-use crate::telling::Teller;
+use crate::finding_lines::finding_line;
 use crate::writing::{Format, push_row, push_rows};
 use fhir_cert_check::{Answer, check_bytes};
 use fhir_certificate::{CertFault, Flaw, flaws};
@@ -56,42 +56,44 @@ pub struct Report {
 // Puts in the line of a finding.
 fn push_finding<'s, 'f: 's>(
     alloc: Global,
-    teller: &Teller<'s, 'f>,
+    survey: &'s Survey<'f>,
+    schema: &'s Schema,
     finding: &Finding<'s, 'f>,
     lines: &mut Vec<Line<'s>>,
 ) -> Result<(), NoMemory>
     ensures { OnOk result (Grows lines.old.items lines.new.items (map fault_head (fault_told finding.now)) (map unusable_head (unusable_told finding.now))) }
 {
-    Ok(lines.push(teller.line(alloc, finding)?)?)
+    Ok(lines.push(finding_line(alloc, survey, schema, finding)?)?)
 }
 
 // The lines on findings.
 fn lines_of<'s, 'f: 's>(
     alloc: Global,
-    teller: &Teller<'s, 'f>,
+    survey: &'s Survey<'f>,
+    schema: &'s Schema,
     found: &[Finding<'s, 'f>],
 ) -> Result<Vec<Line<'s>>, NoMemory>
     ensures { IfOk result (λ ls. Grows [] ls.items (map fault_head (faults_told found.now)) (map unusable_head (all_told found.now))) }
 {
     let mut lines: Vec<Line<'s>> = Vec::new(alloc);
     for finding in found {
-        push_finding(alloc, teller, finding, &mut lines)?;
+        push_finding(alloc, survey, schema, finding, &mut lines)?;
     }
     Ok(lines)
 }
 
 // What is told of a certificate, and whether it is right.
 #[derive(Drop)]
-struct Judged<'r> {
+struct CertificateLines<'r> {
     is_right: bool,
     lines: Vec<Line<'r>>,
 }
 
-fn judged_by<'r>(alloc: Global, is_right: bool, line: Line<'r>) -> Result<Judged<'r>, NoMemory>
+fn one_line<'r>(alloc: Global, is_right: bool, line: Line<'r>) -> Result<CertificateLines<'r>, NoMemory>
     ensures { IfOk result (λ j. (j.is_right ≡ is_right) × (lines_seen j.lines.items ≡ line_seen line.entry ∷ [])) }
 {
     let lines = vec![in alloc; line]?;
-    Ok(Judged { is_right, lines })
+    Ok(CertificateLines { is_right, lines })
 }
 
 fn too_many<'r>(alloc: Global, file: &'r str) -> Result<Line<'r>, AllocError>
@@ -134,7 +136,7 @@ fn judge<'r>(
     alloc: Global,
     schema: &Schema,
     certificate: CertificateFile<'r>,
-) -> Result<Judged<'r>, NoMemory>
+) -> Result<CertificateLines<'r>, NoMemory>
     ensures right { IfOk result (λ j. IsTrue j.is_right → IsRight schema.now certificate.entry.bytes.now) }
     ensures promised { IfOk result (λ j. IsTrue j.is_right → Promises schema.now certificate.entry.bytes.now) }
     ensures wrong { IfOk result (λ j. j.is_right ≡ false → IsRight schema.now certificate.entry.bytes.now → ⊥) }
@@ -144,17 +146,17 @@ fn judge<'r>(
     match check_bytes(alloc, schema, certificate.bytes) {
         Ok(Answer::Yes) => {
             let text = String::from_str(alloc, "yes")?;
-            judged_by(alloc, true, Line::of_file(certificate.name, None, text))
+            one_line(alloc, true, Line::of_file(certificate.name, None, text))
         }
         Ok(Answer::No(pair, rule)) => {
             let line = no_line(alloc, schema, certificate.name, pair, rule)?;
-            judged_by(alloc, false, line)
+            one_line(alloc, false, line)
         }
         Err(CertFault::NoMemory) => Err(NoMemory),
         Err(CertFault::TooManyPairs) => {
-            judged_by(alloc, false, too_many(alloc, certificate.name)?)
+            one_line(alloc, false, too_many(alloc, certificate.name)?)
         }
-        Err(CertFault::WrongFormat | CertFault::UnknownNode) => Ok(Judged {
+        Err(CertFault::WrongFormat | CertFault::UnknownNode) => Ok(CertificateLines {
             is_right: false,
             lines: flaw_lines(alloc, schema, certificate)?,
         }),
@@ -166,7 +168,7 @@ fn judge_if_any<'r>(
     alloc: Global,
     schema: &Schema,
     certificate: Option<CertificateFile<'r>>,
-) -> Result<Judged<'r>, NoMemory>
+) -> Result<CertificateLines<'r>, NoMemory>
     ensures right { IfOk result (λ j. IsTrue j.is_right → IsRightIfAny schema.now (certificate_seen certificate.entry)) }
     ensures promised { IfOk result (λ j. IsTrue j.is_right → PromisesIfAny schema.now (certificate_seen certificate.entry)) }
     ensures wrong { IfOk result (λ j. j.is_right ≡ false → IsRightIfAny schema.now (certificate_seen certificate.entry) → ⊥) }
@@ -174,7 +176,7 @@ fn judge_if_any<'r>(
 {
     match certificate {
         Some(certificate) => judge(alloc, schema, certificate),
-        None => Ok(Judged {
+        None => Ok(CertificateLines {
             is_right: true,
             lines: Vec::new(alloc),
         }),
@@ -229,8 +231,7 @@ pub fn report_on<'s, 'f: 's>(
         certificate,
     } = subject;
     let found = findings(alloc, survey, schema)?;
-    let teller = Teller::of(survey, schema);
-    let lines = lines_of(alloc, &teller, &found)?;
+    let lines = lines_of(alloc, survey, schema, &found)?;
     let judged = judge_if_any(alloc, schema, certificate)?;
     let counts = counts_of(files, survey, schema);
     let text = text_of(alloc, format, &lines, &judged.lines, counts)?;

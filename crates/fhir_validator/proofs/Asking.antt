@@ -13,8 +13,8 @@ use Rattle.fhir_schema.specs.Schemas.{SchemaValue, element_at, is_root_node, tar
 use Rattle.fhir_instance.specs.Items.{Item, item, type_of}
 use Rattle.fhir_facets.specs.Unread.{Meaning}
 use Rattle.fhir_conformance.specs.Positions.{members}
-use Rattle.fhir_conformance.specs.Asks.{RuleName, Ask, own, types, profile, root, child, child_ask, apart_ask, in_slice_ask, facet_asks, constraint_ask, own_constraint_asks, constraint_asks, slice_asks, sliced_asks, named_asks, slot_asks, own_root, roots_named, entry_roots, profile_asks, slots_ask, kids_asks, root_asks, inner_asks, asks, places_of}
-use Rattle.fhir_conformance.specs.Asks.{root_type, fixed, pattern, range, length_limit, binding, too_few, too_many, too_few_in, too_many_in, apart, sliced, constraint}
+use Rattle.fhir_conformance.specs.Asks.{ElementRuleName, Ask, own, types, profile, root, child, child_ask, apart_ask, in_slice_ask, facet_asks, constraint_ask, own_constraint_asks, constraint_asks, slice_asks, sliced_asks, named_asks, slot_asks, own_root, roots_named, entry_roots, profile_asks, slots_ask, kids_asks, root_asks, inner_asks, asks, places_of}
+use Rattle.fhir_conformance.specs.Asks.{root_type, fixed, pattern, range, length_limit, binding, too_few, too_many, too_few_in, too_many_in, apart, in_a_slice, constraint}
 use Rattle.fhir_conformance.specs.Conformance.{Interpretation, Around, meaning_at, resource_at, inside, profile_holds, profiles_hold, entry_allows, entry_holds, types_hold, is_untyped, ask_holds, ask_conforms, root_holds, conforms, kid_tests}
 use Rattle.fhir_validator.specs.Judging.{IsOrdered}
 
@@ -46,7 +46,7 @@ all_mapped P f each (x ∷ xs) = (each x, all_mapped P f each xs)
 
 -- ---- asks for roots
 
-module _ (P : Ask → Type 0) (of_own : (rule : RuleName) (n : NodeRef) → P (own rule n)) (of_child : (i : ℕ) (n : NodeRef) → P (child i n)) (s : SchemaValue) (x : Item) where
+module _ (P : Ask → Type 0) (of_own : (rule : ElementRuleName) (n : NodeRef) → P (own rule n)) (of_child : (i : ℕ) (n : NodeRef) → P (child i n)) (s : SchemaValue) (x : Item) where
   children_are : (m : NodeRef) (is : List ℕ) → AllByRecursion P (map (child_ask m) is)
   children_are m is = all_mapped P (child_ask m) (λ i. of_child i m) is
 
@@ -57,7 +57,7 @@ module _ (P : Ask → Type 0) (of_own : (rule : RuleName) (n : NodeRef) → P (o
       (children_are m (members s x m places)) (of_own (too_few_in name) m, (of_own (too_many_in name) m, tt))
 
   closed_are : (b : Bool) (n : NodeRef) (places : List ℕ) → AllByRecursion P (cond b (map (in_slice_ask n) places) [])
-  closed_are true n places = all_mapped P (in_slice_ask n) (λ i. of_own (sliced i) n) places
+  closed_are true n places = all_mapped P (in_slice_ask n) (λ i. of_own (in_a_slice i) n) places
   closed_are false n places = tt
 
   slices_are : (name : Text) (places : List ℕ) (n : NodeRef) (b : Bool)

@@ -89,7 +89,7 @@ module _ (s : SchemaValue) (profile : Text) (t : Tree) (n : NodeRef) (usable : r
     where
       of_found : (issue : Issue) → IsFound s x n issue → IsIssue s profile t issue
       of_found (Misfit misfit) h = absurd h
-      of_found (Broken finding) h = (n, x, usable, typed, h)
+      of_found (Broken breach) h = (n, x, usable, typed, h)
   listed x typed (Undecided sites) h = some_weaker (IsOpenAt s x n) (IsSite s profile t) (λ site h. (n, x, usable, typed, h)) sites.items h
 
   of_misfit : ((x : Item) → Types s t x → ⊥) → (v : Verdict) → IsMisfitVerdict v → IsExplained s profile t v
@@ -98,7 +98,7 @@ module _ (s : SchemaValue) (profile : Text) (t : Tree) (n : NodeRef) (usable : r
     where
       of_issue : (issue : Issue) → IsOfMisfit issue → IsIssue s profile t issue
       of_issue (Misfit misfit) h = untyped
-      of_issue (Broken finding) h = absurd h
+      of_issue (Broken breach) h = absurd h
   of_misfit untyped (Undecided sites) h = absurd h
 
   pub explained : (v : Verdict) → IsVerdictOn s n t v → IsExplained s profile t v

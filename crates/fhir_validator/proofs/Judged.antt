@@ -1,4 +1,4 @@
--- Answers to what a pair asks, and to the pair.
+-- Judgements on what a pair asks, and on the pair.
 use Rattle.std.proofs.Common.{◌≡◌, ◌<◌, ◌≤◌, ◌+◌, ℕ, zero, suc, Bool, true, false, List, [], ◌∷◌, map, length, take, get_or, sym, ap, ◌∙◌, ◌&&◌, ◌||◌, refl, subst, arith, eqb, ne_eqb, Option, Some, None}
 use Rattle.std.specs.Prelude.{Result, Ok, Err, IfOk}
 use Rattle.std.specs.Option.{option_map_or}
@@ -15,8 +15,8 @@ use Rattle.fhir_conformance.specs.Conformance.{Interpretation, Around, nearest_t
 use Rattle.fhir_conformance.specs.Positions.{kid_at}
 use Rattle.fhir_conformance.specs.Views.{ask_seen, asks_seen}
 use Rattle.fhir_conformance.specs.declared.ask.Ask.{Ask}
-use Rattle.fhir_validator.specs.declared.answer.Answer.{Answer}
-use Rattle.fhir_validator.specs.declared.pair.Pair.{Pair}
+use Rattle.fhir_validator.specs.declared.judgement.Judgement.{Judgement}
+use Rattle.fhir_validator.specs.declared.pair.ItemPair.{ItemPair}
 use Rattle.fhir_validator.specs.Layouts.{LayoutValue, spot_at, item_at, resource_of}
 use Rattle.fhir_validator.specs.Judging.{IsThere, IsRight, IsRightOf, IsOrdered}
 use Rattle.fhir_validator.proofs.Asking.{IsOfType, IsOfCanonical, are_ordered, conforms_to}
@@ -37,14 +37,14 @@ ordered_at s roots others x n xs i d e h =
     all_at (IsOrdered s n) ask_seen xs i d h (subst (AllByRecursion (IsOrdered s n)) (sym e) (are_ordered s roots others x n))
 
 -- one ask more is answered
-pub one_more : (p : Ask → Bool) (xs : List Ask) (i : ℕ) (d : Ask) (answer both one : Bool) → i < length xs
-    → both ≡ (answer && one) → answer ≡ list_all p (take i xs) → one ≡ p (get_or xs i d) → both ≡ list_all p (take (i + 1) xs)
-one_more p xs i d answer both one h is so_far here = is ∙ (λ j. so_far j && here j) ∙ sym (list_all_more p xs i d h)
+pub one_more : (p : Ask → Bool) (xs : List Ask) (i : ℕ) (d : Ask) (judgement both one : Bool) → i < length xs
+    → both ≡ (judgement && one) → judgement ≡ list_all p (take i xs) → one ≡ p (get_or xs i d) → both ≡ list_all p (take (i + 1) xs)
+one_more p xs i d judgement both one h is so_far here = is ∙ (λ j. so_far j && here j) ∙ sym (list_all_more p xs i d h)
 
 -- one of several more, where one has to hold
-pub one_more_any : {A : Type 0} (p : A → Bool) (xs : List A) (i : ℕ) (d : A) (answer both one : Bool) → i < length xs
-    → both ≡ (answer || one) → answer ≡ list_any p (take i xs) → one ≡ p (get_or xs i d) → both ≡ list_any p (take (i + 1) xs)
-one_more_any p xs i d answer both one h is so_far here = is ∙ (λ j. so_far j || here j) ∙ sym (list_any_more p xs i d h)
+pub one_more_any : {A : Type 0} (p : A → Bool) (xs : List A) (i : ℕ) (d : A) (judgement both one : Bool) → i < length xs
+    → both ≡ (judgement || one) → judgement ≡ list_any p (take i xs) → one ≡ p (get_or xs i d) → both ≡ list_any p (take (i + 1) xs)
+one_more_any p xs i d judgement both one h is so_far here = is ∙ (λ j. so_far j || here j) ∙ sym (list_any_more p xs i d h)
 
 pub all_any : {A : Type 0} (p : A → Bool) (xs : List A) (i : ℕ) (b : Bool) → length xs ≤ i → b ≡ list_any p (take i xs) → b ≡ list_any p xs
 all_any p xs i b h is = is ∙ ap (list_any p) (take_all i xs h)
@@ -85,8 +85,8 @@ all_answered s roots others meaning around x n xs i b e h is =
     ∙ ap (list_all (ask_conforms s meaning around x)) e
     ∙ sym (conforms_to s roots others meaning around x n)
 
--- the answer of a child is the answer to what is asked of it
-module _ (layout : LayoutValue) (p : Pair) (position : ℕ) (n : NodeRef) where
+-- the judgement on a child is the judgement on what is asked of it
+module _ (layout : LayoutValue) (p : ItemPair) (position : ℕ) (n : NodeRef) where
   abbrev s : SchemaValue
   s = layout.schema
 
@@ -105,9 +105,9 @@ module _ (layout : LayoutValue) (p : Pair) (position : ℕ) (n : NodeRef) where
       test_at s (constant b) (inside s around x) 0 (kids_of x) position n
       ∙ ap (λ o. option_map_or (λ y. conforms s (constant b) (below (inside s around x) (0 + position)) y n) o true) (sym e)
 
-  pub of_kid : (q : Pair) → q.node ≡ n → Some (item_at layout q.item) ≡ kid_at (kids_of x) position
+  pub of_kid : (q : ItemPair) → q.node ≡ n → Some (item_at layout q.item) ≡ kid_at (kids_of x) position
       → resource_of layout q.item ≡ nearest_to s (resource_of layout p.item) (item_at layout q.item)
-      → (a : Answer) → IsRight layout q a → IsRightOf layout p (child position n) a
+      → (a : Judgement) → IsRight layout q a → IsRightOf layout p (child position n) a
   of_kid q same e near a right b around there =
       right b (below (inside s around x) (0 + position)) (kid_there q.item near around there)
       ∙ ap (conforms s (constant b) (below (inside s around x) (0 + position)) (item_at layout q.item)) same

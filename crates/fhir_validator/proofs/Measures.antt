@@ -2,20 +2,20 @@
 use Rattle.std.proofs.Common.{◌≡◌, ◌<◌, ◌≤◌, ◌+◌, ◌-◌, ◌*◌, ℕ, Bool, true, false, length, arith, ap, IsTrue}
 use Rattle.fhir_schema.specs.Schemas.{is_root_node}
 use Rattle.fhir_validator.specs.Layouts.{LayoutValue, place_in_row}
-use Rattle.fhir_validator.specs.declared.pair.Pair.{Pair}
+use Rattle.fhir_validator.specs.declared.pair.ItemPair.{ItemPair}
 
 abbrev pub rank : Bool → ℕ
 rank true = 0
 rank false = 1
 
-unfoldable pub weight : LayoutValue → Pair → ℕ
+unfoldable pub weight : LayoutValue → ItemPair → ℕ
 weight layout p = 2 * (length layout.spots - place_in_row layout p.item) + rank (is_root_node layout.schema p.node)
 
 rank_low : (b : Bool) → rank b ≤ 1
 rank_low true = omega arith
 rank_low false = omega arith
 
-module _ (layout : LayoutValue) (p q : Pair) where
+module _ (layout : LayoutValue) (p q : ItemPair) where
   pub lighter_root : q.item ≡ p.item → is_root_node layout.schema p.node ≡ false → IsTrue (is_root_node layout.schema q.node) → weight layout q < weight layout p
   unfolding weight
   lighter_root same inner is_root =

@@ -4,21 +4,21 @@ use Rattle.std.specs.BTreeMap.{BTreeMap, get, is_at, Updates}
 use Rattle.std.specs.Cmp.{both_tied, unsigned_tied}
 use Rattle.std.proofs.lemmas.Bool.{and_parts, eqb-true}
 use Rattle.fhir_nodes.specs.declared.node.NodeRef.{NodeRef}
-use Rattle.fhir_validator.specs.declared.pair.Pair.{Pair}
+use Rattle.fhir_validator.specs.declared.pair.ItemPair.{ItemPair}
 use Rattle.fhir_validator.specs.contracts.pair.PairOrd.TheImpl.{cmp-value}
 
 abbrev same_node : NodeRef → NodeRef → Bool
 same_node n m = nat_eq n.definition m.definition && nat_eq n.element m.element
 
-abbrev same_pair : Pair → Pair → Bool
+abbrev same_pair : ItemPair → ItemPair → Bool
 same_pair p q = nat_eq p.item q.item && same_node p.node q.node
 
-is_at_pair : (p q : Pair) → is_at (cmp-value.it p) q ≡ same_pair p q
+is_at_pair : (p q : ItemPair) → is_at (cmp-value.it p) q ≡ same_pair p q
 is_at_pair p q =
     sym (both_tied _ _ _ _ (sym (unsigned_tied p.item q.item))
     (both_tied _ _ _ _ (sym (unsigned_tied p.node.definition q.node.definition)) (sym (unsigned_tied p.node.element q.node.element))))
 
-same_pair-true : (p q : Pair) → IsTrue (same_pair p q) → p ≡ q
+same_pair-true : (p q : ItemPair) → IsTrue (same_pair p q) → p ≡ q
 same_pair-true p q h =
     let k = and_parts (nat_eq p.item q.item) (same_node p.node q.node) h in
     let l = and_parts (nat_eq p.node.definition q.node.definition) (nat_eq p.node.element q.node.element) k.1 in
@@ -28,9 +28,9 @@ same_pair-true p q h =
     λ i. record { item = a i; node = record { definition = d i; element = e i } }
 
 -- what holds of each entry, and of the one that is put in, holds of each entry then
-pub all_put : {A : Type 0} (P : Pair → A → Type 0) (old new : BTreeMap Pair A) (p : Pair) (a : A) → Updates cmp-value.it old new p (Some a)
-    → P p a → ((q : Pair) (b : A) → get cmp-value.it old q ≡ Some b → P q b)
-    → (q : Pair) (b : A) → get cmp-value.it new q ≡ Some b → P q b
+pub all_put : {A : Type 0} (P : ItemPair → A → Type 0) (old new : BTreeMap ItemPair A) (p : ItemPair) (a : A) → Updates cmp-value.it old new p (Some a)
+    → P p a → ((q : ItemPair) (b : A) → get cmp-value.it old q ≡ Some b → P q b)
+    → (q : ItemPair) (b : A) → get cmp-value.it new q ≡ Some b → P q b
 all_put {A} P old new p a updates here each q b is = by_case (is_at (cmp-value.it p) q) refl
   where
     by_case : (t : Bool) → is_at (cmp-value.it p) q ≡ t → P q b

@@ -12,23 +12,23 @@ use Rattle.fhir_instance.specs.Items.{Item, Place}
 use Rattle.fhir_facets.specs.Views.{unread_seen}
 use Rattle.fhir_facets.specs.declared.unread.Unread.{Unread}
 use Rattle.fhir_facets.specs.Unread.{Unread as UnreadRule}
-use Rattle.fhir_conformance.specs.Asks.{RuleName, Ask, own, asks}
+use Rattle.fhir_conformance.specs.Asks.{ElementRuleName, Ask, own, asks}
 use Rattle.fhir_conformance.specs.Conformance.{Around, around_of, constant, ask_conforms, rule_holds}
 use Rattle.fhir_conformance.specs.Meeting.{Met, unread_at}
 use Rattle.fhir_conformance.specs.Views.{ask_seen, asks_seen}
 use Rattle.fhir_conformance.specs.declared.ask.Ask.{Ask as AskValue}
-use Rattle.fhir_validator.specs.declared.answer.Answer.{Answer}
-use Rattle.fhir_validator.specs.declared.answer.Answer.TheVariants.{Holds, Open, Fails}
-use Rattle.fhir_validator.specs.declared.issue.Finding.{Finding}
+use Rattle.fhir_validator.specs.declared.judgement.Judgement.{Judgement}
+use Rattle.fhir_validator.specs.declared.judgement.Judgement.TheVariants.{Holds, Open, Fails}
+use Rattle.fhir_validator.specs.declared.issue.Breach.{Breach}
 use Rattle.fhir_validator.specs.declared.issue.Issue.{Issue}
 use Rattle.fhir_validator.specs.declared.issue.Issue.TheVariants.{Broken}
 use Rattle.fhir_validator.specs.declared.issue.Site.{Site}
-use Rattle.fhir_validator.specs.declared.pair.Pair.{Pair}
-use Rattle.fhir_validator.specs.Answers.{under}
+use Rattle.fhir_validator.specs.declared.pair.ItemPair.{ItemPair}
+use Rattle.fhir_validator.specs.Judgements.{under}
 use Rattle.fhir_validator.specs.Judging.{IsThere, IsRightOf}
 use Rattle.fhir_validator.specs.Layouts.{LayoutValue, item_at, resource_of}
 use Rattle.fhir_validator.specs.Issues.{Said, told_of, IsNamed, IsBroken, IsOpenAt, rule_said}
-use Rattle.fhir_validator.specs.Listing.{same_answer, side, is_filled, ListingValue, IsFound, IsAllowed, IsAskedBy, IsToList, IsHanging, Grown, Lists}
+use Rattle.fhir_validator.specs.Listing.{same_judgement, side, is_filled, ListingValue, IsFound, IsAllowed, IsAskedBy, IsToList, IsHanging, Grown, Lists}
 use Rattle.fhir_validator.proofs.Judged.{met_there}
 use Rattle.fhir_validator.proofs.Rows.{all_pushed}
 
@@ -50,24 +50,24 @@ some_pushed xs x = omega (arith, length-append xs (x ∷ []))
 
 module _ (issues : List Issue) (sites : List Site) where
   -- what fails, where `u` is what it comes to on the side that is wanted
-  pub told_broken : (w : Answer) (t u : Bool) → false ≡ t → IsAllowed w t → 0 < length issues → IsTrue u ⊎ is_filled w issues sites
+  pub told_broken : (w : Judgement) (t u : Bool) → false ≡ t → IsAllowed w t → 0 < length issues → IsTrue u ⊎ is_filled w issues sites
   told_broken Holds t u fails allowed some = inr tt
   told_broken Open t u fails allowed some = absurd (false≢true (fails ∙ allowed))
   told_broken Fails t u fails allowed some = inr some
 
   -- what is open
-  pub told_other : (w : Answer) (u : Bool) → side w ≡ u → same_answer w Open ≡ false → IsTrue u ⊎ is_filled w issues sites
+  pub told_other : (w : Judgement) (u : Bool) → side w ≡ u → same_judgement w Open ≡ false → IsTrue u ⊎ is_filled w issues sites
   told_other Holds u hangs other = inr tt
   told_other Open u hangs other = absurd (false≢true (sym other))
   told_other Fails u hangs other = inl (sym hangs)
 
-  pub told_open : (w : Answer) (u : Bool) → same_answer w Open ≡ true → 0 < length sites → IsTrue u ⊎ is_filled w issues sites
+  pub told_open : (w : Judgement) (u : Bool) → same_judgement w Open ≡ true → 0 < length sites → IsTrue u ⊎ is_filled w issues sites
   told_open Holds u same some = absurd (false≢true same)
   told_open Open u same some = inr some
   told_open Fails u same some = absurd (false≢true same)
 
-  pub told_same : (w a : Answer) (here there : Bool → Bool) → ((b : Bool) → under b a ≡ here b) → ((b : Bool) → under b a ≡ there b) → IsAllowed w (here true)
-      → same_answer a w ≡ false → IsTrue (there (side w)) ⊎ is_filled w issues sites
+  pub told_same : (w a : Judgement) (here there : Bool → Bool) → ((b : Bool) → under b a ≡ here b) → ((b : Bool) → under b a ≡ there b) → IsAllowed w (here true)
+      → same_judgement a w ≡ false → IsTrue (there (side w)) ⊎ is_filled w issues sites
   told_same Holds a here there is was allowed other = inr tt
   told_same Open Holds here there is was allowed other = inl (sym (was false))
   told_same Open Open here there is was allowed other = absurd (false≢true (sym other))
@@ -76,7 +76,7 @@ module _ (issues : List Issue) (sites : List Site) where
   told_same Fails Open here there is was allowed other = inl (sym (was true))
   told_same Fails Fails here there is was allowed other = absurd (false≢true (sym other))
 
-  pub told_last : (w : Answer) (t : Bool) → under (side w) w ≡ t → IsTrue t ⊎ is_filled w issues sites → is_filled w issues sites
+  pub told_last : (w : Judgement) (t : Bool) → under (side w) w ≡ t → IsTrue t ⊎ is_filled w issues sites → is_filled w issues sites
   told_last Holds t is told = tt
   told_last Open t is told = elim told [ inl all ↦ absurd (false≢true (is ∙ all)) | inr filled ↦ filled ]
   told_last Fails t is told = elim told [ inl all ↦ absurd (false≢true (is ∙ all)) | inr filled ↦ filled ]
@@ -89,7 +89,7 @@ more_told P Q p xs i d h kept so_far one =
       | inr filled ↦ inr (kept filled)
     ]
 
-pub allowed_at : {A : Type 0} (w : Answer) (p : A → Bool) (xs : List A) (i : ℕ) (d : A) → i < length xs → under true w ≡ list_all p xs → IsAllowed w (p (get_or xs i d))
+pub allowed_at : {A : Type 0} (w : Judgement) (p : A → Bool) (xs : List A) (i : ℕ) (d : A) → i < length xs → under true w ≡ list_all p xs → IsAllowed w (p (get_or xs i d))
 allowed_at Holds p xs i d h is = tt
 allowed_at Open p xs i d h is = by_case (p (get_or xs i d)) refl
   where
@@ -112,7 +112,7 @@ asked_at s x n xs i d e h =
     long [] = refl
     long (x ∷ xs) = ap suc (long xs)
 
-pub same_is : (a w : Answer) → same_answer a w ≡ true → a ≡ w
+pub same_is : (a w : Judgement) → same_judgement a w ≡ true → a ≡ w
 same_is Holds Holds e = refl
 same_is Holds Open e = absurd (false≢true e)
 same_is Holds Fails e = absurd (false≢true e)
@@ -123,29 +123,29 @@ same_is Fails Holds e = absurd (false≢true e)
 same_is Fails Open e = absurd (false≢true e)
 same_is Fails Fails e = refl
 
-pub is_open : (w : Answer) → same_answer w Open ≡ true → w ≡ Open
+pub is_open : (w : Judgement) → same_judgement w Open ≡ true → w ≡ Open
 is_open Holds e = absurd (false≢true e)
 is_open Open e = refl
 is_open Fails e = absurd (false≢true e)
 
 -- what is filled stays so
-pub issue_kept : (w : Answer) (issues : List Issue) (sites : List Site) (x : Issue) → is_filled w issues sites → is_filled w (issues ++ x ∷ []) sites
+pub issue_kept : (w : Judgement) (issues : List Issue) (sites : List Site) (x : Issue) → is_filled w issues sites → is_filled w (issues ++ x ∷ []) sites
 issue_kept Holds issues sites x h = tt
 issue_kept Open issues sites x h = h
 issue_kept Fails issues sites x h = some_pushed issues x
 
-pub site_kept : (w : Answer) (issues : List Issue) (sites : List Site) (x : Site) → is_filled w issues sites → is_filled w issues (sites ++ x ∷ [])
+pub site_kept : (w : Judgement) (issues : List Issue) (sites : List Site) (x : Site) → is_filled w issues sites → is_filled w issues (sites ++ x ∷ [])
 site_kept Holds issues sites x h = tt
 site_kept Open issues sites x h = some_pushed sites x
 site_kept Fails issues sites x h = h
 
-abbrev pub IsMet : LayoutValue → Pair → Item → NodeRef → Place → Type 0
+abbrev pub IsMet : LayoutValue → ItemPair → Item → NodeRef → Place → Type 0
 IsMet layout p outermost profile place = Met layout.schema outermost profile place (resource_of layout p.item) (item_at layout p.item) p.node
 
-pub grown_none : (layout : LayoutValue) (p : Pair) (listing : ListingValue) → Grown layout p listing listing
+pub grown_none : (layout : LayoutValue) (p : ItemPair) (listing : ListingValue) → Grown layout p listing listing
 grown_none layout p listing = record { wanted = refl; kept = λ h. h; found = λ o profile place met h. h }
 
-pub grown_more : (layout : LayoutValue) (p : Pair) (one two three : ListingValue) → Grown layout p one two → Grown layout p two three → Grown layout p one three
+pub grown_more : (layout : LayoutValue) (p : ItemPair) (one two three : ListingValue) → Grown layout p one two → Grown layout p two three → Grown layout p one three
 grown_more layout p one two three less more = record {
   wanted = more.wanted ∙ less.wanted;
   kept = λ h. more.kept (less.kept h);
@@ -153,7 +153,7 @@ grown_more layout p one two three less more = record {
 }
 
 -- it grows by what another pair asks, which is met where this one is
-pub grown_by : (layout : LayoutValue) (p q : Pair) (old new : ListingValue)
+pub grown_by : (layout : LayoutValue) (p q : ItemPair) (old new : ListingValue)
     → ((o : Item) (profile : NodeRef) (place : Place) → IsMet layout p o profile place → (other : Place) × IsMet layout q o profile other)
     → Grown layout q old new → Grown layout p old new
 grown_by layout p q old new f grown = record {
@@ -163,11 +163,11 @@ grown_by layout p q old new f grown = record {
 }
 
 -- what is put into a listing
-module _ (layout : LayoutValue) (p : Pair) (node : NodeRef) (old : ListingValue) where
-  broken_at : (ask : Ask) (said : Said) (finding : Finding) → IsAskedBy layout p ask → told_of layout.schema (item_at layout p.item) ask ≡ Some (node, said)
-      → IsRightOf layout p ask Fails → finding.node ≡ node → rule_said finding.rule ≡ said → IsNamed layout.schema node finding.url.now finding.id.now
-      → (outermost : Item) (profile : NodeRef) (place : Place) → IsMet layout p outermost profile place → IsBroken layout.schema outermost profile finding
-  broken_at ask said finding asked told fails e f named outermost profile place met = record {
+module _ (layout : LayoutValue) (p : ItemPair) (node : NodeRef) (old : ListingValue) where
+  broken_at : (ask : Ask) (said : Said) (breach : Breach) → IsAskedBy layout p ask → told_of layout.schema (item_at layout p.item) ask ≡ Some (node, said)
+      → IsRightOf layout p ask Fails → breach.node ≡ node → rule_said breach.rule ≡ said → IsNamed layout.schema node breach.url.now breach.id.now
+      → (outermost : Item) (profile : NodeRef) (place : Place) → IsMet layout p outermost profile place → IsBroken layout.schema outermost profile breach
+  broken_at ask said breach asked told fails e f named outermost profile place met = record {
     place = place;
     resource = resource_of layout p.item;
     itself = item_at layout p.item;
@@ -177,25 +177,25 @@ module _ (layout : LayoutValue) (p : Pair) (node : NodeRef) (old : ListingValue)
     asked = asked;
     fails = sym (fails true (around_of outermost place (resource_of layout p.item)) (met_there layout p.item outermost place));
     told = told ∙ (λ j. Some (sym e j, sym f j));
-    named = subst (λ m. IsNamed layout.schema m finding.url.now finding.id.now) (sym e) named;
+    named = subst (λ m. IsNamed layout.schema m breach.url.now breach.id.now) (sym e) named;
   }
 
-  pub broken_lists : (ask : Ask) (said : Said) (finding : Finding) → IsToList layout old p ask → told_of layout.schema (item_at layout p.item) ask ≡ Some (node, said)
-      → IsRightOf layout p ask Fails → finding.node ≡ node → rule_said finding.rule ≡ said → IsNamed layout.schema node finding.url.now finding.id.now
-      → Lists layout p ask old (record old { issues = old.issues ++ Broken finding ∷ [] })
-  broken_lists ask said finding listed told fails e f named = record {
+  pub broken_lists : (ask : Ask) (said : Said) (breach : Breach) → IsToList layout old p ask → told_of layout.schema (item_at layout p.item) ask ≡ Some (node, said)
+      → IsRightOf layout p ask Fails → breach.node ≡ node → rule_said breach.rule ≡ said → IsNamed layout.schema node breach.url.now breach.id.now
+      → Lists layout p ask old (record old { issues = old.issues ++ Broken breach ∷ [] })
+  broken_lists ask said breach listed told fails e f named = record {
     grown = record {
       wanted = refl;
-      kept = issue_kept old.wanted old.issues old.sites (Broken finding);
+      kept = issue_kept old.wanted old.issues old.sites (Broken breach);
       found = λ o profile place met before. (
-        all_pushed (IsFound layout.schema o profile) old.issues (Broken finding) before.0 (broken_at ask said finding listed.asked told fails e f named o profile place met),
+        all_pushed (IsFound layout.schema o profile) old.issues (Broken breach) before.0 (broken_at ask said breach listed.asked told fails e f named o profile place met),
         before.1,
       );
     };
     told = λ around there.
-        told_broken (old.issues ++ Broken finding ∷ []) old.sites old.wanted
+        told_broken (old.issues ++ Broken breach ∷ []) old.sites old.wanted
         (ask_conforms layout.schema (constant true) listed.allowed.0 (item_at layout p.item) ask) (ask_conforms layout.schema (constant (side old.wanted)) around (item_at layout p.item) ask)
-        (fails true listed.allowed.0 listed.allowed.1) listed.allowed.2 (some_pushed old.issues (Broken finding));
+        (fails true listed.allowed.0 listed.allowed.1) listed.allowed.2 (some_pushed old.issues (Broken breach));
   }
 
   open_at : (rule : UnreadRule) → IsHanging layout p node rule → (site : Site) (unread : Unread) → site.node ≡ node → site.unread ≡ unread → unread_seen unread ≡ rule
@@ -234,26 +234,26 @@ pub site_listed : (old : ListingValue) (site : Site) → 0 < length (old.sites +
 site_listed old site = some_pushed old.sites site
 
 -- what may be listed may be so later
-pub to_list_since : (layout : LayoutValue) (p : Pair) (ask : Ask) (old new : ListingValue) → new.wanted ≡ old.wanted → IsToList layout old p ask → IsToList layout new p ask
+pub to_list_since : (layout : LayoutValue) (p : ItemPair) (ask : Ask) (old new : ListingValue) → new.wanted ≡ old.wanted → IsToList layout old p ask → IsToList layout new p ask
 to_list_since layout p ask old new e h = record {
   asked = h.asked;
   allowed =
       subst (λ w. (around : Around) × IsThere layout p.item around × IsAllowed w (ask_conforms layout.schema (constant true) around (item_at layout p.item) ask)) (sym e) h.allowed;
 }
 
--- what is listed of an ask by its answer
-module _ (layout : LayoutValue) (p : Pair) (ask : Ask) (old : ListingValue) where
+-- what is listed of an ask by its judgement
+module _ (layout : LayoutValue) (p : ItemPair) (ask : Ask) (old : ListingValue) where
   pub lists_held : IsRightOf layout p ask Holds → Lists layout p ask old old
   lists_held right = record { grown = grown_none layout p old; told = λ around there. inl (sym (right (side old.wanted) around there)) }
 
-  pub lists_other : IsRightOf layout p ask Open → same_answer old.wanted Open ≡ false → Lists layout p ask old old
+  pub lists_other : IsRightOf layout p ask Open → same_judgement old.wanted Open ≡ false → Lists layout p ask old old
   lists_other right other = record {
     grown = grown_none layout p old;
     told = λ around there.
         told_other old.issues old.sites old.wanted (ask_conforms layout.schema (constant (side old.wanted)) around (item_at layout p.item) ask) (right (side old.wanted) around there) other;
   }
 
-  pub lists_open : (new : ListingValue) → same_answer old.wanted Open ≡ true → 0 < length new.sites → Grown layout p old new → Lists layout p ask old new
+  pub lists_open : (new : ListingValue) → same_judgement old.wanted Open ≡ true → 0 < length new.sites → Grown layout p old new → Lists layout p ask old new
   lists_open new same some grown = record {
     grown = grown;
     told = λ around there.
@@ -262,7 +262,7 @@ module _ (layout : LayoutValue) (p : Pair) (ask : Ask) (old : ListingValue) wher
   }
 
 -- a rule by its item's own nearest resource, and where the item stands
-pub judged_there : (layout : LayoutValue) (p : Pair) (rule : RuleName) (node : NodeRef) (a : Answer)
+pub judged_there : (layout : LayoutValue) (p : ItemPair) (rule : ElementRuleName) (node : NodeRef) (a : Judgement)
     → ((b : Bool) → under b a ≡ rule_holds layout.schema (λ u. b) (resource_of layout p.item) (item_at layout p.item) rule node)
     → IsRightOf layout p (own rule node) a
 judged_there layout p rule node a right b around there =

@@ -19,10 +19,10 @@ use Rattle.fhir_facets.specs.Targets.{targets_hold}
 use Rattle.fhir_conformance.specs.Asks.{types}
 use Rattle.fhir_conformance.specs.Conformance.{Around, seen, constant, conforms, entry_allows, entry_holds, profile_holds, profiles_hold, is_untyped}
 use Rattle.fhir_conformance.specs.Meeting.{targets_unread, entry_unread, element_unread, constraints_unread, unread_at}
-use Rattle.fhir_validator.specs.declared.answer.Answer.{Answer}
-use Rattle.fhir_validator.specs.declared.answer.Answer.TheVariants.{Open}
-use Rattle.fhir_validator.specs.declared.pair.Pair.{Pair}
-use Rattle.fhir_validator.specs.Answers.{under}
+use Rattle.fhir_validator.specs.declared.judgement.Judgement.{Judgement}
+use Rattle.fhir_validator.specs.declared.judgement.Judgement.TheVariants.{Open}
+use Rattle.fhir_validator.specs.declared.pair.ItemPair.{ItemPair}
+use Rattle.fhir_validator.specs.Judgements.{under}
 use Rattle.fhir_validator.specs.Layouts.{LayoutValue, item_at}
 use Rattle.fhir_validator.specs.Judging.{IsThere, IsRightOf, IsRightOn}
 use Rattle.fhir_validator.specs.Listing.{ListingValue, IsOpenRoot, IsLed, Grown, Grows, IsSettled, Settles}
@@ -33,7 +33,7 @@ use Rattle.fhir_validator.proofs.Told.{grown_none, grown_more}
 
 -- ---- what is listed grows
 
-module _ (layout : LayoutValue) (p : Pair) where
+module _ (layout : LayoutValue) (p : ItemPair) where
   pub grows_none : (listing : ListingValue) (roots : List NodeRef) → Grows layout p listing listing roots roots
   grows_none listing roots = record { grown = grown_none layout p listing; led = λ h. h; hanging = λ h. h }
 
@@ -64,7 +64,7 @@ led_by_root listing roots more r e = omega (arith, ap length e, length-append ro
 -- ---- tests that are settled
 
 module _ (layout : LayoutValue) (number : ℕ) where
-  pub settled_same : (test : Meaning → (NodeRef → Bool) → Bool) (a : Answer) (listing : ListingValue) (roots : List NodeRef) → IsRightOn layout number test a
+  pub settled_same : (test : Meaning → (NodeRef → Bool) → Bool) (a : Judgement) (listing : ListingValue) (roots : List NodeRef) → IsRightOn layout number test a
       → under true a ≡ under false a → IsSettled layout number test listing roots
   settled_same test a listing roots right e around there = inl (sym (right true around there) ∙ e ∙ right false around there)
 
@@ -136,7 +136,7 @@ module _ (layout : LayoutValue) (number : ℕ) where
         ]
 
 -- where a test is settled as it is
-pub settles_same : (layout : LayoutValue) (p : Pair) (test : Meaning → (NodeRef → Bool) → Bool) (a : Answer) (listing : ListingValue) (roots : List NodeRef) → IsRightOn layout p.item test a
+pub settles_same : (layout : LayoutValue) (p : ItemPair) (test : Meaning → (NodeRef → Bool) → Bool) (a : Judgement) (listing : ListingValue) (roots : List NodeRef) → IsRightOn layout p.item test a
     → under true a ≡ under false a → Settles layout p test listing listing roots roots
 settles_same layout p test a listing roots right e = record { grows = grows_none layout p listing roots; settled = settled_same layout p.item test a listing roots right e }
 
@@ -147,7 +147,7 @@ covered_by s m f x e h =
     (and_parts (covers s e.code (type_of x)) (targets_hold s m e (seen x)) both.0).0
 
 -- where open types are gone through, something is listed, or is to be
-pub led_at_last : (layout : LayoutValue) (p : Pair) (n : NodeRef) (xs : List TypeEntry) (i : ℕ) (listing : ListingValue) (roots : List NodeRef) → IsRightOf layout p (types n) Open
+pub led_at_last : (layout : LayoutValue) (p : ItemPair) (n : NodeRef) (xs : List TypeEntry) (i : ℕ) (listing : ListingValue) (roots : List NodeRef) → IsRightOf layout p (types n) Open
     → (around : Around) → IsThere layout p.item around → length xs ≤ i → xs ≡ node_types layout.schema n
     → IsSettled layout p.item (λ m f. list_any (entry_holds layout.schema m f (item_at layout p.item)) (take i xs)) listing roots → IsLed listing roots
 led_at_last layout p n xs i listing roots hangs around there h e settled =

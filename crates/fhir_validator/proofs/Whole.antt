@@ -1,23 +1,23 @@
--- The verdict on an outermost item, by the answer to its pair with a root.
+-- The verdict on an outermost item, by the judgement on its pair with a root.
 use Rattle.std.proofs.Common.{◌≡◌, ◌<◌, List, length, refl, sym, ap, ◌∙◌, subst}
 use Rattle.std.specs.List.{AllByRecursion}
 use Rattle.fhir_nodes.specs.declared.node.NodeRef.{NodeRef}
 use Rattle.fhir_schema.specs.Schemas.{SchemaValue}
 use Rattle.fhir_instance.specs.Items.{Item}
 use Rattle.fhir_conformance.specs.Conformance.{outermost, constant, nearest_to, conforms}
-use Rattle.fhir_validator.specs.declared.answer.Answer.{Answer}
+use Rattle.fhir_validator.specs.declared.judgement.Judgement.{Judgement}
 use Rattle.fhir_validator.specs.declared.issue.Issue.{Issue}
 use Rattle.fhir_validator.specs.declared.verdict.Verdict.{Verdict}
-use Rattle.fhir_validator.specs.Answers.{under}
+use Rattle.fhir_validator.specs.Judgements.{under}
 use Rattle.fhir_validator.specs.Verdicts.{AreSome}
 use Rattle.fhir_validator.specs.Layouts.{LayoutValue, item_at, resource_of}
 use Rattle.fhir_validator.specs.Judging.{IsThere, IsRight}
-use Rattle.fhir_validator.specs.Listing.{ListingValue, IsFound, AreFound, IsListed, answer_in, IsVerdictAt}
+use Rattle.fhir_validator.specs.Listing.{ListingValue, IsFound, AreFound, IsListed, judgement_in, IsVerdictAt}
 use Rattle.fhir_validator.proofs.Rows.{own_outermost}
 
 module _ (s : SchemaValue) (x : Item) (n : NodeRef) (layout : LayoutValue) where
-  pub is_verdict : (a : Answer) (v : Verdict) → layout.schema ≡ s → item_at layout 0 ≡ x → resource_of layout 0 ≡ x
-      → IsRight layout (record { item = 0; node = n }) a → answer_in v ≡ a → IsListed s x n v → IsVerdictAt s x n v
+  pub is_verdict : (a : Judgement) (v : Verdict) → layout.schema ≡ s → item_at layout 0 ≡ x → resource_of layout 0 ≡ x
+      → IsRight layout (record { item = 0; node = n }) a → judgement_in v ≡ a → IsListed s x n v → IsVerdictAt s x n v
   is_verdict a v same itself whole right e listed =
       let there : IsThere layout 0 (outermost x) = ap (nearest_to layout.schema x) itself ∙ own_outermost layout.schema x ∙ sym whole in
       record {

@@ -17,13 +17,13 @@ use Rattle.fhir_facets.specs.Counts.{least_of}
 use Rattle.fhir_facets.specs.Views.{unread_seen}
 use Rattle.fhir_slicing.specs.Belonging.{two_slices}
 use Rattle.fhir_conformance.specs.Asks as asked
-use Rattle.fhir_conformance.specs.Asks.{RuleName, Ask, own, asks}
+use Rattle.fhir_conformance.specs.Asks.{ElementRuleName, Ask, own, asks}
 use Rattle.fhir_conformance.specs.Positions.{kid_at}
 use Rattle.fhir_conformance.specs.Conformance.{count_of, count_in, constant, around_of, ask_conforms}
 use Rattle.fhir_conformance.specs.Meeting.{Met, unread_at}
-use Rattle.fhir_validator.specs.declared.rule.Rule.{Rule}
-use Rattle.fhir_validator.specs.declared.rule.Rule.TheVariants.{RootType, Types as OfTypes, Fixed, Pattern, Range, Length, Binding, TooFew, TooMany, InSlices, InNoSlice, Constraint}
-use Rattle.fhir_validator.specs.declared.issue.Finding.{Finding}
+use Rattle.fhir_validator.specs.declared.broken_rule.BrokenRule.{BrokenRule}
+use Rattle.fhir_validator.specs.declared.broken_rule.BrokenRule.TheVariants.{RootType, Types as OfTypes, Fixed, Pattern, Range, Length, Binding, TooFew, TooMany, InSlices, InNoSlice, Constraint}
+use Rattle.fhir_validator.specs.declared.issue.Breach.{Breach}
 use Rattle.fhir_validator.specs.declared.issue.Issue.{Issue}
 use Rattle.fhir_validator.specs.declared.issue.Issue.TheVariants.{Misfit, Broken}
 use Rattle.fhir_validator.specs.declared.issue.Site.{Site}
@@ -45,7 +45,7 @@ pub data Said : Type 0 where
   -- the constraint's key
   constraint : (key : List ℕ) → Said
 
-abbrev pub rule_said : Rule → Said
+abbrev pub rule_said : BrokenRule → Said
 rule_said (RootType code) = root_type code.now
 rule_said OfTypes = types
 rule_said Fixed = fixed
@@ -73,7 +73,7 @@ slices_said s n child =
     option_map_or (λ two. in_slices two.0.name two.1.name) (option_and_then (two_slices s n) child) (in_slices [] [])
 
 -- what is to be said of a rule of a node, at an item
-abbrev pub says : SchemaValue → Item → RuleName → NodeRef → Said
+abbrev pub says : SchemaValue → Item → ElementRuleName → NodeRef → Said
 says s x asked.root_type n = root_type (type_at s n)
 says s x asked.fixed n = fixed
 says s x asked.pattern n = pattern
@@ -85,7 +85,7 @@ says s x (asked.too_many name) n = too_many (option_and_then (λ e. e.max) (elem
 says s x (asked.too_few_in name) n = too_few (option_map_or least_of (element_at s n) 0) (count_in s n name x)
 says s x (asked.too_many_in name) n = too_many (option_and_then (λ e. e.max) (element_at s n)) (count_in s n name x)
 says s x (asked.apart position) n = slices_said s n (kid_at (kids_of x) position)
-says s x (asked.sliced position) n = in_no_slice
+says s x (asked.in_a_slice position) n = in_no_slice
 says s x (asked.constraint position) n = constraint (key_at s n position)
 
 -- ---- issues
@@ -104,7 +104,7 @@ told_of s x (asked.child i n) = None
 
 -- It is one that the node of a pair asks, and it fails there where each unread rule holds. `outermost` is the item of the
 -- resource, and `profile` the root that it was judged against.
-pub record IsBroken (s : SchemaValue) (outermost : Item) (profile : NodeRef) (finding : Finding) : Type 0 where
+pub record IsBroken (s : SchemaValue) (outermost : Item) (profile : NodeRef) (breach : Breach) : Type 0 where
   pub place : Place
   pub resource : Item
   pub itself : Item
@@ -113,14 +113,14 @@ pub record IsBroken (s : SchemaValue) (outermost : Item) (profile : NodeRef) (fi
   pub met : Met s outermost profile place resource itself node
   pub asked : Contains (asks s itself node) ask
   pub fails : ask_conforms s (constant true) (around_of outermost place resource) itself ask ≡ false
-  pub told : told_of s itself ask ≡ Some (finding.node, rule_said finding.rule)
-  pub named : IsNamed s finding.node finding.url.now finding.id.now
+  pub told : told_of s itself ask ≡ Some (breach.node, rule_said breach.rule)
+  pub named : IsNamed s breach.node breach.url.now breach.id.now
 
 -- a misfit says that the tree has no item
 abbrev pub IsIssue : SchemaValue → Text → Tree → Issue → Type 0
 IsIssue s profile t (Misfit misfit) = (x : Item) → Types s t x → ⊥
-IsIssue s profile t (Broken finding) =
-    (n : NodeRef) × (x : Item) × (root s profile ≡ Some n) × Types s t x × IsBroken s x n finding
+IsIssue s profile t (Broken breach) =
+    (n : NodeRef) × (x : Item) × (root s profile ≡ Some n) × Types s t x × IsBroken s x n breach
 
 -- ---- sites
 

@@ -1,4 +1,4 @@
--- Pairs of a node and an item, and what is right of their answers (used by private contracts alone).
+-- Pairs of a node and an item, and what is right of their judgements (used by private contracts alone).
 use Rattle.std.specs.Prelude.{◌≡◌, ℕ, Bool, false, Some, IsTrue}
 use Rattle.std.specs.BTreeMap.{BTreeMap, get}
 use Rattle.fhir_nodes.specs.declared.node.NodeRef.{NodeRef}
@@ -6,37 +6,37 @@ use Rattle.fhir_schema.specs.Schemas.{SchemaValue, is_root_node}
 use Rattle.fhir_facets.specs.Unread.{Meaning}
 use Rattle.fhir_conformance.specs.Asks.{Ask, own, types, profile, root, child}
 use Rattle.fhir_conformance.specs.Conformance.{Around, resource_at, constant, ask_conforms, conforms}
-use Rattle.fhir_validator.specs.declared.answer.Answer.{Answer}
-use Rattle.fhir_validator.specs.declared.pair.Pair.{Pair}
+use Rattle.fhir_validator.specs.declared.judgement.Judgement.{Judgement}
+use Rattle.fhir_validator.specs.declared.pair.ItemPair.{ItemPair}
 use Rattle.fhir_validator.specs.contracts.pair.PairOrd.TheImpl.{cmp-value}
-use Rattle.fhir_validator.specs.Answers.{under}
+use Rattle.fhir_validator.specs.Judgements.{under}
 use Rattle.fhir_validator.specs.Layouts.{LayoutValue, item_at, resource_of}
 
 -- the item of a number stands there, as far as the nearest resource tells
 abbrev pub IsThere : LayoutValue → ℕ → Around → Type 0
 IsThere layout number around = resource_at layout.schema around (item_at layout number) ≡ resource_of layout number
 
--- an answer to what a pair asks
-abbrev pub IsRightOf : LayoutValue → Pair → Ask → Answer → Type 0
+-- a judgement on what a pair asks
+abbrev pub IsRightOf : LayoutValue → ItemPair → Ask → Judgement → Type 0
 IsRightOf layout p ask a =
     (b : Bool) (around : Around) → IsThere layout p.item around
     → under b a ≡ ask_conforms layout.schema (constant b) around (item_at layout p.item) ask
 
--- an answer to a test by what unread rules mean, and by the roots that the item of a number conforms to
-abbrev pub IsRightOn : LayoutValue → ℕ → (Meaning → (NodeRef → Bool) → Bool) → Answer → Type 0
+-- a judgement on a test by what unread rules mean, and by the roots that the item of a number conforms to
+abbrev pub IsRightOn : LayoutValue → ℕ → (Meaning → (NodeRef → Bool) → Bool) → Judgement → Type 0
 IsRightOn layout number test a =
     (b : Bool) (around : Around) → IsThere layout number around
     → under b a ≡ test (λ unread. b) (conforms layout.schema (constant b) around (item_at layout number))
 
--- an answer to a pair
-abbrev pub IsRight : LayoutValue → Pair → Answer → Type 0
+-- a judgement on a pair
+abbrev pub IsRight : LayoutValue → ItemPair → Judgement → Type 0
 IsRight layout p a =
     (b : Bool) (around : Around) → IsThere layout p.item around
     → under b a ≡ conforms layout.schema (constant b) around (item_at layout p.item) p.node
 
--- each answer that is known is right
-abbrev pub AreRight : LayoutValue → BTreeMap Pair Answer → Type 0
-AreRight layout answers = (p : Pair) (a : Answer) → get cmp-value.it answers p ≡ Some a → IsRight layout p a
+-- each judgement that is known is right
+abbrev pub AreRight : LayoutValue → BTreeMap ItemPair Judgement → Type 0
+AreRight layout judgements = (p : ItemPair) (a : Judgement) → get cmp-value.it judgements p ≡ Some a → IsRight layout p a
 
 -- where a node asks for a root, or names it as a profile, that is one, and the node is none; nor is one that asks for types,
 -- which are its own

@@ -61,7 +61,7 @@ number_of layout number = option_map (item_at layout) number
 
 -- its index has the item's children, and an item that is a resource is its own nearest
 pub record IsStand (s : SchemaValue) (stand : Stand) : Type 0 where
-  pub indexed : IsIndexOf (spot_in stand).itself stand.children
+  pub indexed : IsIndexOf (spot_in stand).itself stand.kids_by_name
   pub nearest : nearest_to s (spot_in stand).resource (spot_in stand).itself ≡ (spot_in stand).resource
 
 abbrev pub AreStands : SchemaValue → List Stand → Type 0

@@ -1,4 +1,4 @@
-pub mod Answers
+pub mod Judgements
 pub mod Coding
 pub mod Issues
 pub mod Judging

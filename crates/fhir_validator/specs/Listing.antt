@@ -13,48 +13,48 @@ use Rattle.fhir_facets.specs.Unread.{Unread, Meaning, profile as unread_profile}
 use Rattle.fhir_conformance.specs.Asks.{Ask, types as as_types, profile as as_profile, asks}
 use Rattle.fhir_conformance.specs.Conformance.{Around, outermost, constant, ask_conforms, conforms}
 use Rattle.fhir_conformance.specs.Meeting.{Met, unread_at}
-use Rattle.fhir_validator.specs.declared.answer.Answer.{Answer}
-use Rattle.fhir_validator.specs.declared.answer.Answer.TheVariants as answers
+use Rattle.fhir_validator.specs.declared.judgement.Judgement.{Judgement}
+use Rattle.fhir_validator.specs.declared.judgement.Judgement.TheVariants as judgements
 use Rattle.fhir_validator.specs.declared.issue.Issue.{Issue}
 use Rattle.fhir_validator.specs.declared.issue.Issue.TheVariants.{Misfit, Broken}
 use Rattle.fhir_validator.specs.declared.issue.Site.{Site}
-use Rattle.fhir_validator.specs.declared.pair.Pair.{Pair}
+use Rattle.fhir_validator.specs.declared.pair.ItemPair.{ItemPair}
 use Rattle.fhir_validator.specs.declared.verdict.Verdict.{Verdict}
 use Rattle.fhir_validator.specs.declared.verdict.Verdict.TheVariants.{Conforms as Conforming, Violates, Open as Undecided}
 use Rattle.fhir_validator.specs.declared.fault.Fault.{Fault}
 use Rattle.fhir_validator.specs.declared.fault.Fault.TheVariants.{Missing, Unusable, NotJson, NoMemory}
-use Rattle.fhir_validator.specs.Answers.{under}
+use Rattle.fhir_validator.specs.Judgements.{under}
 use Rattle.fhir_validator.specs.Verdicts.{AreSome}
 use Rattle.fhir_validator.specs.Layouts.{LayoutValue, item_at, resource_of}
 use Rattle.fhir_validator.specs.Judging.{IsThere, IsRight, IsRightOf}
 use Rattle.fhir_validator.specs.Issues.{Said, told_of, IsBroken, IsOpenAt}
 
-abbrev pub same_answer : Answer → Answer → Bool
-same_answer answers.Holds answers.Holds = true
-same_answer answers.Holds answers.Open = false
-same_answer answers.Holds answers.Fails = false
-same_answer answers.Open answers.Holds = false
-same_answer answers.Open answers.Open = true
-same_answer answers.Open answers.Fails = false
-same_answer answers.Fails answers.Holds = false
-same_answer answers.Fails answers.Open = false
-same_answer answers.Fails answers.Fails = true
+abbrev pub same_judgement : Judgement → Judgement → Bool
+same_judgement judgements.Holds judgements.Holds = true
+same_judgement judgements.Holds judgements.Open = false
+same_judgement judgements.Holds judgements.Fails = false
+same_judgement judgements.Open judgements.Holds = false
+same_judgement judgements.Open judgements.Open = true
+same_judgement judgements.Open judgements.Fails = false
+same_judgement judgements.Fails judgements.Holds = false
+same_judgement judgements.Fails judgements.Open = false
+same_judgement judgements.Fails judgements.Fails = true
 
--- what unread rules answer, where what has the answer doesn't hold
-abbrev pub side : Answer → Bool
-side answers.Holds = false
-side answers.Open = false
-side answers.Fails = true
+-- what unread rules answer, where what has the judgement doesn't hold
+abbrev pub side : Judgement → Bool
+side judgements.Holds = false
+side judgements.Open = false
+side judgements.Fails = true
 
--- something is listed of what has the answer
-abbrev pub is_filled : Answer → List Issue → List Site → Type 0
-is_filled answers.Holds issues sites = Unit {0}
-is_filled answers.Open issues sites = 0 < length sites
-is_filled answers.Fails issues sites = 0 < length issues
+-- something is listed of what has the judgement
+abbrev pub is_filled : Judgement → List Issue → List Site → Type 0
+is_filled judgements.Holds issues sites = Unit {0}
+is_filled judgements.Open issues sites = 0 < length sites
+is_filled judgements.Fails issues sites = 0 < length issues
 
--- what is listed of the pairs that have an answer
+-- what is listed of the pairs that have a judgement
 pub record ListingValue : Type 0 where
-  pub wanted : Answer
+  pub wanted : Judgement
   pub issues : List Issue
   pub sites : List Site
 
@@ -62,28 +62,28 @@ abbrev pub IsFilled : ListingValue → Type 0
 IsFilled listing = is_filled listing.wanted listing.issues listing.sites
 
 -- where what is open is listed, nothing fails
-abbrev pub IsAllowed : Answer → Bool → Type 0
-IsAllowed answers.Holds holds = Unit {0}
-IsAllowed answers.Open holds = IsTrue holds
-IsAllowed answers.Fails holds = Unit {0}
+abbrev pub IsAllowed : Judgement → Bool → Type 0
+IsAllowed judgements.Holds holds = Unit {0}
+IsAllowed judgements.Open holds = IsTrue holds
+IsAllowed judgements.Fails holds = Unit {0}
 
-abbrev pub AskIsAllowed : LayoutValue → ListingValue → Pair → Ask → Type 0
+abbrev pub AskIsAllowed : LayoutValue → ListingValue → ItemPair → Ask → Type 0
 AskIsAllowed layout listing p ask =
     (around : Around) × IsThere layout p.item around
     × IsAllowed listing.wanted (ask_conforms layout.schema (constant true) around (item_at layout p.item) ask)
 
-abbrev pub PairIsAllowed : LayoutValue → ListingValue → Pair → Type 0
+abbrev pub PairIsAllowed : LayoutValue → ListingValue → ItemPair → Type 0
 PairIsAllowed layout listing p =
     (around : Around) × IsThere layout p.item around
     × IsAllowed listing.wanted (conforms layout.schema (constant true) around (item_at layout p.item) p.node)
 
 -- it holds, or something is listed
-abbrev pub AskIsTold : LayoutValue → ListingValue → Pair → Ask → ListingValue → Type 0
+abbrev pub AskIsTold : LayoutValue → ListingValue → ItemPair → Ask → ListingValue → Type 0
 AskIsTold layout old p ask new =
     (around : Around) → IsThere layout p.item around
     → IsTrue (ask_conforms layout.schema (constant (side old.wanted)) around (item_at layout p.item) ask) ⊎ IsFilled new
 
-abbrev pub PairIsTold : LayoutValue → ListingValue → Pair → ListingValue → Type 0
+abbrev pub PairIsTold : LayoutValue → ListingValue → ItemPair → ListingValue → Type 0
 PairIsTold layout old p new =
     (around : Around) → IsThere layout p.item around
     → IsTrue (conforms layout.schema (constant (side old.wanted)) around (item_at layout p.item) p.node) ⊎ IsFilled new
@@ -91,77 +91,77 @@ PairIsTold layout old p new =
 -- what is listed is right
 abbrev pub IsFound : SchemaValue → Item → NodeRef → Issue → Type 0
 IsFound s outermost profile (Misfit misfit) = ⊥
-IsFound s outermost profile (Broken finding) = IsBroken s outermost profile finding
+IsFound s outermost profile (Broken breach) = IsBroken s outermost profile breach
 
 abbrev pub AreFound : SchemaValue → Item → NodeRef → ListingValue → Type 0
 AreFound s outermost profile listing =
     AllByRecursion (IsFound s outermost profile) listing.issues × AllByRecursion (IsOpenAt s outermost profile) listing.sites
 
 -- the pair asks for that
-abbrev pub IsAskedBy : LayoutValue → Pair → Ask → Type 0
+abbrev pub IsAskedBy : LayoutValue → ItemPair → Ask → Type 0
 IsAskedBy layout p ask = Contains (asks layout.schema (item_at layout p.item) p.node) ask
 
 -- the pair asks for that, and it may be what is listed
-pub record IsToList (layout : LayoutValue) (listing : ListingValue) (p : Pair) (ask : Ask) : Type 0 where
+pub record IsToList (layout : LayoutValue) (listing : ListingValue) (p : ItemPair) (ask : Ask) : Type 0 where
   pub asked : IsAskedBy layout p ask
   pub allowed : AskIsAllowed layout listing p ask
 
 -- what is right of the old listing is right of the new, if the pair is met
-abbrev pub KeepsFound : LayoutValue → Pair → ListingValue → ListingValue → Type 0
+abbrev pub KeepsFound : LayoutValue → ItemPair → ListingValue → ListingValue → Type 0
 KeepsFound layout p old new =
     (outermost : Item) (profile : NodeRef) (place : Place)
     → Met layout.schema outermost profile place (resource_of layout p.item) (item_at layout p.item) p.node
     → AreFound layout.schema outermost profile old → AreFound layout.schema outermost profile new
 
 -- what is listed grows, and is right if the pair is met
-pub record Grown (layout : LayoutValue) (p : Pair) (old new : ListingValue) : Type 0 where
+pub record Grown (layout : LayoutValue) (p : ItemPair) (old new : ListingValue) : Type 0 where
   pub wanted : new.wanted ≡ old.wanted
   pub kept : IsFilled old → IsFilled new
   pub found : KeepsFound layout p old new
 
 -- it grows, and what the pair asks holds, or something is listed
-pub record Lists (layout : LayoutValue) (p : Pair) (ask : Ask) (old new : ListingValue) : Type 0 where
+pub record Lists (layout : LayoutValue) (p : ItemPair) (ask : Ask) (old new : ListingValue) : Type 0 where
   pub grown : Grown layout p old new
   pub told : AskIsTold layout old p ask new
 
 -- ---- what is put into a listing
 
 -- what the pair asks is open, and the node carries the unread rule to its item
-pub record IsHanging (layout : LayoutValue) (p : Pair) (node : NodeRef) (rule : Unread) : Type 0 where
+pub record IsHanging (layout : LayoutValue) (p : ItemPair) (node : NodeRef) (rule : Unread) : Type 0 where
   pub ask : Ask
   pub said : Said
   pub asked : IsAskedBy layout p ask
-  pub hangs : IsRightOf layout p ask answers.Open
+  pub hangs : IsRightOf layout p ask judgements.Open
   pub told : told_of layout.schema (item_at layout p.item) ask ≡ Some (node, said)
   pub carried : Contains (unread_at layout.schema (item_at layout p.item) node) rule
 
 -- the types of the pair's node are open
-pub record AreHanging (layout : LayoutValue) (p : Pair) : Type 0 where
+pub record AreHanging (layout : LayoutValue) (p : ItemPair) : Type 0 where
   pub inner : is_root_node layout.schema p.node ≡ false
   pub asked : IsAskedBy layout p (as_types p.node)
-  pub hangs : IsRightOf layout p (as_types p.node) answers.Open
+  pub hangs : IsRightOf layout p (as_types p.node) judgements.Open
 
 -- the types of the pair's node are open, and that is one of them, which covers the item
-pub record IsEntry (layout : LayoutValue) (p : Pair) (entry : TypeEntry) : Type 0 where
+pub record IsEntry (layout : LayoutValue) (p : ItemPair) (entry : TypeEntry) : Type 0 where
   pub hanging : AreHanging layout p
   pub among : Contains (node_types layout.schema p.node) entry
   pub covered : IsTrue (covers layout.schema entry.code (type_of (item_at layout p.item)))
 
 -- one of its profiles: the pair asks for its root, or it is unread and what the pair asks hangs on it
-pub record IsNamedBy (layout : LayoutValue) (p : Pair) (canonical : Text) : Type 0 where
+pub record IsNamedBy (layout : LayoutValue) (p : ItemPair) (canonical : Text) : Type 0 where
   pub hanging : loaded layout.schema canonical ≡ None → IsHanging layout p p.node (unread_profile canonical)
   pub asked : (root : NodeRef) → loaded layout.schema canonical ≡ Some root → IsAskedBy layout p (as_profile root)
 
 -- the pair names the root as a profile, and whether its item conforms to it is open
-abbrev pub IsOpenRoot : LayoutValue → Pair → NodeRef → Type 0
-IsOpenRoot layout p r = IsAskedBy layout p (as_profile r) × IsRight layout (record { item = p.item; node = r }) answers.Open
+abbrev pub IsOpenRoot : LayoutValue → ItemPair → NodeRef → Type 0
+IsOpenRoot layout p r = IsAskedBy layout p (as_profile r) × IsRight layout (record { item = p.item; node = r }) judgements.Open
 
 -- a site is listed, or there is a root of which more is to be listed
 abbrev pub IsLed : ListingValue → List NodeRef → Type 0
 IsLed listing roots = 0 < length listing.sites + length roots
 
 -- What is listed and to be listed grows.
-pub record Grows (layout : LayoutValue) (p : Pair) (old new : ListingValue) (roots more : List NodeRef) : Type 0 where
+pub record Grows (layout : LayoutValue) (p : ItemPair) (old new : ListingValue) (roots more : List NodeRef) : Type 0 where
   pub grown : Grown layout p old new
   pub led : IsLed old roots → IsLed new more
   pub hanging : AllByRecursion (IsOpenRoot layout p) roots → AllByRecursion (IsOpenRoot layout p) more
@@ -175,7 +175,7 @@ IsSettled layout number test listing roots =
     ⊎ IsLed listing roots
 
 -- it grows, and the test is settled
-pub record Settles (layout : LayoutValue) (p : Pair) (test : Meaning → (NodeRef → Bool) → Bool) (old new : ListingValue) (roots more : List NodeRef) : Type 0 where
+pub record Settles (layout : LayoutValue) (p : ItemPair) (test : Meaning → (NodeRef → Bool) → Bool) (old new : ListingValue) (roots more : List NodeRef) : Type 0 where
   pub grows : Grows layout p old new roots more
   pub settled : IsSettled layout p.item test new more
 
@@ -186,19 +186,19 @@ IsListed s outermost profile Conforming = Unit {0}
 IsListed s outermost profile (Violates issues) = AreSome (IsFound s outermost profile) issues.items
 IsListed s outermost profile (Undecided sites) = AreSome (IsOpenAt s outermost profile) sites.items
 
-abbrev pub answer_in : Verdict → Answer
-answer_in Conforming = answers.Holds
-answer_in (Violates issues) = answers.Fails
-answer_in (Undecided sites) = answers.Open
+abbrev pub judgement_in : Verdict → Judgement
+judgement_in Conforming = judgements.Holds
+judgement_in (Violates issues) = judgements.Fails
+judgement_in (Undecided sites) = judgements.Open
 
 -- the verdict on an item at a root
 pub record IsVerdictAt (s : SchemaValue) (x : Item) (n : NodeRef) (v : Verdict) : Type 0 where
-  pub right : (b : Bool) → under b (answer_in v) ≡ conforms s (constant b) (outermost x) x n
+  pub right : (b : Bool) → under b (judgement_in v) ≡ conforms s (constant b) (outermost x) x n
   pub listed : IsListed s x n v
 
 abbrev pub IsOfMisfit : Issue → Type 0
 IsOfMisfit (Misfit misfit) = Unit {0}
-IsOfMisfit (Broken finding) = ⊥
+IsOfMisfit (Broken breach) = ⊥
 
 abbrev pub IsMisfitVerdict : Verdict → Type 0
 IsMisfitVerdict Conforming = ⊥

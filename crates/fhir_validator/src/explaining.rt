@@ -6,45 +6,45 @@ ghost use Rattle.fhir_conformance.specs.Views.{ask_seen};
 ghost use Rattle.fhir_validator.specs.Judging.{IsRight, IsRightOf};
 ghost use Rattle.fhir_validator.specs.Listing.{IsFilled, IsToList, PairIsAllowed, PairIsTold, IsAskedBy, Grown, Lists};
 
-use crate::answer::Answer;
+use crate::judgement::Judgement;
 use crate::judging::Judge;
 use crate::listing::Listing;
-use crate::pair::Pair;
+use crate::pair::ItemPair;
 use fhir_conformance::Ask;
 use fhir_json::NoMemory;
 use fhir_schema::{NodeRef, roots_are_roots};
 
 impl<'s, 't, 'a, 'j> Judge<'s, 't, 'a, 'j> {
-    fn types_fail(&mut self, pair: Pair) -> Result<bool, NoMemory>
+    fn types_fail(&mut self, pair: ItemPair) -> Result<bool, NoMemory>
         ensures { OnOk result (self.new ≡ self.old) }
     {
         if self.schema().is_root(pair.node) {
             return Ok(false);
         }
-        let answer = self.types_answer(pair)?;
-        Ok(answer.is(Answer::Fails))
+        let judgement = self.types_judgement(pair)?;
+        Ok(judgement.is(Judgement::Fails))
     }
 
     // Whether the profiles of a pair's types are to be explained: what fails is wanted, and the types do. A profile that fails
     // beside one that holds is no issue.
-    fn explains_profiles(&mut self, wanted: Answer, pair: Pair) -> Result<bool, NoMemory>
+    fn explains_profiles(&mut self, wanted: Judgement, pair: ItemPair) -> Result<bool, NoMemory>
         ensures same { OnOk result (self.new ≡ self.old) }
-        ensures failing { IfOk result (λ explains. IsTrue explains → wanted ≡ Answer.Fails) }
+        ensures failing { IfOk result (λ explains. IsTrue explains → wanted ≡ Judgement.Fails) }
     {
         match wanted {
-            Answer::Fails => self.types_fail(pair),
-            Answer::Holds => Ok(false),
-            Answer::Open => Ok(false),
+            Judgement::Fails => self.types_fail(pair),
+            Judgement::Holds => Ok(false),
+            Judgement::Open => Ok(false),
         }
     }
 
-    /// Lists what a pair with the wanted answer rests on: at each pair that it asks for, and that has the answer too, the rules
+    /// Lists what a pair with the wanted judgement rests on: at each pair that it asks for, and that has the judgement ono, the rules
     /// that have it. Each pair is entered once.
     #[cycle(explaining)]
     pub(crate) fn list_pair(
         &mut self,
         listing: &mut Listing<'s>,
-        pair: Pair,
+        pair: ItemPair,
     ) -> Result<(), NoMemory>
         requires { IsRight self.old pair listing.old.wanted }
         ensures same { OnOk result (self.new ≡ self.old) }
@@ -59,7 +59,7 @@ impl<'s, 't, 'a, 'j> Judge<'s, 't, 'a, 'j> {
     }
 
     #[cycle(explaining)]
-    fn list_asks(&mut self, listing: &mut Listing<'s>, pair: Pair) -> Result<(), NoMemory>
+    fn list_asks(&mut self, listing: &mut Listing<'s>, pair: ItemPair) -> Result<(), NoMemory>
         requires { IsRight self.old pair listing.old.wanted }
         ensures same { OnOk result (self.new ≡ self.old) }
         ensures filled { OnOk result (IsFilled listing.new) }
@@ -78,12 +78,12 @@ impl<'s, 't, 'a, 'j> Judge<'s, 't, 'a, 'j> {
     fn list_ask(
         &mut self,
         listing: &mut Listing<'s>,
-        pair: Pair,
+        pair: ItemPair,
         explains: bool,
         ask: Ask<'s>,
     ) -> Result<(), NoMemory>
         requires asked { IsToList self.old listing.old pair (ask_seen ask) }
-        requires failing { IsTrue explains → listing.old.wanted ≡ Answer.Fails }
+        requires failing { IsTrue explains → listing.old.wanted ≡ Judgement.Fails }
         ensures same { OnOk result (self.new ≡ self.old) }
         ensures lists { OnOk result (Lists self.old pair (ask_seen ask.entry) listing.old listing.new) }
     {
@@ -94,7 +94,7 @@ impl<'s, 't, 'a, 'j> Judge<'s, 't, 'a, 'j> {
             Ask::Profile(root) => self.list_profile(listing, pair, explains, root),
             Ask::Root(node) => {
                 let item = pair.item;
-                self.list_same(listing, Pair { item, node })
+                self.list_same(listing, ItemPair { item, node })
             }
             Ask::Child(position, node) => self.list_kid(listing, pair, position, node),
         }
@@ -102,28 +102,28 @@ impl<'s, 't, 'a, 'j> Judge<'s, 't, 'a, 'j> {
 
     // Lists that the types of a pair's node fail, or what they hang on.
     #[cycle(explaining)]
-    fn list_types(&mut self, listing: &mut Listing<'s>, pair: Pair) -> Result<(), NoMemory>
+    fn list_types(&mut self, listing: &mut Listing<'s>, pair: ItemPair) -> Result<(), NoMemory>
         requires { IsToList self.old listing.old pair (types pair.node) }
         ensures same { OnOk result (self.new ≡ self.old) }
         ensures lists { OnOk result (Lists self.old pair (types pair.node) listing.old listing.new) }
     {
         roots_are_roots();
-        match self.types_answer(pair)? {
-            Answer::Holds => Ok(()),
-            Answer::Fails => self.list_misfit(listing, pair),
-            Answer::Open => self.list_hanging(listing, pair),
+        match self.types_judgement(pair)? {
+            Judgement::Holds => Ok(()),
+            Judgement::Fails => self.list_misfit(listing, pair),
+            Judgement::Open => self.list_hanging(listing, pair),
         }
     }
 
     // Lists what the types of a pair's node hang on, where sites are wanted: unread rules, and what open profiles rest on.
     #[cycle(explaining)]
-    fn list_hanging(&mut self, listing: &mut Listing<'s>, pair: Pair) -> Result<(), NoMemory>
+    fn list_hanging(&mut self, listing: &mut Listing<'s>, pair: ItemPair) -> Result<(), NoMemory>
         requires asked { IsAskedBy self.old pair (types pair.node) }
-        requires hangs { IsRightOf self.old pair (types pair.node) Answer.Open }
+        requires hangs { IsRightOf self.old pair (types pair.node) Judgement.Open }
         ensures same { OnOk result (self.new ≡ self.old) }
         ensures lists { OnOk result (Lists self.old pair (types pair.node) listing.old listing.new) }
     {
-        if !listing.wanted().is(Answer::Open) {
+        if !listing.wanted().is(Judgement::Open) {
             return Ok(());
         }
         roots_are_roots();
@@ -134,12 +134,12 @@ impl<'s, 't, 'a, 'j> Judge<'s, 't, 'a, 'j> {
         Ok(())
     }
 
-    // Lists what a profile rests on that has the wanted answer.
+    // Lists what a profile rests on that has the wanted judgement.
     #[cycle(explaining)]
     fn list_root(
         &mut self,
         listing: &mut Listing<'s>,
-        pair: Pair,
+        pair: ItemPair,
         root: NodeRef,
     ) -> Result<(), NoMemory>
         requires asked { IsAskedBy self.old pair (profile root) }
@@ -149,7 +149,7 @@ impl<'s, 't, 'a, 'j> Judge<'s, 't, 'a, 'j> {
         ensures grown { OnOk result (Grown self.old pair listing.old listing.new) }
     {
         roots_are_roots();
-        let same = Pair {
+        let same = ItemPair {
             item: pair.item,
             node: root,
         };
@@ -161,18 +161,18 @@ impl<'s, 't, 'a, 'j> Judge<'s, 't, 'a, 'j> {
     fn list_profile(
         &mut self,
         listing: &mut Listing<'s>,
-        pair: Pair,
+        pair: ItemPair,
         explains: bool,
         root: NodeRef,
     ) -> Result<(), NoMemory>
         requires asked { IsAskedBy self.old pair (profile root) }
-        requires failing { IsTrue explains → listing.old.wanted ≡ Answer.Fails }
+        requires failing { IsTrue explains → listing.old.wanted ≡ Judgement.Fails }
         ensures same { OnOk result (self.new ≡ self.old) }
         ensures grown { OnOk result (Grown self.old pair listing.old listing.new) }
     {
         roots_are_roots();
         if explains {
-            let same = Pair {
+            let same = ItemPair {
                 item: pair.item,
                 node: root,
             };
@@ -186,7 +186,7 @@ impl<'s, 't, 'a, 'j> Judge<'s, 't, 'a, 'j> {
     fn list_kid(
         &mut self,
         listing: &mut Listing<'s>,
-        pair: Pair,
+        pair: ItemPair,
         position: usize,
         node: NodeRef,
     ) -> Result<(), NoMemory>
@@ -195,21 +195,21 @@ impl<'s, 't, 'a, 'j> Judge<'s, 't, 'a, 'j> {
         ensures lists { OnOk result (Lists self.old pair (child position node) listing.old listing.new) }
     {
         match self.layout().kid(pair.item, position) {
-            Some(item) => self.list_same(listing, Pair { item, node }),
+            Some(item) => self.list_same(listing, ItemPair { item, node }),
             None => Ok(()),
         }
     }
 
-    // Lists what a pair rests on, if it has the wanted answer.
+    // Lists what a pair rests on, if it has the wanted judgement.
     #[cycle(explaining)]
-    fn list_same(&mut self, listing: &mut Listing<'s>, pair: Pair) -> Result<(), NoMemory>
+    fn list_same(&mut self, listing: &mut Listing<'s>, pair: ItemPair) -> Result<(), NoMemory>
         requires { PairIsAllowed self.old listing.old pair }
         ensures same { OnOk result (self.new ≡ self.old) }
         ensures told { OnOk result (PairIsTold self.old listing.old pair listing.new) }
         ensures grown { OnOk result (Grown self.old pair listing.old listing.new) }
     {
-        let answer = self.answer_of(pair)?;
-        if answer.is(listing.wanted()) {
+        let judgement = self.judgement_of(pair)?;
+        if judgement.is(listing.wanted()) {
             self.list_pair(listing, pair)
         } else {
             Ok(())

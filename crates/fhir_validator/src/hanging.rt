@@ -8,10 +8,10 @@ ghost use Rattle.fhir_conformance.specs.Conformance.{entry_holds, profile_holds,
 ghost use Rattle.fhir_validator.specs.Layouts.{item_at};
 ghost use Rattle.fhir_validator.specs.Listing.{ListingValue, AreHanging, IsEntry, IsNamedBy, IsAskedBy, IsLed, Grows, Settles};
 
-use crate::answer::Answer;
+use crate::judgement::Judgement;
 use crate::judging::Judge;
 use crate::listing::Listing;
-use crate::pair::Pair;
+use crate::pair::ItemPair;
 use fhir_elements::TypeEntry;
 use fhir_facets::{Holding, Unread};
 use fhir_json::NoMemory;
@@ -22,7 +22,7 @@ impl<'s, 't, 'a, 'j> Judge<'s, 't, 'a, 'j> {
     fn open_root(
         &mut self,
         roots: &mut Vec<NodeRef>,
-        pair: Pair,
+        pair: ItemPair,
         root: NodeRef,
     ) -> Result<(), NoMemory>
         requires { IsAskedBy self.old pair (profile root) }
@@ -30,14 +30,14 @@ impl<'s, 't, 'a, 'j> Judge<'s, 't, 'a, 'j> {
         ensures settles { (listing : ListingValue) → OnOk result
             (Settles self.old pair (λ m conforming. conforming root) listing listing roots.old.items roots.new.items) }
     {
-        let same = Pair {
+        let same = ItemPair {
             item: pair.item,
             node: root,
         };
-        match self.answer_of(same)? {
-            Answer::Holds => Ok(()),
-            Answer::Fails => Ok(()),
-            Answer::Open => Ok(roots.push(root)?),
+        match self.judgement_of(same)? {
+            Judgement::Holds => Ok(()),
+            Judgement::Fails => Ok(()),
+            Judgement::Open => Ok(roots.push(root)?),
         }
     }
 
@@ -46,7 +46,7 @@ impl<'s, 't, 'a, 'j> Judge<'s, 't, 'a, 'j> {
         &mut self,
         listing: &mut Listing<'s>,
         roots: &mut Vec<NodeRef>,
-        pair: Pair,
+        pair: ItemPair,
         canonical: &'s str,
     ) -> Result<(), NoMemory>
         requires { IsNamedBy self.old pair canonical.now }
@@ -66,7 +66,7 @@ impl<'s, 't, 'a, 'j> Judge<'s, 't, 'a, 'j> {
         &mut self,
         listing: &mut Listing<'s>,
         roots: &mut Vec<NodeRef>,
-        pair: Pair,
+        pair: ItemPair,
         entry: &'s TypeEntry,
     ) -> Result<(), NoMemory>
         requires { IsEntry self.old pair entry.now }
@@ -87,7 +87,7 @@ impl<'s, 't, 'a, 'j> Judge<'s, 't, 'a, 'j> {
         &mut self,
         listing: &mut Listing<'s>,
         roots: &mut Vec<NodeRef>,
-        pair: Pair,
+        pair: ItemPair,
         entry: &'s TypeEntry,
     ) -> Result<(), NoMemory>
         requires { IsEntry self.old pair entry.now }
@@ -96,10 +96,10 @@ impl<'s, 't, 'a, 'j> Judge<'s, 't, 'a, 'j> {
             (λ m conforming. profiles_hold self.old.schema m conforming (item_at self.old pair.item) entry.now.profiles)
             listing.old listing.new roots.old.items roots.new.items) }
     {
-        match self.profiles_answer(pair, entry.profiles())? {
-            Answer::Holds => Ok(()),
-            Answer::Fails => Ok(()),
-            Answer::Open => self.open_profiles(listing, roots, pair, entry),
+        match self.profiles_judgement(pair, entry.profiles())? {
+            Judgement::Holds => Ok(()),
+            Judgement::Fails => Ok(()),
+            Judgement::Open => self.open_profiles(listing, roots, pair, entry),
         }
     }
 
@@ -108,7 +108,7 @@ impl<'s, 't, 'a, 'j> Judge<'s, 't, 'a, 'j> {
         &mut self,
         listing: &mut Listing<'s>,
         roots: &mut Vec<NodeRef>,
-        pair: Pair,
+        pair: ItemPair,
         entry: &'s TypeEntry,
     ) -> Result<(), NoMemory>
         requires { IsEntry self.old pair entry.now }
@@ -132,7 +132,7 @@ impl<'s, 't, 'a, 'j> Judge<'s, 't, 'a, 'j> {
         &mut self,
         listing: &mut Listing<'s>,
         roots: &mut Vec<NodeRef>,
-        pair: Pair,
+        pair: ItemPair,
         entry: &'s TypeEntry,
     ) -> Result<(), NoMemory>
         requires hanging { AreHanging self.old pair }
@@ -142,10 +142,10 @@ impl<'s, 't, 'a, 'j> Judge<'s, 't, 'a, 'j> {
             (λ m conforming. entry_holds self.old.schema m conforming (item_at self.old pair.item) entry.now)
             listing.old listing.new roots.old.items roots.new.items) }
     {
-        match self.entry_answer(pair, entry)? {
-            Answer::Holds => Ok(()),
-            Answer::Fails => Ok(()),
-            Answer::Open => self.open_entry(listing, roots, pair, entry),
+        match self.entry_judgement(pair, entry)? {
+            Judgement::Holds => Ok(()),
+            Judgement::Fails => Ok(()),
+            Judgement::Open => self.open_entry(listing, roots, pair, entry),
         }
     }
 
@@ -154,7 +154,7 @@ impl<'s, 't, 'a, 'j> Judge<'s, 't, 'a, 'j> {
     pub(crate) fn open_roots(
         &mut self,
         listing: &mut Listing<'s>,
-        pair: Pair,
+        pair: ItemPair,
     ) -> Result<Vec<NodeRef>, NoMemory>
         requires { AreHanging self.old pair }
         ensures same { OnOk result (self.new ≡ self.old) }

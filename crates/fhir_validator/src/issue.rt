@@ -1,16 +1,16 @@
 //! What a verdict lists.
 
 use crate::place::Place;
-use crate::rule::Rule;
+use crate::broken_rule::BrokenRule;
 use fhir_facets::Unread;
 use fhir_instance::Misfit;
 use fhir_schema::NodeRef;
 
 /// A rule that an item breaks, whatever unread rules mean.
 #[derive(Debug, Drop)]
-pub struct Finding<'s> {
+pub struct Breach<'s> {
     /// What is broken.
-    pub rule: Rule<'s>,
+    pub rule: BrokenRule<'s>,
     /// The node whose element has the rule.
     pub node: NodeRef,
     /// The url of the node's definition.
@@ -27,7 +27,7 @@ pub enum Issue<'s> {
     /// It is no resource of the type that it names.
     Misfit(Misfit),
     /// An item of it breaks a rule.
-    Broken(Finding<'s>),
+    Broken(Breach<'s>),
 }
 
 /// An unread rule that a verdict hangs on.

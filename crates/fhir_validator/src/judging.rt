@@ -10,10 +10,10 @@ ghost use Rattle.fhir_conformance.specs.Views.{ask_seen, asks_seen, rule_name};
 ghost use Rattle.fhir_validator.specs.Layouts.{item_at, resource_of};
 ghost use Rattle.fhir_validator.specs.Judging.{IsRight, IsRightOf, IsRightOn, IsOrdered};
 
-use crate::answer::Answer;
+use crate::judgement::Judgement;
 use crate::layout::Layout;
-use crate::pair::Pair;
-use fhir_conformance::{Ask, Rule, asks, judge, judge_entry};
+use crate::pair::ItemPair;
+use fhir_conformance::{Ask, ElementRule, asks, judge, judge_entry};
 use fhir_elements::TypeEntry;
 use fhir_facets::Holding;
 use fhir_json::NoMemory;
@@ -22,13 +22,13 @@ use std::alloc::{AllocError, Global};
 use std::collections::BTreeMap;
 use std::marker::Model;
 
-/// Who judges the items of a resource. It keeps the answers to the pairs that were judged; a look-up takes time logarithmic in
+/// Who judges the items of a resource. It keeps the judgements on the pairs that were judged; a look-up takes time logarithmic in
 /// their number.
 #[derive(Drop)]
 pub(crate) struct Judge<'s, 't, 'a, 'j> {
     alloc: Global,
     layout: Layout<'s, 't, 'a, 'j>,
-    answers: BTreeMap<Pair, Answer>,
+    judgements: BTreeMap<ItemPair, Judgement>,
 }
 
 impl<'s, 't, 'a, 'j> Model for Judge<'s, 't, 'a, 'j> {
@@ -46,7 +46,7 @@ impl<'s, 't, 'a, 'j> Model for Judge<'s, 't, 'a, 'j> {
 
     ghost view = { λ j. j.layout };
 
-    ghost invariant = { λ j. AreRight j.layout j.answers };
+    ghost invariant = { λ j. AreRight j.layout j.judgements };
 }
 
 impl<'s, 't, 'a, 'j> Judge<'s, 't, 'a, 'j> {
@@ -57,7 +57,7 @@ impl<'s, 't, 'a, 'j> Judge<'s, 't, 'a, 'j> {
         Judge {
             alloc,
             layout,
-            answers: BTreeMap::new(alloc),
+            judgements: BTreeMap::new(alloc),
         }
     }
 
@@ -81,19 +81,19 @@ impl<'s, 't, 'a, 'j> Judge<'s, 't, 'a, 'j> {
     }
 
     /// What a pair asks.
-    pub(crate) fn asks(&self, pair: Pair) -> Result<Vec<Ask<'s>>, NoMemory>
+    pub(crate) fn asks(&self, pair: ItemPair) -> Result<Vec<Ask<'s>>, NoMemory>
         ensures { IfOk result (λ asked. asks_seen asked.items ≡ asks self.now.schema (item_at self.now pair.item) pair.node) }
     {
         let layout = &self.layout;
-        let (item, children) = (layout.item(pair.item), layout.children(pair.item));
-        asks(self.alloc, layout.schema(), item, children, pair.node)
+        let (item, kids_by_name) = (layout.item(pair.item), layout.kids_by_name(pair.item));
+        asks(self.alloc, layout.schema(), item, kids_by_name, pair.node)
     }
 
     /// What a rule of a node comes to at the item of a pair.
     pub(crate) fn rule(
         &self,
-        pair: Pair,
-        rule: Rule<'s>,
+        pair: ItemPair,
+        rule: ElementRule<'s>,
         node: NodeRef,
     ) -> Result<Holding<'s>, NoMemory>
         ensures exact { IfOk result (λ h. (b : Bool) → holding_under b h
@@ -102,20 +102,20 @@ impl<'s, 't, 'a, 'j> Judge<'s, 't, 'a, 'j> {
     {
         let layout = &self.layout;
         let (resource, item) = (layout.resource(pair.item), layout.item(pair.item));
-        let children = layout.children(pair.item);
+        let kids_by_name = layout.kids_by_name(pair.item);
         judge(
             self.alloc,
             layout.schema(),
             resource,
             item,
-            children,
+            kids_by_name,
             rule,
             node,
         )
     }
 
     /// What the code and the targets of an entry come to there.
-    pub(crate) fn entry(&self, pair: Pair, entry: &'s TypeEntry) -> Holding<'s>
+    pub(crate) fn entry(&self, pair: ItemPair, entry: &'s TypeEntry) -> Holding<'s>
         ensures exact { (b : Bool) → holding_under b result
             ≡ entry_allows self.now.schema (λ unread. b) (item_at self.now pair.item) entry.now }
         ensures carried { IsCarried (entry_unread self.now.schema (item_at self.now pair.item) entry.now) result }
@@ -123,161 +123,161 @@ impl<'s, 't, 'a, 'j> Judge<'s, 't, 'a, 'j> {
         judge_entry(self.layout.schema(), self.layout.item(pair.item), entry)
     }
 
-    // Keeps the answer to a pair.
-    fn put(&mut self, pair: Pair, answer: Answer) -> Result<(), AllocError>
-        requires { IsRight self.old pair answer }
+    // Keeps the judgement on a pair.
+    fn put(&mut self, pair: ItemPair, judgement: Judgement) -> Result<(), AllocError>
+        requires { IsRight self.old pair judgement }
         ensures { self.new ≡ self.old }
     {
-        self.answers.insert(pair, answer)?;
+        self.judgements.insert(pair, judgement)?;
         Ok(())
     }
 
-    // The answer to a pair, if it is known.
-    fn known(&self, pair: Pair) -> Option<Answer>
+    // The judgement on a pair, if it is known.
+    fn known(&self, pair: ItemPair) -> Option<Judgement>
         ensures { IfSome result (IsRight self.now pair) }
     {
-        self.answers.get(&pair).copied()
+        self.judgements.get(&pair).copied()
     }
 
-    // The answer to a rule that a pair asks for.
-    fn rule_answer(&self, pair: Pair, rule: Rule<'s>, node: NodeRef) -> Result<Answer, NoMemory>
+    // The judgement on a rule that a pair asks for.
+    fn rule_judgement(&self, pair: ItemPair, rule: ElementRule<'s>, node: NodeRef) -> Result<Judgement, NoMemory>
         ensures { IfOk result (IsRightOf self.now pair (own (rule_name rule.entry) node)) }
     {
         let holding = self.rule(pair, rule, node)?;
-        Ok(Answer::of(holding))
+        Ok(Judgement::of(holding))
     }
 
-    /// The answer to a pair. What it asks for is judged first, and each pair once, so that the time is near linear in what the
+    /// The judgement on a pair. What it asks for is judged first, and each pair once, so that the time is near linear in what the
     /// pairs that are met ask.
     #[cycle(judging)]
-    pub(crate) fn answer_of(&mut self, pair: Pair) -> Result<Answer, NoMemory>
+    pub(crate) fn judgement_of(&mut self, pair: ItemPair) -> Result<Judgement, NoMemory>
         ensures exact { IfOk result (IsRight self.old pair) }
         ensures same { OnOk result (self.new ≡ self.old) }
     {
-        if let Some(answer) = self.known(pair) {
-            return Ok(answer);
+        if let Some(judgement) = self.known(pair) {
+            return Ok(judgement);
         }
-        let answer = self.judged(pair)?;
-        self.put(pair, answer)?;
-        Ok(answer)
+        let judgement = self.judge_pair(pair)?;
+        self.put(pair, judgement)?;
+        Ok(judgement)
     }
 
     #[cycle(judging)]
-    fn judged(&mut self, pair: Pair) -> Result<Answer, NoMemory>
+    fn judge_pair(&mut self, pair: ItemPair) -> Result<Judgement, NoMemory>
         ensures exact { IfOk result (IsRight self.old pair) }
         ensures same { OnOk result (self.new ≡ self.old) }
     {
         roots_are_roots();
         let asked = self.asks(pair)?;
-        let mut answer = Answer::Holds;
+        let mut judgement = Judgement::Holds;
         for ask in &asked {
-            answer = answer.and(self.ask_answer(pair, *ask)?);
+            judgement = judgement.and(self.ask_judgement(pair, *ask)?);
         }
-        Ok(answer)
+        Ok(judgement)
     }
 
-    // The answer to what a pair asks.
+    // The judgement on what a pair asks.
     #[cycle(judging)]
-    fn ask_answer(&mut self, pair: Pair, ask: Ask<'s>) -> Result<Answer, NoMemory>
+    fn ask_judgement(&mut self, pair: ItemPair, ask: Ask<'s>) -> Result<Judgement, NoMemory>
         requires ordered { IsOrdered self.old.schema pair.node (ask_seen ask) }
         ensures exact { IfOk result (IsRightOf self.old pair (ask_seen ask.entry)) }
         ensures same { OnOk result (self.new ≡ self.old) }
     {
         match ask {
-            Ask::Own(rule, node) => self.rule_answer(pair, rule, node),
-            Ask::Types(_node) => self.types_answer(pair),
-            Ask::Profile(_root) => Ok(Answer::Holds),
+            Ask::Own(rule, node) => self.rule_judgement(pair, rule, node),
+            Ask::Types(_node) => self.types_judgement(pair),
+            Ask::Profile(_root) => Ok(Judgement::Holds),
             Ask::Root(node) => {
                 let item = pair.item;
-                self.answer_of(Pair { item, node })
+                self.judgement_of(ItemPair { item, node })
             }
-            Ask::Child(position, node) => self.kid_answer(pair, position, node),
+            Ask::Child(position, node) => self.kid_judgement(pair, position, node),
         }
     }
 
     #[cycle(judging)]
-    fn kid_answer(&mut self, pair: Pair, position: usize, node: NodeRef) -> Result<Answer, NoMemory>
+    fn kid_judgement(&mut self, pair: ItemPair, position: usize, node: NodeRef) -> Result<Judgement, NoMemory>
         ensures exact { IfOk result (IsRightOf self.old pair (child position node)) }
         ensures same { OnOk result (self.new ≡ self.old) }
     {
         match self.layout().kid(pair.item, position) {
-            Some(item) => self.answer_of(Pair { item, node }),
-            None => Ok(Answer::Holds),
+            Some(item) => self.judgement_of(ItemPair { item, node }),
+            None => Ok(Judgement::Holds),
         }
     }
 
-    /// The answer to the types of a pair's node: one of them allows the item, and the item conforms to one of the profiles
+    /// The judgement on the types of a pair's node: one of them allows the item, and the item conforms to one of the profiles
     /// that it names. No more is judged than decides it.
     #[cycle(judging)]
-    pub(crate) fn types_answer(&mut self, pair: Pair) -> Result<Answer, NoMemory>
+    pub(crate) fn types_judgement(&mut self, pair: ItemPair) -> Result<Judgement, NoMemory>
         requires inner { is_root_node self.old.schema pair.node ≡ false }
         ensures exact { IfOk result (IsRightOf self.old pair (types pair.node)) }
         ensures same { OnOk result (self.new ≡ self.old) }
     {
         let entries = self.schema().types(pair.node);
         if entries.is_empty() {
-            return Ok(Answer::Holds);
+            return Ok(Judgement::Holds);
         }
-        let mut answer = Answer::Fails;
+        let mut judgement = Judgement::Fails;
         for entry in entries {
-            let one = self.entry_answer(pair, entry)?;
-            if let Answer::Holds = one {
-                return Ok(Answer::Holds);
+            let one = self.entry_judgement(pair, entry)?;
+            if let Judgement::Holds = one {
+                return Ok(Judgement::Holds);
             }
-            answer = answer.or(one);
+            judgement = judgement.or(one);
         }
-        Ok(answer)
+        Ok(judgement)
     }
 
-    /// The answer to an entry of the types of a pair's node.
+    /// The judgement on an entry of the types of a pair's node.
     #[cycle(judging)]
-    pub(crate) fn entry_answer(
+    pub(crate) fn entry_judgement(
         &mut self,
-        pair: Pair,
+        pair: ItemPair,
         entry: &'s TypeEntry,
-    ) -> Result<Answer, NoMemory>
+    ) -> Result<Judgement, NoMemory>
         requires inner { is_root_node self.old.schema pair.node ≡ false }
         ensures exact { IfOk result (IsRightOn self.old pair.item (λ m roots.
             entry_holds self.old.schema m roots (item_at self.old pair.item) entry.now)) }
         ensures same { OnOk result (self.new ≡ self.old) }
     {
-        let allows = Answer::of(self.entry(pair, entry));
-        if let Answer::Fails = allows {
-            return Ok(Answer::Fails);
+        let allows = Judgement::of(self.entry(pair, entry));
+        if let Judgement::Fails = allows {
+            return Ok(Judgement::Fails);
         }
-        let conforms = self.profiles_answer(pair, entry.profiles())?;
+        let conforms = self.profiles_judgement(pair, entry.profiles())?;
         Ok(allows.and(conforms))
     }
 
-    /// The answer to the profiles that a type names: the item of a pair conforms to one, where there are any.
+    /// The judgement on the profiles that a type names: the item of a pair conforms to one, where there are any.
     #[cycle(judging)]
-    pub(crate) fn profiles_answer(
+    pub(crate) fn profiles_judgement(
         &mut self,
-        pair: Pair,
+        pair: ItemPair,
         profiles: &[String],
-    ) -> Result<Answer, NoMemory>
+    ) -> Result<Judgement, NoMemory>
         requires inner { is_root_node self.old.schema pair.node ≡ false }
         ensures exact { IfOk result (IsRightOn self.old pair.item (λ m roots.
             profiles_hold self.old.schema m roots (item_at self.old pair.item) (map string_bytes profiles.now))) }
         ensures same { OnOk result (self.new ≡ self.old) }
     {
         if profiles.is_empty() {
-            return Ok(Answer::Holds);
+            return Ok(Judgement::Holds);
         }
-        let mut answer = Answer::Fails;
+        let mut judgement = Judgement::Fails;
         for profile in profiles {
-            let one = self.profile_answer(pair, profile.as_str())?;
-            if let Answer::Holds = one {
-                return Ok(Answer::Holds);
+            let one = self.profile_judgement(pair, profile.as_str())?;
+            if let Judgement::Holds = one {
+                return Ok(Judgement::Holds);
             }
-            answer = answer.or(one);
+            judgement = judgement.or(one);
         }
-        Ok(answer)
+        Ok(judgement)
     }
 
-    // The answer to a profile that a type of a pair's node names. One that isn't there, or can't be used, is open.
+    // The judgement on a profile that a type of a pair's node names. One that isn't there, or can't be used, is open.
     #[cycle(judging)]
-    fn profile_answer(&mut self, pair: Pair, profile: &str) -> Result<Answer, NoMemory>
+    fn profile_judgement(&mut self, pair: ItemPair, profile: &str) -> Result<Judgement, NoMemory>
         requires inner { is_root_node self.old.schema pair.node ≡ false }
         ensures exact { IfOk result (IsRightOn self.old pair.item (λ m roots.
             profile_holds self.old.schema m roots (item_at self.old pair.item) profile.now)) }
@@ -287,9 +287,9 @@ impl<'s, 't, 'a, 'j> Judge<'s, 't, 'a, 'j> {
         match self.schema().loaded(profile) {
             Some(node) => {
                 let item = pair.item;
-                self.answer_of(Pair { item, node })
+                self.judgement_of(ItemPair { item, node })
             }
-            None => Ok(Answer::Open),
+            None => Ok(Judgement::Open),
         }
     }
 }

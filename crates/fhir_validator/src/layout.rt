@@ -8,7 +8,7 @@ ghost use Rattle.fhir_conformance.specs.Positions.{kid_at};
 ghost use Rattle.fhir_conformance.specs.Views.{IsIndexOf};
 ghost use Rattle.fhir_validator.specs.Layouts.{place_in_row, spot_in, spot_of, spots_in, spot_at, item_at, resource_of, number_of, IsStand, AreStands};
 
-use fhir_conformance::Children;
+use fhir_conformance::KidsByName;
 use fhir_instance::Typed;
 use fhir_json::NoMemory;
 use fhir_schema::Schema;
@@ -21,7 +21,7 @@ struct Stand<'t, 'a, 'j> {
     item: &'t Typed<'a, 'j>,
     // the nearest resource at or around it
     resource: &'t Typed<'a, 'j>,
-    children: Children<'t>,
+    kids_by_name: KidsByName<'t>,
     // the number of its parent, which is its own at the outermost, and its position among all of that one's children
     parent: usize,
     position: usize,
@@ -81,11 +81,11 @@ fn stand_of<'t, 'a, 'j>(
     ensures item { IfOk result (λ stand. spot_in stand ≡ spot_of schema.now (item_of around.now) (item_of item.now)) }
     ensures stand { IfOk result (IsStand schema.now) }
 {
-    let children = Children::of(alloc, item)?;
+    let kids_by_name = KidsByName::of(alloc, item)?;
     Ok(Stand {
         item,
         resource: nearest_to(schema, around, item),
-        children,
+        kids_by_name,
         parent,
         position,
     })
@@ -189,10 +189,10 @@ impl<'s, 't, 'a, 'j> Layout<'s, 't, 'a, 'j> {
     }
 
     /// Its children by their names.
-    pub(crate) fn children(&self, number: usize) -> &Children<'t>
+    pub(crate) fn kids_by_name(&self, number: usize) -> &KidsByName<'t>
         ensures { IsIndexOf (item_at self.now number) result.now }
     {
-        &self.stand_at(number).children
+        &self.stand_at(number).kids_by_name
     }
 
     /// The number of its child at a position, if it has one.

@@ -18,25 +18,25 @@
 //! and `specs/Issues.antt` when an issue is right.
 #![tactic(auto)]
 
-mod answer;
+mod breaches;
+mod broken_rule;
 mod explaining;
 mod fault;
 mod hanging;
 mod issue;
+mod judgement;
 mod judging;
 mod layout;
 mod listing;
 mod pair;
 mod place;
-mod rule;
 mod rules;
-mod telling;
 mod validation;
 mod verdict;
 
+pub use broken_rule::BrokenRule;
 pub use fault::Fault;
-pub use issue::{Finding, Issue, Site};
+pub use issue::{Breach, Issue, Site};
 pub use place::Place;
-pub use rule::Rule;
 pub use validation::validate;
 pub use verdict::Verdict;

@@ -3,19 +3,19 @@
 ghost use Rattle.std.specs.Prelude.{◌≡◌, ◌++◌, ◌∷◌, [], IfOk, IsTrue, OnOk};
 ghost use Rattle.fhir_validator.specs.Listing.{IsFilled};
 
-use crate::answer::Answer;
-use crate::issue::{Finding, Issue, Site};
-use crate::pair::Pair;
+use crate::judgement::Judgement;
+use crate::issue::{Breach, Issue, Site};
+use crate::pair::ItemPair;
 use fhir_json::NoMemory;
 use std::alloc::Global;
 use std::collections::BTreeSet;
 use std::marker::Model;
 
-/// What is listed of the pairs that have an answer, and the pairs of which all is listed.
+/// What is listed of the pairs that have a judgement, and the pairs of which all is listed.
 #[derive(Drop)]
 pub(crate) struct Listing<'s> {
-    wanted: Answer,
-    marks: BTreeSet<Pair>,
+    wanted: Judgement,
+    marks: BTreeSet<ItemPair>,
     issues: Vec<Issue<'s>>,
     sites: Vec<Site<'s>>,
 }
@@ -37,8 +37,8 @@ impl<'s> Model for Listing<'s> {
 }
 
 impl<'s> Listing<'s> {
-    /// Nothing of the pairs with that answer.
-    pub(crate) fn new(alloc: Global, wanted: Answer) -> Listing<'s>
+    /// Nothing of the pairs with that judgement.
+    pub(crate) fn new(alloc: Global, wanted: Judgement) -> Listing<'s>
         ensures { result ≡ record { wanted = wanted; issues = []; sites = [] } }
     {
         Listing {
@@ -49,22 +49,22 @@ impl<'s> Listing<'s> {
         }
     }
 
-    /// The answer of which is listed what it rests on.
-    pub(crate) fn wanted(&self) -> Answer
+    /// The judgement of which is listed what it rests on.
+    pub(crate) fn wanted(&self) -> Judgement
         ensures { result ≡ self.now.wanted }
     {
         self.wanted
     }
 
     /// Whether all is listed of a pair. Something is, then.
-    pub(crate) fn is_marked(&self, pair: Pair) -> bool
+    pub(crate) fn is_marked(&self, pair: ItemPair) -> bool
         ensures { IsTrue result → IsFilled self.now }
     {
         self.marks.contains(&pair)
     }
 
     /// Notes that all is listed of a pair.
-    pub(crate) fn mark(&mut self, pair: Pair) -> Result<(), NoMemory>
+    pub(crate) fn mark(&mut self, pair: ItemPair) -> Result<(), NoMemory>
         requires { IsFilled self.old }
         ensures { self.new ≡ self.old }
     {
@@ -73,10 +73,10 @@ impl<'s> Listing<'s> {
     }
 
     /// Lists a rule that is broken.
-    pub(crate) fn put_finding(&mut self, finding: Finding<'s>) -> Result<(), NoMemory>
-        ensures { OnOk result (self.new ≡ record self.old { issues = self.old.issues ++ Issue.Broken finding.entry ∷ [] }) }
+    pub(crate) fn put_breach(&mut self, breach: Breach<'s>) -> Result<(), NoMemory>
+        ensures { OnOk result (self.new ≡ record self.old { issues = self.old.issues ++ Issue.Broken breach.entry ∷ [] }) }
     {
-        self.issues.push(Issue::Broken(finding))?;
+        self.issues.push(Issue::Broken(breach))?;
         Ok(())
     }
 

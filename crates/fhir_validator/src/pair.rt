@@ -4,7 +4,7 @@ use fhir_schema::NodeRef;
 
 /// A node, and an item that it is asked of.
 #[derive(Clone, Copy, Debug, PartialEq, Eq, PartialOrd, Ord)]
-pub(crate) struct Pair {
+pub(crate) struct ItemPair {
     /// The item's number.
     pub(crate) item: usize,
     pub(crate) node: NodeRef,

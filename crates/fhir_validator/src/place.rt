@@ -32,7 +32,7 @@ fn put_name(text: &mut String, name: &str) -> Result<(), AllocError> {
 
 // How many of the children in front of a position have its name.
 fn index_of(layout: &Layout<'_, '_, '_, '_>, parent: usize, position: usize, name: &str) -> usize {
-    let places = layout.children(parent).places(name);
+    let places = layout.kids_by_name(parent).places(name);
     places.partition_point(|place| *place < position)
 }
 

@@ -10,11 +10,11 @@ ghost use Rattle.fhir_validator.specs.Layouts.{item_at};
 ghost use Rattle.fhir_validator.specs.Judging.{IsRightOf};
 ghost use Rattle.fhir_validator.specs.Listing.{IsToList, IsAskedBy, IsHanging, Grown, Lists};
 
-use crate::answer::Answer;
+use crate::judgement::Judgement;
 use crate::judging::Judge;
 use crate::listing::Listing;
-use crate::pair::Pair;
-use fhir_conformance::Rule;
+use crate::pair::ItemPair;
+use fhir_conformance::ElementRule;
 use fhir_facets::{Holding, Unread};
 use fhir_json::NoMemory;
 use fhir_schema::NodeRef;
@@ -24,7 +24,7 @@ impl<'s, 't, 'a, 'j> Judge<'s, 't, 'a, 'j> {
     pub(crate) fn put_site(
         &self,
         listing: &mut Listing<'s>,
-        pair: Pair,
+        pair: ItemPair,
         unread: Unread<'s>,
         node: NodeRef,
     ) -> Result<(), NoMemory>
@@ -40,45 +40,45 @@ impl<'s, 't, 'a, 'j> Judge<'s, 't, 'a, 'j> {
     fn list_broken(
         &self,
         listing: &mut Listing<'s>,
-        pair: Pair,
-        rule: Rule<'s>,
+        pair: ItemPair,
+        rule: ElementRule<'s>,
         node: NodeRef,
     ) -> Result<(), NoMemory>
         requires asked { IsToList self.now listing.old pair (own (rule_name rule) node) }
-        requires fails { IsRightOf self.now pair (own (rule_name rule) node) Answer.Fails }
+        requires fails { IsRightOf self.now pair (own (rule_name rule) node) Judgement.Fails }
         ensures { OnOk result (Lists self.now pair (own (rule_name rule.entry) node) listing.old listing.new) }
     {
-        let finding = self.finding_of(pair, rule, node)?;
-        listing.put_finding(finding)
+        let breach = self.breach_of(pair, rule, node)?;
+        listing.put_breach(breach)
     }
 
     // Lists an unread rule that a rule of the pair hangs on, where sites are wanted.
     fn list_open(
         &self,
         listing: &mut Listing<'s>,
-        pair: Pair,
-        rule: Rule<'s>,
+        pair: ItemPair,
+        rule: ElementRule<'s>,
         node: NodeRef,
         unread: Unread<'s>,
     ) -> Result<(), NoMemory>
         requires asked { IsAskedBy self.now pair (own (rule_name rule) node) }
-        requires hangs { IsRightOf self.now pair (own (rule_name rule) node) Answer.Open }
+        requires hangs { IsRightOf self.now pair (own (rule_name rule) node) Judgement.Open }
         requires carried { Contains (unread_at self.now.schema (item_at self.now pair.item) node) (unread_seen unread) }
         ensures { OnOk result (Lists self.now pair (own (rule_name rule.entry) node) listing.old listing.new) }
     {
-        if listing.wanted().is(Answer::Open) {
+        if listing.wanted().is(Judgement::Open) {
             self.put_site(listing, pair, unread, node)
         } else {
             Ok(())
         }
     }
 
-    /// Lists a rule that the pair asks for, if it has the wanted answer: that it fails, or the unread rule that it hangs on.
+    /// Lists a rule that the pair asks for, if it has the wanted judgement: that it fails, or the unread rule that it hangs on.
     pub(crate) fn list_rule(
         &self,
         listing: &mut Listing<'s>,
-        pair: Pair,
-        rule: Rule<'s>,
+        pair: ItemPair,
+        rule: ElementRule<'s>,
         node: NodeRef,
     ) -> Result<(), NoMemory>
         requires { IsToList self.now listing.old pair (own (rule_name rule) node) }
@@ -93,12 +93,12 @@ impl<'s, 't, 'a, 'j> Judge<'s, 't, 'a, 'j> {
     }
 
     /// Lists that the item of a pair is of none of the types of the pair's node.
-    pub(crate) fn list_misfit(&self, listing: &mut Listing<'s>, pair: Pair) -> Result<(), NoMemory>
+    pub(crate) fn list_misfit(&self, listing: &mut Listing<'s>, pair: ItemPair) -> Result<(), NoMemory>
         requires asked { IsToList self.now listing.old pair (types pair.node) }
-        requires fails { IsRightOf self.now pair (types pair.node) Answer.Fails }
+        requires fails { IsRightOf self.now pair (types pair.node) Judgement.Fails }
         ensures { OnOk result (Lists self.now pair (types pair.node) listing.old listing.new) }
     {
         let misfit = self.misfit_of(pair)?;
-        listing.put_finding(misfit)
+        listing.put_breach(misfit)
     }
 }

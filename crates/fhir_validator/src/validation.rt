@@ -12,13 +12,13 @@ ghost use Rattle.fhir_validator.specs.Layouts.{item_at, resource_of};
 ghost use Rattle.fhir_validator.specs.Judging.{IsRight};
 ghost use Rattle.fhir_validator.specs.Listing.{is_filled, AreFound, IsVerdictAt, IsMisfitVerdict, IsVerdictOn, IsOfBytes};
 
-use crate::answer::Answer;
+use crate::judgement::Judgement;
 use crate::fault::Fault;
 use crate::issue::Issue;
 use crate::judging::Judge;
 use crate::layout::Layout;
 use crate::listing::Listing;
-use crate::pair::Pair;
+use crate::pair::ItemPair;
 use crate::verdict::Verdict;
 use fhir_conformance::positive;
 use fhir_instance::{Misfit, MisfitKind, Typed, type_resource};
@@ -26,12 +26,12 @@ use fhir_json::{JsonFault, NoMemory, one_tree};
 use fhir_schema::{NodeRef, Schema};
 use std::alloc::Global;
 
-// What the outermost item's pair with a node rests on, which has that answer.
+// What the outermost item's pair with a node rests on, which has that judgement.
 fn listing_of<'s>(
     alloc: Global,
     judge: &mut Judge<'s, '_, '_, '_>,
-    wanted: Answer,
-    pair: Pair,
+    wanted: Judgement,
+    pair: ItemPair,
 ) -> Result<Listing<'s>, NoMemory>
     requires whole { resource_of judge.old pair.item ≡ item_at judge.old pair.item }
     requires wanted { IsRight judge.old pair wanted }
@@ -53,15 +53,15 @@ fn verdict_at<'s>(
     ensures { IfOk result (IsVerdictAt schema.now (item_of item.now) node) }
 {
     let mut judge = Judge::new(alloc, Layout::of(alloc, schema, item)?);
-    let pair = Pair { item: 0, node };
-    match judge.answer_of(pair)? {
-        Answer::Holds => Ok(Verdict::Conforms),
-        Answer::Open => {
-            let listing = listing_of(alloc, &mut judge, Answer::Open, pair)?;
+    let pair = ItemPair { item: 0, node };
+    match judge.judgement_of(pair)? {
+        Judgement::Holds => Ok(Verdict::Conforms),
+        Judgement::Open => {
+            let listing = listing_of(alloc, &mut judge, Judgement::Open, pair)?;
             Ok(Verdict::Open(listing.into_sites()))
         }
-        Answer::Fails => {
-            let listing = listing_of(alloc, &mut judge, Answer::Fails, pair)?;
+        Judgement::Fails => {
+            let listing = listing_of(alloc, &mut judge, Judgement::Fails, pair)?;
             Ok(Verdict::Violates(listing.into_issues()))
         }
     }
@@ -133,7 +133,7 @@ fn validate_at<'s>(
 }
 
 // Why the definition at a url has no root.
-fn unfound(schema: &Schema, url: &str) -> Fault
+fn root_fault(schema: &Schema, url: &str) -> Fault
     requires { root schema.now url.now ≡ None }
     ensures { (bytes : Text) → Means schema.now url.now bytes result }
 {
@@ -173,6 +173,6 @@ pub fn validate<'s>(
     positive();
     match schema.root(profile) {
         Some(node) => validate_at(alloc, schema, node, bytes),
-        None => Err(unfound(schema, profile)),
+        None => Err(root_fault(schema, profile)),
     }
 }

@@ -99,7 +99,7 @@ children::add_valued-returns t c =
 pub children::object_kids-loop-i-init : goal.children::object_kids-loop-i-init
 children::object_kids-loop-i-init t c =
     let s = c.args.schema.now in
-    let fr = frame_of c.args.node c.args.part in
+    let fr = frame_of c.args.node c.args.role in
     let ms = c.args.members.now.items in
     let es = c.in_ok-spelled.spelled.items in
     let some : nat_lt 0 (length ms) ≡ true = lt-ltb 0 (length ms) (omega arith) in
@@ -115,7 +115,7 @@ children::object_kids-form_at-form-requires t c =
     let s = c.args.schema.now in
     let es = drop c.loop-i.i c.in_ok-spelled.spelled.items in
     let some : 0 < length es = omega (arith, length-drop c.loop-i.i c.in_ok-spelled.spelled.items) in
-    let within = first_within s (frame_of c.args.node c.args.part) c.args.members.now.items es c.loop-i.invariant.rest some in
+    let within = first_within s (frame_of c.args.node c.args.role) c.args.members.now.items es c.loop-i.invariant.rest some in
     let form : c.group_at-group.result.form ≡ first_form es = c.group_at-group.ensures.form in
     let long : length c.forms-forms.result.now ≡ length (forms s c.args.node) = ap (λ (fs : List Form). length fs) c.forms-forms.ensures in
     omega arith
@@ -123,7 +123,7 @@ children::object_kids-form_at-form-requires t c =
 pub children::object_kids-add_form-requires : goal.children::object_kids-add_form-requires
 children::object_kids-add_form-requires t c =
     let s = c.args.schema.now in
-    let fr = frame_of c.args.node c.args.part in
+    let fr = frame_of c.args.node c.args.role in
     let ms = c.args.members.now.items in
     let es = drop c.loop-i.i c.in_ok-spelled.spelled.items in
     let f = c.form_at-form.result.now in
@@ -139,7 +139,7 @@ children::object_kids-add_form-requires t c =
 pub children::object_kids-loop-i-preserved : goal.children::object_kids-loop-i-preserved
 children::object_kids-loop-i-preserved t c =
     let s = c.args.schema.now in
-    let fr = frame_of c.args.node c.args.part in
+    let fr = frame_of c.args.node c.args.role in
     let ms = c.args.members.now.items in
     let all = c.in_ok-spelled.spelled.items in
     let es = drop c.loop-i.i all in
@@ -159,5 +159,5 @@ children::object_kids-loop-i-preserved t c =
 
 pub children::object_kids-returns : goal.children::object_kids-returns
 children::object_kids-returns t c =
-    walk_end c.args.schema.now (frame_of c.args.node c.args.part) c.args.members.now.items c.in_ok-spelled.spelled.items c.loop-i.i
+    walk_end c.args.schema.now (frame_of c.args.node c.args.role) c.args.members.now.items c.in_ok-spelled.spelled.items c.loop-i.i
     (kids_found c.loop-i.found) _ (omega arith) c.loop-i.invariant.found

@@ -23,9 +23,9 @@ invariant-pairs::add_each_pair-loop-i l =
 
 abbrev pub invariant-children::object_kids-loop-i : goal.invariant-children::object_kids-loop-i
 invariant-children::object_kids-loop-i l = record {
-  found : both (kids_found l.found) (rest_items l.schema (frame_of l.fn.node l.fn.part) l.members.items (drop l.i l.spelled.items))
-      ≡ object_kids l.schema (frame_of l.fn.node l.fn.part) (fields_in l.schema l.members.items);
-  rest : IsRest l.schema (frame_of l.fn.node l.fn.part) l.members.items (drop l.i l.spelled.items);
+  found : both (kids_found l.found) (rest_items l.schema (frame_of l.fn.node l.fn.role) l.members.items (drop l.i l.spelled.items))
+      ≡ object_kids l.schema (frame_of l.fn.node l.fn.role) (fields_in l.schema l.members.items);
+  rest : IsRest l.schema (frame_of l.fn.node l.fn.role) l.members.items (drop l.i l.spelled.items);
 }
 
 abbrev pub decreases-children::object_kids-loop-i : goal.decreases-children::object_kids-loop-i

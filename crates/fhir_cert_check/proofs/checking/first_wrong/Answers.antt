@@ -1,7 +1,7 @@
 use Rattle.std.proofs.Common.{◌≡◌, Some, None, arith, sym, ap, ◌∙◌, map}
 use Rattle.std.specs.Option.{option_or}
 use Rattle.fhir_certificate.specs.declared.pair.Pair.TheVariants.{Item, Kids}
-use Rattle.fhir_cert_check.specs.Rules.{failing}
+use Rattle.fhir_cert_check.specs.Rules.{failing_rule}
 use Rattle.fhir_cert_check.specs.Checking.{first_in}
 use Rattle.fhir_cert_check.specs.Views.{rule_name}
 use Rattle.fhir_cert_check.specs.PairSet.{has_in}
@@ -10,7 +10,7 @@ use Rattle.fhir_cert_check.proofs.checking.first_wrong.Goals as goal
 
 pub returns-in-Some : goal.returns-in-Some
 returns-in-Some c =
-    let f = failing (has_in c.args.pairs.now) c.args.schema.now in
+    let f = failing_rule (has_in c.args.pairs.now) c.args.schema.now in
     let items = map Item c.args.certificate.now.items in
     let kids = map Kids c.args.certificate.now.kids in
     let wrong : first_in f (map Item c.items.result.now) ≡ Some (c.in-Some.wrong.0, rule_name c.in-Some.wrong.1) = grind arith in
@@ -19,7 +19,7 @@ returns-in-Some c =
 
 pub returns-in-None : goal.returns-in-None
 returns-in-None c =
-    let f = failing (has_in c.args.pairs.now) c.args.schema.now in
+    let f = failing_rule (has_in c.args.pairs.now) c.args.schema.now in
     let items = map Item c.args.certificate.now.items in
     let kids = map Kids c.args.certificate.now.kids in
     let wrong : first_in f (map Item c.items.result.now) ≡ None = grind arith in

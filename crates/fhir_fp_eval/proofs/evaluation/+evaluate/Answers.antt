@@ -3,27 +3,27 @@ use Rattle.std.proofs.lemmas.Result.{err_from_is_err_and}
 use Rattle.fhir_fp_syntax.specs.Expression.{expression_of}
 use Rattle.fhir_fp_eval.specs.Values.{Plain}
 use Rattle.fhir_fp_eval.specs.Views.{plain_of, plains_of, world_of}
-use Rattle.fhir_fp_eval.specs.Meaning.{den, kept}
+use Rattle.fhir_fp_eval.specs.Meaning.{den, values_where}
 use Rattle.fhir_fp_eval.proofs.Kept.{in_front, kept_fails, kept_goes, kept_ends}
 use Rattle.fhir_fp_eval.specs.Spines.{steps_of}
 use Rattle.fhir_fp_eval.proofs.Spines.{size, steps_end, started, climb_fails, climb_goes, all_within, within_last, within_front}
 use Rattle.fhir_fp_eval.proofs.evaluation.+evaluate.Goals as goal
 
-pub kept-returns-in_err-holds : goal.kept-returns-in_err-holds
-kept-returns-in_err-holds t c =
+pub values_where-returns-in_err-holds : goal.values_where-returns-in_err-holds
+values_where-returns-in_err-holds t c =
     let p = err_from_is_err_and c.from_residual.result c.from_residual.ensures.1 in
     rw (p.1, p.2) (kept_fails (den (world_of c.args.env.now) (expression_of c.args.criteria.now)) c.args.values.now c.loop-value.value-index c.value-item.result (omega arith)
     c.value-item.is _ (plains_of c.loop-value.found.items) c.loop-value.invariant _ c.in_err-holds.ensures)
 
-pub kept-loop-value-preserved : goal.kept-loop-value-preserved
-kept-loop-value-preserved t c =
-    ap (λ (us : List Plain). in_front us (kept (den (world_of c.args.env.now) (expression_of c.args.criteria.now)) (plains_of (drop (c.loop-value.value-index + 1) c.args.values.now))))
+pub values_where-loop-value-preserved : goal.values_where-loop-value-preserved
+values_where-loop-value-preserved t c =
+    ap (λ (us : List Plain). in_front us (values_where (den (world_of c.args.env.now) (expression_of c.args.criteria.now)) (plains_of (drop (c.loop-value.value-index + 1) c.args.values.now))))
     c.in_ok-keep_if.ensures
     ∙ kept_goes (den (world_of c.args.env.now) (expression_of c.args.criteria.now)) c.args.values.now c.loop-value.value-index c.value-item.result (omega arith) c.value-item.is _
     (plains_of c.loop-value.found.items) c.loop-value.invariant c.in_ok-holds.holds c.in_ok-holds.ensures
 
-pub kept-returns : goal.kept-returns
-kept-returns t c =
+pub values_where-returns : goal.values_where-returns
+values_where-returns t c =
     kept_ends (den (world_of c.args.env.now) (expression_of c.args.criteria.now)) c.args.values.now c.loop-value.value-index _ (plains_of c.loop-value.found.items) (omega arith)
     c.loop-value.invariant
 

@@ -1,7 +1,7 @@
 use Rattle.std.proofs.Common.{◌≡◌, ◌+◌, ◌*◌, drop, length, Ok}
 use Rattle.fhir_fp_syntax.specs.Expression.{expression_of}
 use Rattle.fhir_fp_eval.specs.Views.{plain_of, plains_of, world_of}
-use Rattle.fhir_fp_eval.specs.Meaning.{kept, den}
+use Rattle.fhir_fp_eval.specs.Meaning.{values_where, den}
 use Rattle.fhir_fp_eval.specs.Spines.{steps_of}
 use Rattle.fhir_fp_eval.proofs.Kept.{in_front}
 use Rattle.fhir_fp_eval.proofs.Spines.{climbed, size, Within}
@@ -13,16 +13,16 @@ decreases-made_of l = 4 * size (expression_of l.expr.now)
 abbrev pub decreases-evaluate : goal.decreases-evaluate
 decreases-evaluate l = 4 * size (expression_of l.expr.now) + 1
 
-abbrev pub decreases-asked : goal.decreases-asked
-decreases-asked l = 4 * size (expression_of l.criteria.now) + 2
+abbrev pub decreases-criteria_hold : goal.decreases-criteria_hold
+decreases-criteria_hold l = 4 * size (expression_of l.criteria.now) + 2
 
-abbrev pub decreases-kept : goal.decreases-kept
-decreases-kept l = 4 * size (expression_of l.criteria.now) + 3
+abbrev pub decreases-values_where : goal.decreases-values_where
+decreases-values_where l = 4 * size (expression_of l.criteria.now) + 3
 
-abbrev pub invariant-kept-loop-value : goal.invariant-kept-loop-value
-invariant-kept-loop-value l =
-    in_front (plains_of l.found.items) (kept (den (world_of l.env) (expression_of l.criteria)) (plains_of (drop l.value-index l.values)))
-    ≡ kept (den (world_of l.env) (expression_of l.criteria)) (plains_of l.values)
+abbrev pub invariant-values_where-loop-value : goal.invariant-values_where-loop-value
+invariant-values_where-loop-value l =
+    in_front (plains_of l.found.items) (values_where (den (world_of l.env) (expression_of l.criteria)) (plains_of (drop l.value-index l.values)))
+    ≡ values_where (den (world_of l.env) (expression_of l.criteria)) (plains_of l.values)
 
 abbrev pub invariant-evaluate-loop-step : goal.invariant-evaluate-loop-step
 invariant-evaluate-loop-step l = record {

@@ -6,7 +6,7 @@ use Rattle.fhir_instance.proofs.spelled.spelled_in.Goals as goal
 pub loop-i-preserved : goal.loop-i-preserved
 loop-i-preserved c =
     let s = c.args.schema.now in
-    let fr = frame_of c.args.node c.args.part in
+    let fr = frame_of c.args.node c.args.role in
     let ms = c.args.members.now.items in
     let within : c.loop-i.i < length ms = omega arith in
     record {

@@ -7,8 +7,8 @@ use Rattle.fhir_instance.proofs.spelled.spelled_in.Given as goal
 
 abbrev pub invariant-loop-i : goal.invariant-loop-i
 invariant-loop-i l = record {
-  spelled : l.all.items ++ spelled_from l.schema (frame_of l.node l.part) l.i (names (members_view (drop l.i l.members.items)))
-      ≡ spelled_from l.schema (frame_of l.node l.part) 0 (names (members_view l.members.items));
-  found : cond (are_known l.schema (frame_of l.node l.part) (names (members_view (drop l.i l.members.items)))) (kids_found l.found) None
-      ≡ cond (are_known l.schema (frame_of l.node l.part) (names (members_view l.members.items))) (kids_found l.initial.found) None;
+  spelled : l.all.items ++ spelled_from l.schema (frame_of l.node l.role) l.i (names (members_view (drop l.i l.members.items)))
+      ≡ spelled_from l.schema (frame_of l.node l.role) 0 (names (members_view l.members.items));
+  found : cond (are_known l.schema (frame_of l.node l.role) (names (members_view (drop l.i l.members.items)))) (kids_found l.found) None
+      ≡ cond (are_known l.schema (frame_of l.node l.role) (names (members_view l.members.items))) (kids_found l.initial.found) None;
 }

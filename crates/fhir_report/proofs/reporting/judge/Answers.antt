@@ -9,9 +9,9 @@ use Rattle.fhir_report.proofs.reporting.judge.Goals as goal
 
 pub returns-in_ok-line-in-Ok-No-clause-told : goal.returns-in_ok-line-in-Ok-No-clause-told
 returns-in_ok-line-in-Ok-No-clause-told c =
-    IfOk-weaker c.judged_by-in-Ok-No.result _ _
+    IfOk-weaker c.one_line-in-Ok-No.result _ _
     (λ j is.
     no_told c.args.schema.now c.args.certificate.name.now (answer_of (reading c.args.schema.now c.args.certificate.bytes.now) c.args.schema.now)
     (c.in-Ok-No.pair, rule_name c.in-Ok-No.rule) (line_seen c.in_ok-line-in-Ok-No.line) (lines_seen j.lines.items) (c.in-Ok-No.ensures.first ∙ ap (λ a. Ok (wrong_in a)) c.in-Ok-No.field-0-is)
     c.in_ok-line-in-Ok-No.ensures is.1)
-    c.judged_by-in-Ok-No.ensures
+    c.one_line-in-Ok-No.ensures

@@ -48,4 +48,4 @@ returns-in-Some-clause-refused c =
     (λ fault h. of_bytes s c.args.profile.now c.args.bytes.now c.in-Some.node (sym c.in-Some.ensures) fault h) c.validate_at.result c.validate_at.ensures.refused
 
 pub returns-in-None-clause-refused : goal.returns-in-None-clause-refused
-returns-in-None-clause-refused c = c.unfound.ensures c.args.bytes.now
+returns-in-None-clause-refused c = c.root_fault.ensures c.args.bytes.now

@@ -1,7 +1,7 @@
 use Rattle.std.proofs.Common.{◌≡◌, refl, ◌∙◌, subst}
 use Rattle.fhir_instance.specs.View.{item_of}
-use Rattle.fhir_validator.specs.declared.answer.Answer.TheVariants.{Fails}
-use Rattle.fhir_validator.specs.declared.pair.Pair.{Pair}
+use Rattle.fhir_validator.specs.declared.judgement.Judgement.TheVariants.{Fails}
+use Rattle.fhir_validator.specs.declared.pair.ItemPair.{ItemPair}
 use Rattle.fhir_validator.specs.declared.verdict.Verdict.TheVariants.{Violates}
 use Rattle.fhir_validator.specs.Judging.{IsRight}
 use Rattle.fhir_validator.proofs.Whole.{is_verdict, listed_issues}
@@ -12,11 +12,11 @@ returns c =
     let s = c.args.schema.now in
     let x = item_of c.args.item.now in
     let n = c.args.node in
-    let p : Pair = record { item = 0; node = n } in
+    let p : ItemPair = record { item = 0; node = n } in
     let layout = c.in_ok-of.field-0 in
-    let now : c.answer_of.new.self ≡ layout = c.in_ok-answer_of.ensures.same ∙ c.new-judge.ensures in
-    let right = subst (IsRight c.new-judge.result p) c.in-Fails.is c.in_ok-answer_of.ensures.exact in
+    let now : c.judgement_of.new.self ≡ layout = c.in_ok-judgement_of.ensures.same ∙ c.new-judge.ensures in
+    let right = subst (IsRight c.new-judge.result p) c.in-Fails.is c.in_ok-judgement_of.ensures.exact in
     is_verdict s x n layout Fails (Violates c.into_issues.result) c.in_ok-of.ensures.schema c.in_ok-of.ensures.item c.in_ok-of.ensures.resource
     (subst (λ l. IsRight l p Fails) c.new-judge.ensures right) refl
-    (listed_issues s x n layout c.answer_of.new.self now c.in_ok-of.ensures.schema c.in_ok-of.ensures.item c.in_ok-listing-in-Fails.listing c.into_issues.result.items
+    (listed_issues s x n layout c.judgement_of.new.self now c.in_ok-of.ensures.schema c.in_ok-of.ensures.item c.in_ok-listing-in-Fails.listing c.into_issues.result.items
     c.into_issues.ensures c.in_ok-listing-in-Fails.ensures.filled c.in_ok-listing-in-Fails.ensures.found)

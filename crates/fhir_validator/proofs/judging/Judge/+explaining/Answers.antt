@@ -8,12 +8,12 @@ use Rattle.fhir_instance.specs.Items.{kids_of}
 use Rattle.fhir_conformance.specs.Positions.{kid_at}
 use Rattle.fhir_conformance.specs.Meeting.{at_item, at_profile, at_child}
 use Rattle.fhir_conformance.specs.Views.{ask_seen, asks_seen}
-use Rattle.fhir_validator.specs.declared.answer.Answer.TheVariants.{Holds, Open, Fails}
-use Rattle.fhir_validator.specs.declared.pair.Pair.{Pair}
-use Rattle.fhir_validator.specs.Answers.{under}
+use Rattle.fhir_validator.specs.declared.judgement.Judgement.TheVariants.{Holds, Open, Fails}
+use Rattle.fhir_validator.specs.declared.pair.ItemPair.{ItemPair}
+use Rattle.fhir_validator.specs.Judgements.{under}
 use Rattle.fhir_validator.specs.Layouts.{item_at}
 use Rattle.fhir_validator.specs.Judging.{IsRight, IsRightOf, IsOrdered}
-use Rattle.fhir_validator.specs.Listing.{same_answer, side, IsAllowed, IsFilled, IsOpenRoot, IsAskedBy, IsToList, PairIsAllowed, AskIsTold, PairIsTold, AreHanging, Grown, Lists}
+use Rattle.fhir_validator.specs.Listing.{same_judgement, side, IsAllowed, IsFilled, IsOpenRoot, IsAskedBy, IsToList, PairIsAllowed, AskIsTold, PairIsTold, AreHanging, Grown, Lists}
 use Rattle.fhir_validator.proofs.Asking.{conforms_to, ordered_in}
 use Rattle.fhir_validator.proofs.Judged.{ordered_at, all_answered, asked_of, of_none, kid_there, standing, stands_there}
 use Rattle.fhir_validator.proofs.Measures.{weight, lighter_root, lighter_kid}
@@ -142,7 +142,7 @@ list_ask-list_same-requires t c =
     let layout = c.args.self.now in
     let s = layout.schema in
     let p = c.args.pair in
-    let q : Pair = record { item = p.item; node = c.in-Root.node } in
+    let q : ItemPair = record { item = p.item; node = c.in-Root.node } in
     let asked = subst (λ a. IsToList layout c.args.listing.now p (ask_seen a)) c.in-Root.is c.requires.asked in
     let ordered = ordered_in s (c.roots_are_roots.ensures.of_type s) (c.roots_are_roots.ensures.of_canonical s) (item_at layout p.item) p.node (root c.in-Root.node) asked.asked in
     let h : weight layout q < weight layout p = lighter_root layout p q refl ordered.0 ordered.1 in
@@ -152,7 +152,7 @@ pub list_ask-returns-in-Root-clause-lists : goal.list_ask-returns-in-Root-clause
 list_ask-returns-in-Root-clause-lists t c =
     let layout = c.args.self.now in
     let p = c.args.pair in
-    let q : Pair = record { item = p.item; node = c.in-Root.node } in
+    let q : ItemPair = record { item = p.item; node = c.in-Root.node } in
     let old = c.args.listing.now in
     let new = c.list_same.new.listing in
     let asked = subst (λ a. IsAskedBy layout p (ask_seen a)) c.in-Root.is c.requires.asked.asked in
@@ -171,8 +171,8 @@ list_ask-returns-in-Child-clause-lists t c =
 
 -- ---- types
 
-pub list_types-types_answer-requires : goal.list_types-types_answer-requires
-list_types-types_answer-requires t c =
+pub list_types-types_judgement-requires : goal.list_types-types_judgement-requires
+list_types-types_judgement-requires t c =
     let s = c.args.self.now.schema in
     let p = c.args.pair in
     record {
@@ -180,30 +180,30 @@ list_types-types_answer-requires t c =
     }
 
 pub list_types-list_misfit-requires-clause-asked : goal.list_types-list_misfit-requires-clause-asked
-list_types-list_misfit-requires-clause-asked t c = rw c.in_ok-types_answer.ensures.same c.requires
+list_types-list_misfit-requires-clause-asked t c = rw c.in_ok-types_judgement.ensures.same c.requires
 
 pub list_types-list_misfit-requires-clause-fails : goal.list_types-list_misfit-requires-clause-fails
 list_types-list_misfit-requires-clause-fails t c =
-    let fails = subst (IsRightOf c.args.self.now c.args.pair (types c.args.pair.node)) c.in-Fails.is c.in_ok-types_answer.ensures.exact in
-    rw c.in_ok-types_answer.ensures.same fails
+    let fails = subst (IsRightOf c.args.self.now c.args.pair (types c.args.pair.node)) c.in-Fails.is c.in_ok-types_judgement.ensures.exact in
+    rw c.in_ok-types_judgement.ensures.same fails
 
 pub list_types-list_hanging-requires : goal.list_types-list_hanging-requires
 list_types-list_hanging-requires t c =
     let p = c.args.pair in
-    let hangs = subst (IsRightOf c.args.self.now p (types p.node)) c.in-Open.is c.in_ok-types_answer.ensures.exact in
-    let same : weight c.types_answer.new.self p ≡ weight c.args.self.now p = ap (λ l. weight l p) c.in_ok-types_answer.ensures.same in
-    (omega (arith, same, c.decreases), (rw c.in_ok-types_answer.ensures.same c.requires.asked, rw c.in_ok-types_answer.ensures.same hangs))
+    let hangs = subst (IsRightOf c.args.self.now p (types p.node)) c.in-Open.is c.in_ok-types_judgement.ensures.exact in
+    let same : weight c.types_judgement.new.self p ≡ weight c.args.self.now p = ap (λ l. weight l p) c.in_ok-types_judgement.ensures.same in
+    (omega (arith, same, c.decreases), (rw c.in_ok-types_judgement.ensures.same c.requires.asked, rw c.in_ok-types_judgement.ensures.same hangs))
 
 pub list_types-returns-in-Holds-clause-lists : goal.list_types-returns-in-Holds-clause-lists
 list_types-returns-in-Holds-clause-lists t c =
     let p = c.args.pair in
-    lists_held c.args.self.now p (types p.node) c.args.listing.now (subst (IsRightOf c.args.self.now p (types p.node)) c.in-Holds.is c.in_ok-types_answer.ensures.exact)
+    lists_held c.args.self.now p (types p.node) c.args.listing.now (subst (IsRightOf c.args.self.now p (types p.node)) c.in-Holds.is c.in_ok-types_judgement.ensures.exact)
 
 pub list_types-returns-in-Fails-clause-lists : goal.list_types-returns-in-Fails-clause-lists
-list_types-returns-in-Fails-clause-lists t c = rw c.in_ok-types_answer.ensures.same at c.list_misfit.ensures
+list_types-returns-in-Fails-clause-lists t c = rw c.in_ok-types_judgement.ensures.same at c.list_misfit.ensures
 
 pub list_types-returns-in-Open-clause-lists : goal.list_types-returns-in-Open-clause-lists
-list_types-returns-in-Open-clause-lists t c = rw c.in_ok-types_answer.ensures.same at c.list_hanging.ensures.lists
+list_types-returns-in-Open-clause-lists t c = rw c.in_ok-types_judgement.ensures.same at c.list_hanging.ensures.lists
 
 pub list_hanging-open_roots-requires : goal.list_hanging-open_roots-requires
 list_hanging-open_roots-requires t c =
@@ -218,7 +218,7 @@ list_hanging-list_root-requires t c =
     let layout = c.args.self.now in
     let p = c.args.pair in
     let xs = c.deref-root-items.result.now in
-    let wanted : c.args.listing.now.wanted ≡ Open = is_open c.args.listing.now.wanted (ap (λ w. same_answer w Open) (sym c.wanted.ensures) ∙ sym c.is.ensures ∙ c.if-not-is.false) in
+    let wanted : c.args.listing.now.wanted ≡ Open = is_open c.args.listing.now.wanted (ap (λ w. same_judgement w Open) (sym c.wanted.ensures) ∙ sym c.is.ensures ∙ c.if-not-is.false) in
     let now : c.loop-root.listing.wanted ≡ Open = c.loop-root.invariant.grown.wanted ∙ wanted in
     let all : AllByRecursion (IsOpenRoot layout p) xs =
     subst (AllByRecursion (IsOpenRoot layout p)) (sym c.deref-root-items.ensures.value) (c.in_ok-roots.ensures.grows.hanging tt) in
@@ -240,7 +240,7 @@ list_hanging-loop-root-preserved t c =
 pub list_hanging-returns-then-not-is-clause-lists : goal.list_hanging-returns-then-not-is-clause-lists
 list_hanging-returns-then-not-is-clause-lists t c =
     let old = c.args.listing.now in
-    lists_other c.args.self.now c.args.pair (types c.args.pair.node) old c.requires.hangs (ap (λ w. same_answer w Open) (sym c.wanted.ensures) ∙ sym c.is.ensures ∙ c.if-not-is.true)
+    lists_other c.args.self.now c.args.pair (types c.args.pair.node) old c.requires.hangs (ap (λ w. same_judgement w Open) (sym c.wanted.ensures) ∙ sym c.is.ensures ∙ c.if-not-is.true)
 
 pub list_hanging-returns-clause-lists : goal.list_hanging-returns-clause-lists
 list_hanging-returns-clause-lists t c =
@@ -252,7 +252,7 @@ list_root-list_pair-requires t c =
     let layout = c.args.self.now in
     let s = layout.schema in
     let p = c.args.pair in
-    let q : Pair = record { item = p.item; node = c.args.root } in
+    let q : ItemPair = record { item = p.item; node = c.args.root } in
     let ordered = ordered_in s (c.roots_are_roots.ensures.of_type s) (c.roots_are_roots.ensures.of_canonical s) (item_at layout p.item) p.node (profile c.args.root) c.requires.asked in
     let h : weight layout q < weight layout p = lighter_root layout p q refl ordered.0 ordered.1 in
     (omega (arith, h, c.decreases), c.requires.wanted)
@@ -261,7 +261,7 @@ pub list_root-returns-clause-grown : goal.list_root-returns-clause-grown
 list_root-returns-clause-grown t c =
     let layout = c.args.self.now in
     let p = c.args.pair in
-    let q : Pair = record { item = p.item; node = c.args.root } in
+    let q : ItemPair = record { item = p.item; node = c.args.root } in
     let old = c.args.listing.now in
     let new = c.list_pair.new.listing in
     on_ok (Grown layout q old new) (Grown layout p old new) (grown_by layout p q old new (λ o profile place met. (place, at_profile met c.requires.asked))) c.list_pair.result c.list_pair.ensures.grown
@@ -273,7 +273,7 @@ list_profile-list_same-requires t c =
     let layout = c.args.self.now in
     let s = layout.schema in
     let p = c.args.pair in
-    let q : Pair = record { item = p.item; node = c.args.root } in
+    let q : ItemPair = record { item = p.item; node = c.args.root } in
     let ordered = ordered_in s (c.roots_are_roots.ensures.of_type s) (c.roots_are_roots.ensures.of_canonical s) (item_at layout p.item) p.node (profile c.args.root) c.requires.asked in
     let h : weight layout q < weight layout p = lighter_root layout p q refl ordered.0 ordered.1 in
     let here = standing layout p.item in
@@ -284,7 +284,7 @@ pub list_profile-returns-then-explains-clause-grown : goal.list_profile-returns-
 list_profile-returns-then-explains-clause-grown t c =
     let layout = c.args.self.now in
     let p = c.args.pair in
-    let q : Pair = record { item = p.item; node = c.args.root } in
+    let q : ItemPair = record { item = p.item; node = c.args.root } in
     let old = c.args.listing.now in
     let new = c.list_same.new.listing in
     on_ok (Grown layout q old new) (Grown layout p old new) (grown_by layout p q old new (λ o profile place met. (place, at_profile met c.requires.asked))) c.list_same.result c.list_same.ensures.grown
@@ -294,7 +294,7 @@ list_kid-list_same-requires t c =
     let layout = c.args.self.now in
     let s = layout.schema in
     let p = c.args.pair in
-    let q : Pair = record { item = c.in-Some.item; node = c.args.node } in
+    let q : ItemPair = record { item = c.in-Some.item; node = c.args.node } in
     let x = item_at layout p.item in
     let h : weight layout q < weight layout p = lighter_kid layout p q (rw c.layout.ensures at c.in-Some.ensures.behind) (rw c.layout.ensures at c.in-Some.ensures.within) in
     let around = c.requires.allowed.0 in
@@ -308,7 +308,7 @@ list_kid-returns-in-Some-clause-lists t c =
     let layout = c.args.self.now in
     let s = layout.schema in
     let p = c.args.pair in
-    let q : Pair = record { item = c.in-Some.item; node = c.args.node } in
+    let q : ItemPair = record { item = c.in-Some.item; node = c.args.node } in
     let x = item_at layout p.item in
     let old = c.args.listing.now in
     let new = c.list_same.new.listing in
@@ -332,10 +332,10 @@ list_kid-returns-in-None-clause-lists t c =
 pub list_same-list_pair-requires : goal.list_same-list_pair-requires
 list_same-list_pair-requires t c =
     let p = c.args.pair in
-    let e : c.in_ok-answer.answer ≡ c.args.listing.now.wanted = same_is c.in_ok-answer.answer c.args.listing.now.wanted (ap (same_answer c.in_ok-answer.answer) (sym c.wanted.ensures) ∙ sym c.is.ensures ∙ c.if-is.true) in
-    let right = subst (IsRight c.args.self.now p) e c.in_ok-answer.ensures.exact in
-    let same : weight c.answer_of.new.self p ≡ weight c.args.self.now p = ap (λ l. weight l p) c.in_ok-answer.ensures.same in
-    (omega (arith, same, c.decreases), rw c.in_ok-answer.ensures.same right)
+    let e : c.in_ok-judgement.judgement ≡ c.args.listing.now.wanted = same_is c.in_ok-judgement.judgement c.args.listing.now.wanted (ap (same_judgement c.in_ok-judgement.judgement) (sym c.wanted.ensures) ∙ sym c.is.ensures ∙ c.if-is.true) in
+    let right = subst (IsRight c.args.self.now p) e c.in_ok-judgement.ensures.exact in
+    let same : weight c.judgement_of.new.self p ≡ weight c.args.self.now p = ap (λ l. weight l p) c.in_ok-judgement.ensures.same in
+    (omega (arith, same, c.decreases), rw c.in_ok-judgement.ensures.same right)
 
 pub list_same-returns-then-is-clause-told : goal.list_same-returns-then-is-clause-told
 list_same-returns-then-is-clause-told t c =
@@ -343,17 +343,17 @@ list_same-returns-then-is-clause-told t c =
     (λ filled around there. inr filled) c.list_pair.result c.list_pair.ensures.filled
 
 pub list_same-returns-then-is-clause-grown : goal.list_same-returns-then-is-clause-grown
-list_same-returns-then-is-clause-grown t c = rw c.in_ok-answer.ensures.same at c.list_pair.ensures.grown
+list_same-returns-then-is-clause-grown t c = rw c.in_ok-judgement.ensures.same at c.list_pair.ensures.grown
 
 pub list_same-returns-else-is-clause-told : goal.list_same-returns-else-is-clause-told
 list_same-returns-else-is-clause-told t c = λ around there.
     let s = c.args.self.now.schema in
     let x = item_at c.args.self.now c.args.pair.item in
     let old = c.args.listing.now in
-    told_same old.issues old.sites old.wanted c.in_ok-answer.answer
+    told_same old.issues old.sites old.wanted c.in_ok-judgement.judgement
     (λ b. conforms s (constant b) c.requires.0 x c.args.pair.node) (λ b. conforms s (constant b) around x c.args.pair.node)
-    (λ b. c.in_ok-answer.ensures.exact b c.requires.0 c.requires.1) (λ b. c.in_ok-answer.ensures.exact b around there) c.requires.2
-    (ap (same_answer c.in_ok-answer.answer) (sym c.wanted.ensures) ∙ sym c.is.ensures ∙ c.if-is.false)
+    (λ b. c.in_ok-judgement.ensures.exact b c.requires.0 c.requires.1) (λ b. c.in_ok-judgement.ensures.exact b around there) c.requires.2
+    (ap (same_judgement c.in_ok-judgement.judgement) (sym c.wanted.ensures) ∙ sym c.is.ensures ∙ c.if-is.false)
 
 pub list_same-returns-else-is-clause-grown : goal.list_same-returns-else-is-clause-grown
 list_same-returns-else-is-clause-grown t c = grown_none c.args.self.now c.args.pair c.args.listing.now

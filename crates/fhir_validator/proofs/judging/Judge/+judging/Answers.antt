@@ -6,24 +6,24 @@ use Rattle.fhir_schema.specs.Schemas.{is_root_node, loaded, types}
 use Rattle.fhir_conformance.specs.Asks.{asks, child}
 use Rattle.fhir_conformance.specs.Conformance.{constant, conforms, entry_holds, profile_holds, ask_conforms}
 use Rattle.fhir_conformance.specs.Views.{ask_seen, asks_seen}
-use Rattle.fhir_validator.specs.declared.pair.Pair.{Pair}
-use Rattle.fhir_validator.specs.Answers.{under}
+use Rattle.fhir_validator.specs.declared.pair.ItemPair.{ItemPair}
+use Rattle.fhir_validator.specs.Judgements.{under}
 use Rattle.fhir_validator.specs.Layouts.{item_at}
 use Rattle.fhir_validator.specs.Judging.{IsRight, IsRightOf, IsOrdered}
 use Rattle.fhir_validator.proofs.Judged.{weaker, ordered_at, one_more, one_more_any, some_holds, none_left, empty_mapped, any_mapped, all_answered, of_kid, of_none}
 use Rattle.fhir_validator.proofs.Measures.{weight, lighter_root, lighter_kid}
 use Rattle.fhir_validator.proofs.judging.Judge.+judging.Goals as goal
 
-pub ask_answer-answer_of-requires : goal.ask_answer-answer_of-requires
-ask_answer-answer_of-requires t c =
+pub ask_judgement-judgement_of-requires : goal.ask_judgement-judgement_of-requires
+ask_judgement-judgement_of-requires t c =
     let layout = c.args.self.now in
-    let q : Pair = record { item = c.args.pair.item; node = c.in-Root.node } in
+    let q : ItemPair = record { item = c.args.pair.item; node = c.in-Root.node } in
     let ordered = subst (λ a. IsOrdered layout.schema c.args.pair.node (ask_seen a)) c.in-Root.is c.requires.ordered in
     let h : weight layout q < weight layout c.args.pair = lighter_root layout c.args.pair q refl ordered.0 ordered.1 in
     omega (arith, h, c.decreases)
 
-pub judged-ask_answer-requires : goal.judged-ask_answer-requires
-judged-ask_answer-requires t c =
+pub judge_pair-ask_judgement-requires : goal.judge_pair-ask_judgement-requires
+judge_pair-ask_judgement-requires t c =
     let layout = c.args.self.now in
     let s = layout.schema in
     let x = item_at layout c.args.pair.item in
@@ -33,68 +33,68 @@ judged-ask_answer-requires t c =
     let same : weight c.loop-ask.self c.args.pair ≡ weight c.args.self.now c.args.pair = ap (λ l. weight l c.args.pair) c.loop-ask.invariant.same in
     (omega (arith, same, c.decreases), rw c.loop-ask.invariant.same ordered)
 
-pub judged-loop-ask-preserved : goal.judged-loop-ask-preserved
-judged-loop-ask-preserved t c =
+pub judge_pair-loop-ask-preserved : goal.judge_pair-loop-ask-preserved
+judge_pair-loop-ask-preserved t c =
     let layout = c.args.self.now in
-    let exact = rw c.loop-ask.invariant.same at c.in_ok-ask_answer.ensures.exact in
+    let exact = rw c.loop-ask.invariant.same at c.in_ok-ask_judgement.ensures.exact in
     record {
-      answer = λ b around there.
+      judgement = λ b around there.
           one_more (λ ask. ask_conforms layout.schema (constant b) around (item_at layout c.args.pair.item) (ask_seen ask))
-          c.deref-ask-items.result.now c.loop-ask.ask-index _ (under b c.loop-ask.answer) (under b c.and-answer.result) (under b c.in_ok-ask_answer.field-0)
-          c.loop-ask-test.true (c.and-answer.ensures b) (c.loop-ask.invariant.answer b around there) (exact b around there);
-      same = c.in_ok-ask_answer.ensures.same ∙ c.loop-ask.invariant.same;
+          c.deref-ask-items.result.now c.loop-ask.ask-index _ (under b c.loop-ask.judgement) (under b c.and-judgement.result) (under b c.in_ok-ask_judgement.field-0)
+          c.loop-ask-test.true (c.and-judgement.ensures b) (c.loop-ask.invariant.judgement b around there) (exact b around there);
+      same = c.in_ok-ask_judgement.ensures.same ∙ c.loop-ask.invariant.same;
     }
 
-pub judged-returns-clause-exact : goal.judged-returns-clause-exact
-judged-returns-clause-exact t c = λ b around there.
+pub judge_pair-returns-clause-exact : goal.judge_pair-returns-clause-exact
+judge_pair-returns-clause-exact t c = λ b around there.
     let s = c.args.self.now.schema in
     let x = item_at c.args.self.now c.args.pair.item in
     let e : asks_seen c.deref-ask-items.result.now ≡ asks s x c.args.pair.node =
     ap asks_seen c.deref-ask-items.ensures.value ∙ c.in_ok-asked.ensures in
-    all_answered s (c.roots_are_roots.ensures.of_type s) (c.roots_are_roots.ensures.of_canonical s) (constant b) around x c.args.pair.node c.deref-ask-items.result.now c.loop-ask.ask-index (under b c.loop-ask.answer)
-    e c.loop-ask-test.false (c.loop-ask.invariant.answer b around there)
+    all_answered s (c.roots_are_roots.ensures.of_type s) (c.roots_are_roots.ensures.of_canonical s) (constant b) around x c.args.pair.node c.deref-ask-items.result.now c.loop-ask.ask-index (under b c.loop-ask.judgement)
+    e c.loop-ask-test.false (c.loop-ask.invariant.judgement b around there)
 
-pub kid_answer-answer_of-requires : goal.kid_answer-answer_of-requires
-kid_answer-answer_of-requires t c =
+pub kid_judgement-judgement_of-requires : goal.kid_judgement-judgement_of-requires
+kid_judgement-judgement_of-requires t c =
     let layout = c.args.self.now in
-    let q : Pair = record { item = c.in-Some.item; node = c.args.node } in
+    let q : ItemPair = record { item = c.in-Some.item; node = c.args.node } in
     let h : weight layout q < weight layout c.args.pair =
     lighter_kid layout c.args.pair q (rw c.layout.ensures at c.in-Some.ensures.behind) (rw c.layout.ensures at c.in-Some.ensures.within) in
     omega (arith, h, c.decreases)
 
-pub kid_answer-returns-in-Some-clause-exact : goal.kid_answer-returns-in-Some-clause-exact
-kid_answer-returns-in-Some-clause-exact t c =
+pub kid_judgement-returns-in-Some-clause-exact : goal.kid_judgement-returns-in-Some-clause-exact
+kid_judgement-returns-in-Some-clause-exact t c =
     let layout = c.args.self.now in
-    let q : Pair = record { item = c.in-Some.item; node = c.args.node } in
+    let q : ItemPair = record { item = c.in-Some.item; node = c.args.node } in
     weaker (IsRight layout q) (IsRightOf layout c.args.pair (child c.args.position c.args.node))
-    (of_kid layout c.args.pair c.args.position c.args.node q refl (rw c.layout.ensures at c.in-Some.ensures.kid) (rw c.layout.ensures at c.in-Some.ensures.near)) c.answer_of.result c.answer_of.ensures.exact
+    (of_kid layout c.args.pair c.args.position c.args.node q refl (rw c.layout.ensures at c.in-Some.ensures.kid) (rw c.layout.ensures at c.in-Some.ensures.near)) c.judgement_of.result c.judgement_of.ensures.exact
 
-pub kid_answer-returns-in-None-clause-exact : goal.kid_answer-returns-in-None-clause-exact
-kid_answer-returns-in-None-clause-exact t c =
+pub kid_judgement-returns-in-None-clause-exact : goal.kid_judgement-returns-in-None-clause-exact
+kid_judgement-returns-in-None-clause-exact t c =
     λ b around there. of_none c.args.self.now c.args.pair c.args.position c.args.node (rw c.layout.ensures at c.in-None.ensures.kid) b around
 
-pub profile_answer-answer_of-requires : goal.profile_answer-answer_of-requires
-profile_answer-answer_of-requires t c =
+pub profile_judgement-judgement_of-requires : goal.profile_judgement-judgement_of-requires
+profile_judgement-judgement_of-requires t c =
     let layout = c.args.self.now in
-    let q : Pair = record { item = c.args.pair.item; node = c.in-Some.node } in
+    let q : ItemPair = record { item = c.args.pair.item; node = c.in-Some.node } in
     let inner : is_root_node layout.schema c.args.pair.node ≡ false = assumption c.requires in
     let is : loaded layout.schema c.args.profile.now ≡ Some c.in-Some.node = sym (c.in-Some.ensures ∙ ap (λ s. loaded s c.args.profile.now) c.schema.ensures) in
     let h : weight layout q < weight layout c.args.pair =
     lighter_root layout c.args.pair q refl inner (c.roots_are_roots.ensures.of_canonical layout.schema c.args.profile.now c.in-Some.node is) in
     omega (arith, h)
 
-pub types_answer-entry_answer-requires : goal.types_answer-entry_answer-requires
-types_answer-entry_answer-requires t c =
+pub types_judgement-entry_judgement-requires : goal.types_judgement-entry_judgement-requires
+types_judgement-entry_judgement-requires t c =
     let same : weight c.loop-entry.self c.args.pair ≡ weight c.args.self.now c.args.pair = ap (λ l. weight l c.args.pair) c.loop-entry.invariant.same in
     (omega (arith, same, c.decreases), rw c.loop-entry.invariant.same c.requires.inner)
 
-pub profiles_answer-profile_answer-requires : goal.profiles_answer-profile_answer-requires
-profiles_answer-profile_answer-requires t c =
+pub profiles_judgement-profile_judgement-requires : goal.profiles_judgement-profile_judgement-requires
+profiles_judgement-profile_judgement-requires t c =
     let same : weight c.loop-profile.self c.args.pair ≡ weight c.args.self.now c.args.pair = ap (λ l. weight l c.args.pair) c.loop-profile.invariant.same in
     (omega (arith, same, c.decreases), rw c.loop-profile.invariant.same c.requires.inner)
 
-pub profiles_answer-returns-in-Holds-clause-exact : goal.profiles_answer-returns-in-Holds-clause-exact
-profiles_answer-returns-in-Holds-clause-exact t c = λ b around there.
+pub profiles_judgement-returns-in-Holds-clause-exact : goal.profiles_judgement-returns-in-Holds-clause-exact
+profiles_judgement-returns-in-Holds-clause-exact t c = λ b around there.
     let s = c.args.self.now.schema in
     let x = item_at c.args.self.now c.args.pair.item in
     let p = profile_holds s (λ unread. b) (conforms s (constant b) around x) x in
@@ -104,33 +104,33 @@ profiles_answer-returns-in-Holds-clause-exact t c = λ b around there.
     (ap (under b) (sym c.in-Holds.is) ∙ exact b around there ∙ ap p c.as_str.ensures.value)
     ∙ ap (λ t. is_empty (map string_bytes xs) || t) (any_mapped p string_bytes xs)
 
-pub profiles_answer-loop-profile-preserved : goal.profiles_answer-loop-profile-preserved
-profiles_answer-loop-profile-preserved t c =
+pub profiles_judgement-loop-profile-preserved : goal.profiles_judgement-loop-profile-preserved
+profiles_judgement-loop-profile-preserved t c =
     let s = c.args.self.now.schema in
     let x = item_at c.args.self.now c.args.pair.item in
     let exact = rw c.loop-profile.invariant.same at c.in_ok-one.ensures.exact in
     record {
-      answer = λ b around there.
+      judgement = λ b around there.
           let p = profile_holds s (λ unread. b) (conforms s (constant b) around x) x in
           one_more_any (λ profile. p (string_bytes profile)) c.args.profiles.now c.loop-profile.profile-index c.profile-item.result
-          (under b c.loop-profile.answer) (under b c.or-answer.result) (under b c.in_ok-one.one) c.loop-profile-test.true (c.or-answer.ensures b)
-          (c.loop-profile.invariant.answer b around there)
+          (under b c.loop-profile.judgement) (under b c.or-judgement.result) (under b c.in_ok-one.one) c.loop-profile-test.true (c.or-judgement.ensures b)
+          (c.loop-profile.invariant.judgement b around there)
           (exact b around there ∙ ap p c.as_str.ensures.value ∙ ap (λ profile. p (string_bytes profile)) c.profile-item.is);
       same = c.in_ok-one.ensures.same ∙ c.loop-profile.invariant.same;
     }
 
-pub profiles_answer-returns-clause-exact : goal.profiles_answer-returns-clause-exact
-profiles_answer-returns-clause-exact t c = λ b around there.
+pub profiles_judgement-returns-clause-exact : goal.profiles_judgement-returns-clause-exact
+profiles_judgement-returns-clause-exact t c = λ b around there.
     let s = c.args.self.now.schema in
     let x = item_at c.args.self.now c.args.pair.item in
     let p = profile_holds s (λ unread. b) (conforms s (constant b) around x) x in
     let xs = c.args.profiles.now in
-    none_left (λ profile. p (string_bytes profile)) xs c.loop-profile.profile-index (is_empty (map string_bytes xs)) (under b c.loop-profile.answer)
-    (sym (empty_mapped string_bytes xs) ∙ sym c.is_empty.ensures ∙ c.if-is_empty.false) c.loop-profile-test.false (c.loop-profile.invariant.answer b around there)
+    none_left (λ profile. p (string_bytes profile)) xs c.loop-profile.profile-index (is_empty (map string_bytes xs)) (under b c.loop-profile.judgement)
+    (sym (empty_mapped string_bytes xs) ∙ sym c.is_empty.ensures ∙ c.if-is_empty.false) c.loop-profile-test.false (c.loop-profile.invariant.judgement b around there)
     ∙ ap (λ t. is_empty (map string_bytes xs) || t) (any_mapped p string_bytes xs)
 
-pub types_answer-returns-in-Holds-clause-exact : goal.types_answer-returns-in-Holds-clause-exact
-types_answer-returns-in-Holds-clause-exact t c = λ b around there.
+pub types_judgement-returns-in-Holds-clause-exact : goal.types_judgement-returns-in-Holds-clause-exact
+types_judgement-returns-in-Holds-clause-exact t c = λ b around there.
     let s = c.args.self.now.schema in
     let x = item_at c.args.self.now c.args.pair.item in
     let p = entry_holds s (λ unread. b) (conforms s (constant b) around x) x in
@@ -140,12 +140,12 @@ types_answer-returns-in-Holds-clause-exact t c = λ b around there.
     (ap (under b) (sym c.in-Holds.is) ∙ exact b around there)
     ∙ ap (λ (es : List TypeEntry). eqb (length es) 0 || list_any p es) (c.types-entries.ensures ∙ ap (λ s. types s c.args.pair.node) c.schema.ensures)
 
-pub types_answer-returns-clause-exact : goal.types_answer-returns-clause-exact
-types_answer-returns-clause-exact t c = λ b around there.
+pub types_judgement-returns-clause-exact : goal.types_judgement-returns-clause-exact
+types_judgement-returns-clause-exact t c = λ b around there.
     let s = c.args.self.now.schema in
     let x = item_at c.args.self.now c.args.pair.item in
     let p = entry_holds s (λ unread. b) (conforms s (constant b) around x) x in
     let xs = c.types-entries.result.now in
-    none_left p xs c.loop-entry.entry-index (eqb (length xs) 0) (under b c.loop-entry.answer) (sym c.is_empty.ensures ∙ c.if-is_empty.false) c.loop-entry-test.false
-    (c.loop-entry.invariant.answer b around there)
+    none_left p xs c.loop-entry.entry-index (eqb (length xs) 0) (under b c.loop-entry.judgement) (sym c.is_empty.ensures ∙ c.if-is_empty.false) c.loop-entry-test.false
+    (c.loop-entry.invariant.judgement b around there)
     ∙ ap (λ (es : List TypeEntry). eqb (length es) 0 || list_any p es) (c.types-entries.ensures ∙ ap (λ s. types s c.args.pair.node) c.schema.ensures)

@@ -14,7 +14,7 @@ returns c =
     let old = c.args.listing.now in
     let p = c.args.pair in
     let rule = rule_name c.args.rule in
-    let finding = c.in_ok-finding.finding in
-    of_made (Lists layout p (own rule c.args.node) old) (record old { issues = old.issues ++ Broken finding ∷ [] }) c.put_finding.new.self c.put_finding.result c.put_finding.ensures
-    (broken_lists layout p c.args.node old (own rule c.args.node) (says layout.schema (item_at layout p.item) rule c.args.node) finding c.requires.asked refl c.requires.fails
-    c.in_ok-finding.ensures.node c.in_ok-finding.ensures.said c.in_ok-finding.ensures.named)
+    let breach = c.in_ok-breach.breach in
+    of_made (Lists layout p (own rule c.args.node) old) (record old { issues = old.issues ++ Broken breach ∷ [] }) c.put_breach.new.self c.put_breach.result c.put_breach.ensures
+    (broken_lists layout p c.args.node old (own rule c.args.node) (says layout.schema (item_at layout p.item) rule c.args.node) breach c.requires.asked refl c.requires.fails
+    c.in_ok-breach.ensures.node c.in_ok-breach.ensures.said c.in_ok-breach.ensures.named)

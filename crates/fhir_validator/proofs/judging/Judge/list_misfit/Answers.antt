@@ -12,6 +12,6 @@ returns c =
     let old = c.args.listing.now in
     let p = c.args.pair in
     let misfit = c.in_ok-misfit.misfit in
-    of_made (Lists layout p (types p.node) old) (record old { issues = old.issues ++ Broken misfit ∷ [] }) c.put_finding.new.self c.put_finding.result c.put_finding.ensures
+    of_made (Lists layout p (types p.node) old) (record old { issues = old.issues ++ Broken misfit ∷ [] }) c.put_breach.new.self c.put_breach.result c.put_breach.ensures
     (broken_lists layout p p.node old (types p.node) issues.types misfit c.requires.asked refl c.requires.fails
     c.in_ok-misfit.ensures.node c.in_ok-misfit.ensures.said c.in_ok-misfit.ensures.named)

@@ -1,10 +1,10 @@
 use Rattle.std.proofs.Common.{◌≡◌, ◌<◌, true, false, length, refl, sym, ap, ◌∙◌}
 use Rattle.fhir_conformance.specs.Asks.{own}
 use Rattle.fhir_conformance.specs.Views.{rule_name}
-use Rattle.fhir_validator.specs.declared.answer.Answer.TheVariants.{Open}
+use Rattle.fhir_validator.specs.declared.judgement.Judgement.TheVariants.{Open}
 use Rattle.fhir_validator.specs.Issues.{says}
 use Rattle.fhir_validator.specs.Layouts.{item_at}
-use Rattle.fhir_validator.specs.Listing.{same_answer, Grown, Lists}
+use Rattle.fhir_validator.specs.Listing.{same_judgement, Grown, Lists}
 use Rattle.fhir_validator.proofs.Told.{on_both, lists_open, lists_other}
 use Rattle.fhir_validator.proofs.judging.Judge.list_open.Goals as goal
 
@@ -27,7 +27,7 @@ returns-then-is c =
     let ask = own (rule_name c.args.rule) c.args.node in
     let old = c.args.listing.now in
     let new = c.put_site.new.listing in
-    let wanted : same_answer old.wanted Open ≡ true = ap (λ w. same_answer w Open) (sym c.wanted.ensures) ∙ sym c.is.ensures ∙ c.if-is.true in
+    let wanted : same_judgement old.wanted Open ≡ true = ap (λ w. same_judgement w Open) (sym c.wanted.ensures) ∙ sym c.is.ensures ∙ c.if-is.true in
     on_both (0 < length new.sites) (Grown layout p old new) (Lists layout p ask old new) (λ listed grown. lists_open layout p ask old new wanted listed grown)
     c.put_site.result c.put_site.ensures.listed c.put_site.ensures.grown
 
@@ -35,5 +35,5 @@ pub returns-else-is : goal.returns-else-is
 returns-else-is c =
     let ask = own (rule_name c.args.rule) c.args.node in
     let old = c.args.listing.now in
-    let wanted : same_answer old.wanted Open ≡ false = ap (λ w. same_answer w Open) (sym c.wanted.ensures) ∙ sym c.is.ensures ∙ c.if-is.false in
+    let wanted : same_judgement old.wanted Open ≡ false = ap (λ w. same_judgement w Open) (sym c.wanted.ensures) ∙ sym c.is.ensures ∙ c.if-is.false in
     lists_other c.args.self.now c.args.pair ask old c.requires.hangs wanted

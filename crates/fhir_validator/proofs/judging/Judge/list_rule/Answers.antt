@@ -2,7 +2,7 @@ use Rattle.std.proofs.Common.{sym, ap, ◌∙◌}
 use Rattle.fhir_facets.specs.Views.{holding_under}
 use Rattle.fhir_conformance.specs.Asks.{own}
 use Rattle.fhir_conformance.specs.Views.{rule_name}
-use Rattle.fhir_validator.specs.declared.answer.Answer.TheVariants.{Holds, Open, Fails}
+use Rattle.fhir_validator.specs.declared.judgement.Judgement.TheVariants.{Holds, Open, Fails}
 use Rattle.fhir_validator.proofs.Told.{judged_there, lists_held}
 use Rattle.fhir_validator.proofs.judging.Judge.list_rule.Goals as goal
 

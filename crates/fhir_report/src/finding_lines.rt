@@ -1,0 +1,125 @@
+//! From findings to lines.
+
+ghost use Rattle.std.specs.Prelude.{◌≡◌, IfOk, None, Some};
+ghost use Rattle.fhir_package.specs.Surveying.{unread};
+ghost use Rattle.fhir_package.specs.SurveyView.{fault_seen};
+ghost use Rattle.fhir_package.specs.declared.survey.FileFault.TheVariants.{NotJson as NotJsonOne, Clash as ClashOne};
+ghost use Rattle.fhir_report.specs.Lines.{line_seen};
+ghost use Rattle.fhir_report.specs.Report.{head, fault_head, unusable_head, TellsFinding};
+
+use crate::blaming::Blamed;
+use crate::line::{FaultNumber, Line};
+use crate::wording::expected_words;
+use fhir_findings::{Finding, UnreadRule, Unusable};
+use fhir_json::NoMemory;
+use fhir_package::{Clash, FileFault, Kind, NotJson, Survey};
+use fhir_schema::Schema;
+use std::alloc::{AllocError, Global};
+
+fn no_bytes_line<'s>(alloc: Global, file: &'s str) -> Result<Line<'s>, AllocError>
+    ensures { IfOk result (λ l. head (line_seen l) ≡ fault_head (unread file.now)) }
+{
+    let text = String::from_str(alloc, "it can't be read, or is no regular file")?;
+    Ok(Line::of_file(file, Some(FaultNumber::Unread), text))
+}
+
+fn not_json_line<'s, 'f: 's>(alloc: Global, fault: &'s NotJson<'f>) -> Result<Line<'s>, AllocError>
+    ensures { IfOk result (λ l. head (line_seen l) ≡ fault_head (fault_seen (NotJsonOne fault.now))) }
+{
+    let text = String::from_str(alloc, expected_words(fault.expected))?;
+    let number = FaultNumber::Json(fault.expected.fault());
+    Ok(Line::of_file(fault.file, Some(number), text).at(fault.position))
+}
+
+fn kind_word(kind: Kind) -> &'static str {
+    match kind {
+        Kind::StructureDefinition => "StructureDefinition",
+        Kind::ValueSet => "ValueSet",
+        Kind::CodeSystem => "CodeSystem",
+    }
+}
+
+fn clash_line<'s, 'f: 's>(alloc: Global, clash: &'s Clash<'f>) -> Result<Line<'s>, AllocError>
+    ensures { IfOk result (λ l. head (line_seen l) ≡ fault_head (fault_seen (ClashOne clash.now))) }
+{
+    let kind = kind_word(clash.kind);
+    let text = format!(in alloc; "another {kind} of this url stands in {}", clash.first)?;
+    let file: &'s str = clash.file;
+    let mut line = Line::of_file(file, Some(FaultNumber::Clash), text);
+    line.url = Some(clash.url.as_str());
+    Ok(line)
+}
+
+fn file_line<'s, 'f: 's>(alloc: Global, fault: &'s FileFault<'f>) -> Result<Line<'s>, AllocError>
+    ensures { IfOk result (λ l. head (line_seen l) ≡ fault_head (fault_seen fault.now)) }
+{
+    match fault {
+        FileFault::Unread(file) => no_bytes_line(alloc, *file),
+        FileFault::NotJson(fault) => not_json_line(alloc, fault),
+        FileFault::Clash(clash) => clash_line(alloc, clash),
+    }
+}
+
+fn unread_line<'s>(alloc: Global, unread: &UnreadRule<'s>) -> Result<Line<'s>, AllocError>
+    ensures rule { IfOk result (λ l. head (line_seen l)
+        ≡ record { file = Some unread.now.file.now; line = None; column = None; number = None; url = Some unread.now.url.now }) }
+    ensures element { IfOk result (λ l. (line_seen l).id ≡ Some unread.now.id.now) }
+{
+    let text = format!(in alloc; "unread {}", unread.rule)?;
+    let mut line = Line::of_file(unread.file, None, text);
+    line.url = Some(unread.url);
+    line.id = Some(unread.id);
+    Ok(line)
+}
+
+fn why_text(alloc: Global, blamed: Option<Blamed<'_>>) -> Result<String, AllocError> {
+    match blamed {
+        Some(blamed) => blamed.text(alloc),
+        None => Ok(String::new(alloc)),
+    }
+}
+
+// What is to blame for the definition at a url, where that can't be used.
+fn blame_of<'s>(survey: &Survey<'_>, schema: &'s Schema, url: &str) -> Option<Blamed<'s>> {
+    let blame = schema.blame(url)?;
+    let package = survey.package();
+    let place = package.place(Kind::StructureDefinition, url)?;
+    let definition = schema.definitions().get(place)?;
+    Some(Blamed {
+        schema,
+        definition,
+        blame,
+    })
+}
+
+fn unusable_line<'s>(
+    alloc: Global,
+    survey: &Survey<'_>,
+    schema: &'s Schema,
+    unusable: &Unusable<'s>,
+) -> Result<Line<'s>, AllocError>
+    ensures { IfOk result (λ l. head (line_seen l) ≡ unusable_head (unusable.now.file.now, unusable.now.url.now, unusable.now.reason)) }
+{
+    let number = FaultNumber::Unusable(unusable.reason);
+    let blamed = blame_of(survey, schema, unusable.url);
+    let mut line = Line::of_file(unusable.file, Some(number), why_text(alloc, blamed)?);
+    line.url = Some(unusable.url);
+    line.id = blamed.and_then(|blamed| blamed.id());
+    Ok(line)
+}
+
+/// The line of what was found in the package of a survey, by its schema. The one refusal is want of memory.
+pub fn finding_line<'s, 'f: 's>(
+    alloc: Global,
+    survey: &'s Survey<'f>,
+    schema: &'s Schema,
+    finding: &Finding<'s, 'f>,
+) -> Result<Line<'s>, NoMemory>
+    ensures { IfOk result (λ l. TellsFinding finding.now (line_seen l)) }
+{
+    match finding {
+        Finding::File(fault) => Ok(file_line(alloc, fault)?),
+        Finding::Unusable(unusable) => Ok(unusable_line(alloc, survey, schema, unusable)?),
+        Finding::Unread(unread) => Ok(unread_line(alloc, unread)?),
+    }
+}
