@@ -20,14 +20,14 @@ use Rattle.fhir_instance.specs.Items.{Item, type_of}
 use Rattle.fhir_fp_syntax.specs.Expression.{Expression}
 use Rattle.fhir_fp_eval.specs.Meaning.{is_true}
 use Rattle.fhir_facets.specs.declared.scale.Scale.{Scale}
-use Rattle.fhir_facets.specs.Unread.{Unread, Meaning, range, target, profile, binding}
+use Rattle.fhir_facets.specs.Unread.{Unread, Meaning, range, target, profile, binding, unread_constraint}
 use Rattle.fhir_facets.specs.Seen.{Seen}
 use Rattle.fhir_facets.specs.Ranges.{scale_of_bound, scale_holds, bound_holds}
 use Rattle.fhir_facets.specs.Targets.{has_targets, referred_type, target_holds, targets_hold}
 use Rattle.fhir_facets.specs.Bindings.{binding_to, decision, binding_holds}
-use Rattle.fhir_facets.specs.Carried.{bound_unread, range_unread, target_unread, profile_unread, binding_unread}
-use Rattle.fhir_conformance.specs.Conformance.{seen, profile_holds, profiles_hold, entry_holds, types_hold, is_untyped, range_at, binding_at, at_element, unread_constraint, constraint_passes}
-use Rattle.fhir_conformance.specs.Meeting.{targets_unread, entry_unread, set_unread, constraint_unread, constraints_unread, element_unread, unread_at}
+use Rattle.fhir_facets.specs.Carried.{bound_unread, range_unread, target_unread, profile_unread, binding_unread, constraint_unread}
+use Rattle.fhir_conformance.specs.Conformance.{seen, profile_holds, profiles_hold, entry_holds, types_hold, is_untyped, range_at, binding_at, at_element, constraint_passes}
+use Rattle.fhir_conformance.specs.Meeting.{targets_unread, entry_unread, set_unread, constraints_unread, element_unread, unread_at}
 use Rattle.fhir_conformance.specs.Asks.{roots_named, entry_roots}
 use Rattle.fhir_conformance.proofs.Lists.{any_step, all_weaker, all_front, all_back, all_given}
 

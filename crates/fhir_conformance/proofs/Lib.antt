@@ -3,6 +3,6 @@ pub mod Carrying
 pub mod Asked
 pub mod Stepping
 pub mod Placing
-pub mod Judged
+pub mod Seen
 pub mod KidAt
 mod Refuted

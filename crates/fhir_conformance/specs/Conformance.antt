@@ -17,8 +17,8 @@ use Rattle.fhir_schema.specs.Expressions.{constraint_at}
 use Rattle.fhir_instance.specs.Items.{Item, item, Kids, no_kids, kid, Place, type_of, json_of, has_kids, kids_of}
 use Rattle.fhir_instance.specs.Typing.{Types}
 use Rattle.fhir_fp_eval.specs.Meaning.{is_true}
-use Rattle.fhir_facets.specs.Unread.{Unread, Meaning}
-use Rattle.fhir_facets.specs.Unread.{expression as unread_expression, constraint as unread_key, profile as unread_profile}
+use Rattle.fhir_facets.specs.Unread.{Unread, Meaning, unread_constraint}
+use Rattle.fhir_facets.specs.Unread.{profile as unread_profile}
 use Rattle.fhir_facets.specs.Seen.{Seen}
 use Rattle.fhir_facets.specs.Values.{fixed_holds, pattern_holds, length_holds}
 use Rattle.fhir_facets.specs.Ranges.{Range, range_holds}
@@ -59,10 +59,6 @@ length_at x e = option_map_or (λ most. length_holds most (seen x)) e.max_length
 
 abbrev pub binding_at : SchemaValue → Meaning → Item → Element → Bool
 binding_at s m x e = option_map_or (λ canonical. binding_holds m (binding_to s canonical) (seen x)) (required_value_set e) true
-
--- the unread rule that a constraint is, where its expression can't be read
-abbrev pub unread_constraint : Constraint → Unread
-unread_constraint c = option_map_or unread_expression c.expression (unread_key c.key)
 
 -- its expression is true of the item, where that is the nearest resource at or around it (FHIR R4, FHIRPath, variables)
 abbrev pub constraint_holds : SchemaValue → Meaning → Item → Item → Constraint → Bool

@@ -8,12 +8,12 @@ ghost use Rattle.fhir_nodes.specs.Expressions.{expression_of};
 ghost use Rattle.fhir_schema.specs.Expressions.{constraint_at};
 ghost use Rattle.fhir_schema.specs.Schemas.{element_at};
 ghost use Rattle.fhir_instance.specs.View.{item_of};
-ghost use Rattle.fhir_facets.specs.Carried.{range_unread};
+ghost use Rattle.fhir_facets.specs.Carried.{range_unread, constraint_unread};
 ghost use Rattle.fhir_facets.specs.Counts.{are_enough, are_within};
-ghost use Rattle.fhir_facets.specs.Views.{unread_seen, view_seen, holding_under, IsCarried};
-ghost use Rattle.fhir_conformance.specs.Conformance.{seen, unread_constraint, constraint_passes, constraint_holds, fixed_at, pattern_at, range_at, length_at, binding_at, at_element, entry_allows, count_in, rule_holds};
+ghost use Rattle.fhir_facets.specs.Views.{view_seen, holding_under, IsCarried};
+ghost use Rattle.fhir_conformance.specs.Conformance.{seen, constraint_passes, constraint_holds, fixed_at, pattern_at, range_at, length_at, binding_at, at_element, entry_allows, count_in, rule_holds};
 ghost use Rattle.fhir_conformance.specs.Asks.{constraint as constraint_rule};
-ghost use Rattle.fhir_conformance.specs.Meeting.{entry_unread, set_unread, constraint_unread, unread_at};
+ghost use Rattle.fhir_conformance.specs.Meeting.{entry_unread, set_unread, rule_unread};
 ghost use Rattle.fhir_conformance.specs.Views.{rule_name, IsIndexOf};
 
 use crate::ask::ElementRule;
@@ -135,16 +135,6 @@ fn judge_binding<'s>(schema: &'s Schema, item: &Typed<'_, '_>, node: NodeRef) ->
     }
 }
 
-// The rule that a constraint is, where its expression can't be read.
-fn unread_of(constraint: &ConstraintDef) -> Unread<'_>
-    ensures { unread_seen result ≡ unread_constraint constraint.now }
-{
-    match constraint.expression() {
-        Some(text) => Unread::Expression(text),
-        None => Unread::Constraint(constraint.key()),
-    }
-}
-
 fn constraint_of(schema: &Schema, node: NodeRef, position: usize) -> Option<&ConstraintDef>
     ensures { option_copied result ≡ constraint_at schema.now node position }
 {
@@ -166,7 +156,7 @@ fn judge_expression<'s, 't, 'a, 'j>(
     ensures carried { IfOk result (λ h. IsTrue (must_hold constraint.now) → IsCarried (constraint_unread constraint.now) h) }
 {
     let Some(expression) = expression else {
-        return Ok(Holding::Unread(unread_of(constraint)));
+        return Ok(Holding::Unread(Unread::of_constraint(constraint)));
     };
     let env = Env {
         schema,
@@ -243,7 +233,7 @@ fn has_no_more_in(
 }
 
 /// Whether a rule of a node's element holds of an item, of which these are the children, and that the nearest resource at
-/// or around it (FHIR R4, ElementDefinition). Where unread rules decide it, it answers one of the node's. The one refusal is
+/// or around it (FHIR R4, ElementDefinition). Where unread rules decide it, it answers one of the rule's. The one refusal is
 /// want of memory.
 pub fn judge<'s, 't, 'a, 'j>(
     alloc: Global,
@@ -257,7 +247,7 @@ pub fn judge<'s, 't, 'a, 'j>(
     requires { IsIndexOf (item_of item.now) kids_by_name.now }
     ensures exact { IfOk result (λ h. (b : Bool) → holding_under b h
         ≡ rule_holds schema.now (λ unread. b) (item_of resource.now) (item_of item.now) (rule_name rule.entry) node) }
-    ensures carried { IfOk result (λ h. IsCarried (unread_at schema.now (item_of item.now) node) h) }
+    ensures carried { IfOk result (IsCarried (rule_unread schema.now (item_of item.now) (rule_name rule.entry) node)) }
 {
     match rule {
         ElementRule::RootType => Ok(Holding::of(schema.covers(schema.type_code(node), item.code()))),

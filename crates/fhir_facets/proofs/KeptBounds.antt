@@ -6,6 +6,7 @@ use Rattle.std.specs.Ordering.{is_le, is_ge}
 use Rattle.std.specs.Str.{bytes_eq}
 use Rattle.std.proofs.lemmas.Bool.{and_parts, and_from, false≢true}
 use Rattle.fhir_json.specs.Tree.{Text, Tree, Property}
+use Rattle.fhir_json.specs.Fields.{is_object}
 use Rattle.fhir_facets.specs.declared.scale.Scale.{Scale}
 use Rattle.fhir_facets.specs.declared.scale.Scale.TheVariants.{Number, Moment, Time}
 use Rattle.fhir_facets.specs.Identity.{identical}
@@ -28,6 +29,10 @@ one_kind Time Number h = absurd (false≢true h)
 one_kind Time Moment h = absurd (false≢true h)
 one_kind Time Time h = refl
 
+or_kept : (a b c : Bool) → (IsTrue b → IsTrue c) → IsTrue (a || b) → IsTrue (a || c)
+or_kept true b c f h = refl
+or_kept false b c f h = f h
+
 same_property : (p q : Property) → is_same_bound p q ≡ true → p ≡ q
 same_property p q h =
     let both = and_parts (bytes_eq p.0 q.0) (identical p.1 q.1) h in
@@ -37,10 +42,10 @@ module _ (side : Ordering → Bool) (chained : Chained side) (m : Meaning) (x : 
   scale_kept : (p q : Tree) (scale : Scale) → is_beyond side scale p q ≡ true → IsTrue (scale_holds side p x scale) → IsTrue (scale_holds side q x scale)
   scale_kept p q scale narrow =
       kept_if (option_map_or (same_scale scale) (scale_of_code x.type) false)
-      (option_map_or (λ value. is_beyond side scale value p) x.json true)
-      (option_map_or (λ value. is_beyond side scale value q) x.json true)
-      (mapped (λ value. is_beyond side scale value p) (λ value. is_beyond side scale value q) x.json true true
-      (λ value h. chained.chain scale value p q h narrow) (λ h. h))
+      (option_map_or (λ value. is_object value || is_beyond side scale value p) x.json true)
+      (option_map_or (λ value. is_object value || is_beyond side scale value q) x.json true)
+      (mapped (λ value. is_object value || is_beyond side scale value p) (λ value. is_object value || is_beyond side scale value q) x.json true true
+      (λ value. or_kept (is_object value) (is_beyond side scale value p) (is_beyond side scale value q) (λ h. chained.chain scale value p q h narrow)) (λ h. h))
 
   -- a bound on the scale k
   read_kept : (p q : Property) (k : Scale) (own : Option Scale) → IsTrue (option_map_or (same_scale k) own false) → is_beyond side k p.1 q.1 ≡ true

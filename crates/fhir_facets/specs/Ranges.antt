@@ -1,12 +1,12 @@
 -- Bounds of a value (FHIR R4, ElementDefinition, minValue[x] and maxValue[x]). Numbers are compared by value, and moments and
 -- times of day by their fields; a bound of another type is an unread rule.
-use Rattle.std.specs.Prelude.{Bool, true, false, ◌&&◌, Option, None, Some, if◌then◌else◌}
+use Rattle.std.specs.Prelude.{Bool, true, false, ◌&&◌, ◌||◌, Option, None, Some, if◌then◌else◌}
 use Rattle.std.specs.Option.{option_map, option_map_or, option_and_then}
 use Rattle.std.specs.Ordering.{is_some_and, is_le, is_ge}
 use Rattle.std.specs.declared.cmp.Ordering.{Ordering}
 use Rattle.std.specs.Str.{bytes_eq}
 use Rattle.fhir_json.specs.Tree.{Text, Tree, Property}
-use Rattle.fhir_json.specs.Fields.{as_text, as_number}
+use Rattle.fhir_json.specs.Fields.{as_text, as_number, is_object}
 use Rattle.fhir_decimal.specs.Reading.{parts}
 use Rattle.fhir_decimal.specs.Value.{Value, value_of, value_order}
 use Rattle.fhir_prims.specs.declared.prim.PrimType.{PrimType}
@@ -74,11 +74,11 @@ order_of Time t u = field_order_of t u
 abbrev pub is_beyond : (Ordering → Bool) → Scale → Tree → Tree → Bool
 is_beyond side scale value bound = is_some_and side (order_of scale value bound)
 
--- a value on its scale isn't outside; an item without a value, or on another scale, is passed over
+-- A value on its scale isn't outside. An item without a value, as an object is, or on another scale is passed over.
 abbrev pub scale_holds : (Ordering → Bool) → Tree → Seen → Scale → Bool
 scale_holds side bound x scale =
     if option_map_or (same_scale scale) (scale_of_code x.type) false
-    then option_map_or (λ value. is_beyond side scale value bound) x.json true else true
+    then option_map_or (λ value. is_object value || is_beyond side scale value bound) x.json true else true
 
 abbrev pub bound_holds : (Ordering → Bool) → Meaning → Seen → Property → Bool
 bound_holds side m x p = option_map_or (scale_holds side p.1 x) (scale_of_bound p.0) (m (range p.0 p.1))

@@ -1,7 +1,9 @@
 -- Unread rules: what a definition asks for and this program doesn't judge, each by what it says.
 use Rattle.std.specs.Prelude.{ℕ, List, ◌++◌, Bool, codes}
+use Rattle.std.specs.Option.{option_map_or}
 use Rattle.fhir_json.specs.Tree.{Text, Tree}
 use Rattle.fhir_json.specs.Compact.{compact}
+use Rattle.fhir_elements.specs.Constraint.{Constraint}
 
 pub data Unread : Type 0 where
   -- a bound of a type that isn't compared: its property, as `minValueQuantity`, and its value
@@ -15,6 +17,10 @@ pub data Unread : Type 0 where
   -- a constraint whose expression can't be read, by its text; and one without an expression, by its key
   expression : (text : List ℕ) → Unread
   constraint : (key : List ℕ) → Unread
+
+-- that a constraint is, where its expression can't be read
+abbrev pub unread_constraint : Constraint → Unread
+unread_constraint c = option_map_or expression c.expression (constraint c.key)
 
 -- as a message says it
 abbrev pub unread_text : Unread → Text

@@ -1,5 +1,5 @@
 -- What contracts see of unread rules, views, bounds, bindings and answers.
-use Rattle.std.specs.Prelude.{List, [], ◌++◌, Bool, true, false, if◌then◌else◌}
+use Rattle.std.specs.Prelude.{List, [], ◌∷◌, ◌++◌, Bool, true, false, Option, None, Some, if◌then◌else◌}
 use Rattle.std.specs.declared.cmp.Ordering.{Ordering}
 use Rattle.std.specs.List.{Contains, flat_map}
 use Rattle.std.specs.Option.{option_copied, option_map_or}
@@ -30,6 +30,11 @@ unread_seen (UnreadProfile canonical) = profile canonical.now
 unread_seen (UnreadBinding canonical) = binding canonical.now
 unread_seen (UnreadExpression text) = expression text.now
 unread_seen (UnreadConstraint key) = constraint key.now
+
+-- the one that there is, if there is one
+abbrev pub rules_in : Option UnreadRule → List Unread
+rules_in None = []
+rules_in (Some u) = unread_seen u ∷ []
 
 abbrev pub view_seen : View → Seen
 view_seen v = record { type = v.code.now; json = tree_seen v.json; has_kids = v.has_kids }

@@ -115,7 +115,7 @@ fn scale_holds(side: Side, bound: &Json<'_>, view: &View<'_, '_>, scale: Scale) 
         return true;
     }
     match view.json {
-        Some(value) => is_beyond(side, scale, value, bound),
+        Some(value) => value.is_object() || is_beyond(side, scale, value, bound),
         None => true,
     }
 }

@@ -1,7 +1,16 @@
 //! Unread rules.
 
+ghost use Rattle.std.specs.Prelude.{◌≡◌};
+ghost use Rattle.fhir_json.specs.Views.{property_of};
+ghost use Rattle.fhir_facets.specs.Carried.{bound_unread, target_unread, profile_unread, value_set_unread};
+ghost use Rattle.fhir_facets.specs.Unread.{unread_constraint};
+ghost use Rattle.fhir_facets.specs.Views.{unread_seen, rules_in};
+
 use crate::compact::write_compact;
+use crate::scale::scale_of_bound;
+use fhir_elements::ConstraintDef;
 use fhir_json::Member;
+use fhir_schema::Schema;
 use std::fmt;
 
 /// A rule that a definition has and that isn't judged here. `Display` prints what it says: `range`, its property and its
@@ -20,6 +29,59 @@ pub enum Unread<'a> {
     Expression(&'a str),
     /// A constraint without an expression, by its key.
     Constraint(&'a str),
+}
+
+impl<'a> Unread<'a> {
+    /// The rule that a bound is, where bounds of its type aren't compared.
+    pub fn of_bound(bound: &'a Member<'static>) -> Option<Unread<'a>>
+        ensures { rules_in result ≡ bound_unread (property_of bound.now) }
+    {
+        match scale_of_bound(bound.name.as_str()) {
+            Some(_scale) => None,
+            None => Some(Unread::Range(bound)),
+        }
+    }
+
+    /// The rule that a target profile is, where it isn't there or can't be used.
+    pub fn of_target(schema: &Schema, canonical: &'a str) -> Option<Unread<'a>>
+        ensures { rules_in result ≡ target_unread schema.now canonical.now }
+    {
+        match schema.loaded(canonical) {
+            Some(_root) => None,
+            None => Some(Unread::Target(canonical)),
+        }
+    }
+
+    /// The rule that a profile of a type is, where it isn't there or can't be used.
+    pub fn of_profile(schema: &Schema, canonical: &'a str) -> Option<Unread<'a>>
+        ensures { rules_in result ≡ profile_unread schema.now canonical.now }
+    {
+        match schema.loaded(canonical) {
+            Some(_root) => None,
+            None => Some(Unread::Profile(canonical)),
+        }
+    }
+
+    /// The rule that a required binding to a value set is, where that can't be read. That a binding is of an item which isn't
+    /// looked up in value sets is seen at the item alone.
+    pub fn of_value_set(schema: &Schema, canonical: &'a str) -> Option<Unread<'a>>
+        ensures { rules_in result ≡ value_set_unread schema.now canonical.now }
+    {
+        match schema.concepts(canonical) {
+            Some(_concepts) => None,
+            None => Some(Unread::Binding(canonical)),
+        }
+    }
+
+    /// The rule that a constraint is, where its expression can't be read.
+    pub fn of_constraint(constraint: &'a ConstraintDef) -> Unread<'a>
+        ensures { unread_seen result ≡ unread_constraint constraint.now }
+    {
+        match constraint.expression() {
+            Some(text) => Unread::Expression(text),
+            None => Unread::Constraint(constraint.key()),
+        }
+    }
 }
 
 impl fmt::Display for Unread<'_> {

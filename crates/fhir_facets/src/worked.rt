@@ -12,7 +12,8 @@ ghost use Rattle.fhir_facets.specs.Example.{plain, extended, valueless, decimal,
 
 /// What facets say of single values. A decimal is compared by value with the least (`least`, `equal`) and with the greatest
 /// (`most`, `more`); a moment by its fields in UTC (`earlier`, `later`); two dates of which one goes further have no order
-/// (`coarser`). A bound asks nothing of another kind of value (`other`) and of no value (`valueless`), and one of another type
+/// (`coarser`). A bound asks nothing of another kind of value (`other`), of no value (`valueless`) and of an object, whatever its type is
+/// called (`complex`), and one of another type
 /// is an unread rule (`unread`). A length counts characters and not bytes, as of `äöü`
 /// (`short`, `long`). A fixed value is equal (`fixed`, `wider`) and
 /// stands alone (`extended`); a pattern may be fitted by more (`pattern`).
@@ -28,6 +29,7 @@ pub fn examples()
     ensures coarser { (m : Meaning) → range_holds m (from (codes "minValueDate") (string (codes "2020"))) (date (codes "2020-02")) ≡ false }
     ensures other { (m : Meaning) → range_holds m (from (codes "minValueDate") (string (codes "2020"))) (decimal (codes "3")) ≡ true }
     ensures valueless { (m : Meaning) → range_holds m (from (codes "minValueDate") (string (codes "2020"))) (valueless (codes "date")) ≡ true }
+    ensures complex { (m : Meaning) → range_holds m (from (codes "minValueDecimal") (number (codes "0.5"))) (plain (codes "decimal") one) ≡ true }
     ensures unread { (m : Meaning) → range_holds m (to (codes "maxValueQuantity") one) (decimal (codes "3")) ≡ m (range (codes "maxValueQuantity") one) }
     ensures short { length_holds (pos 3) (plain (codes "string") (string (195 ∷ 164 ∷ 195 ∷ 182 ∷ 195 ∷ 188 ∷ []))) ≡ true }
     ensures long { length_holds (pos 3) (plain (codes "string") (string (codes "abcd"))) ≡ false }

@@ -2,3 +2,4 @@ pub mod Clean
 pub mod Faults
 pub mod Finding
 pub mod Counting
+pub mod Undecided

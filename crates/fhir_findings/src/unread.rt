@@ -1,95 +1,157 @@
 //! The rules of elements that aren't judged, whatever the resource is.
 
-use fhir_definition::bound_type;
+ghost use Rattle.std.specs.Prelude.{◌≡◌, ◌++◌, ℕ, [], Some, is_some, map, string_bytes, IfOk, OnOk};
+ghost use Rattle.std.specs.List.{flat_map, slice_get};
+ghost use Rattle.std.specs.Option.{option_map_or};
+ghost use Rattle.fhir_json.specs.Views.{property_seen, text_seen};
+ghost use Rattle.fhir_nodes.specs.Expressions.{expression_of};
+ghost use Rattle.fhir_schema.specs.Expressions.{constraint_at};
+ghost use Rattle.fhir_schema.specs.Schemas.{element_at};
+ghost use Rattle.fhir_facets.specs.Carried.{bound_unread, target_unread, profile_unread, value_set_unread, constraint_unread};
+ghost use Rattle.fhir_facets.specs.Views.{unread_seen, rules_in};
+ghost use Rattle.fhir_findings.specs.Undecided.{entry_rules, element_rules, rules_at};
+
 use fhir_elements::{ConstraintDef, ElementDef, TypeEntry};
 use fhir_facets::Unread;
 use fhir_json::Member;
 use fhir_schema::{NodeRef, Schema};
 use std::alloc::{AllocError, Global};
 
-// A bound of a type whose values aren't compared.
+fn put<'s>(rule: Option<Unread<'s>>, into: &mut Vec<Unread<'s>>) -> Result<(), AllocError>
+    ensures { OnOk result (map unread_seen into.new.items ≡ map unread_seen into.old.items ++ rules_in rule.entry) }
+{
+    if let Some(rule) = rule {
+        into.push(rule)?;
+    }
+    Ok(())
+}
+
 fn put_bound<'s>(
     bound: Option<&'s Member<'static>>,
     into: &mut Vec<Unread<'s>>,
-) -> Result<(), AllocError> {
+) -> Result<(), AllocError>
+    ensures { OnOk result (map unread_seen into.new.items
+        ≡ map unread_seen into.old.items ++ option_map_or bound_unread (property_seen bound.entry) []) }
+{
     match bound {
-        Some(bound) if bound_type(bound.name.as_str()).is_none() => {
-            Ok(into.push(Unread::Range(bound))?)
-        }
-        _ => Ok(()),
+        Some(bound) => put(Unread::of_bound(bound), into),
+        None => Ok(()),
     }
 }
 
 fn put_targets<'s>(
-    schema: &'s Schema,
-    entry: &'s TypeEntry,
+    schema: &Schema,
+    targets: &'s [String],
     into: &mut Vec<Unread<'s>>,
-) -> Result<(), AllocError> {
-    for target in entry.targets() {
-        if schema.loaded(target.as_str()).is_none() {
-            into.push(Unread::Target(target.as_str()))?;
-        }
+) -> Result<(), AllocError>
+    ensures { OnOk result (map unread_seen into.new.items
+        ≡ map unread_seen into.old.items ++ flat_map (target_unread schema.now) (map string_bytes targets.now)) }
+{
+    for target in targets {
+        put(Unread::of_target(schema, target.as_str()), into)?;
     }
     Ok(())
 }
 
 fn put_profiles<'s>(
-    schema: &'s Schema,
-    entry: &'s TypeEntry,
+    schema: &Schema,
+    profiles: &'s [String],
     into: &mut Vec<Unread<'s>>,
-) -> Result<(), AllocError> {
-    for profile in entry.profiles() {
-        if schema.loaded(profile.as_str()).is_none() {
-            into.push(Unread::Profile(profile.as_str()))?;
-        }
+) -> Result<(), AllocError>
+    ensures { OnOk result (map unread_seen into.new.items
+        ≡ map unread_seen into.old.items ++ flat_map (profile_unread schema.now) (map string_bytes profiles.now)) }
+{
+    for profile in profiles {
+        put(Unread::of_profile(schema, profile.as_str()), into)?;
     }
     Ok(())
+}
+
+fn put_entry<'s>(
+    schema: &Schema,
+    entry: &'s TypeEntry,
+    into: &mut Vec<Unread<'s>>,
+) -> Result<(), AllocError>
+    ensures { OnOk result (map unread_seen into.new.items ≡ map unread_seen into.old.items ++ entry_rules schema.now entry.now) }
+{
+    put_targets(schema, entry.targets(), into)?;
+    put_profiles(schema, entry.profiles(), into)
 }
 
 fn put_types<'s>(
-    schema: &'s Schema,
-    node: NodeRef,
+    schema: &Schema,
+    entries: &'s [TypeEntry],
     into: &mut Vec<Unread<'s>>,
-) -> Result<(), AllocError> {
-    for entry in schema.types(node) {
-        put_targets(schema, entry, into)?;
-        put_profiles(schema, entry, into)?;
+) -> Result<(), AllocError>
+    ensures { OnOk result (map unread_seen into.new.items
+        ≡ map unread_seen into.old.items ++ flat_map (entry_rules schema.now) entries.now) }
+{
+    for entry in entries {
+        put_entry(schema, entry, into)?;
     }
     Ok(())
 }
 
-fn put_binding<'s>(
-    schema: &'s Schema,
-    element: &'s ElementDef,
+fn put_value_set<'s>(
+    schema: &Schema,
+    canonical: Option<&'s str>,
     into: &mut Vec<Unread<'s>>,
-) -> Result<(), AllocError> {
-    match element.required_value_set() {
-        Some(canonical) if schema.concepts(canonical).is_none() => {
-            Ok(into.push(Unread::Binding(canonical))?)
-        }
-        _ => Ok(()),
+) -> Result<(), AllocError>
+    ensures { OnOk result (map unread_seen into.new.items
+        ≡ map unread_seen into.old.items ++ option_map_or (value_set_unread schema.now) (text_seen canonical.entry) []) }
+{
+    match canonical {
+        Some(canonical) => put(Unread::of_value_set(schema, canonical), into),
+        None => Ok(()),
     }
 }
 
-fn unread_constraint(constraint: &ConstraintDef) -> Unread<'_> {
-    match constraint.expression() {
-        Some(text) => Unread::Expression(text),
-        None => Unread::Constraint(constraint.key()),
+fn put_constraint<'s>(
+    constraint: &'s ConstraintDef,
+    is_read: bool,
+    into: &mut Vec<Unread<'s>>,
+) -> Result<(), AllocError>
+    requires { is_read ≡ is_some (expression_of constraint.now) }
+    ensures { OnOk result (map unread_seen into.new.items ≡ map unread_seen into.old.items ++ constraint_unread constraint.now) }
+{
+    if constraint.must_hold() && !is_read {
+        into.push(Unread::of_constraint(constraint))?;
     }
+    Ok(())
 }
 
 fn put_constraints<'s>(
+    schema: &Schema,
+    node: NodeRef,
+    constraints: &'s [ConstraintDef],
+    into: &mut Vec<Unread<'s>>,
+) -> Result<(), AllocError>
+    requires { (position : ℕ) → constraint_at schema.now node position ≡ slice_get constraints.now position }
+    ensures { OnOk result (map unread_seen into.new.items
+        ≡ map unread_seen into.old.items ++ flat_map constraint_unread constraints.now) }
+{
+    for (position, constraint) in constraints.iter().enumerate() {
+        let is_read = schema.expression(node, position).is_some();
+        put_constraint(constraint, is_read, into)?;
+    }
+    Ok(())
+}
+
+fn put_element<'s>(
     schema: &'s Schema,
     node: NodeRef,
     element: &'s ElementDef,
     into: &mut Vec<Unread<'s>>,
-) -> Result<(), AllocError> {
-    for (position, constraint) in element.constraints().iter().enumerate() {
-        if constraint.must_hold() && schema.expression(node, position).is_none() {
-            into.push(unread_constraint(constraint))?;
-        }
-    }
-    Ok(())
+) -> Result<(), AllocError>
+    requires { element_at schema.now node ≡ Some element.now }
+    ensures { OnOk result (map unread_seen into.new.items
+        ≡ map unread_seen into.old.items ++ element_rules schema.now node element.now) }
+{
+    put_bound(element.min_value(), into)?;
+    put_bound(element.max_value(), into)?;
+    put_types(schema, schema.types(node), into)?;
+    put_value_set(schema, element.required_value_set(), into)?;
+    put_constraints(schema, node, element.constraints(), into)
 }
 
 /// The rules of a node's element that aren't judged: bounds of types that aren't compared, targets and profiles that aren't
@@ -99,15 +161,12 @@ pub(crate) fn unread_rules<'s>(
     alloc: Global,
     schema: &'s Schema,
     node: NodeRef,
-) -> Result<Vec<Unread<'s>>, AllocError> {
+) -> Result<Vec<Unread<'s>>, AllocError>
+    ensures { IfOk result (λ rules. map unread_seen rules.items ≡ rules_at schema.now node) }
+{
     let mut rules: Vec<Unread<'s>> = Vec::new(alloc);
-    let Some(element) = schema.element(node) else {
-        return Ok(rules);
-    };
-    put_bound(element.min_value(), &mut rules)?;
-    put_bound(element.max_value(), &mut rules)?;
-    put_types(schema, node, &mut rules)?;
-    put_binding(schema, element, &mut rules)?;
-    put_constraints(schema, node, element, &mut rules)?;
+    if let Some(element) = schema.element(node) {
+        put_element(schema, node, element, &mut rules)?;
+    }
     Ok(rules)
 }

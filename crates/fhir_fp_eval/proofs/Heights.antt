@@ -4,16 +4,9 @@ use Rattle.fhir_instance.specs.Items.{Item, item, Kids, no_kids, kid, type_of, k
 use Rattle.fhir_instance.specs.declared.typed.Kid.{Kid}
 use Rattle.fhir_instance.specs.View.{named_of, named_in}
 use Rattle.fhir_fp_eval.specs.Values.{item_value}
-use Rattle.fhir_fp_eval.specs.Equality.{same_said, if_same, equal, equal_kids}
+use Rattle.fhir_fp_eval.specs.Equality.{same_said, if_same, by_name, sides_of, equal}
+use Rattle.fhir_fp_eval.specs.Pairing.{kids_seen, height, heights, heights_seen}
 use Rattle.fhir_fp_eval.specs.Meaning.{descendants, descendants_in}
-
-abbrev mutual
-  pub height : Item → ℕ
-  height (item type json ks) = suc (heights ks)
-
-  pub heights : Kids → ℕ
-  heights no_kids = 0
-  heights (kid n x ks) = height x + heights ks
 
 pub height_out : (x : Item) → height x ≡ suc (heights (kids_of x))
 height_out (item type json ks) = refl
@@ -22,8 +15,8 @@ pub descendants_out : (x : Item) → descendants x ≡ descendants_in (kids_of x
 descendants_out (item type json ks) = refl
 
 pub equal_out : (x y : Item)
-    → equal x y ≡ same_said (item_value x) (item_value y) (if_same (type_of x) (type_of y) (equal_kids (kids_of x) (kids_of y)))
-equal_out (item a v ks) (item b w ls) = refl
+    → equal x y ≡ same_said (item_value x) (item_value y) (if_same (type_of x) (type_of y) (by_name (sides_of (kids_of x)) (kids_of y)))
+equal_out (item a v ks) y = refl
 
 -- a child isn't higher than all children together
 pub kid_below : (ks : List Kid) (i : ℕ) (k : Kid) → i < length ks → k ≡ get_or ks i k → height (named_of k).1 ≤ heights (kids_in (named_in ks))

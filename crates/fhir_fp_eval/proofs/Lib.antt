@@ -1,4 +1,6 @@
 pub mod Heights
+pub mod ByName
+pub mod Sorted
 pub mod Kept
 pub mod Pairing
 pub mod At

@@ -1,12 +1,12 @@
 -- Pairs, one turn at a time.
 use Rattle.std.proofs.Common.{◌≡◌, ℕ, ◌<◌, ◌≤◌, true, false, Some, None, List, [], ◌∷◌, length, drop, refl, sym, ap, ◌∙◌, arith}
 use Rattle.std.proofs.lemmas.List.{drop_all}
-use Rattle.fhir_instance.specs.Items.{kids_in}
+use Rattle.std.specs.Borrow.{Bor}
 use Rattle.fhir_instance.specs.declared.typed.Kid.{Kid}
-use Rattle.fhir_instance.specs.View.{named_in}
 use Rattle.fhir_fp_eval.specs.declared.value.Value.{Value}
 use Rattle.fhir_fp_eval.specs.Views.{plains_of}
-use Rattle.fhir_fp_eval.specs.Equality.{Kleene, kleene_and, equal_kids, pairs}
+use Rattle.fhir_fp_eval.specs.Equality.{Kleene, kleene_and, pairs}
+use Rattle.fhir_fp_eval.specs.Pairing.{kids_seen, pairwise}
 
 and_false : (p : Kleene) → kleene_and p (Some false) ≡ Some false
 and_false None = refl
@@ -14,11 +14,11 @@ and_false (Some true) = refl
 and_false (Some false) = refl
 
 -- something is left on the right
-pub kids_left : (all : Kleene) (xs ys : List Kid) (i : ℕ) (whole : Kleene) → length xs ≤ i → 0 < length ys
-    → kleene_and all (equal_kids (kids_in (named_in (drop i xs))) (kids_in (named_in ys))) ≡ whole → Some false ≡ whole
+pub kids_left : (all : Kleene) (xs ys : List (Bor Kid)) (i : ℕ) (whole : Kleene) → length xs ≤ i → 0 < length ys
+    → kleene_and all (pairwise (kids_seen (drop i xs)) (kids_seen ys)) ≡ whole → Some false ≡ whole
 kids_left all xs [] i whole done some is = absurd (omega arith)
 kids_left all xs (y ∷ ys) i whole done some is =
-    sym (and_false all) ∙ sym (ap (λ (zs : List Kid). kleene_and all (equal_kids (kids_in (named_in zs)) (kids_in (named_in (y ∷ ys))))) (drop_all i xs done)) ∙ is
+    sym (and_false all) ∙ sym (ap (λ (zs : List (Bor Kid)). kleene_and all (pairwise (kids_seen zs) (kids_seen (y ∷ ys)))) (drop_all i xs done)) ∙ is
 
 pub pairs_left : (all : Kleene) (xs ys : List Value) (i : ℕ) (whole : Kleene) → length xs ≤ i → 0 < length ys
     → kleene_and all (pairs (plains_of (drop i xs)) (plains_of ys)) ≡ whole → Some false ≡ whole

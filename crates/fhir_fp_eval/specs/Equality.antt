@@ -1,5 +1,5 @@
 -- When two values are equal: yes, no, or undecided (FHIRPath N1, section 6.1), and truths of three values (section 6.5).
-use Rattle.std.specs.Prelude.{Bool, true, false, not, List, [], ◌∷◌, Option, Some, None, if◌then◌else◌}
+use Rattle.std.specs.Prelude.{Bool, true, false, not, List, [], ◌∷◌, ◌++◌, map, Option, Some, None, if◌then◌else◌}
 use Rattle.std.specs.Option.{option_map}
 use Rattle.std.specs.List.{list_any}
 use Rattle.std.specs.Str.{bytes_eq}
@@ -7,7 +7,7 @@ use Rattle.std.specs.Ordering.{is_eq}
 use Rattle.fhir_json.specs.Tree.{Text}
 use Rattle.fhir_decimal.specs.Value.{is_same_value}
 use Rattle.fhir_prims.specs.Order.{moment_order}
-use Rattle.fhir_instance.specs.Items.{Item, item, Kids, no_kids, kid}
+use Rattle.fhir_instance.specs.Items.{Item, item, Kids, no_kids, kid, type_of, kids_of}
 use Rattle.fhir_fp_eval.specs.Values.{Plain, node, SystemValue, boolean_of, number_of, string_of, moment_of, time_of, item_value, system_value}
 
 -- a truth, or undecided
@@ -71,17 +71,47 @@ same_said None None otherwise = otherwise
 abbrev pub if_same : Text → Text → Kleene → Kleene
 if_same a b otherwise = if bytes_eq a b then otherwise else Some false
 
--- Items are equal by what they say, and where they say nothing if they are of one type, with equal children, pair by pair.
+-- all of them
+abbrev pub kleene_all : List Kleene → Kleene
+kleene_all [] = Some true
+kleene_all (p ∷ ps) = kleene_and p (kleene_all ps)
+
+-- a child of the one item: its name, and whether an item is equal to it
+pub record Side : Type 0 where
+  pub name : Text
+  pub equals : Item → Kleene
+
+abbrev pub sides_named : Text → List Side → List (Item → Kleene)
+sides_named n [] = []
+sides_named n (s ∷ ss) = if bytes_eq n s.name then s.equals ∷ sides_named n ss else sides_named n ss
+
+abbrev pub items_named : Text → Kids → List Item
+items_named n no_kids = []
+items_named n (kid m y ls) = if bytes_eq n m then y ∷ items_named n ls else items_named n ls
+
+abbrev pub names_of : Kids → List Text
+names_of no_kids = []
+names_of (kid m y ls) = m ∷ names_of ls
+
+-- they are as many, and each is equal to its fellow
+abbrev pub in_turn : List (Item → Kleene) → List Item → Kleene
+in_turn [] [] = Some true
+in_turn [] (y ∷ ys) = Some false
+in_turn (equals ∷ es) [] = Some false
+in_turn (equals ∷ es) (y ∷ ys) = kleene_and (equals y) (in_turn es ys)
+
+-- the children of each name are equal in turn
+abbrev pub by_name : List Side → Kids → Kleene
+by_name ss ls = kleene_all (map (λ n. in_turn (sides_named n ss) (items_named n ls)) (map (λ s. s.name) ss ++ names_of ls))
+
+-- Items are equal by what they say, and where they say nothing if they are of one type, with equal children of each name.
 abbrev mutual
   pub equal : Item → Item → Kleene
-  equal (item a v ks) (item b w ls) =
-      same_said (item_value (item a v ks)) (item_value (item b w ls)) (if_same a b (equal_kids ks ls))
+  equal (item a v ks) y = same_said (item_value (item a v ks)) (item_value y) (if_same a (type_of y) (by_name (sides_of ks) (kids_of y)))
 
-  pub equal_kids : Kids → Kids → Kleene
-  equal_kids no_kids no_kids = Some true
-  equal_kids no_kids (kid m y ls) = Some false
-  equal_kids (kid n x ks) no_kids = Some false
-  equal_kids (kid n x ks) (kid m y ls) = kleene_and (if_same n m (equal x y)) (equal_kids ks ls)
+  pub sides_of : Kids → List Side
+  sides_of no_kids = []
+  sides_of (kid n x ks) = record { name = n; equals = equal x } ∷ sides_of ks
 
 -- ---- values and lists of them
 

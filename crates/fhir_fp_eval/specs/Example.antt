@@ -45,6 +45,14 @@ quantity value unit =
     (kid (codes "unit") (leaf (codes "string") (string unit))
     no_kids))
 
+-- an element with a part of each of these two names
+abbrev pub two_parts : Text → Text → Text → Text → Item
+two_parts first a second b =
+    whole (codes "Element")
+    (kid first (leaf (codes "string") (string a))
+    (kid second (leaf (codes "string") (string b))
+    no_kids))
+
 -- the name A twice
 abbrev pub twice : Kids
 twice =

@@ -3,6 +3,7 @@ pub mod Views
 pub mod Faults
 pub mod Literals
 pub mod Equality
+pub mod Pairing
 pub mod Comparing
 pub mod Meaning
 pub mod Spines

@@ -1,6 +1,6 @@
 //! The order of two values (FHIRPath N1, section 6.2).
 
-ghost use Rattle.std.specs.Prelude.{◌≡◌, option_map, option_and_then, Ok};
+ghost use Rattle.std.specs.Prelude.{◌≡◌, option_map, option_and_then, Ok, IfOk};
 ghost use Rattle.fhir_json.specs.Memory.{GivesOr};
 ghost use Rattle.fhir_decimal.specs.Numbers.{number_seen};
 ghost use Rattle.fhir_instance.specs.Items.{kids_in};
@@ -17,8 +17,10 @@ use crate::truths::is_yes;
 use crate::value::Value;
 use fhir_decimal::Number;
 use fhir_instance::{Kid, Typed};
+use fhir_json::NoMemory;
 use fhir_prims::cmp_moment;
 use fhir_schema::Schema;
+use std::alloc::Global;
 use std::cmp::Ordering;
 
 fn system_value_order(left: SystemValue<'_>, right: SystemValue<'_>) -> Result<Option<Ordering>, EvalFault>
@@ -70,29 +72,42 @@ fn amount<'e>(item: &'e Typed<'_, '_>) -> Option<Number<'e>>
     }
 }
 
-fn both_or_none(left: Option<&Typed<'_, '_>>, right: Option<&Typed<'_, '_>>) -> bool
-    ensures { result ≡ both_or_none (option_map (λ x. item_of x.now) left.entry)
-        (option_map (λ x. item_of x.now) right.entry) }
+fn both_or_none(
+    alloc: Global,
+    left: Option<&Typed<'_, '_>>,
+    right: Option<&Typed<'_, '_>>,
+) -> Result<bool, NoMemory>
+    ensures { IfOk result (λ r. r ≡ both_or_none (option_map (λ x. item_of x.now) left.entry)
+        (option_map (λ x. item_of x.now) right.entry)) }
 {
     match (left, right) {
-        (Some(left), Some(right)) => is_yes(equal(left, right)),
-        (Some(_), None) => false,
-        (None, Some(_)) => false,
-        (None, None) => true,
+        (Some(left), Some(right)) => Ok(is_yes(equal(alloc, left, right)?)),
+        (Some(_), None) => Ok(false),
+        (None, Some(_)) => Ok(false),
+        (None, None) => Ok(true),
     }
 }
 
-fn same_child(left: &Typed<'_, '_>, right: &Typed<'_, '_>, name: &str) -> bool
-    ensures { result ≡ same_child name.now (item_of left.now) (item_of right.now) }
+fn same_child(
+    alloc: Global,
+    left: &Typed<'_, '_>,
+    right: &Typed<'_, '_>,
+    name: &str,
+) -> Result<bool, NoMemory>
+    ensures { IfOk result (λ r. r ≡ same_child name.now (item_of left.now) (item_of right.now)) }
 {
-    both_or_none(child(left, name), child(right, name))
+    both_or_none(alloc, child(left, name), child(right, name))
 }
 
-fn same_unit(left: &Typed<'_, '_>, right: &Typed<'_, '_>) -> bool
-    ensures { result ≡ same_unit (item_of left.now) (item_of right.now) }
+fn same_unit(
+    alloc: Global,
+    left: &Typed<'_, '_>,
+    right: &Typed<'_, '_>,
+) -> Result<bool, NoMemory>
+    ensures { IfOk result (λ r. r ≡ same_unit (item_of left.now) (item_of right.now)) }
 {
-    same_child(left, right, "system")
-        && (same_child(left, right, "code") && same_child(left, right, "unit"))
+    Ok(same_child(alloc, left, right, "system")?
+        && (same_child(alloc, left, right, "code")? && same_child(alloc, left, right, "unit")?))
 }
 
 fn amount_order(left: &Typed<'_, '_>, right: &Typed<'_, '_>) -> Option<Ordering>
@@ -106,13 +121,17 @@ fn amount_order(left: &Typed<'_, '_>, right: &Typed<'_, '_>) -> Option<Ordering>
     }
 }
 
-fn quantity_order(left: &Typed<'_, '_>, right: &Typed<'_, '_>) -> Option<Ordering>
-    ensures { result ≡ quantity_order (item_of left.now) (item_of right.now) }
+fn quantity_order(
+    alloc: Global,
+    left: &Typed<'_, '_>,
+    right: &Typed<'_, '_>,
+) -> Result<Option<Ordering>, NoMemory>
+    ensures { IfOk result (λ r. r ≡ quantity_order (item_of left.now) (item_of right.now)) }
 {
-    if same_unit(left, right) {
-        amount_order(left, right)
+    if same_unit(alloc, left, right)? {
+        Ok(amount_order(left, right))
     } else {
-        None
+        Ok(None)
     }
 }
 
@@ -123,6 +142,7 @@ fn is_quantity(schema: &Schema, item: &Typed<'_, '_>) -> bool
 }
 
 fn item_order(
+    alloc: Global,
     schema: &Schema,
     left: &Typed<'_, '_>,
     right: &Typed<'_, '_>,
@@ -130,13 +150,14 @@ fn item_order(
     ensures { GivesOr is_no_memory (λ o. o) result (item_order schema.now (item_of left.now) (item_of right.now)) }
 {
     if is_quantity(schema, left) & is_quantity(schema, right) {
-        Ok(quantity_order(left, right))
+        Ok(quantity_order(alloc, left, right)?)
     } else {
         Err(EvalFault::Kind)
     }
 }
 
 fn node_order(
+    alloc: Global,
     schema: &Schema,
     left: Value<'_, '_, '_>,
     right: Value<'_, '_, '_>,
@@ -144,13 +165,14 @@ fn node_order(
     ensures { GivesOr is_no_memory (λ o. o) result (node_order schema.now (plain_of left.entry) (plain_of right.entry)) }
 {
     match (left, right) {
-        (Value::Node(item), Value::Node(other)) => item_order(schema, item, other),
+        (Value::Node(item), Value::Node(other)) => item_order(alloc, schema, item, other),
         _ => Err(EvalFault::Kind),
     }
 }
 
 #[tactic(auto, unfolding(crate::specs::Comparing::order_of))]
 fn order_of(
+    alloc: Global,
     schema: &Schema,
     left: Value<'_, '_, '_>,
     right: Value<'_, '_, '_>,
@@ -161,12 +183,13 @@ fn order_of(
         (Some(said), Some(other)) => system_value_order(said, other),
         (Some(_), None) => Err(EvalFault::Kind),
         (None, Some(_)) => Err(EvalFault::Kind),
-        (None, None) => node_order(schema, left, right),
+        (None, None) => node_order(alloc, schema, left, right),
     }
 }
 
 /// The order of the one value of the left and that of the right; none where a side is empty.
 pub(crate) fn order_between(
+    alloc: Global,
     schema: &Schema,
     left: &[Value<'_, '_, '_>],
     right: &[Value<'_, '_, '_>],
@@ -176,7 +199,7 @@ pub(crate) fn order_between(
     match (left, right) {
         ([], _) => Ok(None),
         (_, []) => Ok(None),
-        ([left], [right]) => order_of(schema, *left, *right),
+        ([left], [right]) => order_of(alloc, schema, *left, *right),
         _ => Err(EvalFault::Several),
     }
 }

@@ -46,6 +46,8 @@ mod worked;
 
 pub use evaluation::{eval, holds};
 pub use fault::EvalFault;
-pub use laws::{criteria, faults_pass, paths_by_type, true_expressions, truth_tables};
+pub use laws::{
+    criteria, equality_by_name, faults_pass, paths_by_type, true_expressions, truth_tables,
+};
 pub use value::{Env, Value};
 pub use worked::{equality_example, order_example, paths_example};

@@ -73,7 +73,7 @@ fn less_of<'e, 'a, 'j>(
     ensures { GivesOr is_no_memory (λ v. plains_of v.items) result
         (in_order is_lt (order_between schema.now (plains_of left.now) (plains_of right.now))) }
 {
-    match order_between(schema, left, right)? {
+    match order_between(alloc, schema, left, right)? {
         Some(order) => answer(alloc, Some(order.is_lt())),
         None => answer(alloc, None),
     }
@@ -88,7 +88,7 @@ fn at_most_of<'e, 'a, 'j>(
     ensures { GivesOr is_no_memory (λ v. plains_of v.items) result
         (in_order is_le (order_between schema.now (plains_of left.now) (plains_of right.now))) }
 {
-    match order_between(schema, left, right)? {
+    match order_between(alloc, schema, left, right)? {
         Some(order) => answer(alloc, Some(order.is_le())),
         None => answer(alloc, None),
     }
@@ -103,7 +103,7 @@ fn greater_of<'e, 'a, 'j>(
     ensures { GivesOr is_no_memory (λ v. plains_of v.items) result
         (in_order is_gt (order_between schema.now (plains_of left.now) (plains_of right.now))) }
 {
-    match order_between(schema, left, right)? {
+    match order_between(alloc, schema, left, right)? {
         Some(order) => answer(alloc, Some(order.is_gt())),
         None => answer(alloc, None),
     }
@@ -118,7 +118,7 @@ fn at_least_of<'e, 'a, 'j>(
     ensures { GivesOr is_no_memory (λ v. plains_of v.items) result
         (in_order is_ge (order_between schema.now (plains_of left.now) (plains_of right.now))) }
 {
-    match order_between(schema, left, right)? {
+    match order_between(alloc, schema, left, right)? {
         Some(order) => answer(alloc, Some(order.is_ge())),
         None => answer(alloc, None),
     }
@@ -143,8 +143,8 @@ pub(crate) fn operator_result<'e, 'a, 'j>(
         Operator::LessOrEqual => at_most_of(alloc, schema, left, right),
         Operator::Greater => greater_of(alloc, schema, left, right),
         Operator::GreaterOrEqual => at_least_of(alloc, schema, left, right),
-        Operator::Equal => answer(alloc, equality(left, right)),
-        Operator::NotEqual => answer(alloc, kleene_not(equality(left, right))),
+        Operator::Equal => answer(alloc, equality(alloc, left, right)?),
+        Operator::NotEqual => answer(alloc, kleene_not(equality(alloc, left, right)?)),
         Operator::In => member_of(alloc, left, right),
         Operator::Contains => member_of(alloc, right, left),
         Operator::And => and_of(alloc, left, right),

@@ -14,6 +14,7 @@ use std::alloc::Global;
 
 #[tactic(auto, unfolding(crate::specs::Meaning::joined))]
 fn join<'e, 'a, 'j>(
+    alloc: Global,
     seen: &mut Vec<Value<'e, 'a, 'j>>,
     values: &[Value<'e, 'a, 'j>],
 ) -> Result<(), EvalFault>
@@ -21,7 +22,7 @@ fn join<'e, 'a, 'j>(
         (Ok (joined (plains_of seen.old.items) (plains_of values.now))) }
 {
     for value in values {
-        if !has(seen, *value) {
+        if !has(alloc, seen, *value)? {
             seen.push(*value)?;
         }
     }
@@ -38,8 +39,8 @@ pub(crate) fn union<'e, 'a, 'j>(
         (Ok (joined (joined [] (plains_of left.now)) (plains_of right.now))) }
 {
     let mut out = Vec::new(alloc);
-    join(&mut out, left)?;
-    join(&mut out, right)?;
+    join(alloc, &mut out, left)?;
+    join(alloc, &mut out, right)?;
     Ok(out)
 }
 
@@ -55,7 +56,7 @@ pub(crate) fn intersection<'e, 'a, 'j>(
 {
     let mut out = Vec::new(alloc);
     for value in left {
-        if has(right, *value) && !has(&out, *value) {
+        if has(alloc, right, *value)? && !has(alloc, &out, *value)? {
             out.push(*value)?;
         }
     }
@@ -72,7 +73,7 @@ pub(crate) fn member_of<'e, 'a, 'j>(
 {
     match left {
         [] => Ok(Vec::new(alloc)),
-        [value] => single(alloc, Value::Truth(has(right, *value))),
+        [value] => single(alloc, Value::Truth(has(alloc, right, *value)?)),
         _ => Err(EvalFault::Several),
     }
 }

@@ -12,13 +12,14 @@ ghost use Rattle.fhir_fp_syntax.specs.declared.expr.Filter.TheVariants.{Exists a
 ghost use Rattle.fhir_fp_syntax.specs.declared.expr.TypeTest.TheVariants.{Is, As, OfType};
 ghost use Rattle.fhir_fp_eval.specs.declared.fault.EvalFault.TheVariants.{Several, Kind};
 ghost use Rattle.fhir_fp_eval.specs.Values.{node, number};
-ghost use Rattle.fhir_fp_eval.specs.Example.{is, none, leaf, whole, period, quantity, twice, patient, given_by, between, given_names, digits, quoted, has_content, around};
+ghost use Rattle.fhir_fp_eval.specs.Example.{is, none, leaf, whole, period, quantity, two_parts, twice, patient, given_by, between, given_names, digits, quoted, has_content, around};
 ghost use Rattle.fhir_fp_eval.specs.Meaning.{den};
 
 /// When values are equal (FHIRPath N1, section 6.1): numbers by value (`decimals`), values of two kinds not (`kinds`), a
 /// year and a month of it are undecided (`moments`), as is what is compared with nothing (`nothing`); lists of other lengths
 /// aren't (`counts`), and items without values by their types and their parts (`types`, `parts`, `names`), which may leave them
-/// undecided (`undecided`).
+/// undecided (`undecided`). The parts are those of each name, in whatever order the names are listed (`listed`); those of one name
+/// are as many (`doubled`), one after another (`in_turn`).
 pub fn equality_example()
     ensures decimals { given_by (binary Equal (digits (codes "0.5")) (digits (codes "0.50"))) ≡ is true }
     ensures kinds { given_by (binary Equal (quoted (codes "a")) (digits (codes "1"))) ≡ is false }
@@ -40,6 +41,12 @@ pub fn equality_example()
     ensures parts { given_by (binary Equal this this) ≡ is true }
     ensures names { between Equal (period (codes "start") (codes "2020")) (period (codes "end") (codes "2020")) ≡ is false }
     ensures undecided { between Equal (period (codes "start") (codes "2020")) (period (codes "start") (codes "2020-01")) ≡ none }
+    ensures listed { between Equal (two_parts (codes "p") (codes "1") (codes "q") (codes "2"))
+        (two_parts (codes "q") (codes "2") (codes "p") (codes "1")) ≡ is true }
+    ensures doubled { between Equal (two_parts (codes "p") (codes "1") (codes "q") (codes "2"))
+        (two_parts (codes "p") (codes "1") (codes "p") (codes "1")) ≡ is false }
+    ensures in_turn { between Equal (two_parts (codes "p") (codes "1") (codes "p") (codes "2"))
+        (two_parts (codes "p") (codes "2") (codes "p") (codes "1")) ≡ is false }
     ensures one_differs { given_by (binary Equal (binary Union (quoted (codes "a")) (quoted (codes "b")))
         (binary Union (quoted (codes "a")) (quoted (codes "c")))) ≡ is false }
 {}

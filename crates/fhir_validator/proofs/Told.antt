@@ -14,7 +14,7 @@ use Rattle.fhir_facets.specs.declared.unread.Unread.{Unread}
 use Rattle.fhir_facets.specs.Unread.{Unread as UnreadRule}
 use Rattle.fhir_conformance.specs.Asks.{ElementRuleName, Ask, own, asks}
 use Rattle.fhir_conformance.specs.Conformance.{Around, around_of, constant, ask_conforms, rule_holds}
-use Rattle.fhir_conformance.specs.Meeting.{Met, unread_at}
+use Rattle.fhir_conformance.specs.Meeting.{Met, ask_unread}
 use Rattle.fhir_conformance.specs.Views.{ask_seen, asks_seen}
 use Rattle.fhir_conformance.specs.declared.ask.Ask.{Ask as AskValue}
 use Rattle.fhir_validator.specs.declared.judgement.Judgement.{Judgement}
@@ -164,7 +164,7 @@ grown_by layout p q old new f grown = record {
 
 -- what is put into a listing
 module _ (layout : LayoutValue) (p : ItemPair) (node : NodeRef) (old : ListingValue) where
-  broken_at : (ask : Ask) (said : Said) (breach : Breach) → IsAskedBy layout p ask → told_of layout.schema (item_at layout p.item) ask ≡ Some (node, said)
+  broken_at : (ask : Ask) (said : Said) (breach : Breach) → IsAskedBy layout p ask → told_of layout.schema (item_at layout p.item) p.node ask ≡ Some (node, said)
       → IsRightOf layout p ask Fails → breach.node ≡ node → rule_said breach.rule ≡ said → IsNamed layout.schema node breach.url.now breach.id.now
       → (outermost : Item) (profile : NodeRef) (place : Place) → IsMet layout p outermost profile place → IsBroken layout.schema outermost profile breach
   broken_at ask said breach asked told fails e f named outermost profile place met = record {
@@ -180,7 +180,7 @@ module _ (layout : LayoutValue) (p : ItemPair) (node : NodeRef) (old : ListingVa
     named = subst (λ m. IsNamed layout.schema m breach.url.now breach.id.now) (sym e) named;
   }
 
-  pub broken_lists : (ask : Ask) (said : Said) (breach : Breach) → IsToList layout old p ask → told_of layout.schema (item_at layout p.item) ask ≡ Some (node, said)
+  pub broken_lists : (ask : Ask) (said : Said) (breach : Breach) → IsToList layout old p ask → told_of layout.schema (item_at layout p.item) p.node ask ≡ Some (node, said)
       → IsRightOf layout p ask Fails → breach.node ≡ node → rule_said breach.rule ≡ said → IsNamed layout.schema node breach.url.now breach.id.now
       → Lists layout p ask old (record old { issues = old.issues ++ Broken breach ∷ [] })
   broken_lists ask said breach listed told fails e f named = record {
@@ -214,9 +214,7 @@ module _ (layout : LayoutValue) (p : ItemPair) (node : NodeRef) (old : ListingVa
         met = met;
         asked = hanging.asked;
         told = hanging.told ∙ (λ j. Some (sym e j, hanging.said));
-        carried =
-            subst (λ m. Contains (unread_at layout.schema (item_at layout p.item) m) (unread_seen site.unread)) (sym e)
-            (subst (λ u. Contains (unread_at layout.schema (item_at layout p.item) node) u) (sym g ∙ ap unread_seen (sym f)) hanging.carried);
+        carried = subst (Contains (ask_unread layout.schema (item_at layout p.item) hanging.ask)) (sym g ∙ ap unread_seen (sym f)) hanging.carried;
         full = sym (hanging.hangs true here there);
         empty = sym (hanging.hangs false here there);
         named = subst (λ m. IsNamed layout.schema m site.url.now site.id.now) (sym e) named;

@@ -5,20 +5,20 @@ use Rattle.std.specs.Option.{option_map_or}
 use Rattle.std.proofs.lemmas.Bool.{and_parts, false≢true}
 use Rattle.std.proofs.lemmas.List.{take_all, length-append}
 use Rattle.std.proofs.lemmas.List.Folds.{list_any_more}
-use Rattle.std.proofs.lemmas.List.Elements.{Contains-append_left, Contains-append_right}
+use Rattle.std.proofs.lemmas.List.Elements.{Contains-append_right}
 use Rattle.fhir_json.specs.Tree.{Text}
 use Rattle.fhir_json.specs.Bytes.{is_empty}
 use Rattle.fhir_elements.specs.TypeEntry.{TypeEntry}
 use Rattle.fhir_nodes.specs.declared.node.NodeRef.{NodeRef}
 use Rattle.fhir_schema.specs.Covers.{covers}
-use Rattle.fhir_schema.specs.Schemas.{SchemaValue, element_at, target, loaded, types as node_types}
+use Rattle.fhir_schema.specs.Schemas.{SchemaValue, loaded, types as node_types}
 use Rattle.fhir_instance.specs.Items.{Item, type_of}
 use Rattle.fhir_facets.specs.Unread.{Unread, Meaning, profile as unread_profile}
 use Rattle.fhir_facets.specs.Carried.{profile_unread}
 use Rattle.fhir_facets.specs.Targets.{targets_hold}
 use Rattle.fhir_conformance.specs.Asks.{types}
 use Rattle.fhir_conformance.specs.Conformance.{Around, seen, constant, conforms, entry_allows, entry_holds, profile_holds, profiles_hold, is_untyped}
-use Rattle.fhir_conformance.specs.Meeting.{targets_unread, entry_unread, element_unread, constraints_unread, unread_at}
+use Rattle.fhir_conformance.specs.Meeting.{targets_unread, entry_unread, ask_unread}
 use Rattle.fhir_validator.specs.declared.judgement.Judgement.{Judgement}
 use Rattle.fhir_validator.specs.declared.judgement.Judgement.TheVariants.{Open}
 use Rattle.fhir_validator.specs.declared.pair.ItemPair.{ItemPair}
@@ -167,14 +167,12 @@ led_at_last layout p n xs i listing roots hangs around there h e settled =
 
 -- ---- the unread rules of entries
 
-pub carried_entry : (s : SchemaValue) (x : Item) (n : NodeRef) (e : TypeEntry) (u : Unread) → Contains (node_types s n) e → Contains (entry_unread s x e) u → Contains (unread_at s x n) u
-carried_entry s x n e u among here =
-    Contains-append_left (flat_map (entry_unread s x) (node_types s n))
-    (option_map_or (element_unread s x) (element_at s n) [] ++ option_map_or (constraints_unread s) (target s n) []) u
-    (contains_gathered (entry_unread s x) (node_types s n) e u among here)
+pub carried_entry : (s : SchemaValue) (x : Item) (n : NodeRef) (e : TypeEntry) (u : Unread) → Contains (node_types s n) e → Contains (entry_unread s x e) u
+    → Contains (ask_unread s x (types n)) u
+carried_entry s x n e u among here = contains_gathered (entry_unread s x) (node_types s n) e u among here
 
 pub carried_profile : (s : SchemaValue) (x : Item) (n : NodeRef) (e : TypeEntry) (p : Text) → Contains (node_types s n) e → IsTrue (covers s e.code (type_of x))
-    → Contains e.profiles p → loaded s p ≡ None → Contains (unread_at s x n) (unread_profile p)
+    → Contains e.profiles p → loaded s p ≡ None → Contains (ask_unread s x (types n)) (unread_profile p)
 carried_profile s x n e p among covered named is =
     let u = unread_profile p in
     let here : Contains (flat_map (profile_unread s) e.profiles) u =

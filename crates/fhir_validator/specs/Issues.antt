@@ -1,5 +1,5 @@
 -- What an issue says, and when it is right: it fails at a pair of node and item that the resource meets, whatever unread rules
--- mean. And when a site is: an unread rule that such a pair's node carries, where something hangs on it. Both name the node by
+-- mean. And when a site is: an unread rule that such a pair's node asks for, where something hangs on it. Both name the node by
 -- the url of its definition and by its id.
 use Rattle.std.specs.Prelude.{◌≡◌, ℕ, List, [], true, false, Option, None, Some, IsTrue}
 use Rattle.std.specs.Option.{option_map_or, option_and_then}
@@ -20,7 +20,7 @@ use Rattle.fhir_conformance.specs.Asks as asked
 use Rattle.fhir_conformance.specs.Asks.{ElementRuleName, Ask, own, asks}
 use Rattle.fhir_conformance.specs.Positions.{kid_at}
 use Rattle.fhir_conformance.specs.Conformance.{count_of, count_in, constant, around_of, ask_conforms}
-use Rattle.fhir_conformance.specs.Meeting.{Met, unread_at}
+use Rattle.fhir_conformance.specs.Meeting.{Met, ask_unread}
 use Rattle.fhir_validator.specs.declared.broken_rule.BrokenRule.{BrokenRule}
 use Rattle.fhir_validator.specs.declared.broken_rule.BrokenRule.TheVariants.{RootType, Types as OfTypes, Fixed, Pattern, Range, Length, Binding, TooFew, TooMany, InSlices, InNoSlice, Constraint}
 use Rattle.fhir_validator.specs.declared.issue.Breach.{Breach}
@@ -94,13 +94,18 @@ says s x (asked.constraint position) n = constraint (key_at s n position)
 abbrev pub IsNamed : SchemaValue → NodeRef → Text → Text → Type 0
 IsNamed s n url id = (url ≡ url_at s n.definition) × (id ≡ id_of_node s n)
 
--- the node that an ask is about, with what is to be said of it; nothing is said of what another pair is asked
-abbrev pub told_of : SchemaValue → Item → Ask → Option (NodeRef × Said)
-told_of s x (own rule n) = Some (n, says s x rule n)
-told_of s x (asked.types n) = Some (n, types)
-told_of s x (asked.profile r) = None
-told_of s x (asked.root r) = None
-told_of s x (asked.child i n) = None
+-- the node at which a rule of m is told that n asks: a constraint at n, which takes it over where m is its content target
+abbrev pub told_at : NodeRef → ElementRuleName → NodeRef → NodeRef
+told_at n (asked.constraint position) m = n
+told_at n _ m = m
+
+-- the node at which an ask of n is told, with what is to be said of it; nothing is said of what another pair is asked
+abbrev pub told_of : SchemaValue → Item → NodeRef → Ask → Option (NodeRef × Said)
+told_of s x n (own rule m) = Some (told_at n rule m, says s x rule m)
+told_of s x n (asked.types m) = Some (m, types)
+told_of s x n (asked.profile r) = None
+told_of s x n (asked.root r) = None
+told_of s x n (asked.child i m) = None
 
 -- It is one that the node of a pair asks, and it fails there where each unread rule holds. `outermost` is the item of the
 -- resource, and `profile` the root that it was judged against.
@@ -113,7 +118,7 @@ pub record IsBroken (s : SchemaValue) (outermost : Item) (profile : NodeRef) (br
   pub met : Met s outermost profile place resource itself node
   pub asked : Contains (asks s itself node) ask
   pub fails : ask_conforms s (constant true) (around_of outermost place resource) itself ask ≡ false
-  pub told : told_of s itself ask ≡ Some (breach.node, rule_said breach.rule)
+  pub told : told_of s itself node ask ≡ Some (breach.node, rule_said breach.rule)
   pub named : IsNamed s breach.node breach.url.now breach.id.now
 
 -- a misfit says that the tree has no item
@@ -124,8 +129,7 @@ IsIssue s profile t (Broken breach) =
 
 -- ---- sites
 
--- A node carries the unread rule to the item of a pair, and what the pair's node asks of it there hangs on what unread rules
--- mean.
+-- What the node of a pair asks hangs on what unread rules mean, and on this one of them.
 pub record IsOpenAt (s : SchemaValue) (outermost : Item) (profile : NodeRef) (site : Site) : Type 0 where
   pub place : Place
   pub resource : Item
@@ -135,8 +139,8 @@ pub record IsOpenAt (s : SchemaValue) (outermost : Item) (profile : NodeRef) (si
   pub said : Said
   pub met : Met s outermost profile place resource itself node
   pub asked : Contains (asks s itself node) ask
-  pub told : told_of s itself ask ≡ Some (site.node, said)
-  pub carried : Contains (unread_at s itself site.node) (unread_seen site.unread)
+  pub told : told_of s itself node ask ≡ Some (site.node, said)
+  pub carried : Contains (ask_unread s itself ask) (unread_seen site.unread)
   pub full : IsTrue (ask_conforms s (constant true) (around_of outermost place resource) itself ask)
   pub empty : ask_conforms s (constant false) (around_of outermost place resource) itself ask ≡ false
   pub named : IsNamed s site.node site.url.now site.id.now

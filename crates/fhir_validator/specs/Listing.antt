@@ -12,7 +12,7 @@ use Rattle.fhir_instance.specs.Typing.{Types}
 use Rattle.fhir_facets.specs.Unread.{Unread, Meaning, profile as unread_profile}
 use Rattle.fhir_conformance.specs.Asks.{Ask, types as as_types, profile as as_profile, asks}
 use Rattle.fhir_conformance.specs.Conformance.{Around, outermost, constant, ask_conforms, conforms}
-use Rattle.fhir_conformance.specs.Meeting.{Met, unread_at}
+use Rattle.fhir_conformance.specs.Meeting.{Met, ask_unread}
 use Rattle.fhir_validator.specs.declared.judgement.Judgement.{Judgement}
 use Rattle.fhir_validator.specs.declared.judgement.Judgement.TheVariants as judgements
 use Rattle.fhir_validator.specs.declared.issue.Issue.{Issue}
@@ -126,14 +126,14 @@ pub record Lists (layout : LayoutValue) (p : ItemPair) (ask : Ask) (old new : Li
 
 -- ---- what is put into a listing
 
--- what the pair asks is open, and the node carries the unread rule to its item
+-- what the pair asks is open, is told at the node, and hangs on the unread rule
 pub record IsHanging (layout : LayoutValue) (p : ItemPair) (node : NodeRef) (rule : Unread) : Type 0 where
   pub ask : Ask
   pub said : Said
   pub asked : IsAskedBy layout p ask
   pub hangs : IsRightOf layout p ask judgements.Open
-  pub told : told_of layout.schema (item_at layout p.item) ask ≡ Some (node, said)
-  pub carried : Contains (unread_at layout.schema (item_at layout p.item) node) rule
+  pub told : told_of layout.schema (item_at layout p.item) p.node ask ≡ Some (node, said)
+  pub carried : Contains (ask_unread layout.schema (item_at layout p.item) ask) rule
 
 -- the types of the pair's node are open
 pub record AreHanging (layout : LayoutValue) (p : ItemPair) : Type 0 where

@@ -8,7 +8,7 @@ ghost use Rattle.fhir_conformance.specs.Positions.{kid_at};
 ghost use Rattle.fhir_conformance.specs.Views.{rule_name, IsIndexOf};
 ghost use Rattle.fhir_instance.specs.Items.{kids_of};
 ghost use Rattle.fhir_instance.specs.View.{item_of};
-ghost use Rattle.fhir_validator.specs.Issues.{rule_said, types, too_few, too_many, says, slices_said, set_at, key_at, IsNamed};
+ghost use Rattle.fhir_validator.specs.Issues.{rule_said, types, too_few, too_many, says, slices_said, set_at, key_at, told_at, IsNamed};
 ghost use Rattle.fhir_validator.specs.Layouts.{item_at};
 
 use crate::issue::{Breach, Site};
@@ -140,6 +140,17 @@ fn broken_rule<'s>(
     }
 }
 
+/// The node at which a rule is told that a pair's node asks: a constraint at the pair's, which takes over that of the node that
+/// it refers to for its content; any other rule at the node whose it is.
+pub(crate) fn told_at(own: NodeRef, rule: ElementRule<'_>, node: NodeRef) -> NodeRef
+    ensures { result ≡ told_at own (rule_name rule) node }
+{
+    match rule {
+        ElementRule::Constraint(_position) => own,
+        _ => node,
+    }
+}
+
 impl<'s, 't, 'a, 'j> Judge<'s, 't, 'a, 'j> {
     // The place of the child at a position of a pair's item, or of the item itself.
     fn place_of_kid(&self, pair: ItemPair, position: usize) -> Result<Place, NoMemory> {
@@ -178,16 +189,17 @@ impl<'s, 't, 'a, 'j> Judge<'s, 't, 'a, 'j> {
         rule: ElementRule<'s>,
         node: NodeRef,
     ) -> Result<Breach<'s>, NoMemory>
-        ensures node { IfOk result (λ breach. breach.node ≡ node) }
+        ensures node { IfOk result (λ breach. breach.node ≡ told_at pair.node (rule_name rule.entry) node) }
         ensures said { IfOk result (λ breach. rule_said breach.rule
             ≡ says self.now.schema (item_at self.now pair.item) (rule_name rule.entry) node) }
-        ensures named { IfOk result (λ breach. IsNamed self.now.schema node breach.url.now breach.id.now) }
+        ensures named { IfOk result (λ breach. IsNamed self.now.schema (told_at pair.node (rule_name rule.entry) node) breach.url.now breach.id.now) }
     {
-        let (url, id) = self.schema().name(node);
+        let told = told_at(pair.node, rule, node);
+        let (url, id) = self.schema().name(told);
         let place = self.place_of(pair, rule)?;
         Ok(Breach {
             rule: self.broken_rule_of(pair, rule, node),
-            node,
+            node: told,
             url,
             id,
             place,

@@ -11,7 +11,7 @@ use fhir_schema::NodeRef;
 pub struct Breach<'s> {
     /// What is broken.
     pub rule: BrokenRule<'s>,
-    /// The node whose element has the rule.
+    /// The node that asks for it. A constraint that it takes over by a content reference is its own too.
     pub node: NodeRef,
     /// The url of the node's definition.
     pub url: &'s str,
@@ -35,7 +35,7 @@ pub enum Issue<'s> {
 pub struct Site<'s> {
     /// The rule.
     pub unread: Unread<'s>,
-    /// The node whose element has it.
+    /// The node that asks for it.
     pub node: NodeRef,
     /// The url of the node's definition.
     pub url: &'s str,

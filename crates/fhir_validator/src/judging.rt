@@ -5,7 +5,7 @@ ghost use Rattle.fhir_schema.specs.Schemas.{is_root_node};
 ghost use Rattle.fhir_facets.specs.Views.{holding_under, IsCarried};
 ghost use Rattle.fhir_conformance.specs.Asks.{asks, own, types, child};
 ghost use Rattle.fhir_conformance.specs.Conformance.{rule_holds, entry_allows, entry_holds, profile_holds, profiles_hold};
-ghost use Rattle.fhir_conformance.specs.Meeting.{entry_unread, unread_at};
+ghost use Rattle.fhir_conformance.specs.Meeting.{entry_unread, rule_unread};
 ghost use Rattle.fhir_conformance.specs.Views.{ask_seen, asks_seen, rule_name};
 ghost use Rattle.fhir_validator.specs.Layouts.{item_at, resource_of};
 ghost use Rattle.fhir_validator.specs.Judging.{IsRight, IsRightOf, IsRightOn, IsOrdered};
@@ -98,7 +98,7 @@ impl<'s, 't, 'a, 'j> Judge<'s, 't, 'a, 'j> {
     ) -> Result<Holding<'s>, NoMemory>
         ensures exact { IfOk result (λ h. (b : Bool) → holding_under b h
             ≡ rule_holds self.now.schema (λ unread. b) (resource_of self.now pair.item) (item_at self.now pair.item) (rule_name rule.entry) node) }
-        ensures carried { IfOk result (IsCarried (unread_at self.now.schema (item_at self.now pair.item) node)) }
+        ensures carried { IfOk result (IsCarried (rule_unread self.now.schema (item_at self.now pair.item) (rule_name rule.entry) node)) }
     {
         let layout = &self.layout;
         let (resource, item) = (layout.resource(pair.item), layout.item(pair.item));

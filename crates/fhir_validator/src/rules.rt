@@ -4,12 +4,13 @@ ghost use Rattle.std.specs.Prelude.{◌≡◌, ◌<◌, length, OnOk};
 ghost use Rattle.std.specs.List.{Contains};
 ghost use Rattle.fhir_facets.specs.Views.{unread_seen};
 ghost use Rattle.fhir_conformance.specs.Asks.{own, types};
-ghost use Rattle.fhir_conformance.specs.Meeting.{unread_at};
+ghost use Rattle.fhir_conformance.specs.Meeting.{rule_unread};
 ghost use Rattle.fhir_conformance.specs.Views.{rule_name};
 ghost use Rattle.fhir_validator.specs.Layouts.{item_at};
 ghost use Rattle.fhir_validator.specs.Judging.{IsRightOf};
 ghost use Rattle.fhir_validator.specs.Listing.{IsToList, IsAskedBy, IsHanging, Grown, Lists};
 
+use crate::breaches::told_at;
 use crate::judgement::Judgement;
 use crate::judging::Judge;
 use crate::listing::Listing;
@@ -20,7 +21,7 @@ use fhir_json::NoMemory;
 use fhir_schema::NodeRef;
 
 impl<'s, 't, 'a, 'j> Judge<'s, 't, 'a, 'j> {
-    /// Lists an unread rule that a node carries to the item of a pair, where something that the pair asks hangs on it.
+    /// Lists an unread rule that something hangs on which the pair asks, and which is told at the node.
     pub(crate) fn put_site(
         &self,
         listing: &mut Listing<'s>,
@@ -63,11 +64,11 @@ impl<'s, 't, 'a, 'j> Judge<'s, 't, 'a, 'j> {
     ) -> Result<(), NoMemory>
         requires asked { IsAskedBy self.now pair (own (rule_name rule) node) }
         requires hangs { IsRightOf self.now pair (own (rule_name rule) node) Judgement.Open }
-        requires carried { Contains (unread_at self.now.schema (item_at self.now pair.item) node) (unread_seen unread) }
+        requires carried { Contains (rule_unread self.now.schema (item_at self.now pair.item) (rule_name rule) node) (unread_seen unread) }
         ensures { OnOk result (Lists self.now pair (own (rule_name rule.entry) node) listing.old listing.new) }
     {
         if listing.wanted().is(Judgement::Open) {
-            self.put_site(listing, pair, unread, node)
+            self.put_site(listing, pair, unread, told_at(pair.node, rule, node))
         } else {
             Ok(())
         }

@@ -1,6 +1,6 @@
 //! Validation of resources.
 
-ghost use Rattle.std.specs.Prelude.{◌≡◌, ◌↔◌, false, true, None, IfOk, IfErr, IsTrue};
+ghost use Rattle.std.specs.Prelude.{◌≡◌, ◌↔◌, false, true, None, IsSome, IfOk, IfErr, IsTrue};
 ghost use Rattle.fhir_json.specs.Tree.{Text, Tree};
 ghost use Rattle.fhir_json.specs.Reading.{is_no_memory as is_fault_of_memory};
 ghost use Rattle.fhir_json.specs.Grammar.{Reads};
@@ -167,6 +167,8 @@ pub fn validate<'s>(
         IsTrue (is_violating v) → (meaning : Interpretation) → ¬ Conforms schema.now meaning profile.now t) }
     // Something is listed, and all that is listed is right.
     ensures explained { (t : Tree) → Reads bytes.now t → IfOk result (IsExplained schema.now profile.now t) }
+    // There is a verdict of a profile that is there and can be used alone, and on JSON alone.
+    ensures there { IfOk result (λ v. IsSome (root schema.now profile.now)) }
     ensures read { IfOk result (λ v. (t : Tree) × Reads bytes.now t) }
     ensures refused { IfErr result (Means schema.now profile.now bytes.now) }
 {

@@ -2,7 +2,7 @@ use Rattle.std.proofs.Common.{ap, ◌∙◌, not}
 use Rattle.fhir_json.specs.Views.{tree_seen}
 use Rattle.fhir_instance.specs.Items.{type_of, json_of, has_kids}
 use Rattle.fhir_instance.specs.View.{item_of}
-use Rattle.fhir_conformance.proofs.Judged.{has_kids_seen, same_seen}
+use Rattle.fhir_conformance.proofs.Seen.{has_kids_seen, same_seen}
 use Rattle.fhir_conformance.proofs.judging.view_of.Goals as goal
 
 pub returns : goal.returns

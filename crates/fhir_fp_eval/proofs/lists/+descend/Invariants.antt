@@ -4,7 +4,7 @@ use Rattle.fhir_instance.specs.View.{item_of, named_in}
 use Rattle.fhir_fp_eval.specs.Values.{node}
 use Rattle.fhir_fp_eval.specs.Views.{plains_of}
 use Rattle.fhir_fp_eval.specs.Meaning.{descendants_in}
-use Rattle.fhir_fp_eval.proofs.Heights.{height}
+use Rattle.fhir_fp_eval.specs.Pairing.{height}
 use Rattle.fhir_fp_eval.proofs.lists.+descend.Given as goal
 
 abbrev pub decreases-push_descendants : goal.decreases-push_descendants

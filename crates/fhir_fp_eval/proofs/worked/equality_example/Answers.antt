@@ -67,6 +67,18 @@ pub returns-clause-undecided : goal.returns-clause-undecided
 unfolding den values_where joined shared at_from of_types alike pairs order_of parts value_of value_order is_whole_value
 returns-clause-undecided c = refl
 
+pub returns-clause-listed : goal.returns-clause-listed
+unfolding den values_where joined shared at_from of_types alike pairs order_of parts value_of value_order is_whole_value
+returns-clause-listed c = refl
+
+pub returns-clause-doubled : goal.returns-clause-doubled
+unfolding den values_where joined shared at_from of_types alike pairs order_of parts value_of value_order is_whole_value
+returns-clause-doubled c = refl
+
+pub returns-clause-in_turn : goal.returns-clause-in_turn
+unfolding den values_where joined shared at_from of_types alike pairs order_of parts value_of value_order is_whole_value
+returns-clause-in_turn c = refl
+
 pub returns-clause-one_differs : goal.returns-clause-one_differs
 unfolding den values_where joined shared at_from of_types alike pairs order_of parts value_of value_order is_whole_value
 returns-clause-one_differs c = refl

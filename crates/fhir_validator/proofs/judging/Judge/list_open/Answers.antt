@@ -1,4 +1,4 @@
-use Rattle.std.proofs.Common.{◌≡◌, ◌<◌, true, false, length, refl, sym, ap, ◌∙◌}
+use Rattle.std.proofs.Common.{◌≡◌, ◌<◌, true, false, length, Some, sym, ap, ◌∙◌}
 use Rattle.fhir_conformance.specs.Asks.{own}
 use Rattle.fhir_conformance.specs.Views.{rule_name}
 use Rattle.fhir_validator.specs.declared.judgement.Judgement.TheVariants.{Open}
@@ -16,7 +16,7 @@ put_site-requires c =
       said = says c.args.self.now.schema (item_at c.args.self.now c.args.pair.item) rule c.args.node;
       asked = c.requires.asked;
       hangs = c.requires.hangs;
-      told = refl;
+      told = ap (λ m. Some (m, says c.args.self.now.schema (item_at c.args.self.now c.args.pair.item) rule c.args.node)) (sym c.told_at.ensures);
       carried = c.requires.carried;
     }
 
