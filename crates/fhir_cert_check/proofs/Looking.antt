@@ -15,7 +15,7 @@ use Rattle.fhir_nodes.specs.Slots.{Slot}
 use Rattle.fhir_nodes.specs.Types.{names_resource}
 use Rattle.fhir_schema.specs.Schemas.{SchemaValue, entry_of, slots, slot_named, slices, slice_named, is_root_node, holder, types, type_root, loaded}
 use Rattle.fhir_schema.specs.Covers.{covers}
-use Rattle.fhir_facets.specs.Counts.{count_narrower}
+use Rattle.fhir_facets.specs.Cardinality.{cardinality_narrower}
 use Rattle.fhir_facets.specs.Targets.{targets_narrower}
 use Rattle.fhir_conformance.specs.Conformance.{is_untyped}
 use Rattle.fhir_slicing.specs.SameCriteria.{same_criteria}
@@ -262,7 +262,7 @@ module _ (R : Bool → Bool → Type 0) (L : RuleList → RuleList → Type 0) (
         go None agree = k.as_is ((false, slice name b.name) ∷ [])
         go (Some a) agree =
             k.rule (same_criteria s (entry_of n a) (entry_of m b)) (same_criteria s (entry_of n a) (entry_of m b)) (criteria name b.name) _ _ (k.same _)
-            (k.rule (elements_answer count_narrower s (entry_of n a) (entry_of m b)) (elements_answer count_narrower s (entry_of n a) (entry_of m b)) (bounds name b.name) _ _ (k.same _)
+            (k.rule (elements_answer cardinality_narrower s (entry_of n a) (entry_of m b)) (elements_answer cardinality_narrower s (entry_of n a) (entry_of m b)) (bounds name b.name) _ _ (k.same _)
             (k.rule (is_paired some s (entry_of n a) (entry_of m b)) (is_paired others s (entry_of n a) (entry_of m b)) (slice name b.name) [] []
             (paired_kept (entry_of n a) (entry_of m b) agree) (k.as_is [])))
 
@@ -291,7 +291,7 @@ module _ (R : Bool → Bool → Type 0) (L : RuleList → RuleList → Type 0) (
             → L (own_slot_rules some s n m b o) (own_slot_rules others s n m b o)
         go None agree = k.as_is _
         go (Some a) agree =
-            let counted = elements_answer count_narrower s (entry_of n a) (entry_of m b) in
+            let counted = elements_answer cardinality_narrower s (entry_of n a) (entry_of m b) in
             k.rule counted counted (cardinality b.name) _ _ (k.same counted) (entry_rules_kept b.name (entry_of n a) (entry_of m b) agree)
 
     -- ---- pairs

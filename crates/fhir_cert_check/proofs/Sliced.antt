@@ -19,7 +19,7 @@ use Rattle.fhir_nodes.specs.Slots.{Slot}
 use Rattle.fhir_schema.specs.Schemas.{SchemaValue, element_at, entry_of, slices, slice_named, is_closed, criteria}
 use Rattle.fhir_instance.specs.Items.{Item, kids_of}
 use Rattle.fhir_facets.specs.Unread.{Meaning}
-use Rattle.fhir_facets.specs.Counts.{are_enough, are_within, count_holds, count_narrower, allows_none, is_forbidden}
+use Rattle.fhir_facets.specs.Cardinality.{are_enough, are_within, cardinality_holds, cardinality_narrower, allows_none, is_forbidden}
 use Rattle.fhir_slicing.specs.Belonging.{belongs, is_in, is_apart, is_sliced}
 use Rattle.fhir_slicing.specs.SameCriteria.{same_criteria}
 use Rattle.fhir_conformance.specs.Asks.{too_few, too_many, too_few_in, too_many_in}
@@ -65,9 +65,9 @@ none_within (Some e) = none_within_most e.max
 
 -- narrower bounds hold of less
 abbrev pub CountsHold : Type 0
-CountsHold = (e f : Element) (n : ℕ) → IsTrue (count_narrower e f) → IsTrue (count_holds e n) → IsTrue (count_holds f n)
+CountsHold = (e f : Element) (n : ℕ) → IsTrue (cardinality_narrower e f) → IsTrue (cardinality_holds e n) → IsTrue (cardinality_holds f n)
 
-counts_step : CountsHold → (n : ℕ) (o p : Option Element) → IsTrue (is_answered count_narrower o p) → IsTrue (option_map_or (λ e. are_enough e n) o true)
+counts_step : CountsHold → (n : ℕ) (o p : Option Element) → IsTrue (is_answered cardinality_narrower o p) → IsTrue (option_map_or (λ e. are_enough e n) o true)
     → IsTrue (option_map_or (λ e. are_within e n) o true)
     → IsTrue (option_map_or (λ e. are_enough e n) p true) × IsTrue (option_map_or (λ e. are_within e n) p true)
 counts_step hold n o None answers few many = (refl, refl)
@@ -86,7 +86,7 @@ module _ (s : SchemaValue) (counts_hold : CountsHold) (alike : BelongAlike s) (p
     there : Within a (slices s n)
     named : b.name ≡ a.name
     same : IsTrue (same_criteria s (entry_of n a) (entry_of k b))
-    counted : IsTrue (elements_answer count_narrower s (entry_of n a) (entry_of k b))
+    counted : IsTrue (elements_answer cardinality_narrower s (entry_of n a) (entry_of k b))
     paired : IsTrue (is_paired pairs s (entry_of n a) (entry_of k b))
 
   slice_answer : (name : Text) (n k : NodeRef) (b : Slot) → IsTrue (all_hold (slice_rules pairs s name n k b)) → (a : Slot) × Answers n k b a
@@ -96,7 +96,7 @@ module _ (s : SchemaValue) (counts_hold : CountsHold) (alike : BelongAlike s) (p
       go None e rules = absurd (false≢true rules)
       go (Some a) e rules =
           let by_criteria = and_parts (same_criteria s (entry_of n a) (entry_of k b)) _ rules in
-          let by_count = and_parts (elements_answer count_narrower s (entry_of n a) (entry_of k b)) _ by_criteria.1 in
+          let by_count = and_parts (elements_answer cardinality_narrower s (entry_of n a) (entry_of k b)) _ by_criteria.1 in
           let by_pair = and_parts (is_paired pairs s (entry_of n a) (entry_of k b)) true by_count.1 in
           let found = found_within (λ slice. bytes_eq b.name slice.name) (slices s n) a e in (
             a,
@@ -160,7 +160,7 @@ module _ (s : SchemaValue) (counts_hold : CountsHold) (alike : BelongAlike s) (p
     abbrev pub ChildrenKeep : Type 0
     ChildrenKeep = (n k : NodeRef) → IsTrue (has_item_pair pairs n k) → (i : ℕ) → IsTrue (get_or kids i (λ n. true) n) → IsTrue (get_or kids i (λ n. true) k)
 
-    count_step : (name : Text) (n k : NodeRef) → IsTrue (elements_answer count_narrower s n k)
+    count_step : (name : Text) (n k : NodeRef) → IsTrue (elements_answer cardinality_narrower s n k)
         → IsTrue (rule_holds s m resource x (too_few name) n) → IsTrue (rule_holds s m resource x (too_many name) n)
         → IsTrue (rule_holds s m resource x (too_few name) k) × IsTrue (rule_holds s m resource x (too_many name) k)
     count_step name n k = counts_step counts_hold (count_of name x) (element_at s n) (element_at s k)
@@ -169,7 +169,7 @@ module _ (s : SchemaValue) (counts_hold : CountsHold) (alike : BelongAlike s) (p
     abbrev CountsIn : Text → NodeRef → Type 0
     CountsIn name n = IsTrue (rule_holds s m resource x (too_few_in name) n) × IsTrue (rule_holds s m resource x (too_many_in name) n)
 
-    count_in_step : (name : Text) (n k : NodeRef) → IsTrue (same_criteria s n k) → IsTrue (elements_answer count_narrower s n k) → CountsIn name n → CountsIn name k
+    count_in_step : (name : Text) (n k : NodeRef) → IsTrue (same_criteria s n k) → IsTrue (elements_answer cardinality_narrower s n k) → CountsIn name n → CountsIn name k
     count_in_step name n k same counted each =
         subst (λ is. IsTrue (option_map_or (λ e. are_enough e (length is)) (element_at s k) true) × IsTrue (option_map_or (λ e. are_within e (length is)) (element_at s k) true))
         (same_members x n k (places_of name x) same)
@@ -384,10 +384,10 @@ module _ (s : SchemaValue) (counts_hold : CountsHold) (alike : BelongAlike s) (p
             go false allowed rules = allowed_step rules each
 
         -- what a slot of that name asks, where its items are as the node says
-        pub named_step : IsTrue (elements_answer count_narrower s n k && all_hold (entry_rules pairs s name n k))
+        pub named_step : IsTrue (elements_answer cardinality_narrower s n k && all_hold (entry_rules pairs s name n k))
             → IsTrue (list_all holds (named_asks s x name places n)) → IsTrue (list_all holds (named_asks s x name places k))
         named_step rules each =
-            let r = and_parts (elements_answer count_narrower s n k) (all_hold (entry_rules pairs s name n k)) rules in
+            let r = and_parts (elements_answer cardinality_narrower s n k) (all_hold (entry_rules pairs s name n k)) rules in
             let few = and_parts (rule_holds s m resource x (too_few name) n) _ each in
             let many = and_parts (rule_holds s m resource x (too_many name) n) _ few.1 in
             let counts = count_step name n k r.0 few.0 many.0 in

@@ -19,7 +19,7 @@ use Rattle.fhir_facets.specs.Values.{fixed_narrower, pattern_narrower, fixed_fit
 use Rattle.fhir_facets.specs.Ranges.{range_narrower}
 use Rattle.fhir_facets.specs.Targets.{targets_narrower}
 use Rattle.fhir_facets.specs.Bindings.{binding_to, binding_narrower}
-use Rattle.fhir_facets.specs.Counts.{count_narrower, is_forbidden, are_enough}
+use Rattle.fhir_facets.specs.Cardinality.{cardinality_narrower, is_forbidden, are_enough}
 use Rattle.fhir_slicing.specs.SameCriteria.{same_criteria}
 use Rattle.fhir_conformance.specs.Conformance.{range_of, is_untyped}
 use Rattle.fhir_certificate.specs.declared.pair.Pair.{Pair}
@@ -188,7 +188,7 @@ module _ (pairs : Pair → Bool) where
     own_slice_rules name n m b None = (false, slice name b.name) ∷ []
     own_slice_rules name n m b (Some a) =
         (same_criteria s (entry_of n a) (entry_of m b), criteria name b.name)
-        ∷ (elements_answer count_narrower s (entry_of n a) (entry_of m b), bounds name b.name)
+        ∷ (elements_answer cardinality_narrower s (entry_of n a) (entry_of m b), bounds name b.name)
         ∷ (is_paired (entry_of n a) (entry_of m b), slice name b.name)
         ∷ []
 
@@ -206,7 +206,7 @@ module _ (pairs : Pair → Bool) where
     abbrev pub own_slot_rules : NodeRef → NodeRef → Slot → Option Slot → List (Bool × RuleName)
     own_slot_rules n m b None = (false, slot b.name) ∷ []
     own_slot_rules n m b (Some a) =
-        (elements_answer count_narrower s (entry_of n a) (entry_of m b), cardinality b.name)
+        (elements_answer cardinality_narrower s (entry_of n a) (entry_of m b), cardinality b.name)
         ∷ entry_rules b.name (entry_of n a) (entry_of m b)
 
     -- what a slot of the base node asks of the derived one

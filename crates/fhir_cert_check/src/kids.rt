@@ -8,7 +8,7 @@ ghost use Rattle.fhir_cert_check.specs.Rules.{own_slot_rules, slot_rules, kids_r
 ghost use Rattle.fhir_cert_check.specs.Views.{rule_name};
 ghost use Rattle.fhir_cert_check.specs.PairSet.{has_in};
 
-use crate::nodes::{count_answers, entry_of};
+use crate::nodes::{cardinality_answers, entry_of};
 use crate::pair_set::PairSet;
 use crate::rule::Rule;
 use crate::slices::entry_failing;
@@ -27,7 +27,7 @@ fn own_slot_failing<'s>(
 {
     let derived = entry_of(n, own);
     let base = entry_of(m, slot);
-    if !count_answers(schema, derived, base) {
+    if !cardinality_answers(schema, derived, base) {
         return Some(Rule::Cardinality(slot.name()));
     }
     entry_failing(schema, pairs, slot.name(), derived, base)

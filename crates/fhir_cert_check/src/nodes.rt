@@ -3,7 +3,7 @@
 ghost use Rattle.std.specs.Prelude.{◌≡◌};
 ghost use Rattle.std.specs.Option.{option_copied};
 ghost use Rattle.fhir_schema.specs.Schemas.{entry_of};
-ghost use Rattle.fhir_facets.specs.Counts.{count_narrower};
+ghost use Rattle.fhir_facets.specs.Cardinality.{cardinality_narrower};
 ghost use Rattle.fhir_cert_check.specs.Rules.{elements_answer, is_forbidden_at, has_item_pair};
 ghost use Rattle.fhir_cert_check.specs.PairSet.{has_in};
 
@@ -12,9 +12,9 @@ use fhir_certificate::{NodePair, Pair};
 use fhir_facets::{Cardinality, Facet, is_forbidden};
 use fhir_schema::{NodeRef, Schema, Slot};
 
-/// Whether the bounds of the derived element lie within those of the base's.
-pub(crate) fn count_answers(schema: &Schema, n: NodeRef, m: NodeRef) -> bool
-    ensures { result ≡ elements_answer count_narrower schema.now n m }
+/// Whether the cardinality of the derived element lies within that of the base's.
+pub(crate) fn cardinality_answers(schema: &Schema, n: NodeRef, m: NodeRef) -> bool
+    ensures { result ≡ elements_answer cardinality_narrower schema.now n m }
 {
     match (schema.element(n), schema.element(m)) {
         (_, None) => true,

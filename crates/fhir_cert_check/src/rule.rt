@@ -39,7 +39,7 @@ pub enum Rule<'s> {
     Children,
     /// `slot`: the derived node has a slot of the base node's name.
     Slot(&'s str),
-    /// `cardinality`: the bounds of the derived node's slot lie within those of the base node's (ElementDefinition, min and
+    /// `cardinality`: the cardinality of the derived node's slot lies within that of the base node's (ElementDefinition, min and
     /// max).
     Cardinality(&'s str),
     /// `entry`: there is a pair for the elements of the slot.
@@ -52,7 +52,7 @@ pub enum Rule<'s> {
     Slice { name: &'s str, slice: &'s str },
     /// `criteria`: the two slices are told apart by the same (ElementDefinition, slicing.discriminator).
     Criteria { name: &'s str, slice: &'s str },
-    /// `bounds`: the bounds of the derived node's slice lie within those of the base node's; of a slot where no item may be, that
+    /// `bounds`: the cardinality of the derived node's slice lies within that of the base node's; of a slot where no item may be, that
     /// the base node's slice asks for none (ElementDefinition, min and max).
     Bounds { name: &'s str, slice: &'s str },
 }

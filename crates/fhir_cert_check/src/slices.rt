@@ -6,7 +6,7 @@ ghost use Rattle.std.specs.List.{flat_map};
 ghost use Rattle.fhir_json.specs.Bytes.{is_empty};
 ghost use Rattle.fhir_schema.specs.Schemas.{element_at, entry_of, slices, is_closed};
 ghost use Rattle.fhir_elements.specs.Tests.{first_of};
-ghost use Rattle.fhir_facets.specs.Counts.{count_narrower, are_enough};
+ghost use Rattle.fhir_facets.specs.Cardinality.{cardinality_narrower, are_enough};
 ghost use Rattle.fhir_slicing.specs.SameCriteria.{same_criteria};
 ghost use Rattle.fhir_cert_check.specs.Rule.{entry, closed, slice, criteria, bounds};
 ghost use Rattle.fhir_cert_check.specs.Rules.{elements_answer, is_forbidden_at, has_item_pair, is_paired, slice_rules, entry_rules};
@@ -14,7 +14,7 @@ ghost use Rattle.fhir_cert_check.specs.Rules.{is_shared, slices_shared, closed_a
 ghost use Rattle.fhir_cert_check.specs.Views.{rule_name};
 ghost use Rattle.fhir_cert_check.specs.PairSet.{has_in};
 
-use crate::nodes::{count_answers, entry_of, has_item_pair, is_forbidden_at};
+use crate::nodes::{cardinality_answers, entry_of, has_item_pair, is_forbidden_at};
 use crate::pair_set::PairSet;
 use crate::rule::Rule;
 use fhir_facets::are_enough;
@@ -39,13 +39,13 @@ fn own_slice_failing<'s>(
 ) -> Option<Rule<'s>>
     ensures { option_map rule_name result ≡ first_of
         ((same_criteria schema.now n m, criteria name.now own.now)
-        ∷ (elements_answer count_narrower schema.now n m, bounds name.now own.now)
+        ∷ (elements_answer cardinality_narrower schema.now n m, bounds name.now own.now)
         ∷ (is_paired (has_in pairs.now) schema.now n m, slice name.now own.now) ∷ []) }
 {
     if !same_criteria(schema, n, m) {
         return Some(Rule::Criteria { name, slice: own });
     }
-    if !count_answers(schema, n, m) {
+    if !cardinality_answers(schema, n, m) {
         return Some(Rule::Bounds { name, slice: own });
     }
     if !is_paired(schema, pairs, n, m) {

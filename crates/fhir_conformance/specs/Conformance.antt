@@ -24,7 +24,7 @@ use Rattle.fhir_facets.specs.Values.{fixed_holds, pattern_holds, length_holds}
 use Rattle.fhir_facets.specs.Ranges.{Range, range_holds}
 use Rattle.fhir_facets.specs.Targets.{targets_hold}
 use Rattle.fhir_facets.specs.Bindings.{binding_to, binding_holds, IsFair}
-use Rattle.fhir_facets.specs.Counts.{are_enough, are_within}
+use Rattle.fhir_facets.specs.Cardinality.{are_enough, are_within}
 use Rattle.fhir_slicing.specs.Belonging.{is_apart, is_sliced}
 use Rattle.fhir_conformance.specs.Asks.{ElementRuleName, root_type, fixed, pattern, range, length_limit, binding, too_few, too_many, too_few_in, too_many_in, apart, in_a_slice, constraint}
 use Rattle.fhir_conformance.specs.Asks.{Ask, own, types as of_types, profile as as_profile, root as as_root, child, places_of, root_asks, inner_asks}

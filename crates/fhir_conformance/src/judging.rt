@@ -9,7 +9,7 @@ ghost use Rattle.fhir_schema.specs.Expressions.{constraint_at};
 ghost use Rattle.fhir_schema.specs.Schemas.{element_at};
 ghost use Rattle.fhir_instance.specs.View.{item_of};
 ghost use Rattle.fhir_facets.specs.Carried.{range_unread, constraint_unread};
-ghost use Rattle.fhir_facets.specs.Counts.{are_enough, are_within};
+ghost use Rattle.fhir_facets.specs.Cardinality.{are_enough, are_within};
 ghost use Rattle.fhir_facets.specs.Views.{view_seen, holding_under, IsCarried};
 ghost use Rattle.fhir_conformance.specs.Conformance.{seen, constraint_passes, constraint_holds, fixed_at, pattern_at, range_at, length_at, binding_at, at_element, entry_allows, count_in, rule_holds};
 ghost use Rattle.fhir_conformance.specs.Asks.{constraint as constraint_rule};

@@ -5,7 +5,7 @@ pub mod Values
 pub mod Ranges
 pub mod Targets
 pub mod Bindings
-pub mod Counts
+pub mod Cardinality
 pub mod Carried
 pub mod Views
 pub mod Example

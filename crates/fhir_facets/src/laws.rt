@@ -6,7 +6,7 @@ ghost use Rattle.fhir_elements.specs.Element.{Element};
 ghost use Rattle.fhir_elements.specs.TypeEntry.{TypeEntry};
 ghost use Rattle.fhir_schema.specs.Schemas.{SchemaValue};
 ghost use Rattle.fhir_facets.specs.Bindings.{Binding, binding_to, binding_holds, binding_narrower, IsFair};
-ghost use Rattle.fhir_facets.specs.Counts.{count_holds, count_narrower};
+ghost use Rattle.fhir_facets.specs.Cardinality.{cardinality_holds, cardinality_narrower};
 ghost use Rattle.fhir_facets.specs.Ranges.{Range, range_holds, range_narrower};
 ghost use Rattle.fhir_facets.specs.Seen.{Seen};
 ghost use Rattle.fhir_facets.specs.Targets.{targets_hold, targets_narrower};
@@ -37,8 +37,8 @@ pub fn narrower_holds()
     ensures binding { (s : SchemaValue) (m : Meaning) (own base : Text) (x : Seen) → IsFair s m
         → IsTrue (binding_narrower (binding_to s own) (binding_to s base))
         → IsTrue (binding_holds m (binding_to s own) x) → IsTrue (binding_holds m (binding_to s base) x) }
-    ensures count { (e base : Element) (n : ℕ) → IsTrue (count_narrower e base)
-        → IsTrue (count_holds e n) → IsTrue (count_holds base n) }
+    ensures count { (e base : Element) (n : ℕ) → IsTrue (cardinality_narrower e base)
+        → IsTrue (cardinality_holds e n) → IsTrue (cardinality_holds base n) }
 {
     equivalence();
     fitting();

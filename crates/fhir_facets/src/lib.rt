@@ -19,7 +19,7 @@
 mod bindings;
 mod bounds;
 mod compact;
-mod counts;
+mod cardinality;
 mod facet;
 mod holding;
 mod identity;
@@ -34,7 +34,7 @@ mod view;
 mod worked;
 
 pub use bindings::Binding;
-pub use counts::{Cardinality, are_enough, are_within, is_forbidden};
+pub use cardinality::{Cardinality, are_enough, are_within, is_forbidden};
 pub use facet::Facet;
 pub use holding::Holding;
 pub use identity::identical;

@@ -40,7 +40,7 @@ fn missing_id_text(alloc: Global, element: Option<usize>) -> Result<String, Allo
     format!(in alloc; "element {place} of the snapshot, counted from 0, has no `id`")
 }
 
-fn bounds_text(alloc: Global, element: &ElementDef) -> Result<String, AllocError> {
+fn cardinality_text(alloc: Global, element: &ElementDef) -> Result<String, AllocError> {
     let min = element.min().unwrap_or(0);
     match element.max() {
         Some(Max::UpTo(max)) => format!(in alloc; "`min` {min} is over `max` {max}"),
@@ -135,9 +135,9 @@ impl<'s> Blamed<'s> {
         format!(in alloc; "`{name}` is no value of its type")
     }
 
-    fn bounds_text(self, alloc: Global) -> Result<String, AllocError> {
+    fn cardinality_text(self, alloc: Global) -> Result<String, AllocError> {
         match self.element() {
-            Some(element) => bounds_text(alloc, element),
+            Some(element) => cardinality_text(alloc, element),
             None => String::from_str(alloc, fixed_text(self.blame.cause)),
         }
     }
@@ -257,7 +257,7 @@ impl<'s> Blamed<'s> {
             Cause::TwoForms(stem) => format!(in alloc; "`{stem}` is given in two types"),
             Cause::WrongBound(stem) => self.bound_text(alloc, stem),
             Cause::UnknownPrimitive => self.primitive_text(alloc),
-            Cause::MinOverMax => self.bounds_text(alloc),
+            Cause::MinOverMax => self.cardinality_text(alloc),
             Cause::RepeatedType(place) => self.repeated_text(alloc, place),
             Cause::MissingId => missing_id_text(alloc, self.blame.element),
             Cause::UnreadableId => format!(in alloc; "`{}` is no id of an element", self.own_id()),

@@ -48,7 +48,7 @@ fn most_text(alloc: Global, most: Option<Max>) -> Result<String, AllocError> {
     }
 }
 
-fn bounds_text(alloc: Global, element: Option<&ElementDef>) -> Result<String, AllocError> {
+fn cardinality_text(alloc: Global, element: Option<&ElementDef>) -> Result<String, AllocError> {
     let Some(element) = element else {
         return String::from_str(alloc, "nothing");
     };
@@ -159,8 +159,8 @@ enum Field<'r> {
     Range,
     Length,
     Binding,
-    SlotBounds(&'r str),
-    SliceBounds { slot: &'r str, slice: &'r str },
+    SlotCardinality(&'r str),
+    SliceCardinality { slot: &'r str, slice: &'r str },
 }
 
 // What is said of a pair that fails a rule: what both elements say by a field, or what isn't there.
@@ -184,7 +184,7 @@ fn shown_of(rule: Rule<'_>) -> Shown<'_> {
         ),
         Rule::Children => Shown::Lacking("no `kids` line pairs the children of the two elements"),
         Rule::Slot(_) => Shown::Lacking("the derived profile has no such element there"),
-        Rule::Cardinality(name) => Shown::Compared(Field::SlotBounds(name)),
+        Rule::Cardinality(name) => Shown::Compared(Field::SlotCardinality(name)),
         Rule::Entry(_) => Shown::Lacking("no `item` line pairs the two elements of this name"),
         Rule::Closed(_) => Shown::Lacking(
             "the base allows items in slices alone, and the derived profile others",
@@ -193,27 +193,27 @@ fn shown_of(rule: Rule<'_>) -> Shown<'_> {
             "the derived profile has no such slice, or no `item` line pairs the two",
         ),
         Rule::Criteria { .. } => Shown::Lacking("the two slices are not told apart by the same"),
-        Rule::Bounds { name, slice } => Shown::Compared(Field::SliceBounds { slot: name, slice }),
+        Rule::Bounds { name, slice } => Shown::Compared(Field::SliceCardinality { slot: name, slice }),
     }
 }
 
-fn slot_bounds_text(
+fn slot_cardinality_text(
     alloc: Global,
     schema: &Schema,
     node: NodeRef,
     slot: &str,
 ) -> Result<String, AllocError> {
-    bounds_text(alloc, element_at(schema, slot_node(schema, node, slot)))
+    cardinality_text(alloc, element_at(schema, slot_node(schema, node, slot)))
 }
 
-fn slice_bounds_text(
+fn slice_cardinality_text(
     alloc: Global,
     schema: &Schema,
     node: NodeRef,
     slot: &str,
     slice: &str,
 ) -> Result<String, AllocError> {
-    bounds_text(
+    cardinality_text(
         alloc,
         element_at(schema, slice_node(schema, node, slot, slice)),
     )
@@ -236,8 +236,8 @@ fn field_text(
         Field::Range => range_text(alloc, element),
         Field::Length => Ok(length_text(alloc, element)?),
         Field::Binding => Ok(binding_text(alloc, element)?),
-        Field::SlotBounds(slot) => Ok(slot_bounds_text(alloc, schema, node, slot)?),
-        Field::SliceBounds { slot, slice } => Ok(slice_bounds_text(
+        Field::SlotCardinality(slot) => Ok(slot_cardinality_text(alloc, schema, node, slot)?),
+        Field::SliceCardinality { slot, slice } => Ok(slice_cardinality_text(
             alloc, schema, node, slot, slice,
         )?),
     }

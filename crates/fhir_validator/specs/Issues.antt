@@ -13,7 +13,7 @@ use Rattle.fhir_schema.specs.Covers.{type_at}
 use Rattle.fhir_schema.specs.Expressions.{constraint_at}
 use Rattle.fhir_instance.specs.Items.{Item, Place, kids_of}
 use Rattle.fhir_instance.specs.Typing.{Types}
-use Rattle.fhir_facets.specs.Counts.{least_of}
+use Rattle.fhir_facets.specs.Cardinality.{least_of}
 use Rattle.fhir_facets.specs.Views.{unread_seen}
 use Rattle.fhir_slicing.specs.Belonging.{two_slices}
 use Rattle.fhir_conformance.specs.Asks as asked

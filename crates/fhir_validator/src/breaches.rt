@@ -3,7 +3,7 @@
 ghost use Rattle.std.specs.Prelude.{◌≡◌, Some, IfOk};
 ghost use Rattle.std.specs.Option.{option_map_or, option_and_then};
 ghost use Rattle.fhir_schema.specs.Schemas.{element_at};
-ghost use Rattle.fhir_facets.specs.Counts.{least_of};
+ghost use Rattle.fhir_facets.specs.Cardinality.{least_of};
 ghost use Rattle.fhir_conformance.specs.Positions.{kid_at};
 ghost use Rattle.fhir_conformance.specs.Views.{rule_name, IsIndexOf};
 ghost use Rattle.fhir_instance.specs.Items.{kids_of};

@@ -1,6 +1,6 @@
 use Rattle.std.proofs.Common.{◌∷◌, sym, ◌∙◌}
 use Rattle.fhir_elements.specs.Tests.{first_of}
-use Rattle.fhir_facets.specs.Counts.{count_narrower}
+use Rattle.fhir_facets.specs.Cardinality.{cardinality_narrower}
 use Rattle.fhir_cert_check.specs.Rule.{cardinality}
 use Rattle.fhir_cert_check.specs.Rules.{elements_answer, entry_rules}
 use Rattle.fhir_cert_check.specs.PairSet.{has_in}
@@ -15,7 +15,7 @@ returns c =
     let derived = c.entry_of-derived.result in
     let base = c.entry_of-base.result in
     c.entry_failing.ensures
-    ∙ sym (first_holds (elements_answer count_narrower s derived base) (cardinality name) (entry_rules has s name derived base)
-    (sym c.count_answers.ensures ∙ c.if-not-count_answers.false))
-    ∙ (λ i. first_of ((elements_answer count_narrower s (c.entry_of-derived.ensures i) (c.entry_of-base.ensures i), cardinality (c.name-2.ensures i))
+    ∙ sym (first_holds (elements_answer cardinality_narrower s derived base) (cardinality name) (entry_rules has s name derived base)
+    (sym c.cardinality_answers.ensures ∙ c.if-not-cardinality_answers.false))
+    ∙ (λ i. first_of ((elements_answer cardinality_narrower s (c.entry_of-derived.ensures i) (c.entry_of-base.ensures i), cardinality (c.name-2.ensures i))
     ∷ entry_rules has s (c.name-2.ensures i) (c.entry_of-derived.ensures i) (c.entry_of-base.ensures i)))

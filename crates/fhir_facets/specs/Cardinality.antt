@@ -17,8 +17,8 @@ abbrev pub are_within : Element → ℕ → Bool
 are_within e n = option_map_or (is_within n) e.max true
 
 -- so many items lie within the element's bounds
-abbrev pub count_holds : Element → ℕ → Bool
-count_holds e n = are_enough e n && are_within e n
+abbrev pub cardinality_holds : Element → ℕ → Bool
+cardinality_holds e n = are_enough e n && are_within e n
 
 -- an upper bound within another, where none is the widest
 abbrev pub max_narrower : Max → Max → Bool
@@ -30,8 +30,8 @@ abbrev pub most_narrower : Option Max → Option Max → Bool
 most_narrower p q = option_map_or (λ most. option_map_or (λ own. max_narrower own most) p false) q true
 
 -- the element's bounds lie within the base element's
-abbrev pub count_narrower : Element → Element → Bool
-count_narrower e base = nat_le (least_of base) (least_of e) && most_narrower e.max base.max
+abbrev pub cardinality_narrower : Element → Element → Bool
+cardinality_narrower e base = nat_le (least_of base) (least_of e) && most_narrower e.max base.max
 
 abbrev pub allows_none : Max → Bool
 allows_none Unbounded = false

@@ -3,7 +3,7 @@
 ghost use Rattle.std.specs.Prelude.{◌≡◌, [], Option};
 ghost use Rattle.std.specs.Option.{option_map_or};
 ghost use Rattle.fhir_elements.specs.Max.{is_within};
-ghost use Rattle.fhir_facets.specs.Counts.{least_of, are_enough, are_within, count_holds, max_narrower, most_narrower, count_narrower, allows_none, is_forbidden};
+ghost use Rattle.fhir_facets.specs.Cardinality.{least_of, are_enough, are_within, cardinality_holds, max_narrower, most_narrower, cardinality_narrower, allows_none, is_forbidden};
 
 use crate::facet::Facet;
 use crate::holding::Holding;
@@ -78,11 +78,11 @@ fn most_narrower(own: Option<Max>, base: Option<Max>) -> bool
 }
 
 impl<'a> Facet<'a, usize> for Cardinality<'_> {
-    ghost meant = { λ m bounds count. count_holds bounds.0.now count };
+    ghost meant = { λ m cardinality count. cardinality_holds cardinality.0.now count };
 
-    ghost unread_rules = { λ bounds asked. [] };
+    ghost unread_rules = { λ cardinality asked. [] };
 
-    ghost is_narrower = { λ bounds base. count_narrower bounds.0.now base.0.now };
+    ghost is_narrower = { λ cardinality base. cardinality_narrower cardinality.0.now base.0.now };
 
     fn holds(&self, asked: &usize) -> Holding<'a> {
         Holding::of(are_enough(self.0, *asked) && are_within(self.0, *asked))
