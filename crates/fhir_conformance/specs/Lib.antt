@@ -3,6 +3,7 @@ pub mod Asks
 pub mod Conformance
 pub mod Meeting
 pub mod Example
+pub mod Recipes
 pub mod Letters
 pub mod Questions
 pub mod Views

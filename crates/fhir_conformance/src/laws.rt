@@ -1,6 +1,6 @@
 //! Laws: what the definitions say of one another.
 
-ghost use Rattle.std.specs.Prelude.{◌≡◌, List, [], Bool, true, false, IsTrue, codes};
+ghost use Rattle.std.specs.Prelude.{◌≡◌, List, [], ◌∷◌, Bool, true, false, IsTrue, codes};
 ghost use Rattle.std.specs.List.{list_all};
 ghost use Rattle.fhir_json.specs.Tree.{Text, Tree, no_members};
 ghost use Rattle.fhir_nodes.specs.declared.node.NodeRef.{NodeRef};
@@ -11,6 +11,8 @@ ghost use Rattle.fhir_conformance.specs.Asks.{root_asks};
 ghost use Rattle.fhir_conformance.specs.Conformance.{Interpretation, constant, Around, outermost, ask_holds, conforms, IsFairEverywhere, Conforms};
 ghost use Rattle.fhir_conformance.specs.Meeting.{Met, unread_at};
 ghost use Rattle.fhir_conformance.specs.Example.{schema, bare, noted, unknown};
+ghost use Rattle.fhir_conformance.specs.Recipes.{recipes, untitled, of_steps};
+ghost use Rattle.fhir_conformance.specs.Recipes.{titled as titled_recipe};
 ghost use Rattle.fhir_conformance.specs.Questions.{questions, identified, texted, nested, nested_resources};
 ghost use Rattle.fhir_conformance.specs.Letters.{letters, given, title, from, answering, coded, counted, memo, one_name, three_names};
 
@@ -111,4 +113,29 @@ pub fn questions_example()
         → Conforms questions meaning (codes "urn:Questionnaire") (nested_resources (identified no_members)) }
     ensures nameless_within { (meaning : Interpretation)
         → ¬ Conforms questions meaning (codes "urn:Questionnaire") (nested_resources texted) }
+{}
+
+/// The definitions at work on constraints. A recipe with a title conforms to a profile whose one error is true, though its warning
+/// isn't (`titled`), and one without doesn't (`untitled`). Of two errors both have to be true (`both`). What an expression that isn't read
+/// says is open (`unread`, `unread_holds`). At the title `%context` is the title and `%resource` the recipe (`context`).
+pub fn constraints_example()
+    ensures titled { (meaning : Interpretation) → Conforms recipes meaning (codes "urn:titled") titled_recipe }
+    ensures untitled { (meaning : Interpretation) → ¬ Conforms recipes meaning (codes "urn:titled") untitled }
+    ensures both { (meaning : Interpretation) → ¬ Conforms recipes meaning (codes "urn:both") titled_recipe }
+    ensures unread { ¬ Conforms recipes (constant false) (codes "urn:unread") titled_recipe }
+    ensures unread_holds { Conforms recipes (constant true) (codes "urn:unread") titled_recipe }
+    ensures context { (meaning : Interpretation) → Conforms recipes meaning (codes "urn:context") titled_recipe }
+{}
+
+/// The definitions at work on slices of a recipe's steps. Where they are closed each step is in one (`sliced`, `in_none`), and else
+/// needn't be (`open`). There is a step to boil (`too_few`), and one alone (`too_many`). A step of a slice conforms to the slice's element
+/// (`long`), and is in no other slice (`in_two`).
+pub fn slices_example()
+    ensures sliced { (meaning : Interpretation) → Conforms recipes meaning (codes "urn:closed") (of_steps (codes "boil" ∷ codes "fry" ∷ [])) }
+    ensures in_none { (meaning : Interpretation) → ¬ Conforms recipes meaning (codes "urn:closed") (of_steps (codes "boil" ∷ codes "bake" ∷ [])) }
+    ensures open { (meaning : Interpretation) → Conforms recipes meaning (codes "urn:open") (of_steps (codes "boil" ∷ codes "bake" ∷ [])) }
+    ensures too_few { (meaning : Interpretation) → ¬ Conforms recipes meaning (codes "urn:open") (of_steps (codes "fry" ∷ [])) }
+    ensures too_many { (meaning : Interpretation) → ¬ Conforms recipes meaning (codes "urn:open") (of_steps (codes "boil" ∷ codes "boil" ∷ [])) }
+    ensures long { (meaning : Interpretation) → ¬ Conforms recipes meaning (codes "urn:open") (of_steps (codes "boil" ∷ codes "salt" ∷ [])) }
+    ensures in_two { (meaning : Interpretation) → ¬ Conforms recipes meaning (codes "urn:doubly") (of_steps (codes "boil" ∷ [])) }
 {}

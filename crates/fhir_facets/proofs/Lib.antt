@@ -6,3 +6,4 @@ mod KeptBounds
 mod KeptTargets
 mod KeptBindings
 mod Among
+mod Itself

@@ -42,6 +42,10 @@ one = object (member (codes "value") (number (codes "1")) no_members)
 abbrev pub one_metre : Tree
 one_metre = object (member (codes "unit") (string (codes "m")) (member (codes "value") (number (codes "1")) no_members))
 
+-- `{"reference": ..}`
+abbrev pub reference : Text → Seen
+reference to = plain (codes "Reference") (object (member (codes "reference") (string to) no_members))
+
 -- ---- codes
 
 -- `{"system": "urn:s", "code": ..}`

@@ -1,15 +1,16 @@
 //! Laws: what the definitions say of one another.
 
-ghost use Rattle.std.specs.Prelude.{ℕ, ℤ, Bool, IsTrue};
+ghost use Rattle.std.specs.Prelude.{◌≡◌, ℕ, ℤ, Bool, None, Some, IsTrue, codes};
 ghost use Rattle.fhir_json.specs.Tree.{Text, Tree};
 ghost use Rattle.fhir_elements.specs.Element.{Element};
 ghost use Rattle.fhir_elements.specs.TypeEntry.{TypeEntry};
 ghost use Rattle.fhir_schema.specs.Schemas.{SchemaValue};
 ghost use Rattle.fhir_facets.specs.Bindings.{Binding, binding_to, binding_holds, binding_narrower, IsFair};
+ghost use Rattle.fhir_facets.specs.Example.{reference};
 ghost use Rattle.fhir_facets.specs.Cardinality.{cardinality_holds, cardinality_narrower};
 ghost use Rattle.fhir_facets.specs.Ranges.{Range, range_holds, range_narrower};
 ghost use Rattle.fhir_facets.specs.Seen.{Seen};
-ghost use Rattle.fhir_facets.specs.Targets.{targets_hold, targets_narrower};
+ghost use Rattle.fhir_facets.specs.Targets.{referred_type, targets_hold, targets_narrower};
 ghost use Rattle.fhir_facets.specs.Unread.{Unread, Meaning};
 ghost use Rattle.fhir_facets.specs.Values.{fixed_holds, fixed_narrower, pattern_holds, pattern_narrower, fixed_fits, length_holds, length_narrower};
 
@@ -48,6 +49,27 @@ pub fn narrower_holds()
     codes_of_subset();
     subsets();
 }
+
+/// Each facet but bounds is as narrow as itself. So a profile that leaves an element as it is narrows it.
+pub fn narrower_itself()
+    ensures fixed { (value : Tree) → IsTrue (fixed_narrower value value) }
+    ensures pattern { (pattern : Tree) → IsTrue (pattern_narrower pattern pattern) }
+    ensures length { (most : ℤ) → IsTrue (length_narrower most most) }
+    ensures cardinality { (e : Element) → IsTrue (cardinality_narrower e e) }
+    ensures binding { (b : Binding) → IsTrue (binding_narrower b b) }
+    ensures targets { (s : SchemaValue) (e : TypeEntry) → IsTrue (targets_narrower s e e) }
+{
+    equivalence();
+    fitting();
+}
+
+/// A reference that isn't relative, as `#p` or `http://x/Person/1`, may have any target (FHIR R4, References, literal references).
+pub fn other_references()
+    ensures any { (s : SchemaValue) (m : Meaning) (e : TypeEntry) (x : Seen) → referred_type x ≡ None → IsTrue (targets_hold s m e x) }
+    ensures contained { referred_type (reference (codes "#p")) ≡ None }
+    ensures absolute { referred_type (reference (codes "http://x/Person/1")) ≡ None }
+    ensures relative { referred_type (reference (codes "Person/1")) ≡ Some (codes "Person") }
+{}
 
 /// Where more of the unread rules hold, no facet holds of less.
 pub fn positive()

@@ -45,6 +45,14 @@ quantity value unit =
     (kid (codes "unit") (leaf (codes "string") (string unit))
     no_kids))
 
+-- the same in a unit by its code
+abbrev pub coded_quantity : Text → Text → Item
+coded_quantity value code =
+    whole (codes "Quantity")
+    (kid (codes "value") (leaf (codes "decimal") (number_text value))
+    (kid (codes "code") (leaf (codes "code") (string code))
+    no_kids))
+
 -- an element with a part of each of these two names
 abbrev pub two_parts : Text → Text → Text → Text → Item
 two_parts first a second b =

@@ -1,20 +1,22 @@
 //! Laws: what the definitions say.
 
 ghost use Rattle.std.specs.Prelude.{◌≡◌, ◌↔◌, [], ◌∷◌, ◌&&◌, map, true, false, Option, None, Some, Result, Ok, Err, List, codes, IsTrue, IsErr};
-ghost use Rattle.std.specs.List.{Contains, filter, list_any, list_all};
+ghost use Rattle.std.specs.List.{Contains as Has, filter, list_any, list_all};
 ghost use Rattle.fhir_json.specs.Tree.{Text, Tree};
 ghost use Rattle.fhir_schema.specs.Covers.{derives};
 ghost use Rattle.fhir_instance.specs.Items.{Item, item, Kids, type_of};
-ghost use Rattle.fhir_fp_syntax.specs.Expression.{Expression, nothing, boolean, name, child, call, typed, filtered, binary};
+ghost use Rattle.fhir_fp_syntax.specs.Expression.{Expression, nothing, boolean, this, name, child, call, typed, filtered, binary};
 ghost use Rattle.fhir_fp_syntax.specs.declared.expr.Operator.{Operator};
-ghost use Rattle.fhir_fp_syntax.specs.declared.expr.Operator.TheVariants.{And, Or, Xor, Implies};
+ghost use Rattle.fhir_fp_syntax.specs.declared.expr.Operator.TheVariants.{And, Or, Xor, Implies, In, Contains};
 ghost use Rattle.fhir_fp_syntax.specs.declared.expr.Function.{Function};
 ghost use Rattle.fhir_fp_syntax.specs.declared.expr.Function.TheVariants.{Not};
 ghost use Rattle.fhir_fp_syntax.specs.declared.expr.TypeTest.{TypeTest};
+ghost use Rattle.fhir_fp_syntax.specs.declared.expr.TypeTest.TheVariants.{Is, As, OfType};
 ghost use Rattle.fhir_fp_syntax.specs.declared.expr.Filter.{Filter};
 ghost use Rattle.fhir_fp_syntax.specs.declared.expr.Filter.TheVariants.{Where, Exists, All};
 ghost use Rattle.fhir_fp_eval.specs.declared.fault.EvalFault.{EvalFault};
 ghost use Rattle.fhir_fp_eval.specs.Values.{Plain, node, truth, World, item_value};
+ghost use Rattle.fhir_fp_eval.specs.Comparing.{quantity_order, order_of};
 ghost use Rattle.fhir_fp_eval.specs.Equality.{items_named, in_turn, equal};
 ghost use Rattle.fhir_fp_eval.specs.Meaning.{den, criteria_hold, verdict, is_true};
 ghost use Rattle.fhir_fp_eval.specs.Example.{is, none, table, truths, given_by};
@@ -51,7 +53,7 @@ pub fn faults_pass()
     ensures right { (w : World) (op : Operator) (a b : Expression) (x : Plain) (vs : List Plain) (e : EvalFault)
         → den w a x ≡ Ok vs → den w b x ≡ Err e → den w (binary op a b) x ≡ Err e }
     ensures asked { (w : World) (f : Filter) (a c : Expression) (x : Plain) (vs : List Plain) (v : Plain) (e : EvalFault)
-        → den w a x ≡ Ok vs → Contains vs v → criteria_hold (den w c) v ≡ Err e → IsErr (den w (filtered f a c) x) }
+        → den w a x ≡ Ok vs → Has vs v → criteria_hold (den w c) v ≡ Err e → IsErr (den w (filtered f a c) x) }
 {}
 
 /// Of the values that an expression gives, `where(c)` gives those of which c is true, in their order; `exists(c)` says whether
@@ -91,4 +93,30 @@ pub fn equality_by_name()
         → item_value (item type json ks) ≡ None → item_value (item type other ls) ≡ None
         → (equal (item type json ks) (item type other ls) ≡ Some true)
         ↔ ((n : Text) → in_turn (map equal (items_named n ks)) (items_named n ls) ≡ Some true) }
+{}
+
+/// Type tests of one item go by its type and the chain of its bases (FHIRPath N1, section 6.3): `is` is true, and `ofType` and
+/// `as` give the item, where the type is one of these (`is_of`, `of_type`, `cast`), and else `is` is false (`is_other`).
+pub fn type_tests()
+    ensures is_of { (w : World) (x : Item) (type : Text) → IsTrue (derives w.schema (type_of x) type)
+        → den w (typed Is this type) (node x) ≡ is true }
+    ensures is_other { (w : World) (x : Item) (type : Text) → derives w.schema (type_of x) type ≡ false
+        → den w (typed Is this type) (node x) ≡ is false }
+    ensures of_type { (w : World) (x : Item) (type : Text) → IsTrue (derives w.schema (type_of x) type)
+        → den w (typed OfType this type) (node x) ≡ Ok (node x ∷ []) }
+    ensures cast { (w : World) (x : Item) (type : Text) → IsTrue (derives w.schema (type_of x) type)
+        → den w (typed As this type) (node x) ≡ Ok (node x ∷ []) }
+{}
+
+/// Items of two types have an order where Quantity is one of both's bases, or the type itself (FHIR R4, Data Types, Quantity).
+pub fn order_of_quantities()
+    ensures { (w : World) (x y : Item) → item_value x ≡ None → item_value y ≡ None
+        → IsTrue (derives w.schema (type_of x) (codes "Quantity")) → IsTrue (derives w.schema (type_of y) (codes "Quantity"))
+        → order_of w.schema (node x) (node y) ≡ Ok (quantity_order x y) }
+{}
+
+/// `contains` is `in` turned round (FHIRPath N1, section 6.4).
+pub fn contains_is_in()
+    ensures { (w : World) (a b : Expression) (x : Plain) (vs us : List Plain) → den w a x ≡ Ok vs → den w b x ≡ Ok us
+        → den w (binary Contains a b) x ≡ den w (binary In b a) x }
 {}

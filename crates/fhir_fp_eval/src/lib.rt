@@ -47,7 +47,8 @@ mod worked;
 pub use evaluation::{eval, holds};
 pub use fault::EvalFault;
 pub use laws::{
-    criteria, equality_by_name, faults_pass, paths_by_type, true_expressions, truth_tables,
+    contains_is_in, criteria, equality_by_name, faults_pass, order_of_quantities, paths_by_type,
+    true_expressions, truth_tables, type_tests,
 };
 pub use value::{Env, Value};
 pub use worked::{equality_example, order_example, paths_example};

@@ -5,14 +5,14 @@ ghost use Rattle.fhir_json.specs.Tree.{string};
 ghost use Rattle.fhir_json.specs.Tree.{boolean as flag};
 ghost use Rattle.fhir_instance.specs.Items.{kid, no_kids};
 ghost use Rattle.fhir_decimal.specs.Whole.{count};
-ghost use Rattle.fhir_fp_syntax.specs.Expression.{nothing, boolean, this, context, name, call, typed, filtered, binary};
-ghost use Rattle.fhir_fp_syntax.specs.declared.expr.Operator.TheVariants.{Index, Intersect, Union, Less, LessOrEqual, Equal, NotEqual, In, And, Or, Implies};
-ghost use Rattle.fhir_fp_syntax.specs.declared.expr.Function.TheVariants.{Count, First, Exists, HasValue, Children, Descendants};
+ghost use Rattle.fhir_fp_syntax.specs.Expression.{nothing, boolean, this, resource, context, name, call, typed, filtered, binary};
+ghost use Rattle.fhir_fp_syntax.specs.declared.expr.Operator.TheVariants.{Index, Intersect, Union, Less, LessOrEqual, Greater, GreaterOrEqual, Equal, NotEqual, In, Contains, And, Or, Implies};
+ghost use Rattle.fhir_fp_syntax.specs.declared.expr.Function.TheVariants.{Count, First, Exists, Empty, HasValue, Children, Descendants};
 ghost use Rattle.fhir_fp_syntax.specs.declared.expr.Filter.TheVariants.{Exists as ExistsWhere};
 ghost use Rattle.fhir_fp_syntax.specs.declared.expr.TypeTest.TheVariants.{Is, As, OfType};
 ghost use Rattle.fhir_fp_eval.specs.declared.fault.EvalFault.TheVariants.{Several, Kind};
 ghost use Rattle.fhir_fp_eval.specs.Values.{node, number};
-ghost use Rattle.fhir_fp_eval.specs.Example.{is, none, leaf, whole, period, quantity, two_parts, twice, patient, given_by, between, given_names, digits, quoted, has_content, around};
+ghost use Rattle.fhir_fp_eval.specs.Example.{is, none, leaf, whole, period, quantity, coded_quantity, two_parts, twice, patient, given_by, between, given_names, digits, quoted, has_content, around};
 ghost use Rattle.fhir_fp_eval.specs.Meaning.{den};
 
 /// When values are equal (FHIRPath N1, section 6.1): numbers by value (`decimals`), values of two kinds not (`kinds`), a
@@ -58,6 +58,10 @@ pub fn order_example()
     ensures prefixes { given_by (binary Less (quoted (codes "a")) (quoted (codes "ab"))) ≡ is true }
     ensures itself { given_by (binary Less (quoted (codes "a")) (quoted (codes "a"))) ≡ is false }
     ensures at_most { given_by (binary LessOrEqual (digits (codes "1.0")) (digits (codes "1"))) ≡ is true }
+    ensures at_least { given_by (binary GreaterOrEqual (digits (codes "1")) (digits (codes "1.0"))) ≡ is true }
+    ensures not_at_least { given_by (binary GreaterOrEqual (digits (codes "1")) (digits (codes "2"))) ≡ is false }
+    ensures greater { given_by (binary Greater (digits (codes "2")) (digits (codes "1"))) ≡ is true }
+    ensures not_greater { given_by (binary Greater (digits (codes "1")) (digits (codes "1.0"))) ≡ is false }
     ensures dates { between Less (leaf (codes "date") (string (codes "2020-01")))
         (leaf (codes "date") (string (codes "2020-02"))) ≡ is true }
     ensures undecided { between Less (leaf (codes "date") (string (codes "2020")))
@@ -68,6 +72,7 @@ pub fn order_example()
     ensures booleans { given_by (binary Less (boolean false) (boolean true)) ≡ Err Kind }
     ensures amounts { between Less (quantity (codes "1.5") (codes "mg")) (quantity (codes "2") (codes "mg")) ≡ is true }
     ensures units { between Less (quantity (codes "1.5") (codes "mg")) (quantity (codes "2") (codes "g")) ≡ none }
+    ensures unit_codes { between Less (coded_quantity (codes "1") (codes "kg")) (coded_quantity (codes "2") (codes "g")) ≡ none }
     ensures items { given_by (binary Less this this) ≡ Err Kind }
 {}
 
@@ -92,6 +97,13 @@ pub fn paths_example()
         ≡ Ok (number (count 2) ∷ []) }
     ensures repeated { den (around (whole (codes "List") twice)) (call Count (binary Intersect (call Children context) (quoted (codes "A"))))
         (node patient) ≡ Ok (number (count 1) ∷ []) }
+    ensures exist { given_by (call Exists given_names) ≡ is true }
+    ensures none_exists { given_by (call Exists nothing) ≡ is false }
+    ensures filled { given_by (call Empty given_names) ≡ is false }
+    ensures nothing_is_empty { given_by (call Empty nothing) ≡ is true }
+    ensures nothing_in { given_by (binary In nothing given_names) ≡ none }
+    ensures contained { given_by (binary Contains given_names (quoted (codes "B"))) ≡ is true }
+    ensures around_it { den (around (whole (codes "List") twice)) resource (node (whole (codes "List") twice)) ≡ Ok (node patient ∷ []) }
     ensures own_type { given_by (typed Is this (codes "Patient")) ≡ is true }
     ensures others { given_by (typed OfType given_names (codes "code")) ≡ none }
     ensures cast { given_by (typed As this (codes "Patient")) ≡ Ok (node patient ∷ []) }

@@ -7,7 +7,7 @@ ghost use Rattle.fhir_schema.specs.Schemas.{SchemaValue, criteria};
 ghost use Rattle.fhir_instance.specs.Items.{Item};
 ghost use Rattle.fhir_slicing.specs.Belonging.{belongs};
 ghost use Rattle.fhir_slicing.specs.SameCriteria.{same_criteria};
-ghost use Rattle.fhir_slicing.specs.Parcels.{of_code, named, title as with_title, nameless, dated, undated, extension, is_of, is_in_a_slice};
+ghost use Rattle.fhir_slicing.specs.Parcels.{of_code, named, title as with_title, nameless, dated, dated_at_place, undated, of_bare_type, extension, is_of, is_in_a_slice, are_told_alike};
 
 use fhir_matching::{equivalence, fitting};
 
@@ -24,7 +24,9 @@ pub fn equal_criteria()
 /// (`by_value`), a blue one doesn't (`other_value`), and to no slice at all (`no_slice`). A sender that has the pattern and more
 /// belongs to the slice of that pattern (`by_pattern`, `other_pattern`). A stamp with a date belongs to the slice of those with
 /// one (`by_presence`, `not_there`), and not to that of those without (`by_absence`, `is_there`). A content belongs to the slice
-/// of its type (`by_type`, `other_type`), and an extension to that whose profile has its url (`by_url`, `other_url`).
+/// of its type (`by_type`, `other_type`), a paper also where its type rests on the slice's (`by_base_type`), and an extension to that
+/// whose profile has its url (`by_url`, `other_url`). Of two discriminators both have to hold (`by_both`, `by_one`). A value and a pattern
+/// that ask for the same are told apart by two kinds of discriminators (`of_two_kinds`), and those of one slice by the same (`itself`).
 pub fn belonging_examples()
     ensures by_value { IsTrue (is_of (codes "Parcel.label:red") (of_code (codes "red"))) }
     ensures other_value { is_of (codes "Parcel.label:red") (of_code (codes "blue")) ≡ false }
@@ -37,6 +39,11 @@ pub fn belonging_examples()
     ensures is_there { is_of (codes "Parcel.stamp:undated") dated ≡ false }
     ensures by_type { IsTrue (is_of (codes "Parcel.content[x]:contentCode") (of_code (codes "c"))) }
     ensures other_type { is_of (codes "Parcel.content[x]:contentCode") (named no_members) ≡ false }
+    ensures by_base_type { IsTrue (is_of (codes "Parcel.paper:papers") (of_bare_type (codes "Letter"))) }
+    ensures by_both { IsTrue (is_of (codes "Parcel.mark:whole") dated_at_place) }
+    ensures by_one { is_of (codes "Parcel.mark:whole") dated ≡ false }
+    ensures of_two_kinds { are_told_alike (codes "Parcel.label:red") (codes "Parcel.tint:red") ≡ false }
+    ensures itself { IsTrue (are_told_alike (codes "Parcel.label:red") (codes "Parcel.label:red")) }
     ensures by_url { IsTrue (is_of (codes "Parcel.extension:colour") (extension (codes "urn:colour"))) }
     ensures other_url { is_of (codes "Parcel.extension:colour") (extension (codes "urn:size")) ≡ false }
 {}

@@ -20,6 +20,10 @@ pub returns-clause-more : goal.returns-clause-more
 unfolding parts value_of value_order
 returns-clause-more c m = refl
 
+pub returns-clause-time : goal.returns-clause-time
+unfolding parts value_of value_order
+returns-clause-time c m = refl
+
 pub returns-clause-short : goal.returns-clause-short
 unfolding chars
 returns-clause-short c = refl

@@ -23,6 +23,22 @@ pub returns-clause-at_most : goal.returns-clause-at_most
 unfolding den values_where joined shared at_from of_types alike pairs order_of parts value_of value_order is_whole_value
 returns-clause-at_most c = refl
 
+pub returns-clause-at_least : goal.returns-clause-at_least
+unfolding den values_where joined shared at_from of_types alike pairs order_of parts value_of value_order is_whole_value
+returns-clause-at_least c = refl
+
+pub returns-clause-not_at_least : goal.returns-clause-not_at_least
+unfolding den values_where joined shared at_from of_types alike pairs order_of parts value_of value_order is_whole_value
+returns-clause-not_at_least c = refl
+
+pub returns-clause-greater : goal.returns-clause-greater
+unfolding den values_where joined shared at_from of_types alike pairs order_of parts value_of value_order is_whole_value
+returns-clause-greater c = refl
+
+pub returns-clause-not_greater : goal.returns-clause-not_greater
+unfolding den values_where joined shared at_from of_types alike pairs order_of parts value_of value_order is_whole_value
+returns-clause-not_greater c = refl
+
 pub returns-clause-dates : goal.returns-clause-dates
 unfolding den values_where joined shared at_from of_types alike pairs order_of parts value_of value_order is_whole_value
 returns-clause-dates c = refl
@@ -42,6 +58,10 @@ returns-clause-kinds c = refl
 pub returns-clause-booleans : goal.returns-clause-booleans
 unfolding den values_where joined shared at_from of_types alike pairs order_of parts value_of value_order is_whole_value
 returns-clause-booleans c = refl
+
+pub returns-clause-unit_codes : goal.returns-clause-unit_codes
+unfolding den values_where joined shared at_from of_types alike pairs order_of parts value_of value_order is_whole_value
+returns-clause-unit_codes c = refl
 
 pub returns-clause-items : goal.returns-clause-items
 unfolding den values_where joined shared at_from of_types alike pairs order_of parts value_of value_order is_whole_value

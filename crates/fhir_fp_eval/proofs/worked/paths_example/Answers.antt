@@ -87,6 +87,34 @@ pub returns-clause-repeated : goal.returns-clause-repeated
 unfolding den values_where joined shared at_from of_types alike pairs order_of parts value_of value_order is_whole_value
 returns-clause-repeated c = refl
 
+pub returns-clause-exist : goal.returns-clause-exist
+unfolding den values_where joined shared at_from of_types alike pairs order_of parts value_of value_order is_whole_value
+returns-clause-exist c = refl
+
+pub returns-clause-none_exists : goal.returns-clause-none_exists
+unfolding den values_where joined shared at_from of_types alike pairs order_of parts value_of value_order is_whole_value
+returns-clause-none_exists c = refl
+
+pub returns-clause-filled : goal.returns-clause-filled
+unfolding den values_where joined shared at_from of_types alike pairs order_of parts value_of value_order is_whole_value
+returns-clause-filled c = refl
+
+pub returns-clause-nothing_is_empty : goal.returns-clause-nothing_is_empty
+unfolding den values_where joined shared at_from of_types alike pairs order_of parts value_of value_order is_whole_value
+returns-clause-nothing_is_empty c = refl
+
+pub returns-clause-nothing_in : goal.returns-clause-nothing_in
+unfolding den values_where joined shared at_from of_types alike pairs order_of parts value_of value_order is_whole_value
+returns-clause-nothing_in c = refl
+
+pub returns-clause-contained : goal.returns-clause-contained
+unfolding den values_where joined shared at_from of_types alike pairs order_of parts value_of value_order is_whole_value
+returns-clause-contained c = refl
+
+pub returns-clause-around_it : goal.returns-clause-around_it
+unfolding den values_where joined shared at_from of_types alike pairs order_of parts value_of value_order is_whole_value
+returns-clause-around_it c = refl
+
 pub returns-clause-own_type : goal.returns-clause-own_type
 unfolding den values_where joined shared at_from of_types alike pairs order_of parts value_of value_order is_whole_value
 returns-clause-own_type c = refl

@@ -39,3 +39,18 @@ returns-clause-by_url c = refl
 
 pub returns-clause-other_url : goal.returns-clause-other_url
 returns-clause-other_url c = refl
+
+pub returns-clause-by_base_type : goal.returns-clause-by_base_type
+returns-clause-by_base_type c = refl
+
+pub returns-clause-by_both : goal.returns-clause-by_both
+returns-clause-by_both c = refl
+
+pub returns-clause-by_one : goal.returns-clause-by_one
+returns-clause-by_one c = refl
+
+pub returns-clause-of_two_kinds : goal.returns-clause-of_two_kinds
+returns-clause-of_two_kinds c = refl
+
+pub returns-clause-itself : goal.returns-clause-itself
+returns-clause-itself c = refl
