@@ -42,8 +42,9 @@ code_type = definition (codes "primitive-type") (codes "code") (with_snapshot
     (one_more (element (codes "code") (codes "0") (codes "*") no_members)
     (one_more (element (codes "code.id") (codes "0") (codes "1") (of_type system_string))
     (one_more (element (codes "code.extension") (codes "0") (codes "*") (of_type (codes "Extension")))
+    (one_more (element (codes "code.modifierExtension") (codes "0") (codes "*") (of_type (codes "Extension")))
     (one_more (element (codes "code.value") (codes "0") (codes "1") (of_type system_string))
-    no_items)))))
+    no_items))))))
 
 abbrev pub boolean_type : Tree
 boolean_type = definition (codes "primitive-type") (codes "boolean") (with_snapshot
@@ -227,6 +228,23 @@ of_abstract = resource_of (codes "Anyone") (codes "valueCode") (string (codes "c
 -- a companion whose id is empty
 abbrev pub empty_id : Tree
 empty_id = person_of (codes "_valueCode") (object (member (codes "id") (string []) no_members))
+
+-- a companion whose id is a number
+abbrev pub number_id : Tree
+number_id = person_of (codes "_valueCode") (object (member (codes "id") (number (codes "1")) no_members))
+
+-- a companion with modifier extensions, which the type has
+abbrev pub modified : Tree
+modified = person_of (codes "_valueCode") (object (member (codes "modifierExtension") (array (one_more extension no_items)) no_members))
+
+-- a code with a blank at its end, and a companion
+abbrev pub wrong_beside : Tree
+wrong_beside =
+    object
+    (member (codes "resourceType") (string (codes "Person"))
+    (member (codes "valueCode") (string (codes "c "))
+    (member (codes "_valueCode") companion
+    no_members)))
 
 -- null beside a companion, where one value must stand
 abbrev pub null_value : Tree
