@@ -4,4 +4,5 @@ pub mod Accounting
 pub mod View
 pub mod Spelled
 pub mod Found
+pub mod Misfits
 pub mod TypingExample

@@ -1,5 +1,8 @@
 //! Misfits.
 
+ghost use Rattle.std.specs.Prelude.{◌≡◌};
+ghost use Rattle.fhir_instance.specs.Misfits.{misfit_number};
+
 use fhir_json::Json;
 use std::fmt;
 
@@ -21,13 +24,16 @@ pub enum MisfitKind {
     Unparallel,
     /// No `resourceType`, or one that names no type that a resource may be of.
     UnknownType,
-    /// A growth of memory was of_misfit. Nothing is said of the value.
+    /// A growth of memory was refused. Nothing is said of the value.
     NoMemory,
 }
 
 impl MisfitKind {
-    fn number(&self) -> &'static str {
-        match *self {
+    /// The number that `Display` prints.
+    pub fn number(&self) -> &'static str
+        ensures { result.now ≡ misfit_number self.now }
+    {
+        match self {
             MisfitKind::UnknownProperty => "I1",
             MisfitKind::UnwantedArray => "I2",
             MisfitKind::MissingArray => "I3",
