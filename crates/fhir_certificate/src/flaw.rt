@@ -187,7 +187,10 @@ impl<'a> FlawList<'a> {
         if text == "end" {
             self.put(line, FlawKind::Expected(LinePart::LineFeed))
         } else if text.as_bytes().starts_with(b"end\n") {
-            self.put(line.saturating_add(1), FlawKind::Expected(LinePart::Nothing))
+            self.put(
+                line.saturating_add(1),
+                FlawKind::Expected(LinePart::Nothing),
+            )
         } else {
             self.put(line, FlawKind::Expected(LinePart::PairOrEnd))
         }

@@ -133,7 +133,14 @@ fn put_kids<'s>(
         ≡ asks_seen asked.old.items ++ kids_asks schema.now (item_of item.now) node) }
 {
     match schema.holder(node) {
-        Some(holder) => put_slots(asked, schema, item, kids_by_name, holder, schema.slots(holder)),
+        Some(holder) => put_slots(
+            asked,
+            schema,
+            item,
+            kids_by_name,
+            holder,
+            schema.slots(holder),
+        ),
         None => Ok(()),
     }
 }

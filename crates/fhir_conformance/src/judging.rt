@@ -216,7 +216,11 @@ fn has_enough_in(
     requires { IsIndexOf (item_of item.now) kids_by_name.now }
     ensures { result ≡ at_element schema.now (λ e. are_enough e (count_in schema.now node name.now (item_of item.now))) node }
 {
-    has_enough(schema, node, count_in(schema, item, kids_by_name, node, name))
+    has_enough(
+        schema,
+        node,
+        count_in(schema, item, kids_by_name, node, name),
+    )
 }
 
 fn has_no_more_in(
@@ -229,7 +233,11 @@ fn has_no_more_in(
     requires { IsIndexOf (item_of item.now) kids_by_name.now }
     ensures { result ≡ at_element schema.now (λ e. are_within e (count_in schema.now node name.now (item_of item.now))) node }
 {
-    has_no_more(schema, node, count_in(schema, item, kids_by_name, node, name))
+    has_no_more(
+        schema,
+        node,
+        count_in(schema, item, kids_by_name, node, name),
+    )
 }
 
 /// Whether a rule of a node's element holds of an item, of which these are the children, and that the nearest resource at
@@ -250,18 +258,43 @@ pub fn judge<'s, 't, 'a, 'j>(
     ensures carried { IfOk result (IsCarried (rule_unread schema.now (item_of item.now) (rule_name rule.entry) node)) }
 {
     match rule {
-        ElementRule::RootType => Ok(Holding::of(schema.covers(schema.type_code(node), item.code()))),
+        ElementRule::RootType => Ok(Holding::of(schema.covers(
+            schema.type_code(node),
+            item.code(),
+        ))),
         ElementRule::Fixed => Ok(judge_fixed(schema, item, node)),
         ElementRule::Pattern => Ok(judge_pattern(schema, item, node)),
         ElementRule::Range => Ok(judge_range(schema, item, node)),
         ElementRule::Length => Ok(judge_length(schema, item, node)),
         ElementRule::Binding => Ok(judge_binding(schema, item, node)),
-        ElementRule::TooFew(name) => Ok(Holding::of(has_enough(schema, node, kids_by_name.places(name).len()))),
-        ElementRule::TooMany(name) => Ok(Holding::of(has_no_more(schema, node, kids_by_name.places(name).len()))),
-        ElementRule::TooFewIn(name) => Ok(Holding::of(has_enough_in(schema, item, kids_by_name, node, name))),
-        ElementRule::TooManyIn(name) => Ok(Holding::of(has_no_more_in(schema, item, kids_by_name, node, name))),
+        ElementRule::TooFew(name) => Ok(Holding::of(has_enough(
+            schema,
+            node,
+            kids_by_name.places(name).len(),
+        ))),
+        ElementRule::TooMany(name) => Ok(Holding::of(has_no_more(
+            schema,
+            node,
+            kids_by_name.places(name).len(),
+        ))),
+        ElementRule::TooFewIn(name) => Ok(Holding::of(has_enough_in(
+            schema,
+            item,
+            kids_by_name,
+            node,
+            name,
+        ))),
+        ElementRule::TooManyIn(name) => Ok(Holding::of(has_no_more_in(
+            schema,
+            item,
+            kids_by_name,
+            node,
+            name,
+        ))),
         ElementRule::Apart(position) => Ok(Holding::of(is_apart_at(schema, item, node, position))),
-        ElementRule::InASlice(position) => Ok(Holding::of(is_sliced_at(schema, item, node, position))),
+        ElementRule::InASlice(position) => Ok(Holding::of(is_sliced_at(
+            schema, item, node, position,
+        ))),
         ElementRule::Constraint(position) => {
             judge_constraint(alloc, schema, resource, item, node, position)
         }

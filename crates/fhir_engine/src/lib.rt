@@ -34,8 +34,8 @@ mod meter;
 mod reply;
 mod request;
 mod session;
-mod wrong_reply;
 mod version;
+mod wrong_reply;
 
 pub use directory::{Opened, bytes_at, directory_at, open_asked};
 pub use engine::run;

@@ -48,7 +48,7 @@ module _ (s : SchemaValue) where
       and_from (list_any (target_narrower s t) (front ++ t ∷ ts)) (list_all (λ u. list_any (target_narrower s u) (front ++ t ∷ ts)) ts)
       (list_any-append (target_narrower s t) front (t ∷ ts)
       ∙ or_right (list_any (target_narrower s t) front) (list_any (target_narrower s t) (t ∷ ts))
-        (either (target_narrower s t t) (list_any (target_narrower s t) ts) (target_itself t)))
+      (either (target_narrower s t t) (list_any (target_narrower s t) ts) (target_itself t)))
       (subst (λ us. IsTrue (list_all (λ u. list_any (target_narrower s u) us) ts)) (append_assoc front (t ∷ []) ts) (each_among (front ++ t ∷ []) ts))
 
   pub targets_itself : (e : TypeEntry) → IsTrue (targets_narrower s e e)

@@ -13,7 +13,7 @@ ghost use Rattle.fhir_facets.specs.Views.{side_test, holding_under, view_seen, I
 
 use crate::holding::Holding;
 use crate::identity::identical;
-use crate::scale::{Scale, scale_of_bound, scale_of_code, same_scale};
+use crate::scale::{Scale, same_scale, scale_of_bound, scale_of_code};
 use crate::unread::Unread;
 use crate::view::View;
 use fhir_decimal::Decimal;

@@ -18,8 +18,8 @@
 
 mod bindings;
 mod bounds;
-mod compact;
 mod cardinality;
+mod compact;
 mod facet;
 mod holding;
 mod identity;

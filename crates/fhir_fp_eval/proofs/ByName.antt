@@ -153,7 +153,7 @@ of_names ks ls = of_texts (of_name ks ls) (map (λ s. s.name) (sides_of ks) ++ n
     others : (n : Text) → list_any (bytes_eq n) (map (λ s. s.name) (sides_of ks) ++ names_of ls) ≡ false → of_name ks ls n ≡ Some true
     others n none =
         let parts = neither (list_any (bytes_eq n) (map (λ s. s.name) (sides_of ks))) (list_any (bytes_eq n) (names_of ls))
-            (sym (list_any-append (map (λ s. s.name) (sides_of ks)) (names_of ls)) ∙ none) in
+        (sym (list_any-append (map (λ s. s.name) (sides_of ks)) (names_of ls)) ∙ none) in
         let own = none_named n ks (ap (list_any (bytes_eq n)) (sym (side_names ks)) ∙ parts.0) in
         ap (λ es. in_turn es (items_named n ls)) (no_sides n ks own) ∙ ap (in_turn []) (none_named n ls parts.1)
 
@@ -213,19 +213,21 @@ apart k l ks ls a b other = go (slice_cmp nat_cmp k.0 l.0) refl
     other_way false is = refl
 
     go : (r : Ordering) → slice_cmp nat_cmp k.0 l.0 ≡ r → (n : Text) × (of_name (kids_in (k ∷ ks)) (kids_in (l ∷ ls)) n ≡ Some false)
-    go Less is =
-        (k.0,
-        ap (in_turn (sides_named k.0 (sides_of (kids_in (k ∷ ks)))))
-        (unlike (bytes_eq k.0 l.0) other ∙ absent k.0 l.0 ls (ap is_lt is) b.0)
-        ∙ sides_first (bytes_eq k.0 k.0) (own_name k.0))
+    go Less is = (
+      k.0,
+      ap (in_turn (sides_named k.0 (sides_of (kids_in (k ∷ ks)))))
+          (unlike (bytes_eq k.0 l.0) other ∙ absent k.0 l.0 ls (ap is_lt is) b.0)
+          ∙ sides_first (bytes_eq k.0 k.0) (own_name k.0),
+    )
     go Equal is =
         let e : true ≡ false = sym (ap is_eq is) ∙ is_eq-slice_cmp k.0 l.0 ∙ other in absurd cc
-    go Greater is =
-        (l.0,
-        ap (λ es. in_turn es (items_named l.0 (kids_in (l ∷ ls))))
-        (no_sides l.0 (kids_in (k ∷ ks))
-        (unlike_own (bytes_eq l.0 k.0) (other_way (bytes_eq l.0 k.0) refl) ∙ absent l.0 k.0 ks (turned (ap is_gt is)) a.0))
-        ∙ items_first (bytes_eq l.0 l.0) (own_name l.0))
+    go Greater is = (
+      l.0,
+      ap (λ es. in_turn es (items_named l.0 (kids_in (l ∷ ls))))
+          (no_sides l.0 (kids_in (k ∷ ks))
+          (unlike_own (bytes_eq l.0 k.0) (other_way (bytes_eq l.0 k.0) refl) ∙ absent l.0 k.0 ks (turned (ap is_gt is)) a.0))
+          ∙ items_first (bytes_eq l.0 l.0) (own_name l.0),
+    )
 
 -- the first of both sides have one name
 module _ (k l : Named) (ks ls : List Named) (same : bytes_eq k.0 l.0 ≡ true) (rest : IsOfAll (pairwise ks ls) (of_name (kids_in ks) (kids_in ls))) where
@@ -237,7 +239,7 @@ module _ (k l : Named) (ks ls : List Named) (same : bytes_eq k.0 l.0 ≡ true) (
 
   first_at : (c d : Bool) (n : Text) → c ≡ d
       → in_turn (if c then equal k.1 ∷ sides_named n (sides_of (kids_in ks)) else sides_named n (sides_of (kids_in ks)))
-        (if d then l.1 ∷ items_named n (kids_in ls) else items_named n (kids_in ls))
+      (if d then l.1 ∷ items_named n (kids_in ls) else items_named n (kids_in ls))
       ≡ (if d then kleene_and (equal k.1 l.1) (more n) else more n)
   first_at true true n e = refl
   first_at true false n e = absurd cc

@@ -10,9 +10,9 @@ ghost use Rattle.fhir_fp_eval.specs.Views.{plain_of, plains_of, system_value_see
 ghost use Rattle.fhir_fp_eval.specs.Comparing.{system_value_order, first_named, child, number_in, amount, both_or_none, same_child, same_unit, amount_order, quantity_order, is_quantity, item_order, node_order, order_of};
 ghost use Rattle.fhir_fp_eval.specs.Meaning.{order_between};
 
-use crate::system_value::{SystemValue, system_value_of, item_value};
 use crate::equality::equal;
 use crate::fault::EvalFault;
+use crate::system_value::{SystemValue, item_value, system_value_of};
 use crate::truths::is_yes;
 use crate::value::Value;
 use fhir_decimal::Number;
@@ -23,7 +23,10 @@ use fhir_schema::Schema;
 use std::alloc::Global;
 use std::cmp::Ordering;
 
-fn system_value_order(left: SystemValue<'_>, right: SystemValue<'_>) -> Result<Option<Ordering>, EvalFault>
+fn system_value_order(
+    left: SystemValue<'_>,
+    right: SystemValue<'_>,
+) -> Result<Option<Ordering>, EvalFault>
     ensures { GivesOr is_no_memory (λ o. o) result (system_value_order (system_value_seen left.entry) (system_value_seen right.entry)) }
 {
     match (left, right) {
@@ -99,15 +102,13 @@ fn same_child(
     both_or_none(alloc, child(left, name), child(right, name))
 }
 
-fn same_unit(
-    alloc: Global,
-    left: &Typed<'_, '_>,
-    right: &Typed<'_, '_>,
-) -> Result<bool, NoMemory>
+fn same_unit(alloc: Global, left: &Typed<'_, '_>, right: &Typed<'_, '_>) -> Result<bool, NoMemory>
     ensures { IfOk result (λ r. r ≡ same_unit (item_of left.now) (item_of right.now)) }
 {
-    Ok(same_child(alloc, left, right, "system")?
-        && (same_child(alloc, left, right, "code")? && same_child(alloc, left, right, "unit")?))
+    Ok(
+        same_child(alloc, left, right, "system")?
+            && (same_child(alloc, left, right, "code")? && same_child(alloc, left, right, "unit")?),
+    )
 }
 
 fn amount_order(left: &Typed<'_, '_>, right: &Typed<'_, '_>) -> Option<Ordering>

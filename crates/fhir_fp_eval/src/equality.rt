@@ -11,7 +11,7 @@ ghost use Rattle.fhir_fp_eval.specs.Equality.{same_system_value, if_same, items_
 ghost use Rattle.fhir_fp_eval.specs.Pairing.{kids_seen, heights, heights_seen, Ascends, pairwise};
 ghost use Rattle.fhir_fp_eval.specs.Views.{plain_of, plains_of, system_value_seen};
 
-use crate::system_value::{SystemValue, system_value_of, item_value};
+use crate::system_value::{SystemValue, item_value, system_value_of};
 use crate::truths::{is_yes, kleene_and, same_truth};
 use crate::value::Value;
 use fhir_instance::{Kid, Typed};

@@ -154,7 +154,13 @@ fn made_of<'e, 'a, 'j>(
         Expr::Name(name) => starts(alloc, env.schema, name.as_str(), this),
         Expr::Child(_, name) => children_of(alloc, name.as_str(), values),
         Expr::Call(function, _) => function_result(alloc, *function, values),
-        Expr::Typed(test, _, name) => type_test_result(alloc, env.schema, *test, name.as_str(), values),
+        Expr::Typed(test, _, name) => type_test_result(
+            alloc,
+            env.schema,
+            *test,
+            name.as_str(),
+            values,
+        ),
         Expr::Filtered(filter, _, criteria) => {
             let found = values_where(alloc, env, criteria, values)?;
             filtered_by(alloc, *filter, values, found)

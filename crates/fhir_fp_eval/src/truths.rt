@@ -7,8 +7,8 @@ ghost use Rattle.fhir_fp_eval.specs.Faults.{is_no_memory};
 ghost use Rattle.fhir_fp_eval.specs.Meaning.{truth_in, truth_of};
 ghost use Rattle.fhir_fp_eval.specs.Views.{plains_of, system_value_seen};
 
-use crate::system_value::{SystemValue, system_value_of};
 use crate::fault::EvalFault;
+use crate::system_value::{SystemValue, system_value_of};
 use crate::value::Value;
 
 pub(crate) fn kleene_and(left: Option<bool>, right: Option<bool>) -> Option<bool>

@@ -7,11 +7,11 @@ ghost use Rattle.fhir_fp_eval.specs.Faults.{is_no_memory};
 ghost use Rattle.fhir_fp_eval.specs.Views.{plain_of, plains_of, system_value_seen};
 ghost use Rattle.fhir_fp_eval.specs.Meaning.{starts, function_result, has_value, of_type, of_types, type_test_result, at_from, at_system_value, at_index};
 
-use crate::system_value::{SystemValue, system_value_of, item_value};
 use crate::fault::EvalFault;
 use crate::lists::{
     all_children, all_descendants, answer, children_of, first_of, is_empty, single,
 };
+use crate::system_value::{SystemValue, item_value, system_value_of};
 use crate::truths::{kleene_not, truth_of};
 use crate::value::Value;
 use fhir_decimal::Number;

@@ -8,11 +8,11 @@ ghost use Rattle.fhir_instance.specs.Typing.{kids_as, kids_by, object_kids, both
 ghost use Rattle.fhir_instance.specs.Found.{kids_found, frame_of, fields_in, held_at, held_in_hand, value_in_hand, given, ArePlaces};
 
 use crate::found::{Found, Spot, Spots};
-use crate::role::ObjectRole;
 use crate::leaves::{add_primitive, add_system, add_untyped, check_value, is_null, type_named};
 use crate::misfit::{MisfitKind, kind_of, kind_of_single};
 use crate::pairs::add_both;
 use crate::placing::{Tally, form_at, room_for};
+use crate::role::ObjectRole;
 use crate::spelled::{Places, group_at, sorted_in};
 use fhir_json::{Json, Member};
 use fhir_schema::{Content, Form, NodeRef, Schema};

@@ -109,7 +109,12 @@ impl<'a> FoundMisfit<'a> {
         }
     }
 
-    fn in_property(alloc: Global, kind: MisfitKind, spot: Spot<'a>, is_early: bool) -> FoundMisfit<'a> {
+    fn in_property(
+        alloc: Global,
+        kind: MisfitKind,
+        spot: Spot<'a>,
+        is_early: bool,
+    ) -> FoundMisfit<'a> {
         FoundMisfit {
             kind,
             at: spot.at,

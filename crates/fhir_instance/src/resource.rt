@@ -7,7 +7,7 @@ ghost use Rattle.fhir_instance.specs.View.{item_of, is_no_memory, IsNoItem};
 ghost use Rattle.fhir_instance.specs.Found.{kids_found};
 
 use crate::children::resource_kids;
-use crate::found::{FoundMisfit, Found, Step};
+use crate::found::{Found, FoundMisfit, Step};
 use crate::leaves::type_named;
 use crate::misfit::{Misfit, MisfitKind, kind_of};
 use crate::typed::Typed;
@@ -31,7 +31,11 @@ fn put_step(place: &mut String, step: Step<'_>) -> Result<(), AllocError> {
 }
 
 // The place of a misfit, as it's written. Where the outermost has no type that is known, there is none.
-fn place_of(alloc: Global, code: &str, misfit: &FoundMisfit<'_>) -> Result<Option<String>, AllocError> {
+fn place_of(
+    alloc: Global,
+    code: &str,
+    misfit: &FoundMisfit<'_>,
+) -> Result<Option<String>, AllocError> {
     let Some(property) = misfit.property else {
         return Ok(None);
     };

@@ -12,8 +12,8 @@ ghost use Rattle.fhir_instance.specs.Found.{frame_of, kids_found};
 ghost use Rattle.fhir_instance.specs.Spelled.{property_meant, where_of_role, spelled_at, spelled_from, are_known, of_form, count_front, first_form, value_among, companion_among, places_among};
 
 use crate::found::{Found, Spot};
-use crate::role::ObjectRole;
 use crate::misfit::MisfitKind;
+use crate::role::ObjectRole;
 use fhir_json::Member;
 use fhir_schema::{Form, NodeRef, Property, Schema};
 use std::alloc::{AllocError, Global};

@@ -9,7 +9,7 @@ use crate::failing::no_text;
 use crate::line::{FaultNumber, Line};
 use crate::narrowing::rule_words;
 use fhir_cert_check::Rule;
-use fhir_certificate::{CertFault, Flaw, FlawKind, Pair, LinePart};
+use fhir_certificate::{CertFault, Flaw, FlawKind, LinePart, Pair};
 use fhir_json::NoMemory;
 use fhir_schema::{NodeRef, Schema};
 use std::alloc::{AllocError, Global};

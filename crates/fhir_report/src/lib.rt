@@ -28,19 +28,19 @@
 mod blaming;
 mod certificates;
 mod failing;
+mod finding_lines;
 mod laws;
 mod line;
 mod narrowing;
 mod reporting;
-mod finding_lines;
 mod wording;
 mod writing;
 
 pub use certificates::{flaw_line, no_line, pair_text};
 pub use failing::{no_text, rule_text};
+pub use finding_lines::finding_line;
 pub use laws::{reports, rows_are_lines};
 pub use line::{FaultNumber, Line};
 pub use narrowing::rule_words;
 pub use reporting::{CertificateFile, Report, Subject, report_on};
-pub use finding_lines::finding_line;
 pub use writing::Format;

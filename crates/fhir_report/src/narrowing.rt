@@ -193,7 +193,10 @@ fn shown_of(rule: Rule<'_>) -> Shown<'_> {
             "the derived profile has no such slice, or no `item` line pairs the two",
         ),
         Rule::Criteria { .. } => Shown::Lacking("the two slices are not told apart by the same"),
-        Rule::Bounds { name, slice } => Shown::Compared(Field::SliceCardinality { slot: name, slice }),
+        Rule::Bounds { name, slice } => Shown::Compared(Field::SliceCardinality {
+            slot: name,
+            slice,
+        }),
     }
 }
 

@@ -11,8 +11,8 @@ ghost use Rattle.fhir_report.specs.Report.{fault_head, unusable_head, IsOfCertif
 ghost use Rattle.fhir_report.specs.Growing.{Grows};
 
 use crate::certificates::{flaw_line, no_line};
-use crate::line::{FaultNumber, Line};
 use crate::finding_lines::finding_line;
+use crate::line::{FaultNumber, Line};
 use crate::writing::{Format, push_row, push_rows};
 use fhir_cert_check::{Answer, check_bytes};
 use fhir_certificate::{CertFault, Flaw, flaws};
@@ -89,7 +89,11 @@ struct CertificateLines<'r> {
     lines: Vec<Line<'r>>,
 }
 
-fn one_line<'r>(alloc: Global, is_right: bool, line: Line<'r>) -> Result<CertificateLines<'r>, NoMemory>
+fn one_line<'r>(
+    alloc: Global,
+    is_right: bool,
+    line: Line<'r>,
+) -> Result<CertificateLines<'r>, NoMemory>
     ensures { IfOk result (λ j. (j.is_right ≡ is_right) × (lines_seen j.lines.items ≡ line_seen line.entry ∷ [])) }
 {
     let lines = vec![in alloc; line]?;

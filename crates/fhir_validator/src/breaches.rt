@@ -11,12 +11,12 @@ ghost use Rattle.fhir_instance.specs.View.{item_of};
 ghost use Rattle.fhir_validator.specs.Issues.{rule_said, types, too_few, too_many, says, slices_said, set_at, key_at, told_at, IsNamed};
 ghost use Rattle.fhir_validator.specs.Layouts.{item_at};
 
+use crate::broken_rule::BrokenRule;
 use crate::issue::{Breach, Site};
 use crate::judging::Judge;
 use crate::pair::ItemPair;
 use crate::place::Place;
-use crate::broken_rule::BrokenRule;
-use fhir_conformance::{KidsByName, ElementRule, count_in, kid_at};
+use fhir_conformance::{ElementRule, KidsByName, count_in, kid_at};
 use fhir_elements::Max;
 use fhir_facets::Unread;
 use fhir_instance::Typed;
@@ -129,10 +129,18 @@ fn broken_rule<'s>(
         ElementRule::TooFew(name) => too_few(schema, node, kids_by_name.places(name).len()),
         ElementRule::TooMany(name) => too_many(schema, node, kids_by_name.places(name).len()),
         ElementRule::TooFewIn(name) => {
-            too_few(schema, node, count_in(schema, item, kids_by_name, node, name))
+            too_few(
+                schema,
+                node,
+                count_in(schema, item, kids_by_name, node, name),
+            )
         }
         ElementRule::TooManyIn(name) => {
-            too_many(schema, node, count_in(schema, item, kids_by_name, node, name))
+            too_many(
+                schema,
+                node,
+                count_in(schema, item, kids_by_name, node, name),
+            )
         }
         ElementRule::Apart(position) => slices_of_kid(schema, item, position, node),
         ElementRule::InASlice(_position) => BrokenRule::InNoSlice,

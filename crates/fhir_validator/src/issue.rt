@@ -1,7 +1,7 @@
 //! What a verdict lists.
 
-use crate::place::Place;
 use crate::broken_rule::BrokenRule;
+use crate::place::Place;
 use fhir_facets::Unread;
 use fhir_instance::Misfit;
 use fhir_schema::NodeRef;

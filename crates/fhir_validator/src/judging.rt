@@ -140,7 +140,12 @@ impl<'s, 't, 'a, 'j> Judge<'s, 't, 'a, 'j> {
     }
 
     // The judgement on a rule that a pair asks for.
-    fn rule_judgement(&self, pair: ItemPair, rule: ElementRule<'s>, node: NodeRef) -> Result<Judgement, NoMemory>
+    fn rule_judgement(
+        &self,
+        pair: ItemPair,
+        rule: ElementRule<'s>,
+        node: NodeRef,
+    ) -> Result<Judgement, NoMemory>
         ensures { IfOk result (IsRightOf self.now pair (own (rule_name rule.entry) node)) }
     {
         let holding = self.rule(pair, rule, node)?;
@@ -196,7 +201,12 @@ impl<'s, 't, 'a, 'j> Judge<'s, 't, 'a, 'j> {
     }
 
     #[cycle(judging)]
-    fn kid_judgement(&mut self, pair: ItemPair, position: usize, node: NodeRef) -> Result<Judgement, NoMemory>
+    fn kid_judgement(
+        &mut self,
+        pair: ItemPair,
+        position: usize,
+        node: NodeRef,
+    ) -> Result<Judgement, NoMemory>
         ensures exact { IfOk result (IsRightOf self.old pair (child position node)) }
         ensures same { OnOk result (self.new ≡ self.old) }
     {

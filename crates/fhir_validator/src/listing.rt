@@ -3,8 +3,8 @@
 ghost use Rattle.std.specs.Prelude.{◌≡◌, ◌++◌, ◌∷◌, [], IfOk, IsTrue, OnOk};
 ghost use Rattle.fhir_validator.specs.Listing.{IsFilled};
 
-use crate::judgement::Judgement;
 use crate::issue::{Breach, Issue, Site};
+use crate::judgement::Judgement;
 use crate::pair::ItemPair;
 use fhir_json::NoMemory;
 use std::alloc::Global;

@@ -94,7 +94,11 @@ impl<'s, 't, 'a, 'j> Judge<'s, 't, 'a, 'j> {
     }
 
     /// Lists that the item of a pair is of none of the types of the pair's node.
-    pub(crate) fn list_misfit(&self, listing: &mut Listing<'s>, pair: ItemPair) -> Result<(), NoMemory>
+    pub(crate) fn list_misfit(
+        &self,
+        listing: &mut Listing<'s>,
+        pair: ItemPair,
+    ) -> Result<(), NoMemory>
         requires asked { IsToList self.now listing.old pair (types pair.node) }
         requires fails { IsRightOf self.now pair (types pair.node) Judgement.Fails }
         ensures { OnOk result (Lists self.now pair (types pair.node) listing.old listing.new) }

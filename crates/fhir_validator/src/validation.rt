@@ -12,9 +12,9 @@ ghost use Rattle.fhir_validator.specs.Layouts.{item_at, resource_of};
 ghost use Rattle.fhir_validator.specs.Judging.{IsRight};
 ghost use Rattle.fhir_validator.specs.Listing.{is_filled, AreFound, IsVerdictAt, IsMisfitVerdict, IsVerdictOn, IsOfBytes};
 
-use crate::judgement::Judgement;
 use crate::fault::Fault;
 use crate::issue::Issue;
+use crate::judgement::Judgement;
 use crate::judging::Judge;
 use crate::layout::Layout;
 use crate::listing::Listing;

@@ -24,7 +24,7 @@ pub returns-clause-right : goal.returns-clause-right
 returns-clause-right c = λ x type json ks ls same.
     equal_out x (item type json ks)
     ∙ ap (λ (r : Kleene). same_said (item_value x) (item_value (item type json ks)) (if_same (type_of x) type r))
-      (alike (kids_of x) (kids_of x) ks ls (λ n. refl) same)
+    (alike (kids_of x) (kids_of x) ks ls (λ n. refl) same)
     ∙ sym (equal_out x (item type json ls))
 
 turned : (n : Text) (ks ls : Kids) → of_name ks ls n ≡ in_turn (map equal (items_named n ks)) (items_named n ls)
@@ -33,7 +33,7 @@ turned n ks ls = ap (λ es. in_turn es (items_named n ls)) (sides_are n ks)
 pub returns-clause-by_name : goal.returns-clause-by_name
 returns-clause-by_name c = λ type json other ks ls says_not nor_other.
     let by : equal (item type json ks) (item type other ls) ≡ by_name (sides_of ks) ls =
-        ap (λ o. same_said o (item_value (item type other ls)) (if_same type type (by_name (sides_of ks) ls))) says_not
-        ∙ ap (λ o. same_said None o (if_same type type (by_name (sides_of ks) ls))) nor_other
-        ∙ ap (λ b. if b then by_name (sides_of ks) ls else Some false) ((bytes_eq-Decides type type).1 refl) in
+    ap (λ o. same_said o (item_value (item type other ls)) (if_same type type (by_name (sides_of ks) ls))) says_not
+    ∙ ap (λ o. same_said None o (if_same type type (by_name (sides_of ks) ls))) nor_other
+    ∙ ap (λ b. if b then by_name (sides_of ks) ls else Some false) ((bytes_eq-Decides type type).1 refl) in
     ((λ h n. sym (turned n ks ls) ∙ (of_names ks ls).each (sym by ∙ h) n), (λ h. by ∙ (of_names ks ls).all (λ n. turned n ks ls ∙ h n)))
