@@ -12,8 +12,8 @@ use Rattle.std.proofs.lemmas.List.Folds.{list_any-append}
 use Rattle.std.proofs.lemmas.Map.Text.{is_eq-slice_cmp}
 use Rattle.std.proofs.lemmas.Slice.Eq.{bytes_eq-Decides}
 use Rattle.fhir_json.specs.Tree.{Text}
-use Rattle.fhir_instance.specs.Items.{Item, Kids, no_kids, kid, Named, kids_in}
-use Rattle.fhir_fp_eval.specs.Equality.{Kleene, kleene_and, kleene_all, if_same, sides_named, items_named, names_of, in_turn, by_name, sides_of, equal}
+use Rattle.fhir_instance.specs.Items.{Kids, no_kids, kid, Named, kids_in}
+use Rattle.fhir_fp_eval.specs.Equality.{Kleene, kleene_and, kleene_all, sides_named, items_named, names_of, in_turn, by_name, sides_of, equal}
 use Rattle.fhir_fp_eval.specs.Pairing.{Ascends, pairwise}
 
 -- ---- what answers come to together
@@ -73,11 +73,12 @@ module _ (f : Text → Kleene) where
 
   each_true : (ns : List Text) (n : Text) → kleene_all (map f ns) ≡ Some true → list_any (bytes_eq n) ns ≡ true → f n ≡ Some true
   each_true [] n h among = absurd cc
-  each_true (m ∷ ns) n h among = go (bytes_eq n m) refl among
+  each_true (m ∷ ns) n h among = go (bytes_eq n m) refl among (each_true ns n)
     where
-      go : (b : Bool) → bytes_eq n m ≡ b → (b || list_any (bytes_eq n) ns) ≡ true → f n ≡ Some true
-      go true is at = ap f ((bytes_eq-Decides n m).0 is) ∙ (both_true (f m) (kleene_all (map f ns)) h).0
-      go false is at = each_true ns n (both_true (f m) (kleene_all (map f ns)) h).1 at
+      go : (b : Bool) → bytes_eq n m ≡ b → (b || list_any (bytes_eq n) ns) ≡ true
+          → (kleene_all (map f ns) ≡ Some true → list_any (bytes_eq n) ns ≡ true → f n ≡ Some true) → f n ≡ Some true
+      go true is at later = ap f ((bytes_eq-Decides n m).0 is) ∙ (both_true (f m) (kleene_all (map f ns)) h).0
+      go false is at later = later (both_true (f m) (kleene_all (map f ns)) h).1 at
 
   some_false : (ns : List Text) → kleene_all (map f ns) ≡ Some false → (n : Text) × (f n ≡ Some false)
   some_false [] h = absurd cc
@@ -89,11 +90,12 @@ module _ (f : Text → Kleene) where
 
   is_false : (ns : List Text) (n : Text) → list_any (bytes_eq n) ns ≡ true → f n ≡ Some false → kleene_all (map f ns) ≡ Some false
   is_false [] n among h = absurd cc
-  is_false (m ∷ ns) n among h = go (bytes_eq n m) refl among
+  is_false (m ∷ ns) n among h = go (bytes_eq n m) refl among (λ at. is_false ns n at h)
     where
-      go : (b : Bool) → bytes_eq n m ≡ b → (b || list_any (bytes_eq n) ns) ≡ true → kleene_and (f m) (kleene_all (map f ns)) ≡ Some false
-      go true is at = false_left (f m) (kleene_all (map f ns)) (ap f (sym ((bytes_eq-Decides n m).0 is)) ∙ h)
-      go false is at = false_right (f m) (kleene_all (map f ns)) (is_false ns n at h)
+      go : (b : Bool) → bytes_eq n m ≡ b → (b || list_any (bytes_eq n) ns) ≡ true
+          → (list_any (bytes_eq n) ns ≡ true → kleene_all (map f ns) ≡ Some false) → kleene_and (f m) (kleene_all (map f ns)) ≡ Some false
+      go true is at later = false_left (f m) (kleene_all (map f ns)) (ap f (sym ((bytes_eq-Decides n m).0 is)) ∙ h)
+      go false is at later = false_right (f m) (kleene_all (map f ns)) (later at)
 
   -- those of the texts of a list, where the others' are true
   of_texts : (ns : List Text) → ((n : Text) → list_any (bytes_eq n) ns ≡ false → f n ≡ Some true) → IsOfAll (kleene_all (map f ns)) f
@@ -130,11 +132,12 @@ side_names (kid m x ks) = ap (λ ns. m ∷ ns) (side_names ks)
 
 none_named : (n : Text) (ks : Kids) → list_any (bytes_eq n) (names_of ks) ≡ false → items_named n ks ≡ []
 none_named n no_kids h = refl
-none_named n (kid m x ks) h = go (bytes_eq n m) h
+none_named n (kid m x ks) h = go (bytes_eq n m) h (none_named n ks)
   where
-    go : (b : Bool) → (b || list_any (bytes_eq n) (names_of ks)) ≡ false → (if b then x ∷ items_named n ks else items_named n ks) ≡ []
-    go true is = absurd cc
-    go false is = none_named n ks is
+    go : (b : Bool) → (b || list_any (bytes_eq n) (names_of ks)) ≡ false
+        → (list_any (bytes_eq n) (names_of ks) ≡ false → items_named n ks ≡ []) → (if b then x ∷ items_named n ks else items_named n ks) ≡ []
+    go true is later = absurd cc
+    go false is later = later is
 
 -- those of a name in turn
 abbrev pub of_name : Kids → Kids → Text → Kleene
@@ -153,7 +156,7 @@ of_names ks ls = of_texts (of_name ks ls) (map (λ s. s.name) (sides_of ks) ++ n
     others : (n : Text) → list_any (bytes_eq n) (map (λ s. s.name) (sides_of ks) ++ names_of ls) ≡ false → of_name ks ls n ≡ Some true
     others n none =
         let parts = neither (list_any (bytes_eq n) (map (λ s. s.name) (sides_of ks))) (list_any (bytes_eq n) (names_of ls))
-        (sym (list_any-append (map (λ s. s.name) (sides_of ks)) (names_of ls)) ∙ none) in
+        (sym (list_any-append (bytes_eq n) (map (λ s. s.name) (sides_of ks)) (names_of ls)) ∙ none) in
         let own = none_named n ks (ap (list_any (bytes_eq n)) (sym (side_names ks)) ∙ parts.0) in
         ap (λ es. in_turn es (items_named n ls)) (no_sides n ks own) ∙ ap (in_turn []) (none_named n ls parts.1)
 
@@ -169,12 +172,12 @@ same_of_name ks ks' ls ls' n own others =
 absent : (n m : Text) (ls : List Named) → is_lt (slice_cmp nat_cmp n m) ≡ true
     → AllByRecursion (λ l. is_lt (slice_cmp nat_cmp l.0 m) ≡ false) ls → items_named n (kids_in ls) ≡ []
 absent n m [] lt h = refl
-absent n m (l ∷ ls) lt h = go (bytes_eq n l.0) refl
+absent n m (l ∷ ls) lt h = go (bytes_eq n l.0) refl (absent n m ls lt h.1)
   where
-    go : (b : Bool) → bytes_eq n l.0 ≡ b → (if b then l.1 ∷ items_named n (kids_in ls) else items_named n (kids_in ls)) ≡ []
-    go true is =
+    go : (b : Bool) → bytes_eq n l.0 ≡ b → items_named n (kids_in ls) ≡ [] → (if b then l.1 ∷ items_named n (kids_in ls) else items_named n (kids_in ls)) ≡ []
+    go true is rest =
         let e : true ≡ false = sym lt ∙ ap (λ (t : Text). is_lt (slice_cmp nat_cmp t m)) ((bytes_eq-Decides n l.0).0 is) ∙ h.0 in absurd cc
-    go false is = absent n m ls lt h.1
+    go false is rest = rest
 
 own_name : (n : Text) → bytes_eq n n ≡ true
 own_name n = (bytes_eq-Decides n n).1 refl
@@ -305,12 +308,12 @@ pairwise_is (k ∷ ks) [] a b = of_false (Some false) (of_name (kids_in (k ∷ k
         → in_turn (if c then equal k.1 ∷ sides_named k.0 (sides_of (kids_in ks)) else sides_named k.0 (sides_of (kids_in ks))) [] ≡ Some false
     at true is = refl
     at false is = absurd cc
-pairwise_is (k ∷ ks) (l ∷ ls) a b = go (bytes_eq k.0 l.0) refl
+pairwise_is (k ∷ ks) (l ∷ ls) a b = go (bytes_eq k.0 l.0) refl (pairwise_is ks ls a.1 b.1)
   where
-    go : (c : Bool) → bytes_eq k.0 l.0 ≡ c
+    go : (c : Bool) → bytes_eq k.0 l.0 ≡ c → IsOfAll (pairwise ks ls) (of_name (kids_in ks) (kids_in ls))
         → IsOfAll (kleene_and (if c then equal k.1 l.1 else Some false) (pairwise ks ls)) (of_name (kids_in (k ∷ ks)) (kids_in (l ∷ ls)))
-    go true is = one_more k l ks ls is (pairwise_is ks ls a.1 b.1)
-    go false is =
+    go true is rest = one_more k l ks ls is rest
+    go false is rest =
         let found = apart k l ks ls a b is in
         of_false (Some false) (of_name (kids_in (k ∷ ks)) (kids_in (l ∷ ls))) found.0 refl found.1
 

@@ -1,11 +1,11 @@
 -- How high an item is, and what its words are by its parts.
-use Rattle.std.proofs.Common.{◌≡◌, ℕ, suc, ◌+◌, ◌<◌, ◌≤◌, zero, List, [], ◌∷◌, length, get_or, refl, sym, ap, ◌∙◌, arith}
-use Rattle.fhir_instance.specs.Items.{Item, item, Kids, no_kids, kid, type_of, kids_of, kids_in}
+use Rattle.std.proofs.Common.{◌≡◌, ℕ, suc, ◌<◌, ◌≤◌, zero, List, [], ◌∷◌, length, get_or, refl, sym, ap, ◌∙◌, arith}
+use Rattle.fhir_instance.specs.Items.{Item, item, Kids, type_of, kids_of, kids_in}
 use Rattle.fhir_instance.specs.declared.typed.Kid.{Kid}
 use Rattle.fhir_instance.specs.View.{named_of, named_in}
 use Rattle.fhir_fp_eval.specs.Values.{item_value}
 use Rattle.fhir_fp_eval.specs.Equality.{same_said, if_same, by_name, sides_of, equal}
-use Rattle.fhir_fp_eval.specs.Pairing.{kids_seen, height, heights, heights_seen}
+use Rattle.fhir_fp_eval.specs.Pairing.{height, heights}
 use Rattle.fhir_fp_eval.specs.Meaning.{descendants, descendants_in}
 
 pub height_out : (x : Item) → height x ≡ suc (heights (kids_of x))

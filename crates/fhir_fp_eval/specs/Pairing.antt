@@ -1,16 +1,15 @@
 -- Children in the order of their names, and pair by pair (used by private contracts alone).
 use Rattle.std.specs.Prelude.{◌≡◌, ℕ, suc, ◌+◌, true, false, Some, List, [], ◌∷◌, map}
-use Rattle.std.specs.Borrow.{Bor}
 use Rattle.std.specs.Cmp.Lexicographic.{slice_cmp}
 use Rattle.std.specs.List.{AllByRecursion, sum_by}
 use Rattle.std.specs.Ordering.{is_lt, nat_cmp}
 use Rattle.fhir_instance.specs.Items.{Item, item, Kids, no_kids, kid, Named}
 use Rattle.fhir_instance.specs.View.{named_of}
-use Rattle.fhir_instance.specs.declared.typed.Kid.{Kid}
+use Rattle.fhir_fp_eval.specs.declared.equality.KidRef.{KidRef}
 use Rattle.fhir_fp_eval.specs.Equality.{Kleene, kleene_and, if_same, equal}
 
-abbrev pub kids_seen : List (Bor Kid) → List Named
-kids_seen ks = map (λ k. named_of k.now) ks
+abbrev pub kids_seen : List KidRef → List Named
+kids_seen ks = map (λ k. named_of k.kid.now) ks
 
 -- no name is less than one before it
 abbrev pub Ascends : List Named → Type 0
@@ -34,5 +33,5 @@ abbrev mutual
   heights no_kids = 0
   heights (kid n x ks) = height x + heights ks
 
-abbrev pub heights_seen : List (Bor Kid) → ℕ
-heights_seen ks = sum_by (λ k. height (named_of k.now).1) ks
+abbrev pub heights_seen : List KidRef → ℕ
+heights_seen ks = sum_by (λ k. height (named_of k.kid.now).1) ks

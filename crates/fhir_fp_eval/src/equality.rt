@@ -42,6 +42,12 @@ fn same_system_value(left: SystemValue<'_>, right: SystemValue<'_>) -> Option<bo
     }
 }
 
+// A kid, as a value to sort.
+#[derive(Clone, Copy)]
+struct KidRef<'k, 'a, 'j> {
+    kid: &'k Kid<'a, 'j>,
+}
+
 fn name_order(left: &Kid<'_, '_>, right: &Kid<'_, '_>) -> Ordering
     ensures { result ≡ slice_cmp nat_cmp (named_of left.now).0 (named_of right.now).0 }
 {
@@ -49,20 +55,20 @@ fn name_order(left: &Kid<'_, '_>, right: &Kid<'_, '_>) -> Ordering
 }
 
 // Puts kids into the order of their names. Those of one name stay in their order.
-fn sort_by_name(kids: &mut Vec<&Kid<'_, '_>>) -> Result<(), AllocError>
+fn sort_by_name(kids: &mut Vec<KidRef<'_, '_, '_>>) -> Result<(), AllocError>
     ensures ascends { OnOk result (Ascends (kids_seen kids.new.items)) }
     ensures stable { (name : List ℕ) → items_named name (kids_in (kids_seen kids.new.items))
         ≡ items_named name (kids_in (kids_seen kids.old.items)) }
     ensures heights { heights_seen kids.new.items ≡ heights_seen kids.old.items }
 {
-    kids.sort_by(|left, right| name_order(*left, *right))
+    kids.sort_by(|left, right| name_order(left.kid, right.kid))
 }
 
 // Kids in the order of their names. Those of one name stay in their order.
 fn sorted_by_name<'k, 'a, 'j>(
     alloc: Global,
     kids: &'k [Kid<'a, 'j>],
-) -> Result<Vec<&'k Kid<'a, 'j>>, AllocError>
+) -> Result<Vec<KidRef<'k, 'a, 'j>>, AllocError>
     ensures ascends { IfOk result (λ v. Ascends (kids_seen v.items)) }
     ensures stable { IfOk result (λ v. (name : List ℕ) → items_named name (kids_in (kids_seen v.items))
         ≡ items_named name (kids_in (named_in kids.now))) }
@@ -70,7 +76,7 @@ fn sorted_by_name<'k, 'a, 'j>(
 {
     let mut sorted = Vec::with_capacity(alloc, kids.len())?;
     for kid in kids {
-        sorted.push(kid)?;
+        sorted.push(KidRef { kid })?;
     }
     sort_by_name(&mut sorted)?;
     Ok(sorted)
@@ -136,18 +142,18 @@ fn equal_named(
 #[cycle(equal)]
 fn pairwise(
     alloc: Global,
-    left: &[&Kid<'_, '_>],
-    right: &[&Kid<'_, '_>],
+    left: &[KidRef<'_, '_, '_>],
+    right: &[KidRef<'_, '_, '_>],
 ) -> Result<Option<bool>, NoMemory>
     ensures { IfOk result (λ r. r ≡ pairwise (kids_seen left.now) (kids_seen right.now)) }
 {
     let mut all = Some(true);
     let mut rest = right;
-    for kid in left {
+    for one in left {
         let [other, others @ ..] = rest else {
             return Ok(Some(false));
         };
-        all = kleene_and(all, equal_named(alloc, *kid, *other)?);
+        all = kleene_and(all, equal_named(alloc, one.kid, other.kid)?);
         rest = others;
     }
     match rest {

@@ -17,6 +17,6 @@ decreases-pairwise l = 4 * heights_seen l.left.now + 2
 abbrev pub decreases-by_name : goal.decreases-by_name
 decreases-by_name l = 4 * heights (kids_in (named_in l.left.now)) + 3
 
-abbrev pub invariant-pairwise-loop-kid : goal.invariant-pairwise-loop-kid
-invariant-pairwise-loop-kid l =
-    kleene_and l.all (pairwise (kids_seen (drop l.kid-index l.left)) (kids_seen l.rest)) ≡ pairwise (kids_seen l.left) (kids_seen l.right)
+abbrev pub invariant-pairwise-loop-one : goal.invariant-pairwise-loop-one
+invariant-pairwise-loop-one l =
+    kleene_and l.all (pairwise (kids_seen (drop l.one-index l.left)) (kids_seen l.rest)) ≡ pairwise (kids_seen l.left) (kids_seen l.right)

@@ -19,4 +19,4 @@ returns-clause-stable c = λ name.
     (c.sort_by.ensures.stable precedes (ranks_by nat_list_cmp_total name_of) (answers_always _ _ _ (λ f a r g h. search rules))) name
 
 pub returns-clause-heights : goal.returns-clause-heights
-returns-clause-heights c = sum_by-IsPermutation (λ k. height (named_of k.now).1) _ _ c.sort_by.ensures.permutation
+returns-clause-heights c = sum_by-IsPermutation (λ k. height (named_of k.kid.now).1) _ _ c.sort_by.ensures.permutation

@@ -1,9 +1,8 @@
-use Rattle.std.proofs.Common.{◌≡◌, true, Some, None, map, List, refl, sym, ap, ◌∙◌}
-use Rattle.std.specs.Str.{bytes_eq}
+use Rattle.std.proofs.Common.{◌≡◌, false, Some, None, map, refl, sym, ap, ◌∙◌}
 use Rattle.std.specs.Prelude.{if◌then◌else◌}
 use Rattle.std.proofs.lemmas.Slice.Eq.{bytes_eq-Decides}
 use Rattle.fhir_json.specs.Tree.{Text}
-use Rattle.fhir_instance.specs.Items.{Item, item, Kids, type_of, kids_of}
+use Rattle.fhir_instance.specs.Items.{item, Kids, type_of, kids_of}
 use Rattle.fhir_fp_eval.specs.Values.{item_value}
 use Rattle.fhir_fp_eval.specs.Equality.{Kleene, same_said, if_same, items_named, in_turn, by_name, sides_of, equal}
 use Rattle.fhir_fp_eval.proofs.Heights.{equal_out}

@@ -1,6 +1,6 @@
-use Rattle.std.proofs.Common.{◌≡◌, true, false, Ok, [], ◌∷◌, refl, ap}
-use Rattle.fhir_fp_eval.specs.Values.{node, truth}
-use Rattle.fhir_fp_eval.specs.Meaning.{Found, den, of_types}
+use Rattle.std.proofs.Common.{Ok, [], ◌∷◌, refl, ap}
+use Rattle.fhir_fp_eval.specs.Values.{truth}
+use Rattle.fhir_fp_eval.specs.Meaning.{den, of_types}
 use Rattle.fhir_fp_eval.proofs.laws.type_tests.Goals as goal
 
 pub returns-clause-is_of : goal.returns-clause-is_of

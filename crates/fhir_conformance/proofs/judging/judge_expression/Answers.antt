@@ -1,0 +1,4 @@
+use Rattle.fhir_conformance.proofs.judging.judge_expression.Goals as goal
+
+pub returns-clause-carried : goal.returns-clause-carried
+returns-clause-carried c = λ must. c.of.ensures.carried _
