@@ -5,7 +5,7 @@ use Rattle.std.specs.Cmp.{both_tied, unsigned_tied}
 use Rattle.std.proofs.lemmas.Bool.{and_parts, eqb-true}
 use Rattle.fhir_nodes.specs.declared.node.NodeRef.{NodeRef}
 use Rattle.fhir_validator.specs.declared.pair.ItemPair.{ItemPair}
-use Rattle.fhir_validator.specs.contracts.pair.PairOrd.TheImpl.{cmp-value}
+use Rattle.fhir_validator.specs.contracts.pair.ItemPairOrd.TheImpl.{cmp-value}
 
 abbrev same_node : NodeRef → NodeRef → Bool
 same_node n m = nat_eq n.definition m.definition && nat_eq n.element m.element

@@ -8,7 +8,7 @@ use Rattle.fhir_conformance.specs.Asks.{Ask, own, types, profile, root, child}
 use Rattle.fhir_conformance.specs.Conformance.{Around, resource_at, constant, ask_conforms, conforms}
 use Rattle.fhir_validator.specs.declared.judgement.Judgement.{Judgement}
 use Rattle.fhir_validator.specs.declared.pair.ItemPair.{ItemPair}
-use Rattle.fhir_validator.specs.contracts.pair.PairOrd.TheImpl.{cmp-value}
+use Rattle.fhir_validator.specs.contracts.pair.ItemPairOrd.TheImpl.{cmp-value}
 use Rattle.fhir_validator.specs.Judgements.{under}
 use Rattle.fhir_validator.specs.Layouts.{LayoutValue, item_at, resource_of}
 

@@ -151,7 +151,7 @@ fn broken_rule<'s>(
 /// The node at which a rule is told that a pair's node asks: a constraint at the pair's, which takes over that of the node that
 /// it refers to for its content; any other rule at the node whose it is.
 pub(crate) fn told_at(own: NodeRef, rule: ElementRule<'_>, node: NodeRef) -> NodeRef
-    ensures { result ≡ told_at own (rule_name rule) node }
+    ensures { result ≡ told_at own (rule_name rule.entry) node }
 {
     match rule {
         ElementRule::Constraint(_position) => own,
