@@ -1,13 +1,13 @@
 -- What is true of a child's number.
-use Rattle.std.proofs.Common.{◌≡◌, ◌<◌, ◌≤◌, ◌+◌, ℕ, List, length, get_or, refl, sym, ap, ◌∙◌, subst, arith, Some, None}
+use Rattle.std.proofs.Common.{◌≡◌, ◌<◌, ◌≤◌, ◌+◌, ℕ, List, length, get_or, sym, ap, ◌∙◌, subst, arith, Some, None}
 use Rattle.fhir_schema.specs.Schemas.{SchemaValue}
-use Rattle.fhir_instance.specs.Items.{Item, kids_of, kids_in}
+use Rattle.fhir_instance.specs.Items.{kids_of, kids_in}
 use Rattle.fhir_instance.specs.View.{named_in}
 use Rattle.fhir_instance.specs.declared.typed.Kid.{Kid as Child}
 use Rattle.fhir_conformance.specs.Positions.{kid_at}
 use Rattle.fhir_conformance.specs.Conformance.{nearest_to}
 use Rattle.fhir_validator.specs.declared.layout.Stand.{Stand}
-use Rattle.fhir_validator.specs.Layouts.{LayoutValue, laid_out, spot_in, numbered, place_in_row, item_at, resource_of, kids_at, IsLaid}
+use Rattle.fhir_validator.specs.Layouts.{LayoutValue, laid_out, numbered, place_in_row, item_at, resource_of, kids_at, IsLaid}
 use Rattle.fhir_validator.proofs.Rows.{count_of, kid_found, kid_missed}
 
 pub record IsKidOf (layout : LayoutValue) (number position kid : ℕ) : Type 0 where

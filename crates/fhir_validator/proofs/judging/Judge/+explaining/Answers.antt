@@ -1,5 +1,5 @@
 use Rattle.std.proofs.Common.{◌≡◌, ◌<◌, ◌+◌, ℕ, List, [], ◌∷◌, zero, suc, length, get_or, take, true, arith, refl, sym, ap, ◌∙◌, subst, IsTrue, Some, ◌⊎◌, inl, inr}
-use Rattle.std.specs.Prelude.{Result, Ok, Err, OnOk}
+use Rattle.std.specs.Prelude.{OnOk}
 use Rattle.std.specs.List.{list_all, AllByRecursion}
 use Rattle.std.proofs.lemmas.List.Folds.{list_all-map}
 use Rattle.fhir_conformance.specs.Asks.{asks, types, profile, root, child}
@@ -8,14 +8,14 @@ use Rattle.fhir_instance.specs.Items.{kids_of}
 use Rattle.fhir_conformance.specs.Positions.{kid_at}
 use Rattle.fhir_conformance.specs.Meeting.{at_item, at_profile, at_child}
 use Rattle.fhir_conformance.specs.Views.{ask_seen, asks_seen}
-use Rattle.fhir_validator.specs.declared.judgement.Judgement.TheVariants.{Holds, Open, Fails}
+use Rattle.fhir_validator.specs.declared.judgement.Judgement.TheVariants.{Open}
 use Rattle.fhir_validator.specs.declared.pair.ItemPair.{ItemPair}
 use Rattle.fhir_validator.specs.Judgements.{under}
 use Rattle.fhir_validator.specs.Layouts.{item_at}
-use Rattle.fhir_validator.specs.Judging.{IsRight, IsRightOf, IsOrdered}
-use Rattle.fhir_validator.specs.Listing.{same_judgement, side, IsAllowed, IsFilled, IsOpenRoot, IsAskedBy, IsToList, PairIsAllowed, AskIsTold, PairIsTold, AreHanging, Grown, Lists}
+use Rattle.fhir_validator.specs.Judging.{IsRight, IsRightOf}
+use Rattle.fhir_validator.specs.Listing.{same_judgement, side, IsAllowed, IsFilled, IsOpenRoot, IsAskedBy, IsToList, PairIsTold, Grown, Lists}
 use Rattle.fhir_validator.proofs.Asking.{conforms_to, ordered_in}
-use Rattle.fhir_validator.proofs.Judged.{ordered_at, all_answered, asked_of, of_none, kid_there, standing, stands_there}
+use Rattle.fhir_validator.proofs.Judged.{all_answered, asked_of, of_none, kid_there, standing, stands_there}
 use Rattle.fhir_validator.proofs.Measures.{weight, lighter_root, lighter_kid}
 use Rattle.fhir_validator.proofs.Told.{on_ok, on_both, is_open, same_is, told_same, told_last, more_told, allowed_at, asked_at, grown_none, grown_more, grown_by, to_list_since, lists_held, lists_other}
 use Rattle.fhir_validator.proofs.judging.Judge.+explaining.Goals as goal

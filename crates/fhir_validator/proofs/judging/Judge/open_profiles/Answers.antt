@@ -1,4 +1,4 @@
-use Rattle.std.proofs.Common.{◌≡◌, string_bytes, refl, sym, ◌∙◌, subst}
+use Rattle.std.proofs.Common.{string_bytes, refl, sym, ◌∙◌, subst}
 use Rattle.std.specs.List.{Contains}
 use Rattle.std.proofs.lemmas.List.Elements.{Contains-get_or}
 use Rattle.fhir_conformance.specs.Asks.{types}

@@ -1,5 +1,5 @@
 use Rattle.std.proofs.Common.{◌≡◌, ◌++◌, ◌∷◌, [], refl, subst}
-use Rattle.fhir_validator.specs.declared.judgement.Judgement.TheVariants.{Holds, Open, Fails}
+use Rattle.fhir_validator.specs.declared.judgement.Judgement.TheVariants.{Holds, Fails}
 use Rattle.fhir_validator.specs.declared.pair.ItemPair.{ItemPair}
 use Rattle.fhir_validator.specs.Judging.{IsRight}
 use Rattle.fhir_validator.proofs.Unsettled.{grows_root, settled_led, led_by_root, settles_same}
