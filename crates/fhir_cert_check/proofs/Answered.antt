@@ -1,5 +1,5 @@
 -- Tests over lists.
-use Rattle.std.proofs.Common.{◌≡◌, ℕ, zero, suc, Bool, true, false, List, [], ◌∷◌, ◌++◌, map, get_or, Option, Some, None, refl, inl, inr, ◌⊎◌, arith, IsTrue, cond, nat_eq, length}
+use Rattle.std.proofs.Common.{◌≡◌, ℕ, zero, suc, Bool, true, false, List, [], ◌∷◌, ◌++◌, map, get_or, Option, Some, None, refl, inl, inr, arith, IsTrue, cond, nat_eq, length}
 use Rattle.std.specs.List.{list_all, list_any, find, flat_map, slice_get, AllByRecursion}
 use Rattle.std.specs.Option.{option_map_or}
 use Rattle.std.proofs.lemmas.Bool.{and_parts, and_from, or_cases, eqb-true, or_left, or_right, false≢true}
