@@ -1,5 +1,5 @@
 -- A report by its characters.
-use Rattle.std.proofs.Common.{◌≡◌, ◌<◌, ◌≤◌, ℕ, suc, ◌/◌, ◌%◌, List, [], ◌∷◌, ◌++◌, length, map, filter, flat_map, replicate, Bool, true, false, cond, ◌&&◌, ◌||◌, not, All, IsUtf8, encode_utf8_all, encode_utf8, codes, refl, sym, ap, ap₂, ◌∙◌, append_assoc, append-nil, arith}
+use Rattle.std.proofs.Common.{◌≡◌, ◌<◌, ℕ, suc, ◌/◌, ◌%◌, List, [], ◌∷◌, ◌++◌, length, filter, flat_map, replicate, Bool, true, false, cond, ◌&&◌, All, IsUtf8, encode_utf8, codes, refl, sym, ap, ap₂, ◌∙◌, append-nil, arith}
 use Rattle.std.proofs.lemmas.Bool.Decides.{nat_tests}
 use Rattle.std.proofs.lemmas.List.Elements.{filter-append}
 use Rattle.std.proofs.lemmas.Str.{IsUtf8-append, chars-nil, chars-append, chars-encodes, scalars-chars, encode_ascii, encodes-append}

@@ -1,5 +1,5 @@
 -- What a report says.
-use Rattle.std.specs.Prelude.{◌≡◌, ℕ, length, List, [], ◌∷◌, ◌++◌, map, flat_map, Bool, true, false, Option, None, Some, option_map, Result, Ok, Err, if◌then◌else◌, codes, All}
+use Rattle.std.specs.Prelude.{◌≡◌, ℕ, length, List, [], ◌∷◌, ◌++◌, map, flat_map, Bool, true, false, Option, None, Some, Result, Ok, Err, if◌then◌else◌, codes, All}
 use Rattle.std.specs.Option.{option_map_or}
 use Rattle.fhir_json.specs.Tree.{Text}
 use Rattle.fhir_json.specs.Refusals.{fault_of}
@@ -8,7 +8,6 @@ use Rattle.fhir_package.specs.Surveying.{FileFault, unread, not_json, clash, Sur
 use Rattle.fhir_nodes.specs.declared.node.NodeRef.{NodeRef}
 use Rattle.fhir_schema.specs.Schemas.{SchemaValue, schema_of, url_at, id_of_node}
 use Rattle.fhir_certificate.specs.declared.fault.CertFault.{CertFault}
-use Rattle.fhir_certificate.specs.declared.fault.CertFault.TheVariants.{WrongFormat, UnknownNode, TooManyPairs, NoMemory}
 use Rattle.fhir_certificate.specs.declared.pair.Pair.{Pair}
 use Rattle.fhir_certificate.specs.declared.pair.Pair.TheVariants.{Item, Kids}
 use Rattle.fhir_certificate.specs.Reading.{reading}

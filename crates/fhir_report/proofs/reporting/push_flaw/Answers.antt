@@ -1,5 +1,4 @@
-use Rattle.std.proofs.Common.{◌≡◌, List, [], ◌∷◌, ◌++◌, rules}
-use Rattle.fhir_report.specs.declared.line.Line.{Line}
+use Rattle.std.proofs.Common.{◌≡◌, [], ◌∷◌, ◌++◌, rules}
 use Rattle.fhir_report.proofs.Told.{one_flaw_more}
 use Rattle.fhir_report.proofs.reporting.push_flaw.Goals as goal
 
