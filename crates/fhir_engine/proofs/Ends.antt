@@ -1,5 +1,5 @@
 -- How the program ends where words ask for nothing.
-use Rattle.std.proofs.Common.{◌≡◌, ℕ, List, [], ◌++◌, Option, None, Some, refl, sym, subst, append-nil}
+use Rattle.std.proofs.Common.{◌≡◌, ℕ, List, [], Option, None, Some, refl, sym, subst, append-nil}
 use Rattle.std.specs.Io.KnownBytes.{Appends}
 use Rattle.fhir_engine.specs.declared.reply.Status.{Status}
 use Rattle.fhir_engine.specs.declared.request.WordsFault.{WordsFault}

@@ -1,5 +1,5 @@
 -- What the promise of a session says of the files that it is of, and what that says of their folder.
-use Rattle.std.proofs.Common.{◌≡◌, List, [], Ok, Err, Result, Option, None, Some, All, refl, sym, ap, ◌∙◌}
+use Rattle.std.proofs.Common.{◌≡◌, List, Ok, Err, Result, Option, None, Some, All, refl, sym, ap, ◌∙◌}
 use Rattle.std.specs.Prelude.{find, slice_get}
 use Rattle.std.specs.Option.{option_map, option_or}
 use Rattle.std.specs.Map.{keys_of}

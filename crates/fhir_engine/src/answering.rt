@@ -11,7 +11,7 @@ ghost use Rattle.fhir_engine.specs.Status.{verdict_status};
 ghost use Rattle.fhir_engine.specs.Views.{bytes_seen};
 
 use crate::reply::{Reply, Status, fault_reply, unread_reply};
-use crate::telling::wrong_reply;
+use crate::wrong_reply::wrong_reply;
 use fhir_cert_check::check_bytes;
 use fhir_certificate::CertFault;
 use fhir_json::{NoMemory, write};

@@ -50,7 +50,7 @@ impl<'f> Model for Session<'f> {
 }
 
 // What is answered where files are no package, by the fault for which they are none.
-fn refusal(alloc: Global, fault: &FileFault<'_>) -> Result<Reply, AllocError>
+fn refused_reply(alloc: Global, fault: &FileFault<'_>) -> Result<Reply, AllocError>
     ensures { IfOk result (λ r. reply_seen r ≡ refused_reply (fault_seen fault.now)) }
 {
     fault_reply(alloc, fault.number(), fault.subject())
@@ -134,7 +134,7 @@ impl<'f> Session<'f> {
     {
         match self.package() {
             Ok(schema) => certify(alloc, schema, name, file),
-            Err(fault) => Ok(refused(alloc, fault)?),
+            Err(fault) => Ok(refused_reply(alloc, fault)?),
         }
     }
 
@@ -152,7 +152,7 @@ impl<'f> Session<'f> {
     {
         match self.package() {
             Ok(schema) => validate_file(alloc, schema, profile, name, file),
-            Err(fault) => Ok(refused(alloc, fault)?),
+            Err(fault) => Ok(refused_reply(alloc, fault)?),
         }
     }
 

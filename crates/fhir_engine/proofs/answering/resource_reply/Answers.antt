@@ -1,7 +1,6 @@
 use Rattle.std.proofs.Common.{◌++◌, codes, ap, sym, ◌∙◌}
 use Rattle.fhir_json.specs.Views.{tree_of}
 use Rattle.fhir_engine.specs.Replying.{status_of}
-use Rattle.fhir_engine.specs.Status.{code_of}
 use Rattle.fhir_engine.proofs.Judging.{IsValidated, is_listed, stands, always_by, written_so}
 use Rattle.fhir_engine.proofs.answering.resource_reply.Goals as goal
 

@@ -1,4 +1,4 @@
-use Rattle.std.proofs.Common.{◌≡◌, sym, ap, ◌∙◌}
+use Rattle.std.proofs.Common.{sym, ap, ◌∙◌}
 use Rattle.fhir_report.specs.Faultless.{certificate_seen}
 use Rattle.fhir_engine.specs.Status.{code_of}
 use Rattle.fhir_engine.proofs.Sessions.{clean_by, right_of}

@@ -1,4 +1,4 @@
-use Rattle.std.proofs.Common.{◌≡◌, subst}
+use Rattle.std.proofs.Common.{subst}
 use Rattle.std.proofs.lemmas.Result.{IfOk-weaker}
 use Rattle.fhir_engine.specs.Promising.{Validated}
 use Rattle.fhir_engine.specs.Views.{bytes_seen}
