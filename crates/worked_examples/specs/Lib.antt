@@ -1,3 +1,6 @@
+pub mod CodeSystems
+pub mod Definitions
 pub mod Elements
 pub mod Packages
+pub mod Pairs
 pub mod Schemas

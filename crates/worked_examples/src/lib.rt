@@ -3,12 +3,18 @@
 //! crate's proof.
 #![tactic(auto)]
 
+mod code_systems;
+mod definitions;
 mod elements;
 mod expressions;
 mod packages;
+mod pairs;
 mod schemas;
 
+pub use code_systems::{code_system_contents, code_system_versions, codes_from_elsewhere};
+pub use definitions::{bound_types, derivations, type_kinds};
 pub use elements::{element_example, element_tables};
 pub use expressions::{function_names, operators};
 pub use packages::{canonicals, file_names};
+pub use pairs::{constraints_of_pairs, lengths_of_pairs, values_of_pairs};
 pub use schemas::{covering_example, reasons_example};

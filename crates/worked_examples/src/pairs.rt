@@ -1,0 +1,37 @@
+//! Rules of pairs at work: whether a derived element answers what its base asks for.
+
+ghost use Rattle.std.specs.Prelude.{◌≡◌, [], true, false, pos, codes};
+ghost use Rattle.fhir_elements.specs.declared.constraint.Severity.TheVariants.{Error, Warning};
+ghost use Rattle.fhir_cert_check.specs.Rules.{constraint_answers, constraint_rule, fixed_answers, pattern_answers, length_answers};
+ghost use Rattle.worked_examples.specs.Pairs.{asks, says, bare, fixed_to, like, up_to};
+
+/// A constraint is answered by one that must hold and has the same expression, whatever its key (`other_key`); where neither has an
+/// expression, by the same key (`same_key`). A warning answers nothing (`warning`), and nothing is asked for one (`of_warning`).
+pub fn constraints_of_pairs()
+    ensures other_key { constraint_answers (asks (codes "k-1") Error (codes "a")) (asks (codes "k-2") Error (codes "a")) ≡ true }
+    ensures other_expression { constraint_answers (asks (codes "k-1") Error (codes "a")) (asks (codes "k-1") Error (codes "b")) ≡ false }
+    ensures warning { constraint_answers (asks (codes "k-1") Warning (codes "a")) (asks (codes "k-1") Error (codes "a")) ≡ false }
+    ensures same_key { constraint_answers (says (codes "k-1")) (says (codes "k-1")) ≡ true }
+    ensures key_alone { constraint_answers (says (codes "k-1")) (says (codes "k-2")) ≡ false }
+    ensures no_expression { constraint_answers (says (codes "k-1")) (asks (codes "k-1") Error (codes "a")) ≡ false }
+    ensures of_warning { constraint_rule [] (asks (codes "k-1") Warning (codes "a")) ≡ [] }
+{}
+
+/// A pattern is answered by a fixed value that fits it (`by_fixed`), and not by one that doesn't (`by_other`). A fixed value isn't
+/// answered by a pattern (`by_pattern`), nor by nothing (`by_nothing`). Where the base asks for none, anything goes (`free`).
+pub fn values_of_pairs()
+    ensures by_fixed { pattern_answers (fixed_to (codes "a")) (like (codes "a")) ≡ true }
+    ensures by_other { pattern_answers (fixed_to (codes "a")) (like (codes "b")) ≡ false }
+    ensures by_pattern { fixed_answers (like (codes "a")) (fixed_to (codes "a")) ≡ false }
+    ensures by_nothing { fixed_answers bare (fixed_to (codes "a")) ≡ false }
+    ensures free { fixed_answers (fixed_to (codes "a")) bare ≡ true }
+{}
+
+/// A length is answered by one that is no longer.
+pub fn lengths_of_pairs()
+    ensures shorter { length_answers (up_to (pos 5)) (up_to (pos 7)) ≡ true }
+    ensures same { length_answers (up_to (pos 7)) (up_to (pos 7)) ≡ true }
+    ensures longer { length_answers (up_to (pos 7)) (up_to (pos 5)) ≡ false }
+    ensures without { length_answers bare (up_to (pos 5)) ≡ false }
+    ensures free { length_answers (up_to (pos 5)) bare ≡ true }
+{}
