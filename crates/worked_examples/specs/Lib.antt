@@ -4,3 +4,4 @@ pub mod Elements
 pub mod Packages
 pub mod Pairs
 pub mod Schemas
+pub mod Roots

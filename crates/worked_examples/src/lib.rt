@@ -16,5 +16,8 @@ pub use definitions::{bound_types, derivations, type_kinds};
 pub use elements::{element_example, element_tables};
 pub use expressions::{function_names, operators};
 pub use packages::{canonicals, file_names};
-pub use pairs::{constraints_of_pairs, lengths_of_pairs, values_of_pairs};
+pub use pairs::{
+    children_of_pairs, constraints_of_pairs, first_rule_of_pairs, lengths_of_pairs, roots_of_pairs,
+    values_of_pairs,
+};
 pub use schemas::{covering_example, reasons_example};

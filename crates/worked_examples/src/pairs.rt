@@ -1,8 +1,11 @@
 //! Rules of pairs at work: whether a derived element answers what its base asks for.
 
-ghost use Rattle.std.specs.Prelude.{◌≡◌, [], true, false, pos, codes};
+ghost use Rattle.std.specs.Prelude.{◌≡◌, [], true, false, None, Some, pos, codes};
+ghost use Rattle.fhir_json.specs.Tree.{no_items};
 ghost use Rattle.fhir_elements.specs.declared.constraint.Severity.TheVariants.{Error, Warning};
+ghost use Rattle.fhir_cert_check.specs.Rule.{fixed, length_limit, slot, cardinality, entry};
 ghost use Rattle.fhir_cert_check.specs.Rules.{constraint_answers, constraint_rule, fixed_answers, pattern_answers, length_answers};
+ghost use Rattle.worked_examples.specs.Roots.{root_answers, failing_at, child, failing_child, all_pairs, no_pairs};
 ghost use Rattle.worked_examples.specs.Pairs.{asks, says, bare, fixed_to, like, up_to};
 
 /// A constraint is answered by one that must hold and has the same expression, whatever its key (`other_key`); where neither has an
@@ -34,4 +37,32 @@ pub fn lengths_of_pairs()
     ensures longer { length_answers (up_to (pos 7)) (up_to (pos 5)) ≡ false }
     ensures without { length_answers bare (up_to (pos 5)) ≡ false }
     ensures free { length_answers (up_to (pos 5)) bare ≡ true }
+{}
+
+/// A root is answered by the root of a type that rests on its type (FHIR R4, StructureDefinition, baseDefinition): Patient is one of
+/// DomainResource and of Resource, and not the other way round; types that aren't of resources answer themselves alone.
+pub fn roots_of_pairs()
+    ensures next { root_answers 2 1 ≡ true }
+    ensures farther { root_answers 2 0 ≡ true }
+    ensures itself { root_answers 2 2 ≡ true }
+    ensures turned { root_answers 1 2 ≡ false }
+    ensures element { root_answers 4 3 ≡ false }
+{}
+
+/// Of two rules that fail the first in their order is told (`first`): a fixed value before a length. The length is told where it alone
+/// fails (`alone`), and nothing where none does (`right`).
+pub fn first_rule_of_pairs()
+    ensures first { failing_at 1 ≡ Some fixed }
+    ensures alone { failing_at 2 ≡ Some length_limit }
+    ensures right { failing_at 3 ≡ None }
+{}
+
+/// A child of a profile that is there as often, or less often, answers its type's (`narrower`), and one that may be there more often
+/// doesn't (`wider`), nor does none (`absent`). Its own pair has to be there (`unpaired`), but for one that may not be there (`forbidden`).
+pub fn children_of_pairs()
+    ensures narrower { failing_child all_pairs (child (codes "1") (codes "1")) ≡ None }
+    ensures wider { failing_child all_pairs (child (codes "0") (codes "2")) ≡ Some (cardinality (codes "b")) }
+    ensures absent { failing_child all_pairs no_items ≡ Some (slot (codes "b")) }
+    ensures unpaired { failing_child no_pairs (child (codes "0") (codes "1")) ≡ Some (entry (codes "b")) }
+    ensures forbidden { failing_child no_pairs (child (codes "0") (codes "0")) ≡ None }
 {}
