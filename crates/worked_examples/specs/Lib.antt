@@ -5,3 +5,4 @@ pub mod Packages
 pub mod Pairs
 pub mod Schemas
 pub mod Roots
+pub mod Sliced

@@ -18,6 +18,6 @@ pub use expressions::{function_names, operators};
 pub use packages::{canonicals, file_names};
 pub use pairs::{
     children_of_pairs, constraints_of_pairs, first_rule_of_pairs, lengths_of_pairs, roots_of_pairs,
-    values_of_pairs,
+    slices_of_pairs, values_of_pairs,
 };
 pub use schemas::{covering_example, reasons_example};

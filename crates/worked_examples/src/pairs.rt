@@ -3,9 +3,10 @@
 ghost use Rattle.std.specs.Prelude.{◌≡◌, [], true, false, None, Some, pos, codes};
 ghost use Rattle.fhir_json.specs.Tree.{no_items};
 ghost use Rattle.fhir_elements.specs.declared.constraint.Severity.TheVariants.{Error, Warning};
-ghost use Rattle.fhir_cert_check.specs.Rule.{fixed, length_limit, slot, cardinality, entry};
+ghost use Rattle.fhir_cert_check.specs.Rule.{fixed, length_limit, slot, cardinality, entry, slice, criteria, bounds, closed};
 ghost use Rattle.fhir_cert_check.specs.Rules.{constraint_answers, constraint_rule, fixed_answers, pattern_answers, length_answers};
 ghost use Rattle.worked_examples.specs.Roots.{root_answers, failing_at, child, failing_child, all_pairs, no_pairs};
+ghost use Rattle.worked_examples.specs.Sliced.{sliced, slice_of, slice_x, slice_y, failing_slice};
 ghost use Rattle.worked_examples.specs.Pairs.{asks, says, bare, fixed_to, like, up_to};
 
 /// A constraint is answered by one that must hold and has the same expression, whatever its key (`other_key`); where neither has an
@@ -65,4 +66,27 @@ pub fn children_of_pairs()
     ensures absent { failing_child all_pairs no_items ≡ Some (slot (codes "b")) }
     ensures unpaired { failing_child no_pairs (child (codes "0") (codes "1")) ≡ Some (entry (codes "b")) }
     ensures forbidden { failing_child no_pairs (child (codes "0") (codes "0")) ≡ None }
+{}
+
+/// What slices of a type's element ask of a profile's. Where the type's are closed, so are the profile's (`open`), and a slice that the
+/// type's lacks may have no items (`more`, `empty`); a closed element without slices asks for nothing (`unsliced`). Each slice of the
+/// type's is one of the profile's (`missing`), told apart by the same (`other_value`), with no more items (`wider`).
+pub fn slices_of_pairs()
+    ensures same { failing_slice (sliced (codes "closed") (slice_x (codes "1") no_items)) (sliced (codes "closed") (slice_x (codes "1") no_items))
+        ≡ None }
+    ensures open { failing_slice (sliced (codes "open") (slice_x (codes "1") no_items)) (sliced (codes "closed") (slice_x (codes "1") no_items))
+        ≡ Some (closed (codes "b")) }
+    ensures closed { failing_slice (sliced (codes "closed") (slice_x (codes "1") no_items)) (sliced (codes "open") (slice_x (codes "1") no_items))
+        ≡ None }
+    ensures more { failing_slice (sliced (codes "closed") (slice_x (codes "1") (slice_y (codes "1") no_items)))
+        (sliced (codes "closed") (slice_x (codes "1") no_items)) ≡ Some (closed (codes "b")) }
+    ensures empty { failing_slice (sliced (codes "closed") (slice_x (codes "1") (slice_y (codes "0") no_items)))
+        (sliced (codes "closed") (slice_x (codes "1") no_items)) ≡ None }
+    ensures unsliced { failing_slice (sliced (codes "open") no_items) (sliced (codes "closed") no_items) ≡ None }
+    ensures missing { failing_slice (sliced (codes "open") no_items) (sliced (codes "open") (slice_x (codes "1") no_items))
+        ≡ Some (slice (codes "b") (codes "x")) }
+    ensures wider { failing_slice (sliced (codes "open") (slice_x (codes "2") no_items)) (sliced (codes "open") (slice_x (codes "1") no_items))
+        ≡ Some (bounds (codes "b") (codes "x")) }
+    ensures other_value { failing_slice (sliced (codes "open") (slice_of (codes "A.b:x") (codes "1") (codes "y") no_items))
+        (sliced (codes "open") (slice_x (codes "1") no_items)) ≡ Some (criteria (codes "b") (codes "x")) }
 {}
