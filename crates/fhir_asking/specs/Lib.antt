@@ -1,0 +1,4 @@
+pub mod Asking
+pub mod Steps
+pub mod Example
+pub mod Settling
