@@ -1,0 +1,7 @@
+mod Chains
+mod Kids
+mod Once
+mod Places
+mod Sliced
+mod Some
+mod Typed

@@ -1,0 +1,3 @@
+pub mod Bases
+pub mod Children
+pub mod Types

@@ -1,0 +1,15 @@
+//! Laws that say in the standard's words what the definitions of lower libraries compute. They stand apart from those, since nothing
+//! stands on them: so they cost no other crate's proof.
+#![tactic(auto)]
+
+mod bases;
+mod children;
+mod collections;
+mod slices;
+mod types;
+
+pub use bases::{chains_of_bases, covered_codes};
+pub use children::{children_by_name, one_of_several_profiles};
+pub use collections::{positions, shared_values, united_values};
+pub use slices::{criteria_of_slices, items_in_two_slices};
+pub use types::typing_by_types;
