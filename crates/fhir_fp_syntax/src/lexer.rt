@@ -19,7 +19,7 @@ use std::alloc::Global;
 const MAX_TOKENS: usize = 4096;
 
 // The first n bytes of a text, of which the last is ASCII, and what stands behind them.
-fn cut(text: &str, n: usize) -> (&str, &str)
+fn split_ascii(text: &str, n: usize) -> (&str, &str)
     requires { (0 < n) × (n ≤ length text.now) × (get_or text.now (n - 1) 0 < 128) }
     ensures front { result.0.now ≡ take n text.now }
     ensures rest { result.1.now ≡ drop n text.now }
@@ -105,14 +105,6 @@ fn name_len(text: &[u8]) -> usize
     i
 }
 
-/// Whether a name may stand without backquotes: it is written as one, and is no word of the language.
-pub(crate) fn is_identifier(name: &str) -> bool {
-    let [first, others @ ..] = name.as_bytes() else {
-        return false;
-    };
-    is_name_start(*first) && name_len(others) == others.len() && mark_named(name).is_none()
-}
-
 // The first byte with the characters of a name behind it, and the rest.
 fn front_of(text: &str) -> (&str, &str)
     requires { (0 < length text.now) × (get_or text.now 0 0 < 128) }
@@ -120,7 +112,7 @@ fn front_of(text: &str) -> (&str, &str)
     ensures rest { result.1.now ≡ drop (front_len text.now) text.now }
 {
     let n = name_len(&text.as_bytes()[1..]);
-    cut(text, n + 1)
+    split_ascii(text, n + 1)
 }
 
 #[tactic(auto, unfolding(crate::specs::Lexing::name_at))]
@@ -185,7 +177,7 @@ fn number_of<'a>(text: &'a str) -> (Token<'a>, &'a str)
     ensures value { number_at text.now ≡ (word_of result.0, result.1.now) }
     ensures shorter { length result.1.now < length text.now }
 {
-    let (number, rest) = cut(text, number_len(text.as_bytes()));
+    let (number, rest) = split_ascii(text, number_len(text.as_bytes()));
     (Token::Number(number), rest)
 }
 

@@ -17,7 +17,6 @@
 //! the text is written for it (`IsWritten` in `specs/Tokens.antt`). The law [`examples`] shows what some texts are.
 #![tactic(auto)]
 
-mod display;
 mod expr;
 mod laws;
 mod lexer;

@@ -43,7 +43,7 @@ pub(crate) fn next_of(token: &Token) -> Next
     }
 }
 
-pub(crate) fn looseness_of_operator(operator: Operator) -> usize
+fn looseness_of_operator(operator: Operator) -> usize
     ensures value { result ≡ looseness_of_operator operator }
     ensures bounds { (0 < result) × (result ≤ 9) }
 {

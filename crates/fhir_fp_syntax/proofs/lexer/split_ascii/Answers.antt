@@ -2,7 +2,7 @@ use Rattle.std.proofs.Common.{◌≡◌, ◌+◌, ◌-◌, ◌<◌, ◌≤◌, �
 use Rattle.std.specs.Prelude.{IsUtf8}
 use Rattle.std.specs.Str.{IsCharBoundary}
 use Rattle.std.proofs.lemmas.Str.{IsCharBoundary-after_ascii}
-use Rattle.fhir_fp_syntax.proofs.lexer.cut.Goals as goal
+use Rattle.fhir_fp_syntax.proofs.lexer.split_ascii.Goals as goal
 
 -- what follows an ASCII byte begins a character
 boundary : (text : List ℕ) (n : ℕ) → IsUtf8 text → (0 < n) × (n ≤ length text) × (get_or text (n - 1) 0 < 128) → IsCharBoundary text n
