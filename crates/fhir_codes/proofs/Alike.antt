@@ -9,9 +9,9 @@ use Rattle.fhir_json.specs.Fields.{field, text_in, text_at}
 use Rattle.fhir_package.specs.declared.kind.Kind.TheVariants.{ValueSet, CodeSystem}
 use Rattle.fhir_package.specs.Definitions.{Definitions, at_url}
 use Rattle.fhir_package.specs.Canonical.{named_by}
-use Rattle.fhir_codes.specs.Concepts.{of_system, united, common}
+use Rattle.fhir_codes.specs.Concepts.{of_system, union_of, common}
 use Rattle.fhir_codes.specs.CodeSystems.{is_complete, codes_defined}
-use Rattle.fhir_codes.specs.ValueSets.{listed, sets_named, lists_no_concept, has_right_fields, includes, excludes, is_compose, named, is_version_of, code_system, codes_taken, can_take, is_plain_include, of_set, of_include, composed, is_read, expansion, expanded, concepts_of}
+use Rattle.fhir_codes.specs.ValueSets.{listed_concepts, sets_named, lists_no_concept, has_right_fields, includes, excludes, is_compose, named, is_version_of, code_system, codes_taken, can_take, is_plain_include, of_set, of_include, composition, is_read, expansion, expanded, concepts_of}
 use Rattle.fhir_codes.proofs.Rounds.{Known}
 use Rattle.fhir_codes.proofs.Settled.{both_below, expanded_most}
 
@@ -26,7 +26,7 @@ module _ (p q : Definitions) (systems : AreSystemsAlike p q) where
   same_system t url = ap (option_and_then (λ system. if is_version_of p t system then Some system else None)) (systems url)
 
   same_taken : (t : Tree) (url : Text) → codes_taken p t url ≡ codes_taken q t url
-  same_taken t url = ap (λ o. if lists_no_concept t then option_map_or codes_defined o [] else map (text_at (codes "code")) (listed t)) (same_system t url)
+  same_taken t url = ap (λ o. if lists_no_concept t then option_map_or codes_defined o [] else map (text_at (codes "code")) (listed_concepts t)) (same_system t url)
 
   same_can : (t : Tree) (url : Text) → can_take p t url ≡ can_take q t url
   same_can t url = ap (λ o. not (lists_no_concept t) || option_map_or is_complete o false) (same_system t url)
@@ -38,9 +38,9 @@ module _ (p q : Definitions) (systems : AreSystemsAlike p q) where
   same_include f t i =
       common (option_map_or (λ system. of_system system (same_taken t system i) ∷ []) (text_in (codes "system") t) [] ++ map (of_set p f) (sets_named t))
 
-  same_composed : (f : Known) (t : Tree) → composed p f t ≡ composed q f t
+  same_composed : (f : Known) (t : Tree) → composition p f t ≡ composition q f t
   same_composed f t i =
-      set.difference (united (map (λ u. same_include f u i) (includes t))) (united (map (λ u. same_include f u i) (excludes t)))
+      set.difference (union_of (map (λ u. same_include f u i) (includes t))) (union_of (map (λ u. same_include f u i) (excludes t)))
 
   same_read : (f : Known) (t : Tree) → is_read p f t ≡ is_read q f t
   same_read f t i =

@@ -11,8 +11,8 @@ use Rattle.fhir_package.specs.declared.kind.Kind.TheVariants.{ValueSet}
 use Rattle.fhir_package.specs.Definitions.{Definitions}
 use Rattle.fhir_package.specs.Canonical.{named_by}
 use Rattle.fhir_codes.specs.Concepts.{Concepts}
-use Rattle.fhir_codes.specs.ValueSets.{composed, is_read, expansion, expanded, concepts_of}
-use Rattle.fhir_codes.specs.Placing.{Found, found_at, known, place_named, tree_at}
+use Rattle.fhir_codes.specs.ValueSets.{composition, is_read, expansion, expanded, concepts_of}
+use Rattle.fhir_codes.specs.Placing.{Found, found_at, found_concepts, place_named, tree_at}
 use Rattle.fhir_codes.specs.Filled.{concepts_at, is_ready, one_if_found, found_count, AreFilled, AreDone}
 use Rattle.fhir_codes.proofs.Places.{named_tree}
 use Rattle.fhir_codes.proofs.Rounds.{IsBelow, no_some, and_then_more, chosen, guarded, step, step_more, expansion_more}
@@ -62,13 +62,13 @@ concepts_placed p canonical =
     ∙ ap (option_and_then (expansion p (concepts_of p))) (named_tree p canonical)
     ∙ then_then (expansion p (concepts_of p)) (tree_at p) (place_named p canonical)
 
-known_below : (p : Definitions) (sets : Found) → AreFilled p sets → IsBelow (known p sets) (concepts_of p)
+known_below : (p : Definitions) (sets : Found) → AreFilled p sets → IsBelow (found_concepts p sets) (concepts_of p)
 known_below p sets f canonical s e = concepts_placed p canonical ∙ and_then_more (found_at sets) (concepts_at p) (place_named p canonical) s (λ place. f.1 place s) e
 
-right_at : (p : Definitions) (sets : Found) → AreFilled p sets → (place : ℕ) (t : Tree) (s : Concepts) → tree_at p place ≡ Some t → expansion p (known p sets) t ≡ Some s → concepts_at p place ≡ Some s
-right_at p sets f place t s at e = ap (option_and_then (expansion p (concepts_of p))) at ∙ expansion_more p (known p sets) (concepts_of p) (known_below p sets f) t s e
+right_at : (p : Definitions) (sets : Found) → AreFilled p sets → (place : ℕ) (t : Tree) (s : Concepts) → tree_at p place ≡ Some t → expansion p (found_concepts p sets) t ≡ Some s → concepts_at p place ≡ Some s
+right_at p sets f place t s at e = ap (option_and_then (expansion p (concepts_of p))) at ∙ expansion_more p (found_concepts p sets) (concepts_of p) (known_below p sets f) t s e
 
-pub filled_step : (p : Definitions) (sets : Found) (place : ℕ) (t : Tree) (s : Concepts) → AreFilled p sets → place < length sets → tree_at p place ≡ Some t → expansion p (known p sets) t ≡ Some s → AreFilled p (set sets place (Some s))
+pub filled_step : (p : Definitions) (sets : Found) (place : ℕ) (t : Tree) (s : Concepts) → AreFilled p sets → place < length sets → tree_at p place ≡ Some t → expansion p (found_concepts p sets) t ≡ Some s → AreFilled p (set sets place (Some s))
 filled_step p sets place t s f lt at e = (length-set sets place (Some s) ∙ f.0, right)
   where
     here : (r : Concepts) → found_at (set sets place (Some s)) place ≡ Some r → concepts_at p place ≡ Some r
@@ -81,17 +81,17 @@ filled_step p sets place t s f lt at e = (length-set sets place (Some s) ∙ f.0
     ]
 
 -- what is ready is read, and hasn't been found
-pub ready_parts : (p : Definitions) (sets : Found) (place : ℕ) (t : Tree) → tree_at p place ≡ Some t → is_ready p sets place ≡ true → (found_at sets place ≡ None) × (is_read p (known p sets) t ≡ true)
+pub ready_parts : (p : Definitions) (sets : Found) (place : ℕ) (t : Tree) → tree_at p place ≡ Some t → is_ready p sets place ≡ true → (found_at sets place ≡ None) × (is_read p (found_concepts p sets) t ≡ true)
 ready_parts p sets place t at is =
-    let parts = and_parts (is_none (found_at sets place)) (option_map_or (is_read p (known p sets)) (tree_at p place) false) is in
-    (is_nothing (found_at sets place) parts.0, sym (ap (λ o. option_map_or (is_read p (known p sets)) o false) at) ∙ parts.1)
+    let parts = and_parts (is_none (found_at sets place)) (option_map_or (is_read p (found_concepts p sets)) (tree_at p place) false) is in
+    (is_nothing (found_at sets place) parts.0, sym (ap (λ o. option_map_or (is_read p (found_concepts p sets)) o false) at) ∙ parts.1)
   where
     is_nothing : (o : Option Concepts) → is_none o ≡ true → o ≡ None
     is_nothing None e = refl
     is_nothing (Some x) e = absurd (false≢true e)
 
-pub expansion_read : (p : Definitions) (sets : Found) (t : Tree) (s : Concepts) → is_read p (known p sets) t ≡ true → s ≡ composed p (known p sets) t → expansion p (known p sets) t ≡ Some s
-expansion_read p sets t s is e = chosen (is_read p (known p sets) t) (composed p (known p sets) t) is ∙ ap Some (sym e)
+pub expansion_read : (p : Definitions) (sets : Found) (t : Tree) (s : Concepts) → is_read p (found_concepts p sets) t ≡ true → s ≡ composition p (found_concepts p sets) t → expansion p (found_concepts p sets) t ≡ Some s
+expansion_read p sets t s is e = chosen (is_read p (found_concepts p sets) t) (composition p (found_concepts p sets) t) is ∙ ap Some (sym e)
 
 pub place_within : (p : Definitions) (sets : Found) (place : ℕ) (t : Tree) → length sets ≡ length p.value_sets → tree_at p place ≡ Some t → place < length sets
 place_within p sets place t same at = let within = tree_within p place t at in omega (arith, within, same)
@@ -114,25 +114,25 @@ abbrev pub NoneReady : Definitions → Found → Type 0
 NoneReady p sets = (place : ℕ) → place < length p.value_sets → is_ready p sets place ≡ false
 
 -- what is read and isn't ready has been found
-found_if : (p : Definitions) (sets : Found) → AreFilled p sets → NoneReady p sets → (place : ℕ) (t : Tree) (s : Concepts) → tree_at p place ≡ Some t → expansion p (known p sets) t ≡ Some s → found_at sets place ≡ Some s
+found_if : (p : Definitions) (sets : Found) → AreFilled p sets → NoneReady p sets → (place : ℕ) (t : Tree) (s : Concepts) → tree_at p place ≡ Some t → expansion p (found_concepts p sets) t ≡ Some s → found_at sets place ≡ Some s
 found_if p sets f none place t s at e = found (found_at sets place) refl
   where
-    read : option_map_or (is_read p (known p sets)) (tree_at p place) false ≡ true
-    read = ap (λ o. option_map_or (is_read p (known p sets)) o false) at ∙ (guarded (is_read p (known p sets) t) (composed p (known p sets) t) s e).0
+    read : option_map_or (is_read p (found_concepts p sets)) (tree_at p place) false ≡ true
+    read = ap (λ o. option_map_or (is_read p (found_concepts p sets)) o false) at ∙ (guarded (is_read p (found_concepts p sets) t) (composition p (found_concepts p sets) t) s e).0
 
     within : place < length p.value_sets
     within = let lt = place_within p sets place t f.0 at in omega (arith, lt, f.0)
 
     found : (o : Option Concepts) → found_at sets place ≡ o → found_at sets place ≡ Some s
     found None is =
-        absurd (false≢true (sym (none place within) ∙ and_from (is_none (found_at sets place)) (option_map_or (is_read p (known p sets)) (tree_at p place) false) (ap is_none is) read))
+        absurd (false≢true (sym (none place within) ∙ and_from (is_none (found_at sets place)) (option_map_or (is_read p (found_concepts p sets)) (tree_at p place) false) (ap is_none is) read))
     found (Some r) is = is ∙ sym (f.1 place r is) ∙ right_at p sets f place t s at e
 
-expanded_known : (p : Definitions) (sets : Found) → AreFilled p sets → NoneReady p sets → (n : ℕ) → IsBelow (expanded p n) (known p sets)
+expanded_known : (p : Definitions) (sets : Found) → AreFilled p sets → NoneReady p sets → (n : ℕ) → IsBelow (expanded p n) (found_concepts p sets)
 expanded_known p sets f none zero canonical s e = no_some s e
 expanded_known p sets f none (suc n) canonical s e =
-    let told : step p (known p sets) canonical ≡ Some s = step_more p (expanded p n) (known p sets) (expanded_known p sets f none n) canonical s e in
-    let tree = then_some (expansion p (known p sets)) (named_by ValueSet canonical p) s told in
+    let told : step p (found_concepts p sets) canonical ≡ Some s = step_more p (expanded p n) (found_concepts p sets) (expanded_known p sets f none n) canonical s e in
+    let tree = then_some (expansion p (found_concepts p sets)) (named_by ValueSet canonical p) s told in
     let place = then_some (tree_at p) (place_named p canonical) tree.0 (sym (named_tree p canonical) ∙ tree.1) in
     ap (option_and_then (found_at sets)) place.1 ∙ found_if p sets f none place.0 tree.0 s place.2 tree.2
 
@@ -143,10 +143,10 @@ all_done p sets f none = (f.0, λ place. both_below (found_at sets place) (conce
     back place s e =
         let tree = then_some (expansion p (concepts_of p)) (tree_at p place) s e in
         found_if p sets f none place tree.0 s tree.1
-        (expansion_more p (concepts_of p) (known p sets) (expanded_known p sets f none (length p.value_sets)) tree.0 s tree.2)
+        (expansion_more p (concepts_of p) (found_concepts p sets) (expanded_known p sets f none (length p.value_sets)) tree.0 s tree.2)
 
 -- what is found under a canonical is what it means
-pub known_all : (p : Definitions) (sets : Found) → AreDone p sets → (canonical : Text) → known p sets canonical ≡ concepts_of p canonical
+pub known_all : (p : Definitions) (sets : Found) → AreDone p sets → (canonical : Text) → found_concepts p sets canonical ≡ concepts_of p canonical
 known_all p sets done canonical =
     (λ i. option_and_then (λ place. done.1 place i) (place_named p canonical)) ∙ sym (concepts_placed p canonical)
 

@@ -19,7 +19,7 @@ use Rattle.std.proofs.lemmas.Map.Text.{is_eq-slice_cmp}
 use Rattle.std.proofs.lemmas.Map.Views.{Contains-from_any}
 use mathlib.Core.Bool.{false≢true}
 use Rattle.fhir_json.specs.Tree.{Text}
-use Rattle.fhir_codes.specs.Concepts.{Concept, Concepts, concept, concept_cmp, of_system, united, common, has_code}
+use Rattle.fhir_codes.specs.Concepts.{Concept, Concepts, concept, concept_cmp, of_system, union_of, common, has_code}
 
 -- ---- the order
 
@@ -218,9 +218,9 @@ difference_none s t none =
 
 -- ---- many sets
 
-pub has-united : (ss : List Concepts) (c : Concept) → has (united ss) c ≡ list_any (λ s. has s c) ss
-has-united [] c = set.contains-empty concept_cmp c
-has-united (s ∷ ss) c = set.contains-union concept_total s (united ss) c ∙ ap (λ b. has s c || b) (has-united ss c)
+pub has-union_of : (ss : List Concepts) (c : Concept) → has (union_of ss) c ≡ list_any (λ s. has s c) ss
+has-union_of [] c = set.contains-empty concept_cmp c
+has-union_of (s ∷ ss) c = set.contains-union concept_total s (union_of ss) c ∙ ap (λ b. has s c || b) (has-union_of ss c)
 
 pub has-common : (s : Concepts) (ss : List Concepts) (c : Concept) → has (common (s ∷ ss)) c ≡ list_all (λ s. has s c) (s ∷ ss)
 has-common s [] c = and_true (has s c)
@@ -230,11 +230,11 @@ or_false : (b : Bool) → b ≡ (b || false)
 or_false true = refl
 or_false false = refl
 
-pub united_one : (s : Concepts) → s ≡ united (s ∷ [])
-united_one s = one_set s (united (s ∷ [])) (λ c. or_false (has s c) ∙ sym (has-united (s ∷ []) c))
+pub united_one : (s : Concepts) → s ≡ union_of (s ∷ [])
+united_one s = one_set s (union_of (s ∷ [])) (λ c. or_false (has s c) ∙ sym (has-union_of (s ∷ []) c))
 
-pub is_united : (s : Concepts) (ss : List Concepts) → ((c : Concept) → has s c ≡ list_any (λ s. has s c) ss) → s ≡ united ss
-is_united s ss h = one_set s (united ss) (λ c. h c ∙ sym (has-united ss c))
+pub is_united : (s : Concepts) (ss : List Concepts) → ((c : Concept) → has s c ≡ list_any (λ s. has s c) ss) → s ≡ union_of ss
+is_united s ss h = one_set s (union_of ss) (λ c. h c ∙ sym (has-union_of ss c))
 
 all_or : (a b : Bool) → (b ≡ true → a ≡ true) → (a && b) ≡ b
 all_or true b h = refl

@@ -10,9 +10,9 @@ use Rattle.fhir_json.specs.Fields.{field, text_or_empty, items_in}
 use Rattle.fhir_json.specs.Views.{tree_of, trees_of}
 use Rattle.fhir_json.specs.declared.json.Json.{Json}
 use Rattle.fhir_package.specs.Definitions.{Definitions}
-use Rattle.fhir_codes.specs.Concepts.{Concepts, united}
-use Rattle.fhir_codes.specs.ValueSets.{sets_named, includes, excludes, is_compose, named, is_plain_include, of_include, composed, is_read}
-use Rattle.fhir_codes.specs.Placing.{Found, known, is_known, names_known}
+use Rattle.fhir_codes.specs.Concepts.{Concepts, union_of}
+use Rattle.fhir_codes.specs.ValueSets.{sets_named, includes, excludes, is_compose, named, is_plain_include, of_include, composition, is_read}
+use Rattle.fhir_codes.specs.Placing.{Found, found_concepts, is_known, names_known}
 
 map_twice : {A B C : Type 0} (f : B → C) (g : A → B) (xs : List A) → map f (map g xs) ≡ map (λ x. f (g x)) xs
 map_twice f g [] = refl
@@ -42,18 +42,18 @@ pub map_named : (f : Text → Concepts) (t : Tree) (xs : List Json) → trees_of
 map_named f t xs e =
     sym (map_twice (λ t. f (text_or_empty t)) tree_of xs) ∙ sym (map_twice f text_or_empty (trees_of xs)) ∙ ap (λ ts. map f (map text_or_empty ts)) e
 
-pub united_trees : (f : Tree → Concepts) (ts : List Tree) (xs : List Json) → trees_of xs ≡ ts → united (map (λ j. f (tree_of j)) xs) ≡ united (map f ts)
-united_trees f ts xs e = ap united (sym (map_twice f tree_of xs)) ∙ ap (λ us. united (map f us)) e
+pub united_trees : (f : Tree → Concepts) (ts : List Tree) (xs : List Json) → trees_of xs ≡ ts → union_of (map (λ j. f (tree_of j)) xs) ≡ union_of (map f ts)
+united_trees f ts xs e = ap union_of (sym (map_twice f tree_of xs)) ∙ ap (λ us. union_of (map f us)) e
 
 -- ---- a value set
 
 pub composed_of : (p : Definitions) (sets : Found) (t : Tree) (xs ys : List Json) (more less : Concepts)
-    → more ≡ united (map (λ j. of_include p (known p sets) (tree_of j)) xs) → less ≡ united (map (λ j. of_include p (known p sets) (tree_of j)) ys)
+    → more ≡ union_of (map (λ j. of_include p (found_concepts p sets) (tree_of j)) xs) → less ≡ union_of (map (λ j. of_include p (found_concepts p sets) (tree_of j)) ys)
     → trees_of xs ≡ includes t → trees_of ys ≡ excludes t
-    → set.difference more less ≡ composed p (known p sets) t
+    → set.difference more less ≡ composition p (found_concepts p sets) t
 composed_of p sets t xs ys more less m l is es =
-    ap (λ s. set.difference s less) (m ∙ united_trees (of_include p (known p sets)) (includes t) xs is)
-    ∙ ap (λ s. set.difference (united (map (of_include p (known p sets)) (includes t))) s) (l ∙ united_trees (of_include p (known p sets)) (excludes t) ys es)
+    ap (λ s. set.difference s less) (m ∙ united_trees (of_include p (found_concepts p sets)) (includes t) xs is)
+    ∙ ap (λ s. set.difference (union_of (map (of_include p (found_concepts p sets)) (includes t))) s) (l ∙ united_trees (of_include p (found_concepts p sets)) (excludes t) ys es)
 
 -- ---- whether all is read
 
@@ -69,18 +69,18 @@ all_in_both p sets ts =
     ∙ ap (λ b. list_all (is_plain_include p) ts && b) (sym (all_flat (is_known p sets) sets_named ts))
 
 -- a value set of which all parts are read is read, if it is composed
-read_if : (b : Bool) (p : Definitions) (sets : Found) (t : Tree) → composes t ≡ b → (b && list_all (both p sets) (includes t ++ excludes t)) ≡ is_read p (known p sets) t
+read_if : (b : Bool) (p : Definitions) (sets : Found) (t : Tree) → composes t ≡ b → (b && list_all (both p sets) (includes t ++ excludes t)) ≡ is_read p (found_concepts p sets) t
 read_if true p sets t is =
     all_in_both p sets (includes t ++ excludes t)
     ∙ ap (λ b. (b && list_all (is_plain_include p) (includes t ++ excludes t)) && list_all (is_known p sets) (named t)) (sym is)
 read_if false p sets t is = ap (λ b. (b && list_all (is_plain_include p) (includes t ++ excludes t)) && list_all (is_known p sets) (named t)) (sym is)
 
 pub read_parts : (p : Definitions) (sets : Found) (t : Tree) (xs ys : List Json) → composes t ≡ true → trees_of xs ≡ includes t → trees_of ys ≡ excludes t
-    → list_all (λ j. both p sets (tree_of j)) (xs ++ ys) ≡ is_read p (known p sets) t
+    → list_all (λ j. both p sets (tree_of j)) (xs ++ ys) ≡ is_read p (found_concepts p sets) t
 read_parts p sets t xs ys compose is es =
     sym (list_all-map (both p sets) tree_of (xs ++ ys))
     ∙ ap (list_all (both p sets)) (map-append tree_of xs ys ∙ ap (λ ts. ts ++ trees_of ys) is ∙ ap (λ ts. includes t ++ ts) es)
     ∙ read_if true p sets t compose
 
-pub not_composed : (p : Definitions) (sets : Found) (t : Tree) → composes t ≡ false → false ≡ is_read p (known p sets) t
+pub not_composed : (p : Definitions) (sets : Found) (t : Tree) → composes t ≡ false → false ≡ is_read p (found_concepts p sets) t
 not_composed p sets t compose = read_if false p sets t compose

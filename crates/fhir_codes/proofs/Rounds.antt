@@ -10,8 +10,8 @@ use Rattle.fhir_json.specs.Fields.{text_in}
 use Rattle.fhir_package.specs.declared.kind.Kind.TheVariants.{ValueSet}
 use Rattle.fhir_package.specs.Definitions.{Definitions}
 use Rattle.fhir_package.specs.Canonical.{named_by}
-use Rattle.fhir_codes.specs.Concepts.{Concepts, of_system, common, united}
-use Rattle.fhir_codes.specs.ValueSets.{sets_named, includes, excludes, named, codes_taken, of_set, of_include, composed, is_read, expansion, expanded}
+use Rattle.fhir_codes.specs.Concepts.{Concepts, of_system, common, union_of}
+use Rattle.fhir_codes.specs.ValueSets.{sets_named, includes, excludes, named, codes_taken, of_set, of_include, composition, is_read, expansion, expanded}
 use Rattle.fhir_codes.specs.Least.{is_plain}
 use Rattle.fhir_codes.proofs.Parts.{all_flat}
 
@@ -86,23 +86,23 @@ flat_parts q xs ys all =
     (sym (list_all-append (λ t. list_all q (sets_named t)) xs ys) ∙ sym (all_flat q sets_named (xs ++ ys)) ∙ all)
     in (all_flat q sets_named xs ∙ parts.0, all_flat q sets_named ys ∙ parts.1)
 
-same_composed : (p : Definitions) (f g : Known) → IsBelow f g → (t : Tree) → list_all (λ c. is_some (f c)) (named t) ≡ true → composed p f t ≡ composed p g t
+same_composed : (p : Definitions) (f g : Known) → IsBelow f g → (t : Tree) → list_all (λ c. is_some (f c)) (named t) ≡ true → composition p f t ≡ composition p g t
 same_composed p f g h t all =
     let parts = flat_parts (λ c. is_some (f c)) (includes t) (excludes t) all in
-    ap (λ l. set.difference (united l) (united (map (of_include p f) (excludes t)))) (same_includes p f g h (includes t) parts.0)
-    ∙ ap (λ l. set.difference (united (map (of_include p g) (includes t))) (united l)) (same_includes p f g h (excludes t) parts.1)
+    ap (λ l. set.difference (union_of l) (union_of (map (of_include p f) (excludes t)))) (same_includes p f g h (includes t) parts.0)
+    ∙ ap (λ l. set.difference (union_of (map (of_include p g) (includes t))) (union_of l)) (same_includes p f g h (excludes t) parts.1)
 
 -- what is read is plain, and all that it names is known
 pub read_parts_of : (p : Definitions) (f : Known) (t : Tree) (s : Concepts) → expansion p f t ≡ Some s → (is_plain p t ≡ true) × (list_all (λ c. is_some (f c)) (named t) ≡ true)
-read_parts_of p f t s e = and_parts (is_plain p t) (list_all (λ c. is_some (f c)) (named t)) (guarded (is_read p f t) (composed p f t) s e).0
+read_parts_of p f t s e = and_parts (is_plain p t) (list_all (λ c. is_some (f c)) (named t)) (guarded (is_read p f t) (composition p f t) s e).0
 
 pub expansion_more : (p : Definitions) (f g : Known) → IsBelow f g → (t : Tree) (s : Concepts) → expansion p f t ≡ Some s → expansion p g t ≡ Some s
 expansion_more p f g h t s e =
     let parts = read_parts_of p f t s e in
     let all : list_all (λ c. is_some (g c)) (named t) ≡ true = all_more (λ c. is_some (f c)) (λ c. is_some (g c)) (known_more f g h) (named t) parts.1 in
     let read : is_read p g t ≡ true = and_from (is_plain p t) (list_all (λ c. is_some (g c)) (named t)) parts.0 all in
-    chosen (is_read p g t) (composed p g t) read
-    ∙ ap Some (sym (same_composed p f g h t parts.1) ∙ (guarded (is_read p f t) (composed p f t) s e).1)
+    chosen (is_read p g t) (composition p g t) read
+    ∙ ap Some (sym (same_composed p f g h t parts.1) ∙ (guarded (is_read p f t) (composition p f t) s e).1)
 
 -- ---- one step more
 

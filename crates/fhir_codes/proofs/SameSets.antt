@@ -8,12 +8,12 @@ use Rattle.std.proofs.lemmas.List.Folds.{list_any-append}
 use Rattle.std.proofs.lemmas.List.Sorted.{list_any-IsPermutation}
 use Rattle.std.proofs.lemmas.Slice.Eq.{bytes_eq-Decides}
 use mathlib.Core.Bool.{false≢true}
-use Rattle.fhir_codes.specs.Concepts.{Concepts, united, common}
+use Rattle.fhir_codes.specs.Concepts.{Concepts, union_of, common}
 use Rattle.fhir_codes.specs.declared.included.Included.{Included}
 use Rattle.fhir_codes.specs.declared.included.Included.TheVariants.{Shared, Own}
 use Rattle.fhir_codes.specs.Tables.{SameSets, table_at, in_tables}
 use Rattle.fhir_codes.specs.Including.{included, are_of_one}
-use Rattle.fhir_codes.proofs.Members.{has, one_set, has-united, has-common}
+use Rattle.fhir_codes.proofs.Members.{has, one_set, has-union_of, has-common}
 
 module _ {A : Type 0} where
   pub any_map : {B : Type 0} (test : B → Bool) (f : A → B) (xs : List A) → list_any test (map f xs) ≡ list_any (λ x. test (f x)) xs
@@ -52,8 +52,8 @@ all_none test (s ∷ ss) = ap (λ b. test s && b) (all_none test ss) ∙ turned 
 same_all : (xs ys : List Concepts) → SameSets xs ys → (test : Concepts → Bool) → list_all test xs ≡ list_all test ys
 same_all xs ys same test = all_none test xs ∙ ap not (same (λ s. not (test s))) ∙ sym (all_none test ys)
 
-pub united_same : (xs ys : List Concepts) → SameSets xs ys → united xs ≡ united ys
-united_same xs ys same = one_set (united xs) (united ys) (λ c. has-united xs c ∙ same (λ s. has s c) ∙ sym (has-united ys c))
+pub united_same : (xs ys : List Concepts) → SameSets xs ys → union_of xs ≡ union_of ys
+united_same xs ys same = one_set (union_of xs) (union_of ys) (λ c. has-union_of xs c ∙ same (λ s. has s c) ∙ sym (has-union_of ys c))
 
 pub common_same : (xs ys : List Concepts) → SameSets xs ys → common xs ≡ common ys
 common_same [] [] same = refl

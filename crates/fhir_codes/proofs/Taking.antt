@@ -7,7 +7,7 @@ use Rattle.fhir_package.specs.declared.kind.Kind.TheVariants.{CodeSystem}
 use Rattle.fhir_package.specs.Definitions.{Definitions, at_url}
 use Rattle.fhir_codes.specs.Concepts.{of_system}
 use Rattle.fhir_codes.specs.CodeSystems.{codes_defined}
-use Rattle.fhir_codes.specs.ValueSets.{listed, lists_no_concept, is_version_of, code_system, codes_taken}
+use Rattle.fhir_codes.specs.ValueSets.{listed_concepts, lists_no_concept, is_version_of, code_system, codes_taken}
 use Rattle.fhir_codes.specs.Placing.{whole_of}
 
 guarded : (test : Tree → Bool) (b : Bool) (t s : Tree) → (if b then Some t else None) ≡ Some s → t ≡ s
@@ -28,4 +28,4 @@ whole_taken p t url s none is =
     ap (of_system url)
     (same_codes (is_version_of p t) (at_url CodeSystem url p) s is
     ∙ ap (λ o. option_map_or codes_defined o []) (sym is)
-    ∙ taken_if (lists_no_concept t) (option_map_or codes_defined (code_system p t url) []) (map (text_at (codes "code")) (listed t)) none)
+    ∙ taken_if (lists_no_concept t) (option_map_or codes_defined (code_system p t url) []) (map (text_at (codes "code")) (listed_concepts t)) none)

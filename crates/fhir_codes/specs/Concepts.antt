@@ -28,9 +28,9 @@ abbrev pub of_system : Text → List Text → Concepts
 of_system system codes = set.from_list (map (concept system) codes)
 
 -- those that are in one of the sets
-abbrev pub united : List Concepts → Concepts
-united [] = set.empty
-united (s ∷ ss) = set.union s (united ss)
+abbrev pub union_of : List Concepts → Concepts
+union_of [] = set.empty
+union_of (s ∷ ss) = set.union s (union_of ss)
 
 -- those that are in all of the sets, of which there is one at least
 abbrev pub common : List Concepts → Concepts

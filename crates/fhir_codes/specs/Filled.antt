@@ -4,7 +4,7 @@ use Rattle.std.specs.Option.{option_map_or, option_and_then}
 use Rattle.fhir_package.specs.Definitions.{Definitions}
 use Rattle.fhir_codes.specs.Concepts.{Concepts}
 use Rattle.fhir_codes.specs.ValueSets.{expansion, is_read, concepts_of}
-use Rattle.fhir_codes.specs.Placing.{Found, found_at, known, tree_at}
+use Rattle.fhir_codes.specs.Placing.{Found, found_at, found_concepts, tree_at}
 
 -- the concepts of the value set at a place
 abbrev pub concepts_at : Definitions → ℕ → Option Concepts
@@ -12,7 +12,7 @@ concepts_at p place = option_and_then (expansion p (concepts_of p)) (tree_at p p
 
 -- it hasn't been found, and can be now
 abbrev pub is_ready : Definitions → Found → ℕ → Bool
-is_ready p sets place = is_none (found_at sets place) && option_map_or (is_read p (known p sets)) (tree_at p place) false
+is_ready p sets place = is_none (found_at sets place) && option_map_or (is_read p (found_concepts p sets)) (tree_at p place) false
 
 abbrev pub one_if_found : Option Concepts → ℕ
 one_if_found None = 0

@@ -40,11 +40,11 @@ Found = List (Option Concepts)
 abbrev pub found_at : Found → ℕ → Option Concepts
 found_at sets place = option_and_then (λ s. s) (slice_get sets place)
 
-abbrev pub known : Definitions → Found → Text → Option Concepts
-known p sets canonical = option_and_then (found_at sets) (place_named p canonical)
+abbrev pub found_concepts : Definitions → Found → Text → Option Concepts
+found_concepts p sets canonical = option_and_then (found_at sets) (place_named p canonical)
 
 abbrev pub is_known : Definitions → Found → Text → Bool
-is_known p sets canonical = is_some (known p sets canonical)
+is_known p sets canonical = is_some (found_concepts p sets canonical)
 
 -- the value sets that an include names are known
 abbrev pub names_known : Definitions → Found → Tree → Bool

@@ -7,7 +7,7 @@ use Rattle.std.specs.FinSet as set
 use Rattle.fhir_json.specs.Tree.{Text}
 use Rattle.fhir_package.specs.Definitions.{Definitions}
 use Rattle.fhir_codes.specs.Concepts.{Concepts, common}
-use Rattle.fhir_codes.specs.Placing.{Found, known}
+use Rattle.fhir_codes.specs.Placing.{Found, found_concepts}
 
 -- a package, the tables that have been made, and for each value set the number of its own, if its concepts have been found
 pub record Tabled : Type 0 where
@@ -35,7 +35,7 @@ abbrev pub found : Tabled → Found
 found s = map (option_and_then (slice_get s.tables)) s.numbers
 
 abbrev pub known_in : Tabled → Text → Option Concepts
-known_in s canonical = known s.definitions (found s) canonical
+known_in s canonical = found_concepts s.definitions (found s) canonical
 
 -- the two lists have the same sets, in any order and however often
 abbrev pub SameSets : List Concepts → List Concepts → Type 0

@@ -11,19 +11,19 @@ use Rattle.fhir_json.specs.Fields.{field, is_object, text_in, text_at, items_in,
 use Rattle.fhir_package.specs.declared.kind.Kind.TheVariants.{ValueSet, CodeSystem}
 use Rattle.fhir_package.specs.Definitions.{Definitions, at_url}
 use Rattle.fhir_package.specs.Canonical.{has_version, named_by}
-use Rattle.fhir_codes.specs.Concepts.{Concepts, of_system, united, common}
+use Rattle.fhir_codes.specs.Concepts.{Concepts, of_system, union_of, common}
 use Rattle.fhir_codes.specs.CodeSystems.{is_coded, is_complete, codes_defined}
 
 -- ---- fields of an include, and of an exclude
 
-abbrev pub listed : Tree → List Tree
-listed t = items_in (codes "concept") t
+abbrev pub listed_concepts : Tree → List Tree
+listed_concepts t = items_in (codes "concept") t
 
 abbrev pub sets_named : Tree → List Text
 sets_named t = texts_in (codes "valueSet") t
 
 abbrev pub lists_no_concept : Tree → Bool
-lists_no_concept t = is_empty (listed t)
+lists_no_concept t = is_empty (listed_concepts t)
 
 -- its fields are of their kinds, each concept that it lists has a code, and it has no filter
 abbrev pub has_right_fields : Tree → Bool
@@ -32,7 +32,7 @@ has_right_fields t =
     && allows_text (codes "system") t
     && allows_text (codes "version") t
     && allows_items (codes "concept") t
-    && list_all is_coded (listed t)
+    && list_all is_coded (listed_concepts t)
     && allows_texts (codes "valueSet") t
     && allows_items (codes "filter") t
     && is_empty (items_in (codes "filter") t)
@@ -70,7 +70,7 @@ module _ (p : Definitions) where
   codes_taken t system =
       if lists_no_concept t
       then option_map_or codes_defined (code_system t system) []
-      else map (text_at (codes "code")) (listed t)
+      else map (text_at (codes "code")) (listed_concepts t)
 
   abbrev pub can_take : Tree → Text → Bool
   can_take t system = not (lists_no_concept t) || option_map_or is_complete (code_system t system) false
@@ -92,8 +92,8 @@ module _ (p : Definitions) where
         common (option_map_or (λ system. of_system system (codes_taken t system) ∷ []) (text_in (codes "system") t) []
         ++ map of_set (sets_named t))
 
-    abbrev pub composed : Tree → Concepts
-    composed t = set.difference (united (map of_include (includes t))) (united (map of_include (excludes t)))
+    abbrev pub composition : Tree → Concepts
+    composition t = set.difference (union_of (map of_include (includes t))) (union_of (map of_include (excludes t)))
 
     -- nothing in it is unread, and all value sets that it names are known
     abbrev pub is_read : Tree → Bool
@@ -103,7 +103,7 @@ module _ (p : Definitions) where
         && list_all (λ canonical. is_some (known canonical)) (named t)
 
     abbrev pub expansion : Tree → Option Concepts
-    expansion t = if is_read t then Some (composed t) else None
+    expansion t = if is_read t then Some (composition t) else None
 
   -- ---- value sets that name one another
 

@@ -4,7 +4,7 @@ ghost use Rattle.std.specs.Prelude.{◌≡◌, ◌<◌, [], ◌∷◌, ◌++◌,
 ghost use Rattle.std.specs.List.{list_all};
 ghost use Rattle.std.specs.FinSet as set;
 ghost use Rattle.fhir_json.specs.Memory.{Gives};
-ghost use Rattle.fhir_codes.specs.Concepts.{united, common};
+ghost use Rattle.fhir_codes.specs.Concepts.{union_of, common};
 
 use crate::concept_set::ConceptSet;
 use crate::shared_concept::SharedConcept;
@@ -86,7 +86,7 @@ fn smallest(sets: &[ConceptSet]) -> usize
 }
 
 fn united_anew(alloc: Global, sets: &[ConceptSet]) -> Result<ConceptSet, NoMemory>
-    ensures { Gives (λ s. s) result (united sets.now) }
+    ensures { Gives (λ s. s) result (union_of sets.now) }
 {
     let mut all = Vec::new(alloc);
     for one in sets {
@@ -96,8 +96,8 @@ fn united_anew(alloc: Global, sets: &[ConceptSet]) -> Result<ConceptSet, NoMemor
 }
 
 /// The concepts that are in one of the sets. A single set keeps its table.
-pub(crate) fn united(alloc: Global, sets: &[ConceptSet]) -> Result<ConceptSet, NoMemory>
-    ensures { Gives (λ s. s) result (united sets.now) }
+pub(crate) fn union_of(alloc: Global, sets: &[ConceptSet]) -> Result<ConceptSet, NoMemory>
+    ensures { Gives (λ s. s) result (union_of sets.now) }
 {
     match sets {
         [only] => only.share(),

@@ -7,8 +7,8 @@ ghost use Rattle.std.specs.FinSet as set;
 ghost use Rattle.fhir_json.specs.Fields.{text_in, text_or_empty, field};
 ghost use Rattle.fhir_json.specs.Views.{tree_of, trees_of};
 ghost use Rattle.fhir_json.specs.Memory.{Gives};
-ghost use Rattle.fhir_codes.specs.Concepts.{of_system, united, common};
-ghost use Rattle.fhir_codes.specs.ValueSets.{sets_named, part_in, includes, excludes, is_compose, codes_taken, is_plain_include, of_set, of_include, composed, is_read};
+ghost use Rattle.fhir_codes.specs.Concepts.{of_system, union_of, common};
+ghost use Rattle.fhir_codes.specs.ValueSets.{sets_named, part_in, includes, excludes, is_compose, codes_taken, is_plain_include, of_set, of_include, composition, is_read};
 ghost use Rattle.fhir_codes.specs.Placing.{found_at, is_known, names_known};
 ghost use Rattle.fhir_codes.specs.Tables.{table_at, found, known_in};
 ghost use Rattle.fhir_codes.specs.Including.{included};
@@ -71,7 +71,7 @@ impl<'p, 'a> Sources<'p, 'a> {
     }
 
     /// The concepts of the value set that a canonical names, if they have been found.
-    pub(crate) fn known(&self, canonical: &str) -> Option<&ConceptSet>
+    pub(crate) fn found_concepts(&self, canonical: &str) -> Option<&ConceptSet>
         ensures { option_copied result ≡ known_in self.now canonical.now }
     {
         match self.number(canonical) {
@@ -85,7 +85,7 @@ impl<'p, 'a> Sources<'p, 'a> {
     fn is_known(&self, canonical: &str) -> bool
         ensures { result ≡ is_known self.now.definitions (found self.now) canonical.now }
     {
-        self.known(canonical).is_some()
+        self.found_concepts(canonical).is_some()
     }
 
     fn texts_known(&self, texts: &[Json<'_>]) -> bool
@@ -173,7 +173,7 @@ impl<'p, 'a> Sources<'p, 'a> {
                 Ok(Included::in_all(numbers))
             }
             None => {
-                let concepts = self.taken(alloc, texts, include, url)?;
+                let concepts = self.concepts_taken(alloc, texts, include, url)?;
                 self.within(alloc, concepts, numbers)
             }
         }
@@ -219,8 +219,8 @@ impl<'p, 'a> Sources<'p, 'a> {
         texts: &mut Texts,
         includes: &[Json<'_>],
     ) -> Result<Vec<Included>, NoMemory>
-        ensures { IfOk result (λ v. united (map (included self.now.tables) v.items)
-            ≡ united (map (λ j. of_include self.now.definitions (known_in self.now) (tree_of j)) includes.now)) }
+        ensures { IfOk result (λ v. union_of (map (included self.now.tables) v.items)
+            ≡ union_of (map (λ j. of_include self.now.definitions (known_in self.now) (tree_of j)) includes.now)) }
     {
         let all = self.of_includes(alloc, texts, includes)?;
         Ok(distinct(all))
@@ -231,7 +231,7 @@ impl<'p, 'a> Sources<'p, 'a> {
     // The number of the table that has the same concepts, if there is one.
     fn kept_number(&self, more: &[Included], less: &ConceptSet) -> Option<usize>
         ensures { IfSome result (λ n. slice_get self.now.tables n
-            ≡ Some (set.difference (united (map (included self.now.tables) more.now)) less.now)) }
+            ≡ Some (set.difference (union_of (map (included self.now.tables) more.now)) less.now)) }
     {
         if !less.is_empty() {
             return None;
@@ -248,21 +248,21 @@ impl<'p, 'a> Sources<'p, 'a> {
         more: &[Included],
         less: &ConceptSet,
     ) -> Result<ConceptSet, NoMemory>
-        ensures { Gives (λ s. s) result (set.difference (united (map (included self.now.tables) more.now)) less.now) }
+        ensures { Gives (λ s. s) result (set.difference (union_of (map (included self.now.tables) more.now)) less.now) }
     {
         let more = self.united_of(alloc, more)?;
         without(alloc, &more, less)
     }
 
     /// The number of the table of a value set: of its includes, without its excludes.
-    pub(crate) fn composed(
+    pub(crate) fn compose(
         &mut self,
         alloc: Global,
         texts: &mut Texts,
         json: &Json<'_>,
     ) -> Result<usize, NoMemory>
-        ensures composed { IfOk result (λ n. slice_get self.new.tables n
-            ≡ Some (composed self.old.definitions (known_in self.old) (tree_of json.now))) }
+        ensures composition { IfOk result (λ n. slice_get self.new.tables n
+            ≡ Some (composition self.old.definitions (known_in self.old) (tree_of json.now))) }
         ensures definitions { self.new.definitions ≡ self.old.definitions }
         ensures found { found self.new ≡ found self.old }
     {

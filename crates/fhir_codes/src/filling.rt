@@ -36,7 +36,7 @@ impl<'p, 'a> Sources<'p, 'a> {
         let Some(json) = self.tree(place) else {
             return Ok(());
         };
-        let number = self.composed(alloc, texts, json)?;
+        let number = self.compose(alloc, texts, json)?;
         self.set_number(place, number);
         Ok(())
     }

@@ -1,7 +1,7 @@
 //! What an include has, before it is joined with others.
 
 ghost use Rattle.std.specs.Prelude.{◌≡◌, List, map};
-ghost use Rattle.fhir_codes.specs.Concepts.{Concepts, united};
+ghost use Rattle.fhir_codes.specs.Concepts.{Concepts, union_of};
 ghost use Rattle.fhir_codes.specs.Tables.{table_at, in_tables, SameSets};
 ghost use Rattle.fhir_codes.specs.Including.{included, are_of_one};
 

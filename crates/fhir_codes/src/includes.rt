@@ -11,7 +11,7 @@ ghost use Rattle.fhir_codes.specs.Concepts.{of_system};
 ghost use Rattle.fhir_package.specs.Canonical.{has_version};
 ghost use Rattle.fhir_codes.specs.CodeSystems.{is_coded, is_complete};
 ghost use Rattle.fhir_codes.specs.Tables.{found};
-ghost use Rattle.fhir_codes.specs.ValueSets.{listed, sets_named, lists_no_concept, has_right_fields, is_version_of, code_system, codes_taken, can_take, is_plain_include};
+ghost use Rattle.fhir_codes.specs.ValueSets.{listed_concepts, sets_named, lists_no_concept, has_right_fields, is_version_of, code_system, codes_taken, can_take, is_plain_include};
 
 use crate::code_systems::{concepts_listed, is_coded};
 use crate::composing::{excludes, includes};
@@ -22,8 +22,8 @@ use fhir_json::{Json, NoMemory};
 use fhir_package::{Kind, has_version};
 use std::alloc::Global;
 
-fn listed<'t, 'j>(include: &'t Json<'j>) -> &'t [Json<'j>]
-    ensures { trees_of result.now ≡ listed (tree_of include.now) }
+fn listed_concepts<'t, 'j>(include: &'t Json<'j>) -> &'t [Json<'j>]
+    ensures { trees_of result.now ≡ listed_concepts (tree_of include.now) }
 {
     include.items_in("concept")
 }
@@ -41,7 +41,7 @@ fn is_none_of(items: &[Json<'_>]) -> bool
 fn lists_no_concept(include: &Json<'_>) -> bool
     ensures { result ≡ lists_no_concept (tree_of include.now) }
 {
-    is_none_of(listed(include))
+    is_none_of(listed_concepts(include))
 }
 
 fn each_is_coded(items: &[Json<'_>]) -> bool
@@ -69,7 +69,7 @@ fn has_right_fields(include: &Json<'_>) -> bool
 {
     has_texts(include)
         && include.allows_items("concept")
-        && are_coded(listed(include))
+        && are_coded(listed_concepts(include))
         && include.allows_texts("valueSet")
         && include.allows_items("filter")
         && is_none_of(include.items_in("filter"))
@@ -199,7 +199,7 @@ impl<'p, 'a> Sources<'p, 'a> {
     }
 
     /// The concepts that an include takes of the system of that url: those that it lists, or all.
-    pub(crate) fn taken(
+    pub(crate) fn concepts_taken(
         &self,
         alloc: Global,
         texts: &mut Texts,
@@ -209,7 +209,7 @@ impl<'p, 'a> Sources<'p, 'a> {
         ensures { Gives (λ s. s) result (of_system url.now (codes_taken self.now.definitions (tree_of include.now) url.now)) }
     {
         if !lists_no_concept(include) {
-            return concepts_listed(alloc, texts, url, listed(include));
+            return concepts_listed(alloc, texts, url, listed_concepts(include));
         }
         match self.code_system(include, url) {
             Some(_system) => self.whole(alloc, texts, url),

@@ -3,11 +3,11 @@
 ghost use Rattle.std.specs.Prelude.{◌≡◌, ◌∷◌, ◌++◌, map, OnOk, IfOk, IfSome, Some};
 ghost use Rattle.std.specs.List.{slice_get};
 ghost use Rattle.fhir_json.specs.Memory.{Gives};
-ghost use Rattle.fhir_codes.specs.Concepts.{united, common};
+ghost use Rattle.fhir_codes.specs.Concepts.{union_of, common};
 ghost use Rattle.fhir_codes.specs.Tables.{table_at, in_tables};
 ghost use Rattle.fhir_codes.specs.Including.{included};
 
-use crate::combining::{common, united};
+use crate::combining::{common, union_of};
 use crate::concept_set::ConceptSet;
 use crate::included::{Included, distinct_numbers};
 use crate::sources::Sources;
@@ -89,10 +89,10 @@ impl<'p, 'a> Sources<'p, 'a> {
         alloc: Global,
         parts: &[Included],
     ) -> Result<ConceptSet, NoMemory>
-        ensures { Gives (λ s. s) result (united (map (included self.now.tables) parts.now)) }
+        ensures { Gives (λ s. s) result (union_of (map (included self.now.tables) parts.now)) }
     {
         let all = self.sets_of(alloc, parts)?;
-        united(alloc, &all)
+        union_of(alloc, &all)
     }
 
     /// The number of the one table that a part is of.

@@ -9,7 +9,7 @@ ghost use Rattle.fhir_json.specs.Tree.{Text};
 ghost use Rattle.fhir_package.specs.declared.kind.Kind.TheVariants.{ValueSet, CodeSystem};
 ghost use Rattle.fhir_package.specs.Definitions.{Definitions, at_url};
 ghost use Rattle.fhir_package.specs.Canonical.{named_by};
-ghost use Rattle.fhir_codes.specs.Concepts.{Concept, Concepts, of_system, united, common, has_code};
+ghost use Rattle.fhir_codes.specs.Concepts.{Concept, Concepts, of_system, union_of, common, has_code};
 ghost use Rattle.fhir_codes.specs.ValueSets.{expansion, concepts_of};
 ghost use Rattle.fhir_codes.specs.Expanding.{expansions_of, concepts_in};
 ghost use Rattle.fhir_codes.specs.Least.{IsClosed};
@@ -49,7 +49,7 @@ pub fn codes_of_subset()
 
 /// Which concepts are in a union, in an intersection, and in the set of a system's codes.
 pub fn algebra()
-    ensures united { (ss : List Concepts) (c : Concept) → set.contains (united ss) c ≡ list_any (λ s. set.contains s c) ss }
+    ensures union_of { (ss : List Concepts) (c : Concept) → set.contains (union_of ss) c ≡ list_any (λ s. set.contains s c) ss }
     ensures common { (s : Concepts) (ss : List Concepts) (c : Concept) → set.contains (common (s ∷ ss)) c
         ≡ list_all (λ s. set.contains s c) (s ∷ ss) }
     ensures of_system { (system : Text) (cs : List Text) (c : Concept) → set.contains (of_system system cs) c

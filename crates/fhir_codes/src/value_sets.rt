@@ -181,7 +181,7 @@ pub fn expand(alloc: Global, from: &Package<'_>, canonical: &str) -> Result<Code
 {
     let mut sources = Sources::of(alloc, from)?;
     sources.expand_all(alloc)?;
-    match sources.known(canonical) {
+    match sources.found_concepts(canonical) {
         Some(concepts) => Ok(CodeSet::Enumerated(concepts.share()?)),
         None => Ok(CodeSet::Unread),
     }

@@ -210,13 +210,3 @@ pub read_right : {D : Type 0} (seen : D → Parts) (bs : List ℕ) (o : Option D
     → MatchOption o ((p : Parts) → ¬ IsDecimal bs p) (λ d. IsDecimal bs (seen d))
 read_right seen bs (Some d) e = parts_taken bs (seen d) (sym e)
 read_right seen bs None e = λ p h. no_some p (e ∙ parts_again bs p h)
-
-no_parts : (r : Option Parts) → ((p : Parts) → r ≡ Some p → ⊥) → None ≡ r
-no_parts None h = refl
-no_parts (Some p) h = absurd (h p refl)
-
--- what is read by the grammar is what reading from left to right gives
-pub parts_are : {D : Type 0} (seen : D → Parts) (bs : List ℕ) (o : Option D)
-    → MatchOption o ((p : Parts) → ¬ IsDecimal bs p) (λ d. IsDecimal bs (seen d)) → option_map seen o ≡ parts bs
-parts_are seen bs None h = no_parts (parts bs) (λ p e. h p (parts_taken bs p e))
-parts_are seen bs (Some d) h = sym (parts_again bs (seen d) h)

@@ -47,8 +47,9 @@ impl<'a> Decimal<'a> {
     /// The decimal that a text writes, if it writes one (FHIR R4, Data Types, decimal:
     /// `-?(0|[1-9][0-9]*)(\.[0-9]+)?([eE][+-]?[0-9]+)?`).
     pub fn of(text: &'a str) -> Option<Decimal<'a>>
-        ensures { MatchOption result ((p : Parts) → ¬ IsDecimal text.now p)
+        ensures grammar { MatchOption result ((p : Parts) → ¬ IsDecimal text.now p)
             (λ d. IsDecimal text.now (parts_seen d)) }
+        ensures parts { option_map parts_seen result ≡ parts text.now }
     {
         parts_of(text)
     }

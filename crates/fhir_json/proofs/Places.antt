@@ -7,16 +7,16 @@ use Rattle.std.proofs.lemmas.Bool.{eq-eqb, ne_eqb}
 use Rattle.std.proofs.lemmas.List.{take_min, drop_min, take_rest, take_more, reverse-append}
 use Rattle.std.proofs.lemmas.List.Sums.{count_by_more_yes, count_by_more_no, sum_by-cons, take_while-cons}
 use Rattle.fhir_json.specs.Grammar.{mark}
-use Rattle.fhir_json.specs.Position.{begins_character, counted, line_feeds, last_characters}
+use Rattle.fhir_json.specs.Position.{begins_character, without_mark, line_feeds, last_characters}
 
 -- ---- the bytes that count
 
-pub whole_front : (bytes : List ℕ) (before : ℕ) → starts_with nat_eq bytes mark ≡ false → take (min before (length bytes)) bytes ≡ counted bytes before
+pub whole_front : (bytes : List ℕ) (before : ℕ) → starts_with nat_eq bytes mark ≡ false → take (min before (length bytes)) bytes ≡ without_mark bytes before
 whole_front bytes before isnt = rw isnt (take_min before bytes)
 
 pub behind_mark : (bytes : List ℕ) (before : ℕ) → starts_with nat_eq bytes mark ≡ true
     → (let front = take (min before (length bytes)) bytes in let passed = min 3 (length front) in take (length front - passed) (drop passed front))
-    ≡ counted bytes before
+    ≡ without_mark bytes before
 behind_mark bytes before is =
     let front = take (min before (length bytes)) bytes in
     rw is (take_rest front (min 3 (length front)) ∙ drop_min 3 front ∙ ap (drop 3) (take_min before bytes))

@@ -10,8 +10,8 @@ abbrev pub begins_character : ℕ → Bool
 begins_character b = nat_lt b 128 || nat_le 192 b
 
 -- the first bytes, and of a byte order mark at the front of the text nothing
-abbrev pub counted : List ℕ → ℕ → List ℕ
-counted bytes before = if starts_with nat_eq bytes mark then drop 3 (take before bytes) else take before bytes
+abbrev pub without_mark : List ℕ → ℕ → List ℕ
+without_mark bytes before = if starts_with nat_eq bytes mark then drop 3 (take before bytes) else take before bytes
 
 -- the line feeds
 abbrev pub line_feeds : List ℕ → ℕ
@@ -23,4 +23,4 @@ last_characters bs = count_by begins_character (take_while (λ b. not (b == line
 
 -- the position of the byte behind the first `before` bytes
 abbrev pub position_at : List ℕ → ℕ → Position
-position_at bytes before = record { line = line_feeds (counted bytes before) + 1; column = last_characters (counted bytes before) + 1 }
+position_at bytes before = record { line = line_feeds (without_mark bytes before) + 1; column = last_characters (without_mark bytes before) + 1 }

@@ -1,7 +1,7 @@
 //! Places in a text.
 
 ghost use Rattle.std.specs.Prelude.{◌≡◌};
-ghost use Rattle.fhir_json.specs.Position.{begins_character, counted, position_at};
+ghost use Rattle.fhir_json.specs.Position.{begins_character, without_mark, position_at};
 
 /// A place in a text: its line and its column, both from 1.
 #[derive(Clone, Copy, Debug, PartialEq, Eq)]
@@ -13,8 +13,8 @@ pub struct Position {
 }
 
 // The first bytes, and of a byte order mark at the front nothing.
-fn counted(bytes: &[u8], before: usize) -> &[u8]
-    ensures { result.now ≡ counted bytes.now before }
+fn without_mark(bytes: &[u8], before: usize) -> &[u8]
+    ensures { result.now ≡ without_mark bytes.now before }
 {
     let front = &bytes[..before.min(bytes.len())];
     if bytes.starts_with(b"\xef\xbb\xbf") {
@@ -35,7 +35,7 @@ fn begins_character(b: u8) -> bool
 pub fn position_of(bytes: &[u8], before: usize) -> Position
     ensures { result ≡ position_at bytes.now before }
 {
-    let front = counted(bytes, before);
+    let front = without_mark(bytes, before);
     let mut line = 1;
     let mut column = 1;
     'bytes: for b in front {

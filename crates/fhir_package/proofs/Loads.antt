@@ -4,11 +4,11 @@ use Rattle.std.specs.Prelude.{All, length}
 use Rattle.std.specs.Option.{option_map, option_and_then}
 use Rattle.std.specs.Map.{keys_of}
 use Rattle.fhir_package.specs.declared.fault.LoadFault.{LoadFault}
-use Rattle.fhir_package.specs.declared.fault.LoadFault.TheVariants.{Unlisted, Unread, NotJson, Clash, NoMemory}
+use Rattle.fhir_package.specs.declared.fault.LoadFault.TheVariants.{Unlisted, Unreadable, NotJson, Clash, NoMemory}
 use Rattle.fhir_package.specs.Definitions.{Definitions}
 use Rattle.fhir_package.specs.Folder.{Files}
 use Rattle.fhir_package.specs.Packing.{Refusal, json_names, pack_files, pack}
-use Rattle.fhir_package.specs.ReadFiles.{ReadFiles, IsFrom, unread_names, all_given}
+use Rattle.fhir_package.specs.ReadFiles.{ReadFiles, IsFrom, unreadable_names, all_given}
 use Rattle.fhir_package.specs.Surveying.{FileFault, Surveyed, survey, refusal, refusal_of, told_by, packed_by}
 use Rattle.fhir_package.specs.Faults.{IsPacked, CountsLoading, IsLoaded}
 use Rattle.fhir_package.proofs.Given.{none_unread, some_unread, folder_given}
@@ -54,12 +54,12 @@ module _ (read : ReadFiles) where
     pub loaded : (r : Result Definitions LoadFault) → IsLoaded r (survey read) → IsPacked r (pack files)
     loaded (Ok p) is = answered (Ok p) (packed_as (survey read) p is.0 is.1)
     loaded (Err Unlisted) is = tt
-    loaded (Err (Unread name)) is = tt
+    loaded (Err (Unreadable name)) is = tt
     loaded (Err (NotJson name)) is = answered _ (refused_by (refusal (survey read)) _ (survey read).definitions is)
     loaded (Err (Clash url)) is = answered _ (refused_by (refusal (survey read)) _ (survey read).definitions is)
     loaded (Err NoMemory) is = tt
 
-  module _ (old new : ℕ) (counts : new ≡ old + length (unread_names read)) where
+  module _ (old new : ℕ) (counts : new ≡ old + length (unreadable_names read)) where
     none_more : (answer : Result Definitions Refusal) → packed_by (survey read) ≡ Some answer → new ≡ old
     none_more answer e =
         let there = all_there answer e in
@@ -69,7 +69,7 @@ module _ (read : ReadFiles) where
     pub counted : (r : Result Definitions LoadFault) → IsLoaded r (survey read) → CountsLoading old new r
     counted (Ok p) is = none_more (Ok p) (packed_as (survey read) p is.0 is.1)
     counted (Err Unlisted) is = absurd is
-    counted (Err (Unread name)) is =
+    counted (Err (Unreadable name)) is =
         let some = some_unread read (not_there (ap (λ (r : Option FileFault). told_by r (survey read).definitions) is)) in
         omega (arith, counts, some)
     counted (Err (NotJson name)) is = none_more _ (refused_by (refusal (survey read)) _ (survey read).definitions is)

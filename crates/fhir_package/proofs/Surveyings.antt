@@ -12,10 +12,10 @@ use Rattle.fhir_matching.specs.Equality.{equal}
 use Rattle.fhir_package.specs.Definitions.{Definitions, at_url}
 use Rattle.fhir_package.specs.Folder.{Files}
 use Rattle.fhir_package.specs.Packing.{Refusal, Definition, definitions_in, joined, join, join_all, and_then, or_clash, put_all, take_tree, take_files, pack_files}
-use Rattle.fhir_package.specs.ReadFiles.{ReadFiles, is_unread_file, unread_names, given, all_given}
-use Rattle.fhir_package.specs.Surveying.{FileFault, unread, not_json, clash, source_of, Surveyed, nothing_surveyed, with_fault, compared, put, put_each}
-use Rattle.fhir_package.specs.Surveying.{position_in, survey_tree, survey_file, survey_each, survey, is_unread, refusal, refusal_of, told_by, packed_by}
-use Rattle.fhir_package.proofs.Given.{given-all_given, unread-given, not_given}
+use Rattle.fhir_package.specs.ReadFiles.{ReadFiles, is_unreadable_file, unreadable_names, given, all_given}
+use Rattle.fhir_package.specs.Surveying.{FileFault, unreadable, not_json, clash, source_of, Surveyed, nothing_surveyed, with_fault, compared, put, put_each}
+use Rattle.fhir_package.specs.Surveying.{position_in, survey_tree, survey_file, survey_each, survey, is_unreadable, refusal, refusal_of, told_by, packed_by}
+use Rattle.fhir_package.proofs.Given.{given-all_given, unreadable-given, not_given}
 
 -- ---- faults of the device
 
@@ -39,10 +39,10 @@ module _ {X : Type 0} (p : X → Bool) where
 
 -- those among the faults of a survey
 abbrev of_device : Surveyed → List FileFault
-of_device s = filter is_unread s.faults
+of_device s = filter is_unreadable s.faults
 
-behind : (x : FileFault) (s : Surveyed) → of_device (with_fault x s) ≡ of_device s ++ filter is_unread (x ∷ [])
-behind x s = filter-append is_unread s.faults (x ∷ [])
+behind : (x : FileFault) (s : Surveyed) → of_device (with_fault x s) ≡ of_device s ++ filter is_unreadable (x ∷ [])
+behind x s = filter-append is_unreadable s.faults (x ∷ [])
 
 put_same : (file : Text) (d : Definition) (s : Surveyed) → of_device (put file d s) ≡ of_device s
 put_same file d s = by (at_url d.kind d.url s.definitions)
@@ -63,28 +63,28 @@ tree_same file bytes (Ok t) s = each_same file (definitions_in t) s
 tree_same file bytes (Err refusal) s =
     behind (not_json file refusal.expected (position_in bytes refusal)) s ∙ append-nil (of_device s)
 
-files_add : (fs : ReadFiles) (s : Surveyed) → of_device (survey_each fs s) ≡ of_device s ++ map unread (unread_names fs)
+files_add : (fs : ReadFiles) (s : Surveyed) → of_device (survey_each fs s) ≡ of_device s ++ map unreadable (unreadable_names fs)
 files_add [] s = sym (append-nil (of_device s))
 files_add (f ∷ fs) s = by f.1 (files_add fs)
   where
-    by : (bytes : Option Text) → ((s : Surveyed) → of_device (survey_each fs s) ≡ of_device s ++ map unread (unread_names fs))
+    by : (bytes : Option Text) → ((s : Surveyed) → of_device (survey_each fs s) ≡ of_device s ++ map unreadable (unreadable_names fs))
         → of_device (survey_each fs (survey_file f.0 bytes s))
-        ≡ of_device s ++ map unread (keys_of (cond (is_none bytes) (f ∷ filter is_unread_file fs) (filter is_unread_file fs)))
+        ≡ of_device s ++ map unreadable (keys_of (cond (is_none bytes) (f ∷ filter is_unreadable_file fs) (filter is_unreadable_file fs)))
     by None rest =
-        rest (with_fault (unread f.0) s) ∙ ap (λ (xs : List FileFault). xs ++ map unread (unread_names fs)) (behind (unread f.0) s)
-        ∙ append_assoc (of_device s) (unread f.0 ∷ []) (map unread (unread_names fs))
+        rest (with_fault (unreadable f.0) s) ∙ ap (λ (xs : List FileFault). xs ++ map unreadable (unreadable_names fs)) (behind (unreadable f.0) s)
+        ∙ append_assoc (of_device s) (unreadable f.0 ∷ []) (map unreadable (unreadable_names fs))
     by (Some bytes) rest =
         rest (survey_tree f.0 bytes (placed_reading bytes) s)
-        ∙ ap (λ (xs : List FileFault). xs ++ map unread (unread_names fs)) (tree_same f.0 bytes (placed_reading bytes) s)
+        ∙ ap (λ (xs : List FileFault). xs ++ map unreadable (unreadable_names fs)) (tree_same f.0 bytes (placed_reading bytes) s)
 
 -- a survey has a fault for each file that the device didn't give
-pub all_unread : (fs : ReadFiles) → filter is_unread (survey fs).faults ≡ map unread (unread_names fs)
-all_unread fs = files_add fs nothing_surveyed
+pub all_unreadable : (fs : ReadFiles) → filter is_unreadable (survey fs).faults ≡ map unreadable (unreadable_names fs)
+all_unreadable fs = files_add fs nothing_surveyed
 
-pub first_unread : (fs : ReadFiles) (name : Text) (names : List Text) → unread_names fs ≡ name ∷ names → refusal (survey fs) ≡ Some (unread name)
-first_unread fs name names e =
+pub first_unreadable : (fs : ReadFiles) (name : Text) (names : List Text) → unreadable_names fs ≡ name ∷ names → refusal (survey fs) ≡ Some (unreadable name)
+first_unreadable fs name names e =
     ap (λ (r : Option FileFault). option_or r (slice_get (survey fs).faults 0))
-    (find_first is_unread (survey fs).faults (unread name) (map unread names) (all_unread fs ∙ ap (λ (ns : List Text). map unread ns) e))
+    (find_first is_unreadable (survey fs).faults (unreadable name) (map unreadable names) (all_unreadable fs ∙ ap (λ (ns : List Text). map unreadable ns) e))
 
 -- ---- the package
 
@@ -99,9 +99,9 @@ Tells (Err refusal) s = (f : FileFault) × Begins f s × (refusal_of f ≡ Some 
 
 told : (r : Result Definitions Refusal) (s : Surveyed) → of_device s ≡ [] → Tells r s → packed_by s ≡ Some r
 told (Ok p) s given t =
-    ap (λ (fs : List FileFault). told_by (option_or (find is_unread fs) (slice_get fs 0)) s.definitions) t.0 ∙ ap (λ (d : Definitions). Some (Ok d)) t.1
+    ap (λ (fs : List FileFault). told_by (option_or (find is_unreadable fs) (slice_get fs 0)) s.definitions) t.0 ∙ ap (λ (d : Definitions). Some (Ok d)) t.1
 told (Err refusal) s given t =
-    ap (λ (r : Option FileFault). told_by (option_or r (slice_get s.faults 0)) s.definitions) (find_none is_unread s.faults given)
+    ap (λ (r : Option FileFault). told_by (option_or r (slice_get s.faults 0)) s.definitions) (find_none is_unreadable s.faults given)
     ∙ ap (λ (fs : List FileFault). told_by (slice_get fs 0) s.definitions) t.1.1 ∙ ap (λ (r : Option Refusal). option_map Err r) t.2
 
 -- one step and then others
@@ -187,15 +187,15 @@ files_tell (x ∷ fs) s none =
 
 given_packs : (files : Files) → packed_by (survey (given files)) ≡ Some (pack_files files)
 given_packs files =
-    told (pack_files files) (survey (given files)) (all_unread (given files) ∙ ap (λ (ns : List Text). map unread ns) (unread-given files))
+    told (pack_files files) (survey (given files)) (all_unreadable (given files) ∙ ap (λ (ns : List Text). map unreadable ns) (unreadable-given files))
     (files_tell files nothing_surveyed refl)
 
-not_packed : (read : ReadFiles) → unread_names read ≢ [] → packed_by (survey read) ≡ None
-not_packed read some = by (unread_names read) refl
+not_packed : (read : ReadFiles) → unreadable_names read ≢ [] → packed_by (survey read) ≡ None
+not_packed read some = by (unreadable_names read) refl
   where
-    by : (names : List Text) → unread_names read ≡ names → packed_by (survey read) ≡ None
+    by : (names : List Text) → unreadable_names read ≡ names → packed_by (survey read) ≡ None
     by [] e = absurd (some e)
-    by (name ∷ names) e = ap (λ (r : Option FileFault). told_by r (survey read).definitions) (first_unread read name names e)
+    by (name ∷ names) e = ap (λ (r : Option FileFault). told_by r (survey read).definitions) (first_unreadable read name names e)
 
 pub survey_packs : (read : ReadFiles) → packed_by (survey read) ≡ option_map pack_files (all_given read)
 survey_packs read = by (all_given read) refl

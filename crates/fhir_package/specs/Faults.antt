@@ -4,29 +4,29 @@ use Rattle.std.specs.Prelude.{◌≡◌, ◌+◌, ◌<◌, ◌≤◌, ℕ, Optio
 use Rattle.std.specs.Option.{option_and_then}
 use Rattle.fhir_json.specs.Tree.{Text}
 use Rattle.fhir_package.specs.declared.fault.LoadFault.{LoadFault}
-use Rattle.fhir_package.specs.declared.fault.LoadFault.TheVariants.{Unlisted, Unread, NotJson, Clash, NoMemory}
+use Rattle.fhir_package.specs.declared.fault.LoadFault.TheVariants.{Unlisted, Unreadable, NotJson, Clash, NoMemory}
 use Rattle.fhir_package.specs.Definitions.{Definitions}
 use Rattle.fhir_package.specs.Packing.{Refusal, not_json, clash}
-use Rattle.fhir_package.specs.Surveying.{FileFault, unread, not_json as not_text, clash as two_of, Surveyed, refusal, refusal_of}
+use Rattle.fhir_package.specs.Surveying.{FileFault, unreadable, not_json as not_text, clash as two_of, Surveyed, refusal, refusal_of}
 
 -- ---- numbers
 
 -- the number that is printed of a file's fault
 abbrev pub fault_number : FileFault → Text
-fault_number (unread file) = codes "P1"
+fault_number (unreadable file) = codes "P1"
 fault_number (not_text file expected position) = codes "P2"
 fault_number (two_of kind url file first) = codes "P3"
 
 -- the file's name, or of a clash the url
 abbrev pub fault_subject : FileFault → Text
-fault_subject (unread file) = file
+fault_subject (unreadable file) = file
 fault_subject (not_text file expected position) = file
 fault_subject (two_of kind url file first) = url
 
 -- the number that is printed of a loading's
 abbrev pub load_number : LoadFault → Text
 load_number Unlisted = codes "P1"
-load_number (Unread name) = codes "P1"
+load_number (Unreadable name) = codes "P1"
 load_number (NotJson name) = codes "P2"
 load_number (Clash url) = codes "P3"
 load_number NoMemory = codes "P4"
@@ -36,7 +36,7 @@ load_number NoMemory = codes "P4"
 -- the fault is the answer's refusal, or decides nothing
 abbrev pub IsRefused : LoadFault → Result Definitions Refusal → Type 0
 IsRefused Unlisted answer = Unit {0}
-IsRefused (Unread name) answer = Unit {0}
+IsRefused (Unreadable name) answer = Unit {0}
 IsRefused (NotJson name) answer = answer ≡ Err (not_json (string_bytes name))
 IsRefused (Clash url) answer = answer ≡ Err (clash (string_bytes url))
 IsRefused NoMemory answer = Unit {0}
@@ -51,7 +51,7 @@ IsPacked (Err fault) answer = IsRefused fault answer
 abbrev pub CountsLoading : {X : Type 0} → ℕ → ℕ → Result X LoadFault → Type 0
 CountsLoading old new (Ok x) = new ≡ old
 CountsLoading old new (Err Unlisted) = new ≡ old + 1
-CountsLoading old new (Err (Unread name)) = old < new
+CountsLoading old new (Err (Unreadable name)) = old < new
 CountsLoading old new (Err (NotJson name)) = new ≡ old
 CountsLoading old new (Err (Clash url)) = new ≡ old
 CountsLoading old new (Err NoMemory) = old ≤ new
@@ -61,7 +61,7 @@ CountsLoading old new (Err NoMemory) = old ≤ new
 -- A loading's fault tells the one for which files are no package, if there is one. Want of memory tells nothing.
 abbrev pub Tells : LoadFault → Option FileFault → Type 0
 Tells Unlisted refusal = ⊥
-Tells (Unread name) refusal = refusal ≡ Some (unread (string_bytes name))
+Tells (Unreadable name) refusal = refusal ≡ Some (unreadable (string_bytes name))
 Tells (NotJson name) refusal = option_and_then refusal_of refusal ≡ Some (not_json (string_bytes name))
 Tells (Clash url) refusal = option_and_then refusal_of refusal ≡ Some (clash (string_bytes url))
 Tells NoMemory refusal = Unit {0}

@@ -17,17 +17,17 @@ ReadFiles = List (Text × Option (List ℕ))
 abbrev pub IsFrom : Files → Text × Option (List ℕ) → Type 0
 IsFrom files f = IfSome f.1 (λ bytes. bytes ≡ bytes_at files f.0)
 
-abbrev pub is_unread_file : Text × Option (List ℕ) → Bool
-is_unread_file f = is_none f.1
+abbrev pub is_unreadable_file : Text × Option (List ℕ) → Bool
+is_unreadable_file f = is_none f.1
 
 -- the names of the files without bytes
-abbrev pub unread_names : ReadFiles → List Text
-unread_names files = keys_of (filter is_unread_file files)
+abbrev pub unreadable_names : ReadFiles → List Text
+unreadable_names files = keys_of (filter is_unreadable_file files)
 
 -- How often the device has failed behind a reading, from how often it had before: once more for each file that it didn't give, or
 -- once where it didn't list the folder. Where memory ran out, no failure is forgotten.
 abbrev pub CountsReading : ℕ → ℕ → Result ReadFiles FolderFault → Type 0
-CountsReading old new (Ok files) = new ≡ old + length (unread_names files)
+CountsReading old new (Ok files) = new ≡ old + length (unreadable_names files)
 CountsReading old new (Err Device) = new ≡ old + 1
 CountsReading old new (Err NoMemory) = old ≤ new
 

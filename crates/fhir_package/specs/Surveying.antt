@@ -18,7 +18,7 @@ use Rattle.fhir_package.specs.Packing.{Refusal, not_json as not_text, clash as t
 -- what is wrong with a file
 pub data FileFault : Type 0 where
   -- the device didn't give the file of that name
-  unread : Text → FileFault
+  unreadable : Text → FileFault
   -- the file of that name is no text of JSON: what was expected, and where
   not_json : Text → Expected → Position → FileFault
   -- of that kind and url are two different definitions, in the file of the first name and, before it, in that of the second
@@ -90,7 +90,7 @@ survey_tree file bytes (Err refusal) s = with_fault (not_json file refusal.expec
 
 -- the definitions of a file, or why it has none
 abbrev pub survey_file : Text → Option Text → Surveyed → Surveyed
-survey_file file None s = with_fault (unread file) s
+survey_file file None s = with_fault (unreadable file) s
 survey_file file (Some bytes) s = survey_tree file bytes (placed_reading bytes) s
 
 abbrev pub survey_each : ReadFiles → Surveyed → Surveyed
@@ -102,18 +102,18 @@ survey files = survey_each files nothing_surveyed
 
 -- ---- what a survey says of the package
 
-abbrev pub is_unread : FileFault → Bool
-is_unread (unread file) = true
-is_unread (not_json file expected position) = false
-is_unread (clash kind url file first) = false
+abbrev pub is_unreadable : FileFault → Bool
+is_unreadable (unreadable file) = true
+is_unreadable (not_json file expected position) = false
+is_unreadable (clash kind url file first) = false
 
 -- the first fault by which files are no package: of the device, or else the first of all
 abbrev pub refusal : Surveyed → Option FileFault
-refusal s = option_or (find is_unread s.faults) (slice_get s.faults 0)
+refusal s = option_or (find is_unreadable s.faults) (slice_get s.faults 0)
 
 -- why files are no package, by a fault of theirs; one of the device doesn't say it
 abbrev pub refusal_of : FileFault → Option Refusal
-refusal_of (unread file) = None
+refusal_of (unreadable file) = None
 refusal_of (not_json file expected position) = Some (not_text file)
 refusal_of (clash kind url file first) = Some (two_of url)
 

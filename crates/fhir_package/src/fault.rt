@@ -15,7 +15,7 @@ pub enum LoadFault {
     Unlisted,
     /// The device did not give the file of this name.
     #[error("{number} {0}", number = self.number())]
-    Unread(String),
+    Unreadable(String),
     /// The file of this name is no JSON text.
     #[error("{number} {0}", number = self.number())]
     NotJson(String),
@@ -33,7 +33,7 @@ impl LoadFault {
         ensures { result.now ≡ load_number self.now }
     {
         match self {
-            LoadFault::Unread(_) | LoadFault::Unlisted => "P1",
+            LoadFault::Unreadable(_) | LoadFault::Unlisted => "P1",
             LoadFault::NotJson(_) => "P2",
             LoadFault::Clash(_) => "P3",
             LoadFault::NoMemory => "P4",

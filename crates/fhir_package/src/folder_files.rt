@@ -3,7 +3,7 @@
 ghost use Rattle.std.specs.Prelude.{◌≡◌, ◌+◌, ◌≤◌, [], ◌∷◌, map, length, string_bytes, All, IfOk};
 ghost use Rattle.std.specs.Map.{keys_of};
 ghost use Rattle.fhir_package.specs.Packing.{is_json_name, json_names};
-ghost use Rattle.fhir_package.specs.ReadFiles.{IsFrom, unread_names, CountsReading};
+ghost use Rattle.fhir_package.specs.ReadFiles.{IsFrom, unreadable_names, CountsReading};
 ghost use Rattle.fhir_package.specs.FilesView.{folder_file, folder_files};
 
 use crate::folder::{Folder, FolderFault};
@@ -61,7 +61,7 @@ fn read_file<F: Folder>(alloc: Global, folder: &mut F, name: String) -> Result<F
     ensures name { IfOk result (λ f. (folder_file f).0 ≡ string_bytes name) }
     ensures bytes { IfOk result (λ f. IsFrom (F.files folder.old) (folder_file f)) }
     ensures files { F.files folder.new ≡ F.files folder.old }
-    ensures counted { IfOk result (λ f. F.failed_calls folder.new ≡ F.failed_calls folder.old + length (unread_names (folder_file f ∷ []))) }
+    ensures counted { IfOk result (λ f. F.failed_calls folder.new ≡ F.failed_calls folder.old + length (unreadable_names (folder_file f ∷ []))) }
     ensures none_forgotten { F.failed_calls folder.old ≤ F.failed_calls folder.new }
 {
     match folder.read(alloc, name.as_str()) {

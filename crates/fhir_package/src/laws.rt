@@ -16,8 +16,8 @@ ghost use Rattle.fhir_package.specs.declared.kind.Kind.{Kind};
 ghost use Rattle.fhir_package.specs.Definitions.{Definitions, of_kind, at_url};
 ghost use Rattle.fhir_package.specs.Folder.{Files};
 ghost use Rattle.fhir_package.specs.Packing.{Definition, not_json, clash, is_bundle, definitions_in, is_json_name, json_names, json_files, bytes_at, pack};
-ghost use Rattle.fhir_package.specs.ReadFiles.{ReadFiles, IsFrom, unread_names, given, all_given, pack_given};
-ghost use Rattle.fhir_package.specs.Surveying.{unread, is_unread, survey, refusal, packed_by};
+ghost use Rattle.fhir_package.specs.ReadFiles.{ReadFiles, IsFrom, unreadable_names, given, all_given, pack_given};
+ghost use Rattle.fhir_package.specs.Surveying.{unreadable, is_unreadable, survey, refusal, packed_by};
 ghost use Rattle.fhir_package.specs.Found.{IsInFolder, Clashes, itself, in_resource};
 
 use fhir_json::reading_agrees;
@@ -62,16 +62,16 @@ pub fn packages()
 /// is then the refusal, and the survey says nothing of a package.
 pub fn surveys()
     ensures packed { (files : ReadFiles) → packed_by (survey files) ≡ pack_given files }
-    ensures unread { (files : ReadFiles) → filter is_unread (survey files).faults ≡ map unread (unread_names files) }
-    ensures first { (files : ReadFiles) (name : Text) (names : List Text) → unread_names files ≡ name ∷ names
-        → refusal (survey files) ≡ Some (unread name) }
+    ensures unreadable { (files : ReadFiles) → filter is_unreadable (survey files).faults ≡ map unreadable (unreadable_names files) }
+    ensures first { (files : ReadFiles) (name : Text) (names : List Text) → unreadable_names files ≡ name ∷ names
+        → refusal (survey files) ≡ Some (unreadable name) }
 {}
 
 /// Files were all given exactly where none of them is unread. Read from a folder, they are then its JSON files.
 pub fn given_files()
     ensures given { (files : Files) → all_given (given files) ≡ Some files }
     ensures only { (read : ReadFiles) (files : Files) → all_given read ≡ Some files → read ≡ given files }
-    ensures missing { (read : ReadFiles) → (all_given read ≡ None) ↔ (unread_names read ≢ []) }
+    ensures missing { (read : ReadFiles) → (all_given read ≡ None) ↔ (unreadable_names read ≢ []) }
     ensures of_folder { (folder : Files) (read : ReadFiles) (files : Files) → keys_of read ≡ json_names (keys_of folder)
         → All (IsFrom folder) read → all_given read ≡ Some files → files ≡ json_files folder }
 {}

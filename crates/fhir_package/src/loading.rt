@@ -22,7 +22,7 @@ fn load_fault(alloc: Global, fault: &FileFault<'_>) -> LoadFault
         return LoadFault::NoMemory;
     };
     match fault {
-        FileFault::Unread(_) => LoadFault::Unread(subject),
+        FileFault::Unreadable(_) => LoadFault::Unreadable(subject),
         FileFault::NotJson(_) => LoadFault::NotJson(subject),
         FileFault::Clash(_) => LoadFault::Clash(subject),
     }

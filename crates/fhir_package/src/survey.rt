@@ -6,7 +6,7 @@ ghost use Rattle.fhir_json.specs.Memory.{Gives};
 ghost use Rattle.fhir_json.specs.Reading.{placed_reading};
 ghost use Rattle.fhir_package.specs.FilesView.{folder_file, folder_files};
 ghost use Rattle.fhir_package.specs.Faults.{fault_number, fault_subject};
-ghost use Rattle.fhir_package.specs.Surveying.{no_sources, sources_of, with_sources, nothing_surveyed, source_of, not_json, position_in, with_fault, clash, with_new, put, put_each, survey_tree, survey_file, survey_each, survey, is_unread, refusal};
+ghost use Rattle.fhir_package.specs.Surveying.{no_sources, sources_of, with_sources, nothing_surveyed, source_of, not_json, position_in, with_fault, clash, with_new, put, put_each, survey_tree, survey_file, survey_each, survey, is_unreadable, refusal};
 ghost use Rattle.fhir_package.specs.SurveyView.{fault_seen, faults_seen};
 
 use crate::definitions::{Held, definitions_in};
@@ -47,7 +47,7 @@ pub struct NotJson<'f> {
 #[derive(Debug, Drop)]
 pub enum FileFault<'f> {
     /// The device doesn't give the file of this name.
-    Unread(&'f str),
+    Unreadable(&'f str),
     /// It is no JSON text.
     NotJson(NotJson<'f>),
     /// A definition of it differs from one of the same kind and url that was read before it.
@@ -60,7 +60,7 @@ impl<'f> FileFault<'f> {
         ensures { result.now ≡ fault_number (fault_seen self.now) }
     {
         match self {
-            FileFault::Unread(_) => "P1",
+            FileFault::Unreadable(_) => "P1",
             FileFault::NotJson(_) => "P2",
             FileFault::Clash(_) => "P3",
         }
@@ -71,7 +71,7 @@ impl<'f> FileFault<'f> {
         ensures { result.now ≡ fault_subject (fault_seen self.now) }
     {
         match self {
-            FileFault::Unread(file) => *file,
+            FileFault::Unreadable(file) => *file,
             FileFault::NotJson(fault) => fault.file,
             FileFault::Clash(clash) => clash.url.as_str(),
         }
@@ -90,11 +90,11 @@ fn not_json<'f>(file: &'f str, bytes: &[u8], refusal: Refusal) -> FileFault<'f>
 }
 
 // The first fault of the device.
-fn first_unread<'s, 'f>(faults: &'s [FileFault<'f>]) -> Option<&'s FileFault<'f>>
-    ensures { option_map fault_seen (option_copied result) ≡ find is_unread (faults_seen faults.now) }
+fn first_unreadable<'s, 'f>(faults: &'s [FileFault<'f>]) -> Option<&'s FileFault<'f>>
+    ensures { option_map fault_seen (option_copied result) ≡ find is_unreadable (faults_seen faults.now) }
 {
     for fault in faults {
-        if matches!(fault, FileFault::Unread(_)) {
+        if matches!(fault, FileFault::Unreadable(_)) {
             return Some(fault);
         }
     }
@@ -223,7 +223,7 @@ impl<'f> Survey<'f> {
     pub fn refusal(&self) -> Option<&FileFault<'f>>
         ensures { option_map fault_seen (option_copied result) ≡ refusal self.now }
     {
-        match first_unread(&self.faults) {
+        match first_unreadable(&self.faults) {
             Some(fault) => Some(fault),
             None => self.faults.first(),
         }
@@ -329,7 +329,7 @@ impl<'f> Survey<'f> {
         let name = file.name.as_str();
         match &file.bytes {
             Some(bytes) => self.take_bytes(alloc, name, bytes),
-            None => Ok(self.push_fault(FileFault::Unread(name))?),
+            None => Ok(self.push_fault(FileFault::Unreadable(name))?),
         }
     }
 

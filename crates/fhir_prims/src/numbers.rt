@@ -4,7 +4,7 @@ ghost use Rattle.std.specs.Prelude.{◌≡◌};
 ghost use Rattle.fhir_prims.specs.Numbers.{are_digits_to, is_positive_to, is_zero, is_negative_to, is_positive_int, is_unsigned_int, is_integer, is_decimal};
 
 use crate::shapes::{byte_at, cut_at};
-use fhir_decimal::{Decimal, grammar};
+use fhir_decimal::Decimal;
 
 // Whether a text is of digits alone, whose number is at most `most`.
 fn are_digits_to(most: u32, digits: &[u8]) -> bool
@@ -64,6 +64,5 @@ pub(crate) fn is_integer(text: &str) -> bool
 pub(crate) fn is_decimal(text: &str) -> bool
     ensures { result ≡ is_decimal text.now }
 {
-    grammar();
     Decimal::of(text).is_some()
 }

@@ -1,7 +1,7 @@
 use Rattle.std.proofs.Common.{◌<◌, ◌∙◌, [], length, take, ◌||◌, ap, sym, arith}
 use Rattle.std.specs.List.{list_any}
 use Rattle.std.proofs.lemmas.Grind.{common_steps}
-use Rattle.fhir_codes.specs.Concepts.{united}
+use Rattle.fhir_codes.specs.Concepts.{union_of}
 use Rattle.fhir_codes.proofs.Looping.{any_more, gives_as}
 use Rattle.fhir_codes.proofs.Members.{has, has-list, has-append, is_united, set_of}
 use Rattle.fhir_codes.proofs.combining.united_anew.Goals as goal
@@ -20,5 +20,5 @@ loop-one-preserved c x =
 
 pub returns : goal.returns
 returns c =
-    gives_as (λ s. s) c.of.result (set_of c.loop-one.all.items) (united c.args.sets.now)
+    gives_as (λ s. s) c.of.result (set_of c.loop-one.all.items) (union_of c.args.sets.now)
     (is_united (set_of c.loop-one.all.items) c.args.sets.now (λ x. grind (arith, common_steps, c.loop-one.invariant x))) c.of.ensures

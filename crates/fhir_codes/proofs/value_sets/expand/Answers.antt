@@ -4,15 +4,15 @@ use Rattle.fhir_package.specs.Definitions.{Definitions}
 use Rattle.fhir_codes.specs.Concepts.{Concepts}
 use Rattle.fhir_codes.specs.ValueSets.{concepts_of}
 use Rattle.fhir_codes.specs.Filled.{AreDone}
-use Rattle.fhir_codes.specs.Placing.{Found, known}
+use Rattle.fhir_codes.specs.Placing.{Found, found_concepts}
 use Rattle.fhir_codes.specs.Tables.{found}
 use Rattle.fhir_codes.proofs.Finding.{known_all}
 use Rattle.fhir_codes.proofs.value_sets.expand.Goals as goal
 
 -- what is known in the end, of the package that was taken
-told : (p q r : Definitions) (sets : Found) (canonical : Text) (o : Option Concepts) → q ≡ p → r ≡ q → AreDone q sets → o ≡ known r sets canonical → o ≡ concepts_of p canonical
+told : (p q r : Definitions) (sets : Found) (canonical : Text) (o : Option Concepts) → q ≡ p → r ≡ q → AreDone q sets → o ≡ found_concepts r sets canonical → o ≡ concepts_of p canonical
 told p q r sets canonical o same again done known_is =
-    known_is ∙ ap (λ d. known d sets canonical) again ∙ known_all q sets done canonical ∙ ap (λ d. concepts_of d canonical) same
+    known_is ∙ ap (λ d. found_concepts d sets canonical) again ∙ known_all q sets done canonical ∙ ap (λ d. concepts_of d canonical) same
 
 pub returns-in-Some : goal.returns-in-Some
 returns-in-Some c =

@@ -13,8 +13,8 @@ returns-clause-without c = ap Some without_b
 pub returns-clause-without_other : goal.returns-clause-without_other
 returns-clause-without_other c = ap Some without_other_c
 
-pub returns-clause-united : goal.returns-clause-united
-returns-clause-united c = ap Some united_a_c
+pub returns-clause-union_of : goal.returns-clause-union_of
+returns-clause-union_of c = ap Some united_a_c
 
 pub returns-clause-both : goal.returns-clause-both
 returns-clause-both c = ap Some common_a

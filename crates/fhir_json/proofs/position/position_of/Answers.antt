@@ -6,7 +6,7 @@ use Rattle.fhir_json.proofs.position.position_of.Goals.{then-b-eq10, else-b-eq10
 
 pub bytes-preserved : goal.bytes-preserved
 bytes-preserved c =
-    let xs = c.counted-front.result.now in
+    let xs = c.without_mark-front.result.now in
     let i = c.bytes.b-index in
     let inv = c.bytes.invariant in
     let within : i < length xs = omega arith in

@@ -1,5 +1,5 @@
 use Rattle.std.proofs.Common.{◌∙◌, map, ap, sym}
-use Rattle.fhir_codes.specs.Concepts.{united}
+use Rattle.fhir_codes.specs.Concepts.{union_of}
 use Rattle.fhir_codes.specs.Including.{included}
 use Rattle.fhir_codes.proofs.SameSets.{united_same}
 use Rattle.fhir_codes.proofs.sources.Sources.parts_of.Goals as goal
@@ -8,4 +8,4 @@ pub returns : goal.returns
 returns c =
     let tables = c.args.self.now.tables in
     sym (united_same (map (included tables) c.in_ok-all.all.items) (map (included tables) c.distinct.result.items) (c.distinct.ensures tables))
-    ∙ ap united c.in_ok-all.ensures
+    ∙ ap union_of c.in_ok-all.ensures

@@ -3,7 +3,7 @@ use Rattle.std.specs.Prelude.{nat_eq}
 use Rattle.std.specs.List.{starts_with}
 use Rattle.fhir_json.specs.Grammar.{mark}
 use Rattle.fhir_json.proofs.Places.{behind_mark, whole_front}
-use Rattle.fhir_json.proofs.position.counted.Goals as goal
+use Rattle.fhir_json.proofs.position.without_mark.Goals as goal
 
 pub returns-then-starts_with : goal.returns-then-starts_with
 returns-then-starts_with c =

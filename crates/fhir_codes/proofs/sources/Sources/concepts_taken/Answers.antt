@@ -5,7 +5,7 @@ use Rattle.fhir_codes.specs.ValueSets.{lists_no_concept, code_system, codes_take
 use Rattle.fhir_codes.specs.Placing.{whole_of}
 use Rattle.fhir_codes.proofs.Looping.{gives_as}
 use Rattle.fhir_codes.proofs.Taking.{whole_taken}
-use Rattle.fhir_codes.proofs.sources.Sources.taken.Goals as goal
+use Rattle.fhir_codes.proofs.sources.Sources.concepts_taken.Goals as goal
 
 pub returns-in-Some : goal.returns-in-Some
 returns-in-Some c =
