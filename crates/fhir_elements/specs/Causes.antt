@@ -29,6 +29,7 @@ reason_of causes.SecondRoot = reasons.NoTree
 reason_of (causes.RepeatedProperty child) = reasons.NoTree
 reason_of causes.MissingContent = reasons.MissingContent
 reason_of (causes.UnusableContent definition origin) = reasons.MissingContent
+reason_of (causes.ContentOfProfile definition) = reasons.MissingContent
 reason_of causes.BaseCycle = reasons.BaseCycle
 reason_of causes.OrderedSlicing = reasons.UnsupportedSlicing
 reason_of causes.OpenAtEnd = reasons.UnsupportedSlicing

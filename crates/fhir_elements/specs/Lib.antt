@@ -10,3 +10,4 @@ pub mod Element
 pub mod CodesSeen
 pub mod Numbers
 pub mod Causes
+pub mod Views

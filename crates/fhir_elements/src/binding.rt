@@ -1,7 +1,7 @@
 //! Bindings (FHIR R4, ElementDefinition, binding).
 
-ghost use Rattle.std.specs.Prelude.{◌≡◌, ◌<◌, false, Option, IfOk};
-ghost use Rattle.std.specs.Option.{option_map_or};
+ghost use Rattle.std.specs.Prelude.{◌≡◌, ◌<◌, false, Option, IfOk, string_bytes};
+ghost use Rattle.std.specs.Option.{option_map, option_map_or};
 ghost use Rattle.fhir_elements.specs.Binding.{strength_of, is_binding, binding_of, is_required, required_set};
 ghost use Rattle.fhir_json.specs.Views.{tree_of, text_seen};
 
@@ -67,6 +67,17 @@ impl Model for BindingDef {
 }
 
 impl BindingDef {
+    /// A binding of a strength to the value set of a url.
+    pub fn new(strength: Option<Strength>, value_set: Option<String>) -> BindingDef
+        ensures strength { result.strength ≡ strength }
+        ensures value_set { result.value_set ≡ option_map string_bytes value_set }
+    {
+        BindingDef {
+            strength,
+            value_set,
+        }
+    }
+
     /// How strictly it binds.
     pub fn strength(&self) -> Option<Strength>
         ensures { result ≡ self.now.strength }

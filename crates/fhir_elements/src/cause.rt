@@ -62,6 +62,8 @@ pub enum Cause {
         /// The place of the definition on which that one rests in the end; its own, where it rests on no other.
         origin: usize,
     },
+    /// `U7`: it is there, in a definition at this place of the package's order that is no type definition, as this one is.
+    ContentOfProfile(usize),
     /// `U8`: the chain of `baseDefinition` runs in a cycle.
     BaseCycle,
     /// `U9`: the items of the sliced element have an order.
@@ -98,7 +100,8 @@ impl Cause {
             Cause::MissingType(_) | Cause::UnusableType { .. } => Reason::UnusableType,
             Cause::MissingParent | Cause::NoRoot | Cause::SecondRoot | Cause::RepeatedProperty(_) =>
                 Reason::NoTree,
-            Cause::MissingContent | Cause::UnusableContent { .. } => Reason::MissingContent,
+            Cause::MissingContent | Cause::UnusableContent { .. } | Cause::ContentOfProfile(_) =>
+                Reason::MissingContent,
             Cause::BaseCycle => Reason::BaseCycle,
             Cause::OrderedSlicing
             | Cause::OpenAtEnd

@@ -1,7 +1,8 @@
 //! Constraints (FHIR R4, ElementDefinition, constraint).
 
 ghost use Rattle.std.specs.List.{list_all};
-ghost use Rattle.std.specs.Prelude.{◌≡◌, ◌<◌, Option, map, IfOk};
+ghost use Rattle.std.specs.Prelude.{◌≡◌, ◌<◌, Option, map, IfOk, string_bytes};
+ghost use Rattle.std.specs.Option.{option_map};
 ghost use Rattle.fhir_elements.specs.Constraint.{severity_of, is_error, must_hold, is_constraint, constraint_of};
 ghost use Rattle.fhir_json.specs.Views.{tree_of, trees_of, text_seen};
 
@@ -64,6 +65,19 @@ impl Model for ConstraintDef {
 }
 
 impl ConstraintDef {
+    /// The constraint of a key, with how grave it is that it isn't true, and its FHIRPath expression.
+    pub fn new(key: String, severity: Option<Severity>, expression: Option<String>) -> ConstraintDef
+        ensures key { result.key ≡ string_bytes key }
+        ensures severity { result.severity ≡ severity }
+        ensures expression { result.expression ≡ option_map string_bytes expression }
+    {
+        ConstraintDef {
+            key,
+            severity,
+            expression,
+        }
+    }
+
     /// The constraint's key.
     pub fn key(&self) -> &str
         ensures { result.now ≡ self.now.key }

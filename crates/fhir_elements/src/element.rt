@@ -11,6 +11,7 @@ ghost use Rattle.fhir_elements.specs.TypeEntry.{is_type_entry};
 ghost use Rattle.fhir_elements.specs.Constraint.{is_constraint};
 ghost use Rattle.fhir_elements.specs.Binding.{is_binding, binding_of};
 ghost use Rattle.fhir_elements.specs.Slicing.{is_slicing, slicing_of};
+ghost use Rattle.fhir_elements.specs.Views.{fields_seen};
 ghost use Rattle.fhir_elements.specs.Element.{allows_part, allows_parts, has_right_texts, has_right_numbers, has_right_choices, has_right_parts, has_right_fields, has_right_bounds, has_readable_id, element_fault, fields_of, element_of, is_no_memory, required_value_set};
 
 use crate::binding::{BindingDef, binding_of, is_binding};
@@ -28,6 +29,41 @@ use fhir_names::ElementId;
 use std::alloc::{AllocError, Global};
 use std::borrow::CowStr;
 use std::marker::Model;
+
+/// The fields of an element, from which `ElementDef::new` makes one.
+#[derive(Debug, Drop)]
+pub struct ElementFields {
+    /// Its id.
+    pub id: String,
+    /// Its path.
+    pub path: Option<String>,
+    /// The name of the slice that it is.
+    pub slice_name: Option<String>,
+    /// How many there are at least.
+    pub min: Option<u32>,
+    /// How many there are at most.
+    pub max: Option<Max>,
+    /// Its types.
+    pub types: Vec<TypeEntry>,
+    /// The element whose content it takes.
+    pub content_reference: Option<String>,
+    /// The value that it is, under its whole name.
+    pub fixed: Option<Member<'static>>,
+    /// The value that it contains, under its whole name.
+    pub pattern: Option<Member<'static>>,
+    /// The least value that it may be, under its whole name.
+    pub min_value: Option<Member<'static>>,
+    /// The greatest value that it may be, under its whole name.
+    pub max_value: Option<Member<'static>>,
+    /// How long its text may be.
+    pub max_length: Option<i32>,
+    /// Its binding.
+    pub binding: Option<BindingDef>,
+    /// Its constraints.
+    pub constraints: Vec<ConstraintDef>,
+    /// How it is sliced.
+    pub slicing: Option<SlicingDef>,
+}
 
 /// An element of a definition.
 #[derive(Debug, Drop)]
@@ -307,6 +343,46 @@ pub fn fields_of(alloc: Global, json: &Json<'_>) -> Result<ElementDef, NoMemory>
 }
 
 impl ElementDef {
+    /// The element of such fields, be it one that a tree may be or not.
+    pub fn new(fields: ElementFields) -> ElementDef
+        ensures { result ≡ fields_seen fields }
+    {
+        let ElementFields {
+            id,
+            path,
+            slice_name,
+            min,
+            max,
+            types,
+            content_reference,
+            fixed,
+            pattern,
+            min_value,
+            max_value,
+            max_length,
+            binding,
+            constraints,
+            slicing,
+        } = fields;
+        ElementDef {
+            id,
+            path,
+            slice_name,
+            min,
+            max,
+            types,
+            content_reference,
+            fixed,
+            pattern,
+            min_value,
+            max_value,
+            max_length,
+            binding,
+            constraints,
+            slicing,
+        }
+    }
+
     /// The element that a tree is (FHIR R4, ElementDefinition), in memory of its own. A tree that is none is refused
     /// with the reason of the cause that `element_cause` gives. A field that isn't read here is passed over, and an empty array
     /// counts as an absent one.

@@ -32,7 +32,7 @@ mod type_entry;
 pub use binding::{BindingDef, Strength};
 pub use cause::{Blame, Cause};
 pub use constraint::{ConstraintDef, Severity};
-pub use element::{ElementDef, element_cause, fields_of, owned_member};
+pub use element::{ElementDef, ElementFields, element_cause, fields_of, owned_member};
 pub use fault::ElementFault;
 pub use max::Max;
 pub use reason::Reason;

@@ -1,7 +1,8 @@
 //! How an element is sliced (FHIR R4, ElementDefinition, slicing).
 
 ghost use Rattle.std.specs.List.{list_all};
-ghost use Rattle.std.specs.Prelude.{◌≡◌, ◌<◌, Option, map, IfOk};
+ghost use Rattle.std.specs.Prelude.{◌≡◌, ◌<◌, Option, map, IfOk, string_bytes};
+ghost use Rattle.std.specs.Option.{option_map};
 ghost use Rattle.fhir_elements.specs.Slicing.{discriminator_type_of, slicing_rules_of, is_discriminator, discriminator_of, is_slicing, slicing_of};
 ghost use Rattle.fhir_json.specs.Views.{tree_of, trees_of, text_seen};
 
@@ -83,6 +84,14 @@ impl Model for DiscriminatorDef {
 }
 
 impl DiscriminatorDef {
+    /// A discriminator of a type, with its path.
+    pub fn new(by: Option<DiscriminatorType>, path: Option<String>) -> DiscriminatorDef
+        ensures by { result.by ≡ by }
+        ensures path { result.path ≡ option_map string_bytes path }
+    {
+        DiscriminatorDef { by, path }
+    }
+
     /// By what it tells slices apart, its `type`.
     pub fn by(&self) -> Option<DiscriminatorType>
         ensures { result ≡ self.now.by }
@@ -115,6 +124,23 @@ impl Model for SlicingDef {
 }
 
 impl SlicingDef {
+    /// A slicing by discriminators, with whether the slices have an order, and with its rules.
+    pub fn new(
+        discriminators: Vec<DiscriminatorDef>,
+        ordered: Option<bool>,
+        rules: Option<SlicingRules>,
+    ) -> SlicingDef
+        ensures discriminators { result.discriminators ≡ discriminators.items }
+        ensures ordered { result.ordered ≡ ordered }
+        ensures rules { result.rules ≡ rules }
+    {
+        SlicingDef {
+            discriminators,
+            ordered,
+            rules,
+        }
+    }
+
     /// What tells its slices apart.
     pub fn discriminators(&self) -> &[DiscriminatorDef]
         ensures { result.now ≡ self.now.discriminators }

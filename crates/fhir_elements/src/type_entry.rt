@@ -37,6 +37,19 @@ impl Model for TypeEntry {
 }
 
 impl TypeEntry {
+    /// The type of a code, with the urls of its profiles and those of its target profiles.
+    pub fn new(code: String, profiles: Vec<String>, targets: Vec<String>) -> TypeEntry
+        ensures code { result.code ≡ string_bytes code }
+        ensures profiles { result.profiles ≡ map string_bytes profiles.items }
+        ensures targets { result.targets ≡ map string_bytes targets.items }
+    {
+        TypeEntry {
+            code,
+            profiles,
+            targets,
+        }
+    }
+
     /// The type's code.
     pub fn code(&self) -> &str
         ensures { result.now ≡ self.now.code }

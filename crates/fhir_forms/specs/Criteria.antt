@@ -51,9 +51,9 @@ slot_called slots name =
     if is_choice name then None else option_or (slot_in slots name) (slot_in slots (name ++ codes "[x]"))
 
 -- the element to which the names lead from the one at a place, by the slots of each
-abbrev pub led : List (List Slot) → ℕ → List Text → Option ℕ
-led slots place [] = Some place
-led slots place (name ∷ names) = option_and_then (λ slot. led slots slot.entry names) (slot_called (get_or slots place []) name)
+abbrev pub end_of_path : List (List Slot) → ℕ → List Text → Option ℕ
+end_of_path slots place [] = Some place
+end_of_path slots place (name ∷ names) = option_and_then (λ slot. end_of_path slots slot.entry names) (slot_called (get_or slots place []) name)
 
 -- ---- what it looks for, by the element there
 
@@ -110,7 +110,7 @@ implied_sought by path e = if is_of_value by && bytes_eq path (codes "url") then
 
 module _ (slots : List (List Slot)) (es : List Element) (place : ℕ) where
   abbrev pub stated_sought : DiscriminatorType → Text → Option Sought
-  stated_sought by path = option_and_then (sought_by by) (option_and_then (slice_get es) (led slots place (names_of path)))
+  stated_sought by path = option_and_then (sought_by by) (option_and_then (slice_get es) (end_of_path slots place (names_of path)))
 
   abbrev pub sought_at : DiscriminatorType → Text → Option Sought
   sought_at by path = option_or (stated_sought by path) (option_and_then (implied_sought by path) (slice_get es place))
@@ -123,8 +123,8 @@ module _ (slots : List (List Slot)) (es : List Element) (place : ℕ) where
   abbrev pub criterion_of : Discriminator → Option Criterion
   criterion_of d = option_and_then (λ by. option_and_then (criterion_at by) d.path) d.by
 
-  abbrev pub told : Discriminator → List Criterion
-  told d = option_map_or (λ c. c ∷ []) (criterion_of d) []
+  abbrev pub told_criteria : Discriminator → List Criterion
+  told_criteria d = option_map_or (λ c. c ∷ []) (criterion_of d) []
 
   abbrev pub is_told : Discriminator → Bool
   is_told d = is_some (criterion_of d)
@@ -136,7 +136,7 @@ module _ (slots : List (List Slot)) (es : List Element) (place : ℕ) where
 
   -- where the element that it is a slice of says so; a slice that can't be told has none
   abbrev pub criteria_by : Element → List Criterion
-  criteria_by sliced = if is_told_by sliced then flat_map told (discriminators_of sliced) else []
+  criteria_by sliced = if is_told_by sliced then flat_map told_criteria (discriminators_of sliced) else []
 
 -- the element that the one at a place is a slice of
 abbrev pub sliced_at : List Element → ℕ → Option Element

@@ -16,7 +16,7 @@ use Rattle.fhir_forms.specs.declared.form.Content.TheVariants.{Primitive, System
 use Rattle.fhir_forms.specs.declared.form.Property.{Property}
 use Rattle.fhir_nodes.specs.Types.{names_resource, primitive_of, root_of_code, is_system}
 use Rattle.fhir_nodes.specs.Slots.{Slot, slots_of}
-use Rattle.fhir_nodes.specs.Contents.{holder, typed_by}
+use Rattle.fhir_nodes.specs.Holders.{child_holder, typing_entries}
 
 pub record Form : Type 0 where
   -- the element's name, as `value[x]`
@@ -49,10 +49,10 @@ property_name name code = if is_choice name then take (length name - 3) name ++ 
 
 -- ---- what a property holds
 
--- the node by whose slots the children of an item of the type are typed: the one that has the element's children, and else
--- the root of the type
+-- the node by whose slots the children of an item of the type are typed: the one that has the element's children, if there are
+-- any, and else the root of the type
 abbrev pub typing_node : List Definition → NodeRef → Text → Option NodeRef
-typing_node ds n code = option_or (holder ds n) (root_of_code ds code)
+typing_node ds n code = option_or (child_holder ds n) (root_of_code ds code)
 
 abbrev pub content_of : List Definition → NodeRef → Text → Content
 content_of ds n code =
@@ -81,7 +81,7 @@ module _ (ds : List Definition) (d : Definition) where
 
   -- one for each of its types, which may be those of the element that it refers to for its content
   abbrev pub forms_with : Slot → Element → List Form
-  forms_with slot e = map (λ entry. form_of slot e entry.code) (typed_by ds (slot_node slot) e).types
+  forms_with slot e = map (λ entry. form_of slot e entry.code) (typing_entries ds (slot_node slot) e)
 
   abbrev pub slot_forms : Slot → List Form
   slot_forms slot = option_map_or (forms_with slot) (slice_get d.elements slot.entry) []

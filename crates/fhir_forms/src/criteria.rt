@@ -9,7 +9,7 @@ ghost use Rattle.fhir_definition.specs.Snapshot.{slice_place};
 ghost use Rattle.fhir_definition.specs.Blames.{AreBlamesAmong};
 ghost use Rattle.fhir_nodes.specs.Slots.{slots_of, all_slots};
 ghost use Rattle.fhir_forms.specs.Slicings.{discriminators_of};
-ghost use Rattle.fhir_forms.specs.Criteria.{criterion_at, criterion_of, told, is_told, criteria_by, is_told_by, sliced_at, criteria_in, is_told_apart, criteria_of, are_told_apart, all_criteria};
+ghost use Rattle.fhir_forms.specs.Criteria.{criterion_at, criterion_of, told_criteria, is_told, criteria_by, is_told_by, sliced_at, criteria_in, is_told_apart, criteria_of, are_told_apart, all_criteria};
 ghost use Rattle.fhir_forms.specs.CriteriaSeen.{criterion_seen, criteria_seen, all_seen, test_seen, tests_seen, lists_of_tests};
 
 use crate::criterion::Criterion;
@@ -85,14 +85,14 @@ fn no_slice(alloc: Global) -> SliceCriteria
 }
 
 // The criteria of discriminators up to the first that can't be told, and that one's place in the slicing.
-fn told(
+fn told_criteria(
     alloc: Global,
     slots: &[SlotList],
     elements: &[ElementDef],
     place: usize,
     tests: &[Test<'_>],
 ) -> Result<(Vec<Criterion>, Option<usize>), NoMemory>
-    ensures criteria { IfOk result (λ r. is_none r.1 ≡ true → criteria_seen r.0.items ≡ flat_map (told slots.now elements.now place) (tests_seen tests.now)) }
+    ensures criteria { IfOk result (λ r. is_none r.1 ≡ true → criteria_seen r.0.items ≡ flat_map (told_criteria slots.now elements.now place) (tests_seen tests.now)) }
     ensures all { IfOk result (λ r. is_none r.1 ≡ list_all (is_told slots.now elements.now place) (tests_seen tests.now)) }
 {
     let mut criteria = Vec::new(alloc);
@@ -118,7 +118,7 @@ fn told_by(
     ensures criteria { IfOk result (λ r. criteria_seen r.criteria.items ≡ criteria_by slots.now elements.now place sliced.now) }
     ensures reason { IfOk result (λ r. option_map reason_of r.cause ≡ reason_unless (is_told_by slots.now elements.now place sliced.now) UnsupportedSlicing) }
 {
-    let (criteria, untold) = told(alloc, slots, elements, place, tests)?;
+    let (criteria, untold) = told_criteria(alloc, slots, elements, place, tests)?;
     let cause = slicing_cause(sliced, tests, untold);
     if cause.is_some() {
         let criteria = Vec::new(alloc);

@@ -9,7 +9,7 @@ ghost use Rattle.fhir_json.specs.Tree.{string};
 ghost use Rattle.fhir_json.specs.Views.{text_seen};
 ghost use Rattle.fhir_json.specs.Memory.{Gives};
 ghost use Rattle.fhir_names.specs.Canonicals.{read_canonical};
-ghost use Rattle.fhir_forms.specs.Criteria.{fixed, names_of, slot_called, led, value_sought, allows_one, presence_sought, type_sought, sought_by, is_of_value, sole, profile_of_extensions, extension_profile, url_sought, implied_sought, stated_sought, sought_at};
+ghost use Rattle.fhir_forms.specs.Criteria.{fixed, names_of, slot_called, end_of_path, value_sought, allows_one, presence_sought, type_sought, sought_by, is_of_value, sole, profile_of_extensions, extension_profile, url_sought, implied_sought, stated_sought, sought_at};
 ghost use Rattle.fhir_forms.specs.CriteriaSeen.{sought_seen};
 
 use crate::criterion::Sought;
@@ -27,7 +27,7 @@ fn cut_at_dots(alloc: Global, path: &str) -> Result<Vec<&str>, AllocError>
     path.split('.').collect(alloc)
 }
 
-fn owned(alloc: Global, texts: &[&str]) -> Result<Vec<String>, AllocError>
+fn owned_texts(alloc: Global, texts: &[&str]) -> Result<Vec<String>, AllocError>
     ensures { IfOk result (λ all. map string_bytes all.items ≡ map (λ text. text.now) texts.now) }
 {
     let mut all = Vec::new(alloc);
@@ -45,7 +45,7 @@ pub(crate) fn names_of(alloc: Global, path: &str) -> Result<Vec<String>, AllocEr
         return Ok(Vec::new(alloc));
     }
     let pieces = cut_at_dots(alloc, path)?;
-    let names = owned(alloc, &pieces)?;
+    let names = owned_texts(alloc, &pieces)?;
     Ok(names)
 }
 
@@ -88,13 +88,13 @@ fn next_place(
 }
 
 /// The element to which names lead from the one at a place.
-pub(crate) fn led(
+pub(crate) fn end_of_path(
     alloc: Global,
     slots: &[SlotList],
     place: usize,
     names: &[String],
 ) -> Result<Option<usize>, AllocError>
-    ensures { IfOk result (λ end. end ≡ led slots.now place (map string_bytes names.now)) }
+    ensures { IfOk result (λ end. end ≡ end_of_path slots.now place (map string_bytes names.now)) }
 {
     let mut at = place;
     for name in names {
@@ -248,9 +248,9 @@ fn stated_sought(
     names: &[String],
 ) -> Result<Option<Sought>, NoMemory>
     ensures { IfOk result (λ sought. option_map sought_seen sought
-        ≡ option_and_then (sought_by by) (option_and_then (slice_get elements.now) (led slots.now place (map string_bytes names.now)))) }
+        ≡ option_and_then (sought_by by) (option_and_then (slice_get elements.now) (end_of_path slots.now place (map string_bytes names.now)))) }
 {
-    let Some(end) = led(alloc, slots, place, names)? else {
+    let Some(end) = end_of_path(alloc, slots, place, names)? else {
         return Ok(None);
     };
     match elements.get(end) {

@@ -11,8 +11,8 @@ use crate::property_name::property_name;
 use fhir_definition::Definition;
 use fhir_elements::{ElementDef, TypeEntry};
 use fhir_nodes::{
-    NodeRef, Nodes, Slot, Table, holder, is_system, names_resource, primitive_of, root_of_code,
-    typed_by,
+    NodeRef, Nodes, Slot, Table, child_holder, is_system, names_resource, primitive_of,
+    root_of_code, typing_entries,
 };
 use std::alloc::{AllocError, Global};
 
@@ -27,7 +27,7 @@ fn typing_node(table: &Table, nodes: &Nodes, node: NodeRef, code: &str) -> Optio
     requires { nodes.now ≡ all_slots table.now }
     ensures { result ≡ typing_node table.now node code.now }
 {
-    match holder(nodes, table, node) {
+    match child_holder(nodes, table, node) {
         Some(holder) => Some(holder),
         None => root_of_code(table, code),
     }
@@ -95,8 +95,7 @@ fn push_forms_with(
     requires { nodes.now ≡ all_slots table.now }
     ensures { OnOk result (forms.new.items ≡ forms.old.items ++ forms_with table.now definition.now slot.now element.now) }
 {
-    let typed = typed_by(nodes, table, slot_node(definition, slot), element);
-    for entry in typed.types() {
+    for entry in typing_entries(nodes, table, slot_node(definition, slot), element) {
         let code = entry.code();
         forms.push(form_of(alloc, table, definition, nodes, slot, element, code)?)?;
     }

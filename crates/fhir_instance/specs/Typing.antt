@@ -3,9 +3,9 @@
 --
 -- A value may be typed as an object of any frame, so it is folded into its children in each: what a frame asks of an
 -- object is asked of the children of what its properties hold.
-use Rattle.std.specs.Prelude.{◌≡◌, List, [], ◌∷◌, ◌++◌, map, filter, length, Bool, true, false, not, ◌&&◌, ◌||◌, ◌==◌, nat_lt, Option, None, Some, if◌then◌else◌, codes}
+use Rattle.std.specs.Prelude.{◌≡◌, List, [], ◌∷◌, ◌++◌, map, filter, length, Bool, true, false, not, ◌&&◌, ◌||◌, ◌==◌, nat_eq, nat_lt, Option, None, Some, if◌then◌else◌, codes}
 use Rattle.std.specs.Option.{option_map, option_and_then}
-use Rattle.std.specs.List.{list_all, list_any, find, zip}
+use Rattle.std.specs.List.{list_all, list_any, find, zip, starts_with}
 use Rattle.std.specs.Str.{bytes_eq}
 use Rattle.fhir_json.specs.Tree.{Text, Tree, null, boolean, number, string, array, object, Items, no_items, Members, no_members, member}
 use Rattle.fhir_json.specs.Tree.{item as one_more}
@@ -47,9 +47,15 @@ names_type_in roles.Companion name = false
 abbrev pub forms_in : SchemaValue → Frame → List Form
 forms_in s frame = filter (is_of_role frame.role) (forms s frame.node)
 
--- the property is an element's, or names the type
+-- a companion holds no companions, whose names begin with `_`
+abbrev pub may_stand : ObjectRole → Text → Bool
+may_stand roles.Element name = true
+may_stand roles.Resource name = true
+may_stand roles.Companion name = not (starts_with nat_eq name (codes "_"))
+
+-- the property is an element's and may stand there, or it names the type
 abbrev pub is_known : SchemaValue → Frame → Text → Bool
-is_known s frame name = list_any (λ f. spells f name) (forms_in s frame) || names_type_in frame.role name
+is_known s frame name = (list_any (λ f. spells f name) (forms_in s frame) && may_stand frame.role name) || names_type_in frame.role name
 
 -- ---- what an object's properties hold
 

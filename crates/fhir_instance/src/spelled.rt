@@ -1,13 +1,13 @@
 //! Which form each property of an object belongs to.
 
-ghost use Rattle.std.specs.Prelude.{◌≡◌, ◌++◌, ◌+◌, ◌<◌, ◌≤◌, ℕ, length, take, drop, IfOk, OnOk, is_some, None, if◌then◌else◌};
+ghost use Rattle.std.specs.Prelude.{◌≡◌, ◌++◌, ◌+◌, ◌<◌, ◌≤◌, ℕ, length, take, drop, IfOk, OnOk, is_some, None, if◌then◌else◌, ◌&&◌, ◌||◌};
 ghost use Rattle.std.specs.List.{list_any};
 ghost use Rattle.std.specs.List.Sorted.{IsNonDecreasingBy};
 ghost use Rattle.fhir_json.specs.Tree.{names};
 ghost use Rattle.fhir_json.specs.Views.{members_view};
 ghost use Rattle.fhir_json.specs.Views.{property_of as name_and_value};
 ghost use Rattle.fhir_forms.specs.Forms.{spells};
-ghost use Rattle.fhir_instance.specs.Typing.{names_type_in, is_of_role, is_known, forms_in};
+ghost use Rattle.fhir_instance.specs.Typing.{names_type_in, may_stand, is_of_role, is_known, forms_in};
 ghost use Rattle.fhir_instance.specs.Found.{frame_of, kids_found};
 ghost use Rattle.fhir_instance.specs.Spelled.{property_meant, where_of_role, spelled_at, spelled_from, are_known, of_form, count_front, first_form, value_among, companion_among, places_among};
 
@@ -60,6 +60,24 @@ fn names_type_in(role: ObjectRole, name: &str) -> bool
     }
 }
 
+// A companion holds no companions.
+fn may_stand(role: ObjectRole, name: &str) -> bool
+    ensures { result ≡ may_stand role name.now }
+{
+    match role {
+        ObjectRole::Companion => !name.starts_with('_'),
+        ObjectRole::Element => true,
+        ObjectRole::Resource => true,
+    }
+}
+
+// Whether a property is known, which may be a form's.
+fn is_known_name(role: ObjectRole, name: &str, is_of_form: bool) -> bool
+    ensures { result ≡ ((is_of_form && may_stand role name.now) || names_type_in role name.now) }
+{
+    (is_of_form && may_stand(role, name)) || names_type_in(role, name)
+}
+
 fn where_of_role(role: ObjectRole, forms: &[Form], property: Property) -> Option<Property>
     ensures { result ≡ where_of_role role forms.now property }
 {
@@ -98,17 +116,16 @@ fn put<'a, 'j>(
         ≡ (if is_known schema.now (frame_of node role) (name_and_value member.now).0 then kids_found found.old else None)) }
 {
     let name = name_in(member);
-    match property_meant(schema, node, role, name) {
-        Some(property) => all.push(Spelled {
+    let meant = property_meant(schema, node, role, name);
+    if !is_known_name(role, name, meant.is_some()) {
+        found.refuse(alloc, MisfitKind::UnknownProperty, Spot::of(member, at, 0));
+    }
+    if let Some(property) = meant {
+        all.push(Spelled {
             form: property.form,
             is_companion: property.is_companion,
             at,
-        })?,
-        None => {
-            if !names_type_in(role, name) {
-                found.refuse(alloc, MisfitKind::UnknownProperty, Spot::of(member, at, 0));
-            }
-        }
+        })?;
     }
     Ok(())
 }

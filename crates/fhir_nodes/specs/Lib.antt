@@ -5,3 +5,4 @@ pub mod Contents
 pub mod Tables
 pub mod Expressions
 pub mod Readings
+pub mod Holders

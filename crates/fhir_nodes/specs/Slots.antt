@@ -1,5 +1,5 @@
 -- Slots: the names that the children of an item may have at a node; and the slices of an element (FHIR R4, ElementDefinition, slicing).
-use Rattle.std.specs.Prelude.{ℕ, List, [], map, filter, length, Bool, false, not, ◌&&◌, ◌==◌, Option, if◌then◌else◌, codes}
+use Rattle.std.specs.Prelude.{ℕ, List, [], map, filter, length, Bool, false, not, ◌&&◌, ◌==◌, nat_eq, Option, if◌then◌else◌, codes}
 use Rattle.std.specs.Option.{option_map_or, option_and_then}
 use Rattle.std.specs.List.{slice_get, list_all}
 use Rattle.std.specs.Str.{bytes_eq}
@@ -11,6 +11,7 @@ use Rattle.fhir_definition.specs.Snapshot.{id_place, is_root}
 use Rattle.fhir_definition.specs.Children.{children_of, slices_of as slice_places}
 use Rattle.fhir_definition.specs.Definition.{Definition}
 use Rattle.fhir_nodes.specs.Types.{names_primitive}
+use Rattle.fhir_nodes.specs.Contents.{target_entries}
 
 -- a name that children may have, or that of a slice, and the place of the element that says what its items are
 pub record Slot : Type 0 where
@@ -31,10 +32,17 @@ slice_at es place = record { name = option_map_or (λ s. s) (slice_of (id_at es 
 abbrev pub entry_is_primitive : List Definition → TypeEntry → Bool
 entry_is_primitive ds entry = names_primitive ds entry.code
 
+-- one entry, of a primitive type
+abbrev pub are_one_primitive : List Definition → List TypeEntry → Bool
+are_one_primitive ds entries = (length entries == 1) && list_all (entry_is_primitive ds) entries
+
+-- an element's own type entries, and where it has none those of the element that it refers to for its content
+abbrev pub element_entries : List Definition → Definition → Element → List TypeEntry
+element_entries ds d e = if nat_eq (length e.types) 0 then target_entries ds d.place e else e.types
+
 -- its items are of one primitive type: that of its definition, if it is the root, and else that of its one entry
 abbrev pub is_primitive_element : List Definition → Definition → Element → Bool
-is_primitive_element ds d e =
-    if is_root e then names_primitive ds d.type else (length e.types == 1) && list_all (entry_is_primitive ds) e.types
+is_primitive_element ds d e = if is_root e then names_primitive ds d.type else are_one_primitive ds (element_entries ds d e)
 
 -- the element above the one at a place, by its id
 abbrev pub parent_at : List Element → ℕ → Option Element

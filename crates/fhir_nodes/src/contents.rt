@@ -1,16 +1,18 @@
-//! Which element another one refers to for its content.
+//! Which element another one refers to for its content, and what it takes over from it.
 
 ghost use Rattle.std.specs.Prelude.{◌≡◌};
 ghost use Rattle.std.specs.Option.{option_copied, option_map, option_and_then};
 ghost use Rattle.fhir_names.specs.Texts.{cut_at_first};
 ghost use Rattle.fhir_nodes.specs.Slots.{all_slots};
-ghost use Rattle.fhir_nodes.specs.Contents.{hash, elements_in, element_of, content_place, id_node, referred, content_target, target, with_children, holder, has_own_types, typed_by};
+ghost use Rattle.fhir_nodes.specs.Contents.{hash, elements_in, element_of, content_place, id_node, referred_node, content_target, target, entries_of, target_entries};
+ghost use Rattle.fhir_nodes.specs.Holders.{with_children, holder, child_holder, has_own_types, typing_entries};
 
 use crate::canonicals::canonical_place;
 use crate::node::NodeRef;
 use crate::nodes::Nodes;
 use crate::table::Table;
-use fhir_elements::ElementDef;
+use fhir_definition::is_root;
+use fhir_elements::{ElementDef, TypeEntry};
 
 /// The elements of the definition at a place.
 pub fn elements_in(table: &Table, place: usize) -> &[ElementDef]
@@ -57,8 +59,8 @@ fn id_node(table: &Table, id: &str, place: usize) -> Option<NodeRef>
 }
 
 // The node that a content reference of the definition at a place names.
-fn referred(table: &Table, place: usize, text: &str) -> Option<NodeRef>
-    ensures { result ≡ referred table.now place text.now }
+fn referred_node(table: &Table, place: usize, text: &str) -> Option<NodeRef>
+    ensures { result ≡ referred_node table.now place text.now }
 {
     let (front, id) = cut_at_hash(text)?;
     id_node(table, id, content_place(table, place, front)?)
@@ -68,7 +70,7 @@ fn referred(table: &Table, place: usize, text: &str) -> Option<NodeRef>
 pub fn content_target(table: &Table, place: usize, element: &ElementDef) -> Option<NodeRef>
     ensures { result ≡ content_target table.now place element.now }
 {
-    referred(table, place, element.content_reference()?)
+    referred_node(table, place, element.content_reference()?)
 }
 
 /// The node that a node refers to for its content.
@@ -78,6 +80,35 @@ pub fn target(table: &Table, node: NodeRef) -> Option<NodeRef>
     content_target(table, node.definition, element_of(table, node)?)
 }
 
+// The type entries of an element; those that stand at a root are passed over.
+fn entries_of(element: &ElementDef) -> &[TypeEntry]
+    ensures { result.now ≡ entries_of element.now }
+{
+    if is_root(element) {
+        return Default::default();
+    }
+    element.types()
+}
+
+/// The type entries of the element to which one of the definition at a place refers for its content.
+pub(crate) fn target_entries<'t>(
+    table: &'t Table,
+    place: usize,
+    element: &ElementDef,
+) -> &'t [TypeEntry]
+    ensures { result.now ≡ target_entries table.now place element.now }
+{
+    let target = match content_target(table, place, element) {
+        Some(node) => element_of(table, node),
+        None => None,
+    };
+    match target {
+        Some(target) => entries_of(target),
+        None => Default::default(),
+    }
+}
+
+// The node, if it has children.
 fn with_children(nodes: &Nodes, table: &Table, node: NodeRef) -> Option<NodeRef>
     requires { nodes.now ≡ all_slots table.now }
     ensures { result ≡ with_children table.now node }
@@ -89,15 +120,23 @@ fn with_children(nodes: &Nodes, table: &Table, node: NodeRef) -> Option<NodeRef>
     }
 }
 
-/// The node that has a node's children: itself, or the one that it refers to for its content.
+/// The node that has a node's children: itself, if it has any, and else the one that it refers to for its content.
 pub fn holder(nodes: &Nodes, table: &Table, node: NodeRef) -> Option<NodeRef>
     requires { nodes.now ≡ all_slots table.now }
     ensures { result ≡ holder table.now node }
 {
-    if let Some(itself) = with_children(nodes, table, node) {
-        return Some(itself);
+    match with_children(nodes, table, node) {
+        Some(itself) => Some(itself),
+        None => target(table, node),
     }
-    with_children(nodes, table, target(table, node)?)
+}
+
+/// That one, if it has children.
+pub fn child_holder(nodes: &Nodes, table: &Table, node: NodeRef) -> Option<NodeRef>
+    requires { nodes.now ≡ all_slots table.now }
+    ensures { result ≡ child_holder table.now node }
+{
+    with_children(nodes, table, holder(nodes, table, node)?)
 }
 
 fn has_own_types(nodes: &Nodes, table: &Table, node: NodeRef, element: &ElementDef) -> bool
@@ -113,22 +152,22 @@ fn target_element(table: &Table, node: NodeRef) -> Option<&ElementDef>
     element_of(table, target(table, node)?)
 }
 
-/// The element whose types a node's items are of: the one that it refers to for its content, unless it has types and
-/// children of its own.
-pub fn typed_by<'t>(
+/// The type entries that say of which types a node's items are: those of the element that it refers to for its content,
+/// unless it has types and children of its own. Those that stand at a root are passed over.
+pub fn typing_entries<'t>(
     nodes: &Nodes,
     table: &'t Table,
     node: NodeRef,
     element: &'t ElementDef,
-) -> &'t ElementDef
+) -> &'t [TypeEntry]
     requires { nodes.now ≡ all_slots table.now }
-    ensures { result.now ≡ typed_by table.now node element.now }
+    ensures { result.now ≡ typing_entries table.now node element.now }
 {
     if has_own_types(nodes, table, node, element) {
-        return element;
+        return element.types();
     }
     match target_element(table, node) {
-        Some(target) => target,
-        None => element,
+        Some(target) => entries_of(target),
+        None => element.types(),
     }
 }

@@ -59,7 +59,7 @@ fn read_constraint(
     ensures { Gives shared_seen result (expression_of constraint.now) }
 {
     match constraint.expression() {
-        Some(text) => Ok(Some(readings.read(alloc, text)?)),
+        Some(text) => Ok(Some(readings.reading_of(alloc, text)?)),
         None => Ok(None),
     }
 }

@@ -28,7 +28,7 @@ mod slots;
 mod table;
 
 pub use canonicals::canonical_place;
-pub use contents::{content_target, elements_in, holder, target, typed_by};
+pub use contents::{child_holder, content_target, elements_in, holder, target, typing_entries};
 pub use expressions::Expressions;
 pub use kinds::{is_resource, is_system, names_resource, primitive_of, root_of_code, type_of_code};
 pub use node::NodeRef;

@@ -39,7 +39,7 @@ impl Readings {
         }
     }
 
-    fn known(&self, text: &str) -> Option<&Rc<Parsed>>
+    fn known_reading(&self, text: &str) -> Option<&Rc<Parsed>>
         ensures { IfSome result (λ r. reading_seen r.now ≡ expression_in text.now) }
     {
         let place = self.places.get(text)?;
@@ -57,10 +57,10 @@ impl Readings {
     }
 
     /// The expression that a text is.
-    pub(crate) fn read(&mut self, alloc: Global, text: &str) -> Result<Rc<Parsed>, NoMemory>
+    pub(crate) fn reading_of(&mut self, alloc: Global, text: &str) -> Result<Rc<Parsed>, NoMemory>
         ensures { Gives reading_seen result (expression_in text.now) }
     {
-        if let Some(known) = self.known(text) {
+        if let Some(known) = self.known_reading(text) {
             return Ok(known.clone()?);
         }
         let reading = Rc::new(alloc, parse(alloc, text)?)?;

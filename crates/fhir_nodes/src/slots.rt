@@ -1,10 +1,11 @@
 //! The slots and the slices of the elements.
 
 ghost use Rattle.std.specs.Prelude.{◌≡◌, map, IfOk, false};
-ghost use Rattle.fhir_nodes.specs.Slots.{id_at, slice_at, slot_at, entry_is_primitive, is_primitive_element, parent_at, is_slot, slots_under, slots_of, slices_of};
+ghost use Rattle.fhir_nodes.specs.Slots.{id_at, slice_at, slot_at, entry_is_primitive, are_one_primitive, element_entries, is_primitive_element, parent_at, is_slot, slots_under, slots_of, slices_of};
 ghost use Rattle.std.specs.Option.{option_copied, option_map_or};
 ghost use Rattle.std.specs.List.{list_all};
 
+use crate::contents::target_entries;
 use crate::kinds::names_primitive;
 use crate::slot_list::SlotList;
 use crate::table::Table;
@@ -84,13 +85,33 @@ pub(crate) fn are_primitive(table: &Table, entries: &[TypeEntry]) -> bool
     entries.iter().all(|entry| entry_is_primitive(table, entry))
 }
 
+fn are_one_primitive(table: &Table, entries: &[TypeEntry]) -> bool
+    ensures { result ≡ are_one_primitive table.now entries.now }
+{
+    entries.len() == 1 && are_primitive(table, entries)
+}
+
+// The type entries of an element, which may be those of the element that it refers to for its content.
+fn element_entries<'t>(
+    table: &'t Table,
+    definition: &'t Definition,
+    element: &'t ElementDef,
+) -> &'t [TypeEntry]
+    ensures { result.now ≡ element_entries table.now definition.now element.now }
+{
+    if element.types().is_empty() {
+        return target_entries(table, definition.place(), element);
+    }
+    element.types()
+}
+
 fn is_primitive_element(table: &Table, definition: &Definition, element: &ElementDef) -> bool
     ensures { result ≡ is_primitive_element table.now definition.now element.now }
 {
     if is_root(element) {
         return names_primitive(table, definition.type_code());
     }
-    element.types().len() == 1 && are_primitive(table, element.types())
+    are_one_primitive(table, element_entries(table, definition, element))
 }
 
 // The element above the one at a place.

@@ -14,8 +14,8 @@ use Rattle.fhir_definition.specs.Definition.{Definition}
 use Rattle.fhir_schema.specs.Settling.{base_place, base_of_place, ends_within}
 use Rattle.fhir_schema.specs.Chains.{base_after, bases_after}
 use Rattle.fhir_schema.specs.Covers.{meets_within, reaches}
-use Rattle.fhir_schema.specs.Lineages.{powers_from, IsLineage, followed, after, climbed, climb, is_between, comes_by}
-use Rattle.fhir_schema.proofs.Stepping.{after-none, after-sum, ends-after, further, followed-sum}
+use Rattle.fhir_schema.specs.Lineages.{powers_from, IsLineage, step_by, after, climb_once, climb, is_between, comes_by}
+use Rattle.fhir_schema.proofs.Stepping.{after-none, after-sum, ends-after, further, step_by-sum}
 
 -- a place, and how many steps of that size lead to it: where the chain ends within them all, the next step leads nowhere
 record Climbs (ds : List Definition) (n all start : ℕ) (last : ℕ × ℕ) : Type 0 where
@@ -30,12 +30,12 @@ module _ (ds : List Definition) where
 
   halved-steps : (n steps : ℕ) (place : Option ℕ) (odd : Bool) (rest : Option ℕ → Option ℕ)
       → ((w : Option ℕ) → rest w ≡ base_after ds (steps / 2 * suc (n + suc n)) w) → (odd ≡ true → steps % 2 ≡ 1)
-      → (odd ≡ false → steps % 2 ≡ 0) → rest (cond odd (followed (bases_after ds n) place) place) ≡ base_after ds (steps * suc n) place
+      → (odd ≡ false → steps % 2 ≡ 0) → rest (cond odd (step_by (bases_after ds n) place) place) ≡ base_after ds (steps * suc n) place
   halved-steps n steps place true rest leads is_odd is_even =
       let odd : steps % 2 ≡ 1 = is_odd refl in
       let whole : steps ≡ 2 * (steps / 2) + 1 = omega arith in
       let sum : suc n + steps / 2 * suc (n + suc n) ≡ steps * suc n = omega (arith, ap (λ (k : ℕ). k * suc n) whole) in
-      leads (followed (bases_after ds n) place)
+      leads (step_by (bases_after ds n) place)
       ∙ ap (base_after ds (steps / 2 * suc (n + suc n))) (further ds n place)
       ∙ after-sum ds (suc n) (steps / 2 * suc (n + suc n)) place
       ∙ same_steps (suc n + steps / 2 * suc (n + suc n)) (steps * suc n) place sum
@@ -87,7 +87,7 @@ module _ (ds : List Definition) where
   climbs (suc count) n all start is =
       let last = climb (powers_from ds count (n + suc n)) start in
       let more : all ≡ 2 ^ count * suc (n + suc n) = omega (arith, is, ap (λ (k : ℕ). k * suc n) (pow-succ' 2 count)) in
-      climb_step n all start last.0 last.1 (followed (bases_after ds n) (Some last.0)) (sym (further ds n (Some last.0)))
+      climb_step n all start last.0 last.1 (step_by (bases_after ds n) (Some last.0)) (sym (further ds n (Some last.0)))
       (climbs count (n + suc n) all start more)
 
   -- ---- where a chain comes by a place
@@ -254,7 +254,7 @@ one_more ds (suc count) n m is =
     ap (λ (ps : List (List (Option ℕ))). bases_after ds n ∷ ps) (one_more ds count (n + suc n) m e)
 
 pub doubled : (ds : List Definition) (powers more : List (List (Option ℕ))) (power next : List (Option ℕ)) (left : ℕ) → 0 < left
-    → length ds < 2 ^ 63 → more ≡ powers ++ power ∷ [] → next ≡ map (followed power) power → AreDoubled ds powers power left
+    → length ds < 2 ^ 63 → more ≡ powers ++ power ∷ [] → next ≡ map (step_by power) power → AreDoubled ds powers power left
     → AreDoubled ds more next (left / 2)
 doubled ds powers more power next left some bound more_is next_is h =
     let count = length powers in
@@ -274,7 +274,7 @@ doubled ds powers more power next left some bound more_is next_is h =
           more_is ∙ ap₂ (λ (ps : List (List (Option ℕ))) (p : List (Option ℕ)). ps ++ p ∷ []) h.are h.next
           ∙ sym (one_more ds count 0 h.before (omega (arith, h.size)))
           ∙ ap (λ (k : ℕ). powers_from ds k 0) (sym longer);
-      next = next_is ∙ followed-sum ds h.before h.before power power h.next h.next;
+      next = next_is ∙ step_by-sum ds h.before h.before power power h.next h.next;
       enough = omega (arith, h.enough, twice, split, part, halves);
       within = omega (arith, h.within, split, halves);
       small = omega (arith, h.within, one, twice, bound);
@@ -318,7 +318,7 @@ at_shown {B = B} f xs shown i x y is at same =
     same ∙ ap f at ∙ at_map f xs i x ∙ ap₂ (λ (l : List B) (z : B). get_or l i z) is (sym same)
 
 pub one_up : (powers : List (List (Option ℕ))) (power : List (Option ℕ)) (start i : ℕ) (last next : ℕ × ℕ) → 0 < i
-    → power ≡ get_or powers (i - 1) power → next ≡ climbed power (last.0, last.1) → Counted powers start i last
+    → power ≡ get_or powers (i - 1) power → next ≡ climb_once power (last.0, last.1) → Counted powers start i last
     → Counted powers start (i - 1) next
 one_up powers power start i last next some power_is next_is h =
     let below = i - 1 in
@@ -327,10 +327,10 @@ one_up powers power start i last next some power_is next_is h =
     record {
       within = omega arith;
       last_is =
-          next_is ∙ ap (climbed power) (h.last_is ∙ ap (λ (k : ℕ). climb (drop k powers) start) step)
-          ∙ ap (λ (p : List (Option ℕ)). climbed p (climb (drop (suc below) powers) start)) power_is
+          next_is ∙ ap (climb_once power) (h.last_is ∙ ap (λ (k : ℕ). climb (drop k powers) start) step)
+          ∙ ap (λ (p : List (Option ℕ)). climb_once p (climb (drop (suc below) powers) start)) power_is
           ∙ ap (λ (ps : List (List (Option ℕ))). climb ps start) (sym (drop-cons powers below power within));
       few =
           subst (λ (r : ℕ × ℕ). suc r.1 * 2 ^ below ≤ 2 ^ length powers) (sym next_is)
-          (few_climbed (followed power (Some last.0)) last.0 last.1 i (length powers) some h.few);
+          (few_climbed (step_by power (Some last.0)) last.0 last.1 i (length powers) some h.few);
     }

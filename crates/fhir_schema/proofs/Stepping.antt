@@ -49,9 +49,9 @@ module _ (ds : List Definition) where
       (further m (base_after ds a (base_place ds e)) ∙ after-sum a (suc m) (base_place ds e))
       (further-each a m es)
 
-  pub followed-sum : (a m : ℕ) (places powers : List (Option ℕ)) → places ≡ bases_after ds a → powers ≡ bases_after ds m
+  pub step_by-sum : (a m : ℕ) (places powers : List (Option ℕ)) → places ≡ bases_after ds a → powers ≡ bases_after ds m
       → map (option_and_then (λ p. get_or powers p None)) places ≡ bases_after ds (a + suc m)
-  followed-sum a m places powers places_are powers_are =
+  step_by-sum a m places powers places_are powers_are =
       ap₂ (λ (f : List (Option ℕ)) (xs : List (Option ℕ)). map (option_and_then (λ p. get_or f p None)) xs) powers_are places_are
       ∙ further-each a m ds
 
@@ -83,8 +83,8 @@ halved ds places powers more doubled left true h more_is doubled_is is_odd is_ev
     record {
       taken = h.taken + suc h.power;
       power = h.power + suc h.power;
-      places_are = more_is ∙ followed-sum ds h.taken h.power places powers h.places_are h.powers_are;
-      powers_are = doubled_is ∙ followed-sum ds h.power h.power powers powers h.powers_are h.powers_are;
+      places_are = more_is ∙ step_by-sum ds h.taken h.power places powers h.places_are h.powers_are;
+      powers_are = doubled_is ∙ step_by-sum ds h.power h.power powers powers h.powers_are h.powers_are;
       count = omega (arith, h.count, ap (λ (n : ℕ). suc h.power * n) whole);
     }
 halved ds places powers more doubled left false h more_is doubled_is is_odd is_even =
@@ -94,7 +94,7 @@ halved ds places powers more doubled left false h more_is doubled_is is_odd is_e
       taken = h.taken;
       power = h.power + suc h.power;
       places_are = more_is ∙ h.places_are;
-      powers_are = doubled_is ∙ followed-sum ds h.power h.power powers powers h.powers_are h.powers_are;
+      powers_are = doubled_is ∙ step_by-sum ds h.power h.power powers powers h.powers_are h.powers_are;
       count = omega (arith, h.count, ap (λ (n : ℕ). suc h.power * n) whole);
     }
 

@@ -19,7 +19,7 @@ use Rattle.fhir_nodes.specs.Urls.{url_place}
 use Rattle.fhir_forms.specs.Forms.{spells_apart}
 use Rattle.fhir_forms.specs.Criteria.{are_told_apart}
 use Rattle.fhir_codes.specs.Expanding.{Expansions}
-use Rattle.fhir_schema.specs.Schemas.{schema_with, is_loaded, unusable, root, root_in}
+use Rattle.fhir_schema.specs.Schemas.{schema_with, has_definition, unusable, root, root_in}
 
 -- ---- what is found under a url
 
@@ -105,5 +105,5 @@ module _ (ds : List Definition) where
         let same : there.1 ≡ place = sym (is_placed there.1 d there.2) ∙ there.3 in
         root_there d place (ap (slice_get ds) (sym same) ∙ there.2) none
 
-    pub usable_root : (url : Text) → IsTrue (is_loaded (schema_with ds sets) url) → unusable (schema_with ds sets) url ≡ None → IsSome (root (schema_with ds sets) url)
+    pub usable_root : (url : Text) → IsTrue (has_definition (schema_with ds sets) url) → unusable (schema_with ds sets) url ≡ None → IsSome (root (schema_with ds sets) url)
     usable_root url some none = root_found url (url_place ds url) refl some none

@@ -18,23 +18,23 @@ IsLineage ds powers =
     (powers ≡ powers_from ds (length powers) 0) × (length ds < 2 ^ length powers) × (2 ^ length powers ≤ 2 ^ 64)
 
 -- where the steps of one list lead from a place
-abbrev pub followed : List (Option ℕ) → Option ℕ → Option ℕ
-followed power place = option_and_then (λ p. get_or power p None) place
+abbrev pub step_by : List (Option ℕ) → Option ℕ → Option ℕ
+step_by power place = option_and_then (λ p. get_or power p None) place
 
 -- where so many steps lead from a place
 abbrev pub after : List (List (Option ℕ)) → ℕ → Option ℕ → Option ℕ
 after [] steps place = place
 after (power ∷ powers) steps place =
-    after powers (steps / 2) (if nat_eq (steps % 2) 1 then followed power place else place)
+    after powers (steps / 2) (if nat_eq (steps % 2) 1 then step_by power place else place)
 
 -- a place and its steps, counted twice as finely, with one more step where it leads on
-abbrev pub climbed : List (Option ℕ) → ℕ × ℕ → ℕ × ℕ
-climbed power last = option_map_or (λ base. (base, last.1 * 2 + 1)) (followed power (Some last.0)) (last.0, last.1 * 2)
+abbrev pub climb_once : List (Option ℕ) → ℕ × ℕ → ℕ × ℕ
+climb_once power last = option_map_or (λ base. (base, last.1 * 2 + 1)) (step_by power (Some last.0)) (last.0, last.1 * 2)
 
 -- the last place of a chain that ends, and how many steps lead to it
 abbrev pub climb : List (List (Option ℕ)) → ℕ → ℕ × ℕ
 climb [] start = (start, 0)
-climb (power ∷ powers) start = climbed power (climb powers start)
+climb (power ∷ powers) start = climb_once power (climb powers start)
 
 -- the place is so many steps on, less those of its own chain
 abbrev pub is_between : List (List (Option ℕ)) → ℕ → ℕ → ℕ → ℕ → Bool

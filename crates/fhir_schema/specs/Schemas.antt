@@ -16,7 +16,9 @@ use Rattle.fhir_definition.specs.Definition.{Definition, definitions_from}
 use Rattle.fhir_nodes.specs.Types.{type_place, is_resource, type_of_code}
 use Rattle.fhir_nodes.specs.Slots.{Slot, id_at, all_slices}
 use Rattle.fhir_nodes.specs.Contents as contents
-use Rattle.fhir_nodes.specs.Contents.{elements_in, element_of, slots_at}
+use Rattle.fhir_nodes.specs.Contents.{elements_in, element_of}
+use Rattle.fhir_nodes.specs.Holders as holders
+use Rattle.fhir_nodes.specs.Holders.{slots_at}
 use Rattle.fhir_forms.specs.Slicings as slicings
 use Rattle.fhir_forms.specs.Criteria.{Criterion, all_criteria}
 use Rattle.fhir_forms.specs.Forms.{Form, all_forms, property_of}
@@ -90,8 +92,8 @@ abbrev pub root : SchemaValue → Text → Option NodeRef
 root s url = option_and_then (root_in s) (url_place s.definitions url)
 
 -- a definition stands at the url, whether it can be used or not
-abbrev pub is_loaded : SchemaValue → Text → Bool
-is_loaded s url = is_some (url_place s.definitions url)
+abbrev pub has_definition : SchemaValue → Text → Bool
+has_definition s url = is_some (url_place s.definitions url)
 
 -- the root of the definition that a canonical names, if that can be used
 abbrev pub loaded : SchemaValue → Text → Option NodeRef
@@ -139,9 +141,13 @@ is_closed s n = option_map_or slicings.is_closed (element_at s n) false
 abbrev pub target : SchemaValue → NodeRef → Option NodeRef
 target s n = contents.target s.definitions n
 
--- the node that has the node's children: itself, if it has any, and else the one that it refers to, if that has any
+-- the node that has the node's children: itself, if it has any, and else the one that it refers to
 abbrev pub holder : SchemaValue → NodeRef → Option NodeRef
-holder s n = contents.holder s.definitions n
+holder s n = holders.holder s.definitions n
+
+-- that one, if it has children
+abbrev pub child_holder : SchemaValue → NodeRef → Option NodeRef
+child_holder s n = holders.child_holder s.definitions n
 
 -- the node's type entries; a root has none, and those that are written there are passed over
 abbrev pub types : SchemaValue → NodeRef → List TypeEntry

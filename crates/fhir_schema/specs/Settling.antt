@@ -1,5 +1,5 @@
 -- Which definitions can't be used, and why: judged in rounds, each against what the rounds before have found.
-use Rattle.std.specs.Prelude.{ℕ, zero, suc, List, [], ◌∷◌, ◌++◌, map, length, get_or, Bool, true, false, not, ◌&&◌, ◌||◌, Option, None, Some, is_none}
+use Rattle.std.specs.Prelude.{ℕ, zero, suc, List, [], ◌∷◌, ◌++◌, map, length, get_or, Bool, true, false, not, ◌&&◌, ◌||◌, Option, None, Some, is_none, if◌then◌else◌}
 use Rattle.std.specs.Option.{option_map, option_map_or, option_and_then, option_or}
 use Rattle.std.specs.List.{list_all, slice_get}
 use Rattle.fhir_json.specs.Tree.{Text}
@@ -39,9 +39,19 @@ element_is_usable ds reasons e = is_root e || list_all (entry_is_usable ds reaso
 abbrev pub types_are_usable : List Definition → Reasons → Definition → Bool
 types_are_usable ds reasons d = is_usable_type ds reasons d.type && list_all (element_is_usable ds reasons) d.elements
 
--- the place of the definition that has the element to which another refers for its content
+abbrev pub is_type_at : List Definition → ℕ → Bool
+is_type_at ds place = option_map_or (λ d. d.is_type) (slice_get ds place) false
+
+-- a type definition refers to elements of type definitions alone, for a tree is typed by no others
+abbrev pub may_refer : List Definition → Definition → ℕ → Bool
+may_refer ds d place = not d.is_type || is_type_at ds place
+
+abbrev pub place_referred : List Definition → Definition → ℕ → Option ℕ
+place_referred ds d place = if may_refer ds d place then Some place else None
+
+-- the place of the definition that has the element to which another refers for its content, if it may refer to that one
 abbrev pub target_place : List Definition → Definition → Element → Option ℕ
-target_place ds d e = option_map (λ n. n.definition) (content_target ds d.place e)
+target_place ds d e = option_and_then (place_referred ds d) (option_map (λ n. n.definition) (content_target ds d.place e))
 
 -- that element is there, and its definition can be used
 abbrev pub target_is_usable : List Definition → Reasons → Definition → Element → Bool

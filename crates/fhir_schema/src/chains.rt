@@ -31,7 +31,7 @@ pub(crate) fn place_at(places: &[Option<usize>], at: Option<usize>) -> Option<us
 }
 
 /// For each place the one to which further steps lead from it.
-pub(crate) fn followed(
+pub(crate) fn steps_after(
     alloc: Global,
     places: &[Option<usize>],
     further: &[Option<usize>],
@@ -46,7 +46,7 @@ pub(crate) fn followed(
 }
 
 // The places, or those to which further steps lead from them.
-fn followed_if(
+fn steps_after_if(
     alloc: Global,
     is_further: bool,
     places: Vec<Option<usize>>,
@@ -56,7 +56,7 @@ fn followed_if(
         then map (option_and_then (λ p. get_or further.now p None)) places.items else places.items)) }
 {
     if is_further {
-        followed(alloc, &places, further)
+        steps_after(alloc, &places, further)
     } else {
         Ok(places)
     }
@@ -72,8 +72,8 @@ fn places_at_end(alloc: Global, table: &Table) -> Result<Vec<Option<usize>>, All
     let mut steps = table.definitions().len();
     while steps > 0 {
         let is_odd = steps % 2 == 1;
-        places = followed_if(alloc, is_odd, places, &power)?;
-        power = followed(alloc, &power, &power)?;
+        places = steps_after_if(alloc, is_odd, places, &power)?;
+        power = steps_after(alloc, &power, &power)?;
         steps /= 2;
     }
     Ok(places)

@@ -2,9 +2,9 @@
 
 ghost use Rattle.std.specs.Prelude.{◌≡◌, ◌<◌, ◌≤◌, ◌+◌, ◌*◌, ◌^◌, length, IfOk, Some, if◌then◌else◌};
 ghost use Rattle.fhir_definition.specs.Snapshot.{is_at};
-ghost use Rattle.fhir_schema.specs.Lineages.{IsLineage, followed, after, climbed, climb, is_between, comes_by};
+ghost use Rattle.fhir_schema.specs.Lineages.{IsLineage, step_by, after, climb_once, climb, is_between, comes_by};
 
-use crate::chains::{bases_of, followed, place_at};
+use crate::chains::{bases_of, place_at, steps_after};
 use fhir_nodes::Table;
 use std::alloc::{AllocError, Global};
 use std::marker::Model;
@@ -25,9 +25,9 @@ impl Model for Lineage {
 }
 
 // One step of the climb to the end of a chain.
-fn climbed(power: &[Option<usize>], place: usize, steps: usize) -> (usize, usize)
+fn climb_once(power: &[Option<usize>], place: usize, steps: usize) -> (usize, usize)
     requires { steps * 2 + 1 < 2 ^ 64 }
-    ensures { result ≡ climbed power.now (place, steps) }
+    ensures { result ≡ climb_once power.now (place, steps) }
 {
     match place_at(power, Some(place)) {
         Some(base) => (base, steps * 2 + 1),
@@ -35,8 +35,8 @@ fn climbed(power: &[Option<usize>], place: usize, steps: usize) -> (usize, usize
     }
 }
 
-fn followed_where(is_further: bool, power: &[Option<usize>], place: Option<usize>) -> Option<usize>
-    ensures { result ≡ (if is_further then followed power.now place else place) }
+fn step_where(is_further: bool, power: &[Option<usize>], place: Option<usize>) -> Option<usize>
+    ensures { result ≡ (if is_further then step_by power.now place else place) }
 {
     if is_further {
         place_at(power, place)
@@ -63,7 +63,7 @@ impl Lineage {
         let mut power = bases_of(alloc, table)?;
         let mut left = table.definitions().len();
         while left > 0 {
-            let doubled = followed(alloc, &power, &power)?;
+            let doubled = steps_after(alloc, &power, &power)?;
             powers.push(power)?;
             power = doubled;
             left /= 2;
@@ -78,7 +78,7 @@ impl Lineage {
         let mut place = Some(start);
         let mut left = steps;
         for power in &self.powers {
-            place = followed_where(left % 2 == 1, power, place);
+            place = step_where(left % 2 == 1, power, place);
             left /= 2;
         }
         place
@@ -94,7 +94,7 @@ impl Lineage {
         while i > 0 {
             i -= 1;
             let power = &self.powers[i];
-            last = climbed(power, last.0, last.1);
+            last = climb_once(power, last.0, last.1);
         }
         last.1
     }

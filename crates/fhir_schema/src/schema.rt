@@ -3,7 +3,7 @@
 ghost use Rattle.std.specs.Prelude.{◌≡◌, length, false, IsTrue, IfOk};
 ghost use Rattle.std.specs.Option.{option_copied, option_map, option_map_or};
 ghost use Rattle.fhir_json.specs.Memory.{Gives};
-ghost use Rattle.fhir_schema.specs.Schemas.{schema_of, schema_with, unusable, is_usable, elements_at, elements_of_url, has, element_at, url_at, id_of_node, is_root_node, node_in, root_element, root, node_with, node, slots, slot_named, slices, slice_named, criteria, is_closed, target, holder, types, forms, property, type_root, resource_root, is_concrete, loaded, concepts_at};
+ghost use Rattle.fhir_schema.specs.Schemas.{schema_of, schema_with, unusable, is_usable, elements_at, elements_of_url, has, element_at, url_at, id_of_node, is_root_node, node_in, root_element, root, node_with, node, slots, slot_named, slices, slice_named, criteria, is_closed, target, holder, child_holder, types, forms, property, type_root, resource_root, is_concrete, loaded, concepts_at};
 ghost use Rattle.fhir_elements.specs.Causes.{blamed_reason, is_blame_among};
 ghost use Rattle.fhir_definition.specs.Blames.{AreBlamesAmong};
 ghost use Rattle.fhir_schema.specs.Settling.{reason_at, all_reasons};
@@ -31,8 +31,8 @@ use fhir_forms::{Criteria, Criterion, Form, NodeForms, Property, is_closed};
 use fhir_fp_syntax::Expr;
 use fhir_json::NoMemory;
 use fhir_nodes::{
-    Expressions, NodeRef, Nodes, Slot, Table, canonical_place, elements_in, holder, is_resource,
-    names_resource, target, type_of_code,
+    Expressions, NodeRef, Nodes, Slot, Table, canonical_place, child_holder, elements_in, holder,
+    is_resource, names_resource, target, type_of_code,
 };
 use fhir_package::Package;
 use std::alloc::Global;
@@ -388,11 +388,18 @@ impl Schema {
     }
 
     /// The node that has a node's children: the node itself, if it has any, and else the one that it refers to for its
-    /// content, if that has any.
+    /// content.
     pub fn holder(&self, node: NodeRef) -> Option<NodeRef>
         ensures { result ≡ holder self.now node }
     {
         holder(&self.nodes, &self.table, node)
+    }
+
+    /// That one, if it has children.
+    pub fn child_holder(&self, node: NodeRef) -> Option<NodeRef>
+        ensures { result ≡ child_holder self.now node }
+    {
+        child_holder(&self.nodes, &self.table, node)
     }
 
     /// The type entries of a node. A root has none, whatever is written there.

@@ -6,7 +6,7 @@ ghost use Rattle.std.specs.List.{list_all, slice_get};
 ghost use Rattle.fhir_elements.specs.Causes.{reason_of, blamed_reason, reason_unless, is_blame_among};
 ghost use Rattle.fhir_elements.specs.declared.reason.Reason.TheVariants.{UnusableType, MissingContent};
 ghost use Rattle.fhir_nodes.specs.Urls.{canonical_place};
-ghost use Rattle.fhir_schema.specs.Settling.{reason_at, is_usable_type, entry_is_usable, element_is_usable, types_are_usable, target_place, target_is_usable, targets_are_usable, base_place, is_first_of_type};
+ghost use Rattle.fhir_schema.specs.Settling.{reason_at, is_usable_type, entry_is_usable, element_is_usable, types_are_usable, is_type_at, may_refer, place_referred, target_place, target_is_usable, targets_are_usable, base_place, is_first_of_type};
 ghost use Rattle.fhir_schema.specs.Blaming.{reasons_of, blame_at};
 
 use fhir_definition::{Definition, is_root};
@@ -119,7 +119,33 @@ pub(crate) fn types_blame(
     elements_blame(table, blames, definition.elements())
 }
 
-/// The place of the definition that has the element to which another refers for its content.
+fn is_type_at(table: &Table, place: usize) -> bool
+    ensures { result ≡ is_type_at table.now place }
+{
+    match table.definition(place) {
+        Some(definition) => definition.is_type(),
+        None => false,
+    }
+}
+
+// Whether a definition may refer to elements of the one at a place: a type definition refers to type definitions alone.
+fn may_refer(table: &Table, definition: &Definition, place: usize) -> bool
+    ensures { result ≡ may_refer table.now definition.now place }
+{
+    !definition.is_type() || is_type_at(table, place)
+}
+
+fn place_referred(table: &Table, definition: &Definition, place: usize) -> Option<usize>
+    ensures { result ≡ place_referred table.now definition.now place }
+{
+    if may_refer(table, definition, place) {
+        Some(place)
+    } else {
+        None
+    }
+}
+
+/// The place of the definition that has the element to which another refers for its content, if it may refer to that one.
 pub(crate) fn target_place(
     table: &Table,
     definition: &Definition,
@@ -128,8 +154,18 @@ pub(crate) fn target_place(
     ensures { result ≡ target_place table.now definition.now element.now }
 {
     match content_target(table, definition.place(), element) {
-        Some(node) => Some(node.definition),
+        Some(node) => place_referred(table, definition, node.definition),
         None => None,
+    }
+}
+
+// Why an element has no element that it may refer to for its content.
+fn no_target_cause(table: &Table, definition: &Definition, element: &ElementDef) -> Cause
+    ensures { reason_of result ≡ MissingContent }
+{
+    match content_target(table, definition.place(), element) {
+        Some(node) => Cause::ContentOfProfile(node.definition),
+        None => Cause::MissingContent,
     }
 }
 
@@ -146,7 +182,7 @@ fn target_cause(
         return None;
     }
     let Some(target) = target_place(table, definition, element) else {
-        return Some(Cause::MissingContent);
+        return Some(no_target_cause(table, definition, element));
     };
     match blame_at(blames, target) {
         Some(blame) => Some(Cause::UnusableContent {

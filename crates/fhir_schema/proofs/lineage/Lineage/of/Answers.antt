@@ -1,6 +1,6 @@
 use Rattle.std.proofs.Common.{ℕ, List, Option, ◌≡◌, map, ap, ap₂, ◌∙◌, length, ◌∷◌, [], ◌<◌, ◌^◌, arith}
 use Rattle.std.proofs.lemmas.List.{map-append}
-use Rattle.fhir_schema.specs.Lineages.{followed}
+use Rattle.fhir_schema.specs.Lineages.{step_by}
 use Rattle.fhir_schema.proofs.Climbing.{doubled, as_many}
 use Rattle.fhir_schema.proofs.lineage.Lineage.of.Goals as goal
 
@@ -13,5 +13,5 @@ loop-left-preserved c =
     c.in_ok-doubled.doubled.items c.loop-left.left (omega arith) bound
     (ap (map (λ v. v.items)) c.in_ok-push.ensures.items ∙ map-append (λ v. v.items) c.loop-left.powers.items (c.loop-left.power ∷ []))
     (c.in_ok-doubled.ensures
-    ∙ ap₂ (λ (f : List (Option ℕ)) (xs : List (Option ℕ)). map (followed f) xs) c.deref-in-loop-left.ensures.value c.deref.ensures.value)
+    ∙ ap₂ (λ (f : List (Option ℕ)) (xs : List (Option ℕ)). map (step_by f) xs) c.deref-in-loop-left.ensures.value c.deref.ensures.value)
     c.loop-left.invariant

@@ -2,7 +2,7 @@ use Rattle.std.proofs.Common.{◌≡◌, false, is_some, arith}
 use Rattle.std.specs.Option.{option_map}
 use Rattle.fhir_forms.specs.CriteriaSeen.{criterion_seen}
 use Rattle.fhir_forms.proofs.Distinct.{not_all_told}
-use Rattle.fhir_forms.proofs.criteria.told.Goals as goal
+use Rattle.fhir_forms.proofs.criteria.told_criteria.Goals as goal
 
 pub returns-in_default-clause-all : goal.returns-in_default-clause-all
 returns-in_default-clause-all c =
