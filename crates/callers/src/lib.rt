@@ -26,7 +26,7 @@ ghost use Rattle.fhir_codes.specs.ValueSets.{concepts_of};
 ghost use Rattle.fhir_elements.specs.Element.{Element, element_of};
 ghost use Rattle.fhir_definition.specs.Definition.{definition_of, definitions_from};
 ghost use Rattle.fhir_definition.specs.Snapshot.{root_place};
-ghost use Rattle.fhir_nodes.specs.Contents.{slots_at};
+ghost use Rattle.fhir_nodes.specs.Holders.{slots_at};
 ghost use Rattle.fhir_forms.specs.Forms.{property_of};
 ghost use Rattle.fhir_schema.specs.Schemas.{root, slots, criteria};
 ghost use Rattle.std.specs.Str.{bytes_eq};

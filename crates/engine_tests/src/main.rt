@@ -30,7 +30,7 @@ fn words_of(alloc: Global, command: &str) -> Result<Vec<String>, AllocError> {
 }
 
 // The status of a command, with what it writes; to an output that takes nothing, if it is full.
-fn told<R: Files + AllocGlobal + Clone + Drop>(
+fn reply_text<R: Files + AllocGlobal + Clone + Drop>(
     rt: &R,
     command: &str,
     is_full: bool,
@@ -96,7 +96,7 @@ enum Outcome<'l> {
     Unknown,
 }
 
-fn judged<'l, R: Files + AllocGlobal + Clone + Drop>(
+fn judge_line<'l, R: Files + AllocGlobal + Clone + Drop>(
     rt: &R,
     line: &'l str,
 ) -> io::Result<Outcome<'l>> {
@@ -113,8 +113,8 @@ fn judged<'l, R: Files + AllocGlobal + Clone + Drop>(
         return Ok(Outcome::Unknown);
     };
     let answer = match command.strip_prefix(" full ") {
-        Some(command) => told(rt, command, true)?,
-        None => told(rt, command, false)?,
+        Some(command) => reply_text(rt, command, true)?,
+        None => reply_text(rt, command, false)?,
     };
     if answer.as_str() == expected {
         Ok(Outcome::Right)
@@ -197,7 +197,7 @@ fn main(rt: HostRuntime) -> io::Result<()> {
     let mut number = 0_usize;
     for line in text.lines() {
         number = number.saturating_add(1);
-        let outcome = judged(&rt, line)?;
+        let outcome = judge_line(&rt, line)?;
         progress.take(&rt, number, line, outcome)?;
     }
     if !progress.is_asked {

@@ -14,7 +14,7 @@ use Rattle.fhir_elements.specs.Tests.{all_hold}
 use Rattle.fhir_nodes.specs.declared.node.NodeRef.{NodeRef}
 use Rattle.fhir_nodes.specs.Slots.{Slot}
 use Rattle.fhir_schema.specs.Schemas.{SchemaValue, element_at, is_root_node, target, holder, slots, slot_named, entry_of, types, type_root, loaded}
-use Rattle.fhir_nodes.specs.Contents.{with_children}
+use Rattle.fhir_nodes.specs.Holders.{with_children}
 use Rattle.fhir_nodes.specs.Types.{names_resource}
 use Rattle.fhir_schema.specs.Covers.{covers, type_at}
 use Rattle.fhir_instance.specs.Items.{Item, item, Kids, no_kids, kid, type_of}
@@ -195,22 +195,33 @@ module _ (s : SchemaValue) (narrow : AreNarrow s) (alone : CoversAlone s) (asks_
             own base None h each = absurd (false≢true h)
             own base (Some derived) h each = kids_step derived base h each
 
-            go : (o : Option NodeRef)
-                → IsTrue (option_map_or (λ base. own_children_answer pairs s n base || type_children_answer pairs s n base) o true)
-                → IsTrue (list_all holds (option_map_or (slots_ask s x) o []))
-            go None h = refl
-            go (Some base) h =
+            has_children : (base : NodeRef) → IsTrue (own_children_answer pairs s n base || type_children_answer pairs s n base)
+                → IsTrue (list_all holds (slots_ask s x base))
+            has_children base h =
                 elim (or_cases (own_children_answer pairs s n base) (type_children_answer pairs s n base) h) [
                   | inl by_own ↦ own base (holder s n) by_own each
                   | inr by_types ↦ from_types base by_types
                 ]
+
+            by_children : (base : NodeRef) (b : Bool) → nat_eq (length (slots s base)) 0 ≡ b
+                → IsTrue (option_map_or (λ base. own_children_answer pairs s n base || type_children_answer pairs s n base) (cond b None (Some base)) true)
+                → IsTrue (list_all holds (slots_ask s x base))
+            by_children base true leaf h = rw (none_of_length (slots s base) leaf) refl
+            by_children base false is h = has_children base h
+
+            go : (o : Option NodeRef)
+                → IsTrue (option_map_or (λ base. own_children_answer pairs s n base || type_children_answer pairs s n base)
+                (option_and_then (with_children s.definitions) o) true)
+                → IsTrue (list_all holds (option_map_or (slots_ask s x) o []))
+            go None h = refl
+            go (Some base) h = by_children base (nat_eq (length (slots s base)) 0) refl h
 
         -- where all is held that the node's children are asked, so is what its own slots ask
         own_slots : (n : NodeRef) → IsTrue (list_all holds (kids_asks s x n)) → IsTrue (list_all holds (slots_ask s x n))
         own_slots n = go (nat_eq (length (slots s n)) 0) refl
           where
             go : (b : Bool) → nat_eq (length (slots s n)) 0 ≡ b
-                → IsTrue (list_all holds (option_map_or (slots_ask s x) (option_or (cond b None (Some n)) (option_and_then (with_children s.definitions) (target s n))) []))
+                → IsTrue (list_all holds (option_map_or (slots_ask s x) (option_or (cond b None (Some n)) (target s n)) []))
                 → IsTrue (list_all holds (slots_ask s x n))
             go true leaf each = rw (none_of_length (slots s n) leaf) refl
             go false is each = each

@@ -13,7 +13,7 @@ use Rattle.fhir_elements.specs.Tests.{all_hold}
 use Rattle.fhir_nodes.specs.declared.node.NodeRef.{NodeRef}
 use Rattle.fhir_nodes.specs.Slots.{Slot}
 use Rattle.fhir_nodes.specs.Types.{names_resource}
-use Rattle.fhir_schema.specs.Schemas.{SchemaValue, entry_of, slots, slot_named, slices, slice_named, is_root_node, holder, types, type_root, loaded}
+use Rattle.fhir_schema.specs.Schemas.{SchemaValue, entry_of, slots, slot_named, slices, slice_named, is_root_node, holder, child_holder, types, type_root, loaded}
 use Rattle.fhir_schema.specs.Covers.{covers}
 use Rattle.fhir_facets.specs.Cardinality.{cardinality_narrower}
 use Rattle.fhir_facets.specs.Targets.{targets_narrower}
@@ -224,7 +224,7 @@ module _ (R : Bool → Bool → Type 0) (L : RuleList → RuleList → Type 0) (
         (all_along (entry_kids_asked s base) (entry_children_answer some s base) (entry_children_answer others s base) (entry_kids_kept base) (types s n) agree)
 
     children_kept : (n m : NodeRef) → Agree (children_asked s n m) → R (children_answer some s n m) (children_answer others s n m)
-    children_kept n m = go (holder s m)
+    children_kept n m = go (child_holder s m)
       where
         go : (o : Option NodeRef) → Agree (option_map_or (λ base. kids_asked base (holder s n) ++ flat_map (entry_kids_asked s base) (types s n)) o [])
             → R (option_map_or (λ base. own_children_answer some s n base || type_children_answer some s n base) o true)

@@ -4,7 +4,7 @@ use Rattle.std.specs.Prelude.{is_none, is_some}
 use Rattle.std.specs.List.{list_all, flat_map, slice_get, find, position, All, AllByRecursion, Contains}
 use Rattle.std.specs.Option.{option_map, option_map_or, option_and_then, option_or, option_to_list}
 use Rattle.std.specs.Str.{bytes_eq}
-use Rattle.std.proofs.lemmas.Bool.{and_parts, and_from, lt-ltb, true≢false}
+use Rattle.std.proofs.lemmas.Bool.{false≢true, and_parts, and_from, lt-ltb, true≢false}
 use Rattle.std.proofs.lemmas.Option.{none-some, same_Some}
 use Rattle.std.proofs.lemmas.List.{length-map}
 use Rattle.std.proofs.lemmas.List.Folds.{list_all-map}
@@ -22,11 +22,12 @@ use Rattle.fhir_nodes.specs.declared.node.NodeRef.{NodeRef}
 use Rattle.fhir_nodes.specs.Types.{names_resource, type_place}
 use Rattle.fhir_nodes.specs.Urls.{canonical_place}
 use Rattle.fhir_nodes.specs.Slots.{Slot, slot_at, slice_at, is_slot, slots_of, slices_of}
-use Rattle.fhir_nodes.specs.Contents.{hash, elements_in, content_place, id_node, referred, content_target, target, with_children}
-use Rattle.fhir_schema.specs.Settling.{reason_at, fault_of, types_are_usable, has_tree, targets_are_usable, target_is_usable, lasting_tests}
+use Rattle.fhir_nodes.specs.Contents.{hash, elements_in, content_place, id_node, referred_node, content_target, target}
+use Rattle.fhir_nodes.specs.Holders.{with_children}
+use Rattle.fhir_schema.specs.Settling.{reason_at, fault_of, types_are_usable, has_tree, targets_are_usable, may_refer, place_referred, target_is_usable, lasting_tests}
 use Rattle.fhir_schema.specs.Usability.{IsClosed}
 use Rattle.fhir_schema.specs.Covers.{covers}
-use Rattle.fhir_schema.specs.Schemas.{SchemaValue, has, is_usable, elements_at, root_element, root_in, loaded, type_root, entry_of, slots, slot_named, slices, slice_named, holder, types}
+use Rattle.fhir_schema.specs.Schemas.{SchemaValue, has, is_usable, elements_at, root_element, root_in, loaded, type_root, entry_of, slots, slot_named, slices, slice_named, holder, child_holder, types}
 use Rattle.fhir_facets.specs.Targets.{targets_narrower}
 use Rattle.fhir_certificate.specs.declared.pair.Pair.{Pair}
 use Rattle.fhir_certificate.specs.declared.pair.Pair.TheVariants.{Item, Kids}
@@ -278,13 +279,20 @@ module _ (s : SchemaValue) where
         go d.place e.content_reference (ap (λ place. content_target s.definitions place e) there ∙ refers)
         (all_at (target_is_usable s.definitions s.reasons d) d.elements n.element e at targets)
       where
-        go : (place : ℕ) (o : Option Text) → option_and_then (referred s.definitions place) o ≡ Some t
+        referred : (b : Bool) → IsTrue (option_map_or (λ p. is_none (reason_at s.reasons p)) (cond b (Some t.definition) None) false)
+            → IsTrue (is_usable s t.definition)
+        referred true h = h
+        referred false h = absurd (false≢true h)
+
+        go : (place : ℕ) (o : Option Text) → option_and_then (referred_node s.definitions place) o ≡ Some t
             → IsTrue (is_none o || option_map_or (λ p. is_none (reason_at s.reasons p))
-            (option_map (λ m. m.definition) (option_and_then (referred s.definitions place) o)) false)
+            (option_and_then (place_referred s.definitions d) (option_map (λ m. m.definition) (option_and_then (referred_node s.definitions place) o))) false)
             → IsTrue (is_usable s t.definition)
         go place None e h = absurd (none-some t e)
         go place (Some text) e h =
-            subst (λ o. IsTrue (option_map_or (λ p. is_none (reason_at s.reasons p)) (option_map (λ m. m.definition) o) false)) e h
+            referred (may_refer s.definitions d t.definition)
+            (subst (λ o. IsTrue (option_map_or (λ p. is_none (reason_at s.reasons p))
+            (option_and_then (place_referred s.definitions d) (option_map (λ m. m.definition) o)) false)) e h)
 
     target_within : (place : ℕ) (e : Element) (t : NodeRef) → content_target s.definitions place e ≡ Some t
         → IsTrue (nat_lt t.element (length (elements_at s t.definition)))
@@ -309,7 +317,7 @@ module _ (s : SchemaValue) where
         by_cut None e = absurd (none-some t e)
         by_cut (Some cut) e = by_place cut.1 (content_place s.definitions place cut.0) e
 
-        by_reference : (o : Option Text) → option_and_then (referred s.definitions place) o ≡ Some t
+        by_reference : (o : Option Text) → option_and_then (referred_node s.definitions place) o ≡ Some t
             → IsTrue (nat_lt t.element (length (elements_at s t.definition)))
         by_reference None e = absurd (none-some t e)
         by_reference (Some text) e = by_cut (cut_at_first hash text) e
@@ -332,24 +340,30 @@ module _ (s : SchemaValue) where
     holder_known : (n h : NodeRef) → IsTrue (has s n) → holder s n ≡ Some h → IsTrue (has s h)
     holder_known n h known = go (nat_eq (length (slots s n)) 0) (target s.definitions n) refl
       where
-        taken_over : (t : NodeRef) → IsTrue (has s t) → (b : Bool) → cond b None (Some t) ≡ Some h → IsTrue (has s h)
-        taken_over t there true e = absurd (none-some h e)
-        taken_over t there false e = subst (λ m. IsTrue (has s m)) (same_Some t h e) there
-
-        go : (b : Bool) (o : Option NodeRef) → target s.definitions n ≡ o
-            → option_or (cond b None (Some n)) (option_and_then (with_children s.definitions) o) ≡ Some h → IsTrue (has s h)
+        go : (b : Bool) (o : Option NodeRef) → target s.definitions n ≡ o → option_or (cond b None (Some n)) o ≡ Some h → IsTrue (has s h)
         go false o f e = subst (λ m. IsTrue (has s m)) (same_Some n h e) known
         go true None f e = absurd (none-some h e)
-        go true (Some t) f e = taken_over t (target_known n t known f) (nat_eq (length (slots s t)) 0) e
+        go true (Some t) f e = subst (λ m. IsTrue (has s m)) (same_Some t h e) (target_known n t known f)
+
+    child_holder_known : (n h : NodeRef) → IsTrue (has s n) → child_holder s n ≡ Some h → IsTrue (has s h)
+    child_holder_known n h known = go (holder s n) refl
+      where
+        itself : (t : NodeRef) → IsTrue (has s t) → (b : Bool) → cond b None (Some t) ≡ Some h → IsTrue (has s h)
+        itself t there true e = absurd (none-some h e)
+        itself t there false e = subst (λ m. IsTrue (has s m)) (same_Some t h e) there
+
+        go : (o : Option NodeRef) → holder s n ≡ o → option_and_then (with_children s.definitions) o ≡ Some h → IsTrue (has s h)
+        go None f e = absurd (none-some h e)
+        go (Some t) f e = itself t (holder_known n t known f) (nat_eq (length (slots s t)) 0) e
 
     children_known : (n m : NodeRef) → IsTrue (has s n) → IsTrue (has s m) → All OfNodes (children_asked s n m)
-    children_known n m known_n known_m = go (holder s m) refl
+    children_known n m known_n known_m = go (child_holder s m) refl
       where
-        go : (o : Option NodeRef) → holder s m ≡ o
+        go : (o : Option NodeRef) → child_holder s m ≡ o
             → All OfNodes (option_map_or (λ base. kids_asked base (holder s n) ++ flat_map (entry_kids_asked s base) (types s n)) o [])
         go None e = none
         go (Some base) e =
-            let known = holder_known m base known_m e in
+            let known = child_holder_known m base known_m e in
             All-append OfNodes (kids_asked base (holder s n)) (flat_map (entry_kids_asked s base) (types s n))
             (kids_known base known (holder s n) (λ h f. holder_known n h known_n f))
             (flat (entry_kids_asked s base) (entry_kids_known base known) (types s n))

@@ -8,7 +8,7 @@ use Rattle.fhir_elements.specs.TypeEntry.{TypeEntry}
 use Rattle.fhir_nodes.specs.declared.node.NodeRef.{NodeRef}
 use Rattle.fhir_nodes.specs.Slots.{Slot}
 use Rattle.fhir_nodes.specs.Types.{names_resource}
-use Rattle.fhir_schema.specs.Schemas.{SchemaValue, entry_of, slots, slot_named, slices, slice_named, holder, types, type_root, loaded}
+use Rattle.fhir_schema.specs.Schemas.{SchemaValue, entry_of, slots, slot_named, slices, slice_named, holder, child_holder, types, type_root, loaded}
 use Rattle.fhir_schema.specs.Covers.{covers}
 use Rattle.fhir_facets.specs.Targets.{targets_narrower}
 use Rattle.fhir_certificate.specs.declared.pair.Pair.{Pair}
@@ -62,7 +62,7 @@ module _ (s : SchemaValue) where
   -- where the base node has children: the derived node's, and those of each type that it names
   abbrev pub children_asked : NodeRef → NodeRef → List Pair
   children_asked n m =
-      option_map_or (λ base. kids_asked base (holder s n) ++ flat_map (entry_kids_asked base) (types s n)) (holder s m) []
+      option_map_or (λ base. kids_asked base (holder s n) ++ flat_map (entry_kids_asked base) (types s n)) (child_holder s m) []
 
   -- ---- slots and slices
 

@@ -12,7 +12,7 @@ use Rattle.fhir_elements.specs.Element.{Element, required_value_set}
 use Rattle.fhir_elements.specs.Tests.{first_of, all_hold}
 use Rattle.fhir_nodes.specs.declared.node.NodeRef.{NodeRef}
 use Rattle.fhir_nodes.specs.Slots.{Slot}
-use Rattle.fhir_schema.specs.Schemas.{SchemaValue, element_at, target, entry_of, is_root_node, slots, slot_named, slices, slice_named, is_closed, holder, types, type_root, loaded}
+use Rattle.fhir_schema.specs.Schemas.{SchemaValue, element_at, target, entry_of, is_root_node, slots, slot_named, slices, slice_named, is_closed, holder, child_holder, types, type_root, loaded}
 use Rattle.fhir_nodes.specs.Types.{names_resource}
 use Rattle.fhir_schema.specs.Covers.{covers, type_at}
 use Rattle.fhir_facets.specs.Values.{fixed_narrower, pattern_narrower, fixed_fits, length_narrower}
@@ -165,7 +165,7 @@ module _ (pairs : Pair → Bool) where
     -- The base node has no children; or there is a pair for them with the node that has the derived one's, or with the
     -- definitions of each type that the derived node names: its profiles, or its own.
     abbrev pub children_answer : NodeRef → NodeRef → Bool
-    children_answer n m = option_map_or (λ base. own_children_answer n base || type_children_answer n base) (holder s m) true
+    children_answer n m = option_map_or (λ base. own_children_answer n base || type_children_answer n base) (child_holder s m) true
 
     abbrev pub item_rules : NodeRef → NodeRef → List (Bool × RuleName)
     item_rules n m =

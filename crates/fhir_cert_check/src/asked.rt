@@ -142,7 +142,7 @@ fn put_types(asked: &mut Vec<Pair>, schema: &Schema, nodes: NodePair) -> Done
 fn put_children(asked: &mut Vec<Pair>, schema: &Schema, nodes: NodePair) -> Done
     ensures { OnOk result (asked.new.items ≡ asked.old.items ++ children_asked schema.now nodes.derived nodes.base) }
 {
-    let Some(base) = schema.holder(nodes.base) else {
+    let Some(base) = schema.child_holder(nodes.base) else {
         return Ok(());
     };
     put(asked, kids_pair(base, schema.holder(nodes.derived)))?;

@@ -295,7 +295,7 @@ fn type_children_answer(schema: &Schema, pairs: &PairSet, n: NodeRef, base: Node
 fn children_answer(schema: &Schema, pairs: &PairSet, n: NodeRef, m: NodeRef) -> bool
     ensures { result ≡ children_answer (has_in pairs.now) schema.now n m }
 {
-    match schema.holder(m) {
+    match schema.child_holder(m) {
         Some(base) => {
             has_kids_pair(pairs, schema.holder(n), base)
                 || type_children_answer(schema, pairs, n, base)

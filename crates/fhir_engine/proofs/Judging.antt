@@ -10,6 +10,7 @@ use Rattle.fhir_validator.specs.declared.fault.Fault.{Fault}
 use Rattle.fhir_validator.specs.declared.fault.Fault.TheVariants.{NoMemory}
 use Rattle.fhir_validator.specs.declared.verdict.Verdict.{Verdict}
 use Rattle.fhir_validator.specs.declared.verdict.Verdict.TheVariants as verdicts
+use Rattle.fhir_validator.specs.Needed.{ConstraintsHold}
 use Rattle.fhir_validator.specs.Verdicts.{is_conforming, is_violating, IsExplained, Means}
 use Rattle.fhir_registry.specs.Outcomes.{is_explained}
 use Rattle.fhir_engine.specs.declared.reply.Status.{Status}
@@ -21,6 +22,7 @@ use Rattle.fhir_engine.specs.Status.{code_of, verdict_status}
 pub record IsValidated (s : SchemaValue) (profile bytes : Text) (v : Result Verdict Fault) : Type 0 where
   pub conforms : (t : Tree) → Reads bytes t → IfOk v (λ v. IsTrue (is_conforming v) ↔ Conforms s (constant false) profile t)
   pub always : (t : Tree) → Reads bytes t → IfOk v (λ v. IsTrue (is_conforming v) → (meaning : Interpretation) → Conforms s meaning profile t)
+  pub constraints : (t : Tree) → Reads bytes t → IfOk v (λ v. IsTrue (is_conforming v) → ConstraintsHold s profile t)
   pub violates : (t : Tree) → Reads bytes t → IfOk v (λ v. IsTrue (is_violating v) ↔ (Conforms s (constant true) profile t → ⊥))
   pub never : (t : Tree) → Reads bytes t → IfOk v (λ v. IsTrue (is_violating v) → (meaning : Interpretation) → Conforms s meaning profile t → ⊥)
   pub explained : (t : Tree) → Reads bytes t → IfOk v (λ v. IsExplained s profile t v)
@@ -32,7 +34,7 @@ pub stands : (s : SchemaValue) (profile bytes : Text) (v : Result Verdict Fault)
     → Stands s profile bytes v
 stands s profile bytes (Ok verdicts.Conforms) known memory =
     let t = known.read.0 in
-    let reads = known.read.1 in (t, reads, known.always t reads refl, known.explained t reads)
+    let reads = known.read.1 in (t, reads, (known.always t reads refl, known.constraints t reads refl), known.explained t reads)
 stands s profile bytes (Ok (verdicts.Violates issues)) known memory =
     let t = known.read.0 in
     let reads = known.read.1 in (t, reads, known.never t reads refl, known.explained t reads)
@@ -58,7 +60,7 @@ is_listed s profile bytes (Err fault) known = refl
 -- where the status of the reply is 0, the resource conforms
 pub always_by : (s : SchemaValue) (profile bytes : Text) (v : Result Verdict Fault) → Stands s profile bytes v → code_of (verdict_status v) ≡ 0
     → AlwaysConforms s profile bytes
-always_by s profile bytes (Ok verdicts.Conforms) so zero = (so.0, so.1, so.2)
+always_by s profile bytes (Ok verdicts.Conforms) so zero = (so.0, so.1, so.2.0, so.2.1)
 always_by s profile bytes (Ok (verdicts.Violates issues)) so zero = absurd cc
 always_by s profile bytes (Ok (verdicts.Open sites)) so zero = absurd cc
 always_by s profile bytes (Err fault) so zero = absurd cc

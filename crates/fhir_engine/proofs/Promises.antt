@@ -9,7 +9,7 @@ use Rattle.fhir_package.specs.Definitions.{Definitions}
 use Rattle.fhir_package.specs.Folder.{Files}
 use Rattle.fhir_package.specs.Packing.{Refusal, json_names, json_files, pack_files, pack}
 use Rattle.fhir_package.specs.ReadFiles.{ReadFiles, IsFrom, all_given, pack_given}
-use Rattle.fhir_package.specs.Surveying.{FileFault, survey, is_unread, told_by, packed_by}
+use Rattle.fhir_package.specs.Surveying.{FileFault, survey, is_unreadable, told_by, packed_by}
 use Rattle.fhir_engine.specs.declared.request.WordsFault.{WordsFault}
 use Rattle.fhir_engine.specs.Promising.{SessionPromise, ReadPromise, WordsPromise, FolderPromise, Promise}
 use Rattle.fhir_engine.specs.Requests.{RequestValue, InvocationValue, request, version}
@@ -19,7 +19,7 @@ pub of_read : ((files : ReadFiles) → packed_by (survey files) ≡ pack_given f
     → SessionPromise q (session_of files) file → ReadPromise q (Ok files) file
 of_read surveys q files file promise =
     let by_faults : List FileFault → Option (Result Definitions Refusal) =
-    λ faults. told_by (option_or (find is_unread faults) (slice_get faults 0)) (survey files).definitions in
+    λ faults. told_by (option_or (find is_unreadable faults) (slice_get faults 0)) (survey files).definitions in
     ((survey files).definitions, sym (surveys files) ∙ ap by_faults promise.0, promise.1)
 
 -- ---- what was read of a folder is the folder's

@@ -3,7 +3,7 @@ use Rattle.std.proofs.Common.{◌≡◌, List, [], ◌∷◌, Bool, true, false,
 use Rattle.std.specs.Prelude.{find, slice_get}
 use Rattle.std.specs.Option.{option_or}
 use Rattle.fhir_json.specs.Tree.{Text}
-use Rattle.fhir_package.specs.Surveying.{FileFault, Surveyed, is_unread, refusal}
+use Rattle.fhir_package.specs.Surveying.{FileFault, Surveyed, is_unreadable, refusal}
 use Rattle.fhir_schema.specs.Schemas.{SchemaValue, schema_of}
 use Rattle.fhir_findings.specs.Clean.{AreUsable}
 use Rattle.fhir_findings.specs.Finding.{all_unusable}
@@ -14,9 +14,9 @@ use Rattle.fhir_engine.specs.Session.{SessionValue, schema_in}
 use Rattle.fhir_engine.specs.Status.{code_of, report_status}
 
 -- files that aren't refused have no fault
-none_of : (faults : List FileFault) → option_or (find is_unread faults) (slice_get faults 0) ≡ None → faults ≡ []
+none_of : (faults : List FileFault) → option_or (find is_unreadable faults) (slice_get faults 0) ≡ None → faults ≡ []
 none_of [] e = refl
-none_of (fault ∷ faults) e = by (find is_unread (fault ∷ faults)) e
+none_of (fault ∷ faults) e = by (find is_unreadable (fault ∷ faults)) e
   where
     by : (first : Option FileFault) → option_or first (Some fault) ≡ None → fault ∷ faults ≡ []
     by None e = absurd cc

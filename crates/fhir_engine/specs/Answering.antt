@@ -14,7 +14,7 @@ use Rattle.fhir_report.specs.Faultless.{CertificateValue}
 use Rattle.fhir_engine.specs.declared.request.WordsFault.{WordsFault}
 use Rattle.fhir_engine.specs.declared.request.WordsFault.TheVariants.{Usage, NoMemory}
 use Rattle.fhir_engine.specs.declared.version.TheConstants.{VERSION}
-use Rattle.fhir_engine.specs.Replying.{ReplyValue, written, told, fault_reply, refused_reply, unread_reply, certificate_reply}
+use Rattle.fhir_engine.specs.Replying.{ReplyValue, written, told, fault_reply, refused_reply, unreadable_reply, certificate_reply}
 use Rattle.fhir_engine.specs.Reporting.{IsAllRight, IsReportOf}
 use Rattle.fhir_engine.specs.Requests.{RequestValue, certify, validate, check, folder_of, InvocationValue, request, version}
 use Rattle.fhir_engine.specs.Session.{SessionValue, session_of, schema_in}
@@ -54,7 +54,7 @@ IsReply (reported format s certificate) reply = IsReported format s certificate 
 
 -- on the bytes of a file of that name, or on none where it can't be read
 abbrev pub file_answer : (Text → AnswerValue) → Text → Option Text → AnswerValue
-file_answer answer name None = stated (unread_reply name)
+file_answer answer name None = stated (unreadable_reply name)
 file_answer answer name (Some bytes) = answer bytes
 
 -- where there is a package, and else the fault for which there is none

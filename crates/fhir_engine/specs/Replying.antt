@@ -47,8 +47,8 @@ abbrev pub refused_reply : FileFault → ReplyValue
 refused_reply fault = fault_reply (fault_number fault) (fault_subject fault)
 
 -- that a file of that name can't be read
-abbrev pub unread_reply : Text → ReplyValue
-unread_reply name = fault_reply (codes "read") name
+abbrev pub unreadable_reply : Text → ReplyValue
+unreadable_reply name = fault_reply (codes "read") name
 
 -- what is wrong with a certificate, if anything
 abbrev pub wrong_reply : SchemaValue → Option (Pair × RuleName) → ReplyValue

@@ -8,20 +8,22 @@ use Rattle.fhir_validator.specs.declared.fault.Fault.{Fault}
 use Rattle.fhir_validator.specs.declared.fault.Fault.TheVariants.{NoMemory}
 use Rattle.fhir_validator.specs.declared.verdict.Verdict.{Verdict}
 use Rattle.fhir_validator.specs.declared.verdict.Verdict.TheVariants.{Conforms as Conforming, Violates, Open}
+use Rattle.fhir_validator.specs.Needed.{ConstraintsHold}
 use Rattle.fhir_validator.specs.Verdicts.{Means, IsExplained}
 
--- it conforms, whatever unread rules mean
+-- it conforms, whatever unread rules mean, and its constraints are true
 abbrev pub AlwaysConforms : SchemaValue → Text → Text → Type 0
-AlwaysConforms s profile bytes = (t : Tree) × Reads bytes t × ((meaning : Interpretation) → Conforms s meaning profile t)
+AlwaysConforms s profile bytes =
+    (t : Tree) × Reads bytes t × ((meaning : Interpretation) → Conforms s meaning profile t) × ConstraintsHold s profile t
 
 -- it doesn't, whatever they mean
 abbrev pub NeverConforms : SchemaValue → Text → Text → Type 0
 NeverConforms s profile bytes = (t : Tree) × Reads bytes t × ((meaning : Interpretation) → ¬ Conforms s meaning profile t)
 
--- a tree stands so: it conforms, or it doesn't, whatever unread rules mean; or it doesn't where no unread rule holds, and can't
+-- a tree stands so: it conforms, with constraints that are true, or it doesn't, whatever unread rules mean; or it doesn't where no unread rule holds, and can't
 -- fail to where each holds
 abbrev pub StandsSo : SchemaValue → Text → Tree → Verdict → Type 0
-StandsSo s profile t Conforming = (meaning : Interpretation) → Conforms s meaning profile t
+StandsSo s profile t Conforming = ((meaning : Interpretation) → Conforms s meaning profile t) × ConstraintsHold s profile t
 StandsSo s profile t (Violates issues) = (meaning : Interpretation) → ¬ Conforms s meaning profile t
 StandsSo s profile t (Open sites) = (¬ Conforms s (constant false) profile t) × (¬ ¬ Conforms s (constant true) profile t)
 

@@ -10,7 +10,7 @@ ghost use Rattle.fhir_engine.specs.Standing.{AlwaysConforms};
 ghost use Rattle.fhir_engine.specs.Status.{verdict_status};
 ghost use Rattle.fhir_engine.specs.Views.{bytes_seen};
 
-use crate::reply::{Reply, Status, fault_reply, unread_reply};
+use crate::reply::{Reply, Status, fault_reply, unreadable_reply};
 use crate::wrong_reply::wrong_reply;
 use fhir_cert_check::check_bytes;
 use fhir_certificate::CertFault;
@@ -78,7 +78,7 @@ pub(crate) fn certify(
 {
     match file {
         Some(bytes) => certificate_reply(alloc, name, schema, bytes),
-        None => Ok(unread_reply(alloc, name)?),
+        None => Ok(unreadable_reply(alloc, name)?),
     }
 }
 
@@ -95,6 +95,6 @@ pub(crate) fn validate_file(
 {
     match file {
         Some(bytes) => resource_reply(alloc, profile, schema, bytes),
-        None => Ok(unread_reply(alloc, name)?),
+        None => Ok(unreadable_reply(alloc, name)?),
     }
 }

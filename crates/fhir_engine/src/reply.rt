@@ -1,7 +1,7 @@
 //! What the program answers.
 
 ghost use Rattle.std.specs.Prelude.{◌≡◌, IfOk};
-ghost use Rattle.fhir_engine.specs.Replying.{reply_seen, fault_reply, unread_reply};
+ghost use Rattle.fhir_engine.specs.Replying.{reply_seen, fault_reply, unreadable_reply};
 ghost use Rattle.fhir_engine.specs.Status.{code_of};
 
 use std::alloc::{AllocError, Global};
@@ -82,8 +82,8 @@ pub(crate) fn fault_reply(alloc: Global, number: &str, subject: &str) -> Result<
 }
 
 // That a file of that name can't be read.
-pub(crate) fn unread_reply(alloc: Global, name: &str) -> Result<Reply, AllocError>
-    ensures { IfOk result (λ r. reply_seen r ≡ unread_reply name.now) }
+pub(crate) fn unreadable_reply(alloc: Global, name: &str) -> Result<Reply, AllocError>
+    ensures { IfOk result (λ r. reply_seen r ≡ unreadable_reply name.now) }
 {
     fault_reply(alloc, "read", name)
 }

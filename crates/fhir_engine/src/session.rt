@@ -13,7 +13,7 @@ ghost use Rattle.fhir_engine.specs.Status.{report_status};
 ghost use Rattle.fhir_engine.specs.Views.{bytes_seen, request_seen};
 
 use crate::answering::{certify, validate_file};
-use crate::reply::{Reply, Status, fault_reply, unread_reply};
+use crate::reply::{Reply, Status, fault_reply, unreadable_reply};
 use crate::request::Request;
 use fhir_findings::all_usable;
 use fhir_json::NoMemory;
@@ -193,7 +193,7 @@ impl<'f> Session<'f> {
     {
         match (certificate, file) {
             (None, _) => self.report(alloc, format, None),
-            (Some(name), None) => Ok(unread_reply(alloc, name)?),
+            (Some(name), None) => Ok(unreadable_reply(alloc, name)?),
             (Some(name), Some(bytes)) => {
                 let certificate = CertificateFile { name, bytes };
                 self.report(alloc, format, Some(certificate))

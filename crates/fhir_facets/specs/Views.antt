@@ -4,6 +4,7 @@ use Rattle.std.specs.declared.cmp.Ordering.{Ordering}
 use Rattle.std.specs.List.{Contains, flat_map}
 use Rattle.std.specs.Option.{option_copied, option_map_or}
 use Rattle.std.specs.Ordering.{is_le, is_ge}
+use Rattle.fhir_json.specs.Tree.{Text}
 use Rattle.fhir_json.specs.Views.{tree_seen, property_of, property_seen}
 use Rattle.fhir_elements.specs.TypeEntry.{TypeEntry}
 use Rattle.fhir_schema.specs.Schemas.{SchemaValue}
@@ -16,7 +17,7 @@ use Rattle.fhir_facets.specs.declared.bounds.Side.{Side}
 use Rattle.fhir_facets.specs.declared.bounds.Side.TheVariants.{Least, Most}
 use Rattle.fhir_facets.specs.declared.ranges.Range.{Range as RangeOf}
 use Rattle.fhir_facets.specs.declared.bindings.Binding.{Binding as BindingOf}
-use Rattle.fhir_facets.specs.Unread.{Unread, range, target, profile, binding, expression, constraint}
+use Rattle.fhir_facets.specs.Unread.{Unread, unread_text, range, target, profile, binding, expression, constraint}
 use Rattle.fhir_facets.specs.Seen.{Seen}
 use Rattle.fhir_facets.specs.Ranges.{Range}
 use Rattle.fhir_facets.specs.Targets.{has_targets}
@@ -30,6 +31,15 @@ unread_seen (UnreadProfile canonical) = profile canonical.now
 unread_seen (UnreadBinding canonical) = binding canonical.now
 unread_seen (UnreadExpression text) = expression text.now
 unread_seen (UnreadConstraint key) = constraint key.now
+
+-- as a message prints it; how the value of a bound is printed, no contract says
+abbrev pub printed : UnreadRule → Option Text
+printed (UnreadRange bound) = None
+printed (UnreadTarget canonical) = Some (unread_text (target canonical.now))
+printed (UnreadProfile canonical) = Some (unread_text (profile canonical.now))
+printed (UnreadBinding canonical) = Some (unread_text (binding canonical.now))
+printed (UnreadExpression text) = Some (unread_text (expression text.now))
+printed (UnreadConstraint key) = Some (unread_text (constraint key.now))
 
 -- the one that there is, if there is one
 abbrev pub rules_in : Option UnreadRule → List Unread

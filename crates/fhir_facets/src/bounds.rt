@@ -39,17 +39,11 @@ fn is_inside(side: Side, order: Ordering) -> bool
     }
 }
 
-fn decimal_of(text: &str) -> Option<Decimal<'_>>
-    ensures { option_map parts_seen result ≡ parts text.now }
-{
-    Decimal::of(text)
-}
-
 fn number_in<'t>(json: &'t Json<'_>) -> Option<Decimal<'t>>
     ensures { option_map (λ d. value_of (parts_seen d)) result ≡ number_in (tree_of json.now) }
 {
     match json.as_number() {
-        Some(text) => decimal_of(text),
+        Some(text) => Decimal::of(text),
         None => None,
     }
 }

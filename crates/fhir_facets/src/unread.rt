@@ -4,7 +4,7 @@ ghost use Rattle.std.specs.Prelude.{◌≡◌};
 ghost use Rattle.fhir_json.specs.Views.{property_of};
 ghost use Rattle.fhir_facets.specs.Carried.{bound_unread, target_unread, profile_unread, value_set_unread};
 ghost use Rattle.fhir_facets.specs.Unread.{unread_constraint};
-ghost use Rattle.fhir_facets.specs.Views.{unread_seen, rules_in};
+ghost use Rattle.fhir_facets.specs.Views.{unread_seen, printed, rules_in};
 
 use crate::compact::write_compact;
 use crate::scale::scale_of_bound;
@@ -85,6 +85,8 @@ impl<'a> Unread<'a> {
 }
 
 impl fmt::Display for Unread<'_> {
+    ghost output = { λ rule. printed rule };
+
     fn fmt<W: fmt::Write>(&self, f: &mut fmt::Formatter<W>) -> fmt::Result {
         match self {
             Unread::Range(bound) => {

@@ -5,7 +5,7 @@ use Rattle.std.specs.List.{flat_map}
 use Rattle.std.specs.Map.{keys_of}
 use Rattle.fhir_json.specs.Tree.{Text}
 use Rattle.fhir_elements.specs.declared.reason.Reason.{Reason}
-use Rattle.fhir_package.specs.Surveying.{FileFault, unread, not_json, clash, Surveyed}
+use Rattle.fhir_package.specs.Surveying.{FileFault, unreadable, not_json, clash, Surveyed}
 use Rattle.fhir_package.specs.SurveyView.{fault_seen}
 use Rattle.fhir_schema.specs.Schemas.{SchemaValue, unusable}
 use Rattle.fhir_findings.specs.declared.finding.Finding.{Finding}
@@ -31,7 +31,7 @@ all_unusable s survey = unusable_from s survey.sources.structure_definitions 0 (
 -- ---- files
 
 abbrev pub fault_file : FileFault → Text
-fault_file (unread file) = file
+fault_file (unreadable file) = file
 fault_file (not_json file expected position) = file
 fault_file (clash kind url file first) = file
 

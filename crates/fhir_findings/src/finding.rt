@@ -50,7 +50,7 @@ pub(crate) fn fault_file<'f>(fault: &FileFault<'f>) -> &'f str
     ensures { result.now ≡ fault_file (fault_seen fault.now) }
 {
     match fault {
-        FileFault::Unread(file) => *file,
+        FileFault::Unreadable(file) => *file,
         FileFault::NotJson(fault) => fault.file,
         FileFault::Clash(clash) => clash.file,
     }

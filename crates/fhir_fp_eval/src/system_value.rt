@@ -53,16 +53,10 @@ fn text_value<'t>(code: &str, text: &'t str) -> Option<SystemValue<'t>>
     Some(SystemValue::Text(text))
 }
 
-fn decimal_of(text: &str) -> Option<Decimal<'_>>
-    ensures { option_map parts_seen result ≡ parts text.now }
-{
-    Decimal::of(text)
-}
-
 fn number_value(text: &str) -> Option<SystemValue<'_>>
     ensures { option_map system_value_seen result ≡ option_map (λ p. number_of (value_of p)) (parts text.now) }
 {
-    match decimal_of(text) {
+    match Decimal::of(text) {
         Some(decimal) => Some(SystemValue::Number(Number::Written(decimal))),
         None => None,
     }

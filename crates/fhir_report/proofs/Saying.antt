@@ -6,7 +6,7 @@ use Rattle.fhir_json.specs.Tree.{Text}
 use Rattle.fhir_package.specs.Definitions.{Definitions}
 use Rattle.fhir_package.specs.Packing.{Refusal}
 use Rattle.fhir_package.specs.ReadFiles.{ReadFiles, pack_given}
-use Rattle.fhir_package.specs.Surveying.{FileFault, Surveyed, survey, is_unread, told_by, packed_by}
+use Rattle.fhir_package.specs.Surveying.{FileFault, Surveyed, survey, is_unreadable, told_by, packed_by}
 use Rattle.fhir_schema.specs.Schemas.{SchemaValue, schema_of}
 use Rattle.fhir_findings.specs.Clean.{AreUsable, IsClean}
 use Rattle.fhir_findings.specs.Finding.{all_unusable}
@@ -21,7 +21,7 @@ module _ (files : ReadFiles) (packed : packed_by (survey files) ≡ pack_given f
   packed_as : (survey files).faults ≡ [] → pack_given files ≡ Some (Ok (survey files).definitions)
   packed_as none =
       sym packed
-      ∙ ap (λ (faults : List FileFault). told_by (option_or (find is_unread faults) (slice_get faults 0)) (survey files).definitions) none
+      ∙ ap (λ (faults : List FileFault). told_by (option_or (find is_unreadable faults) (slice_get faults 0)) (survey files).definitions) none
 
   module _ (sv : Surveyed) (s : SchemaValue) (of : AreOf files sv s) where
     there : (P : SchemaValue → Surveyed → Type 0) → P s sv → P (schema_of (survey files).definitions) (survey files)

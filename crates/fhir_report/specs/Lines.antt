@@ -10,7 +10,7 @@ use Rattle.fhir_elements.specs.Numbers.{reason_number}
 use Rattle.fhir_certificate.specs.Faults.{cert_number}
 use Rattle.fhir_report.specs.declared.line.Line.{Line}
 use Rattle.fhir_report.specs.declared.line.FaultNumber.{FaultNumber}
-use Rattle.fhir_report.specs.declared.line.FaultNumber.TheVariants.{Unread, Clash, Json, Unusable, Certificate}
+use Rattle.fhir_report.specs.declared.line.FaultNumber.TheVariants.{Unreadable, Clash, Json, Unusable, Certificate}
 use Rattle.fhir_report.specs.declared.writing.Format.{Format}
 use Rattle.fhir_report.specs.declared.writing.Format.TheVariants.{Text as AsText, Json as AsJson}
 
@@ -34,7 +34,7 @@ file_line file of_fault text = record (text_line text) { file = Some file; numbe
 -- ---- as a text: FILE:LINE:COLUMN: NUMBER URL ID: TEXT
 
 abbrev pub number_text : FaultNumber → Text
-number_text Unread = codes "P1"
+number_text Unreadable = codes "P1"
 number_text Clash = codes "P3"
 number_text (Json fault) = fault_number fault
 number_text (Unusable reason) = reason_number reason

@@ -4,7 +4,7 @@ use Rattle.std.specs.Option.{option_map_or}
 use Rattle.fhir_json.specs.Tree.{Text}
 use Rattle.fhir_json.specs.Refusals.{fault_of}
 use Rattle.fhir_package.specs.ReadFiles.{ReadFiles}
-use Rattle.fhir_package.specs.Surveying.{FileFault, unread, not_json, clash, Surveyed, survey}
+use Rattle.fhir_package.specs.Surveying.{FileFault, unreadable, not_json, clash, Surveyed, survey}
 use Rattle.fhir_nodes.specs.declared.node.NodeRef.{NodeRef}
 use Rattle.fhir_schema.specs.Schemas.{SchemaValue, schema_of, url_at, id_of_node}
 use Rattle.fhir_certificate.specs.declared.fault.CertFault.{CertFault}
@@ -19,7 +19,7 @@ use Rattle.fhir_findings.specs.declared.finding.Finding.TheVariants.{File as Fil
 use Rattle.fhir_findings.specs.Counting.{counts, counts_text}
 use Rattle.fhir_findings.specs.Finding.{UnusableValue, all_unusable}
 use Rattle.fhir_report.specs.declared.line.FaultNumber.{FaultNumber}
-use Rattle.fhir_report.specs.declared.line.FaultNumber.TheVariants.{Unread, Clash, Json, Unusable, Certificate}
+use Rattle.fhir_report.specs.declared.line.FaultNumber.TheVariants.{Unreadable, Clash, Json, Unusable, Certificate}
 use Rattle.fhir_report.specs.declared.writing.Format.{Format}
 use Rattle.fhir_report.specs.Faultless.{CertificateValue}
 use Rattle.fhir_report.specs.Lines.{LineValue, text_line, file_line, rows}
@@ -39,7 +39,7 @@ head l = record { file = l.file; line = l.line; column = l.column; number = l.nu
 
 -- of what is wrong with a file: it can't be read, is no text of JSON, with the place, or has a second definition of a url
 abbrev pub fault_head : FileFault → Head
-fault_head (unread file) = record { file = Some file; line = None; column = None; number = Some Unread; url = None }
+fault_head (unreadable file) = record { file = Some file; line = None; column = None; number = Some Unreadable; url = None }
 fault_head (not_json file expected position) =
     record { file = Some file; line = Some position.line; column = Some position.column; number = Some (Json (fault_of expected)); url = None }
 fault_head (clash kind url file first) = record { file = Some file; line = None; column = None; number = Some Clash; url = Some url }
@@ -51,7 +51,7 @@ unusable_head u = record { file = Some u.0; line = None; column = None; number =
 -- ---- the lines of each kind, by their numbers
 
 abbrev pub is_of_file : FaultNumber → Bool
-is_of_file Unread = true
+is_of_file Unreadable = true
 is_of_file Clash = true
 is_of_file (Json fault) = true
 is_of_file _ = false

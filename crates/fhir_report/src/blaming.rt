@@ -114,7 +114,7 @@ impl<'s> Blamed<'s> {
     }
 
     // The element of which the one to blame is a slice.
-    fn sliced(self) -> Option<&'s ElementDef> {
+    fn sliced_element(self) -> Option<&'s ElementDef> {
         let place = self.definition.id_place(sliced_of(self.own_id())?)?;
         self.element_at(place)
     }
@@ -201,12 +201,26 @@ impl<'s> Blamed<'s> {
         )
     }
 
-    fn content_text(self, alloc: Global) -> Result<String, AllocError> {
-        let reference = match self.element() {
+    fn content_reference(self) -> &'s str {
+        match self.element() {
             Some(element) => element.content_reference().unwrap_or(""),
             None => "",
+        }
+    }
+
+    fn content_text(self, alloc: Global) -> Result<String, AllocError> {
+        format!(in alloc; "there is no element `{}`", self.content_reference())
+    }
+
+    fn profile_text(self, alloc: Global, definition: usize) -> Result<String, AllocError> {
+        let Some(target) = self.schema.definitions().get(definition) else {
+            return String::from_str(alloc, fixed_text(self.blame.cause));
         };
-        format!(in alloc; "there is no element `{reference}`")
+        format!(in alloc;
+            "`{}` is an element of {}, which isn't the definition of a type, as this is",
+            self.content_reference(),
+            target.url()
+        )
     }
 
     fn cycle_text(self, alloc: Global) -> Result<String, AllocError> {
@@ -215,10 +229,10 @@ impl<'s> Blamed<'s> {
     }
 
     fn slicing_text(self, alloc: Global) -> Result<String, AllocError> {
-        match self.sliced() {
-            Some(sliced) if sliced.slicing().is_none() => format!(in alloc;
+        match self.sliced_element() {
+            Some(sliced_element) if sliced_element.slicing().is_none() => format!(in alloc;
                 "`{}` has no `slicing` that says what tells its slices apart",
-                sliced.id()
+                sliced_element.id()
             ),
             _ => String::from_str(alloc, "the slicing has no discriminator"),
         }
@@ -226,7 +240,7 @@ impl<'s> Blamed<'s> {
 
     // The discriminator at a place of the slicing of the element of which the one to blame is a slice.
     fn discriminator(self, place: usize) -> Option<&'s DiscriminatorDef> {
-        let slicing = self.sliced()?.slicing()?;
+        let slicing = self.sliced_element()?.slicing()?;
         slicing.discriminators().get(place)
     }
 
@@ -273,6 +287,7 @@ impl<'s> Blamed<'s> {
             Cause::UnusableContent { definition, origin } => self.unusable_text(
                 alloc, definition, origin,
             ),
+            Cause::ContentOfProfile(definition) => self.profile_text(alloc, definition),
             Cause::BaseCycle => self.cycle_text(alloc),
             Cause::NoDiscriminator => self.slicing_text(alloc),
             Cause::UntoldDiscriminator(place) => self.untold_text(alloc, place),

@@ -1,7 +1,7 @@
 //! From findings to lines.
 
 ghost use Rattle.std.specs.Prelude.{◌≡◌, IfOk, None, Some};
-ghost use Rattle.fhir_package.specs.Surveying.{unread};
+ghost use Rattle.fhir_package.specs.Surveying.{unreadable};
 ghost use Rattle.fhir_package.specs.SurveyView.{fault_seen};
 ghost use Rattle.fhir_package.specs.declared.survey.FileFault.TheVariants.{NotJson as NotJsonOne, Clash as ClashOne};
 ghost use Rattle.fhir_report.specs.Lines.{line_seen};
@@ -17,10 +17,10 @@ use fhir_schema::Schema;
 use std::alloc::{AllocError, Global};
 
 fn no_bytes_line<'s>(alloc: Global, file: &'s str) -> Result<Line<'s>, AllocError>
-    ensures { IfOk result (λ l. head (line_seen l) ≡ fault_head (unread file.now)) }
+    ensures { IfOk result (λ l. head (line_seen l) ≡ fault_head (unreadable file.now)) }
 {
     let text = String::from_str(alloc, "it can't be read, or is no regular file")?;
-    Ok(Line::of_file(file, Some(FaultNumber::Unread), text))
+    Ok(Line::of_file(file, Some(FaultNumber::Unreadable), text))
 }
 
 fn not_json_line<'s, 'f: 's>(alloc: Global, fault: &'s NotJson<'f>) -> Result<Line<'s>, AllocError>
@@ -54,7 +54,7 @@ fn file_line<'s, 'f: 's>(alloc: Global, fault: &'s FileFault<'f>) -> Result<Line
     ensures { IfOk result (λ l. head (line_seen l) ≡ fault_head (fault_seen fault.now)) }
 {
     match fault {
-        FileFault::Unread(file) => no_bytes_line(alloc, *file),
+        FileFault::Unreadable(file) => no_bytes_line(alloc, *file),
         FileFault::NotJson(fault) => not_json_line(alloc, fault),
         FileFault::Clash(clash) => clash_line(alloc, clash),
     }

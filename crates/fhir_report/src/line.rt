@@ -18,7 +18,7 @@ use std::fmt;
 #[derive(Clone, Copy, Debug, PartialEq, Eq)]
 pub enum FaultNumber {
     /// `P1`: a file can't be read.
-    Unread,
+    Unreadable,
     /// `P3`: two definitions of one url differ.
     Clash,
     /// `J1` to `J6`: a file is no JSON text.
@@ -35,7 +35,7 @@ impl FaultNumber {
         ensures { result.now ≡ number_text self.now }
     {
         match self {
-            FaultNumber::Unread => "P1",
+            FaultNumber::Unreadable => "P1",
             FaultNumber::Clash => "P3",
             FaultNumber::Json(fault) => fault.number(),
             FaultNumber::Unusable(reason) => reason.number(),

@@ -1,108 +1,40 @@
 -- What a node asks: a root is asked for by no root, and an item conforms where it conforms to all that is asked.
 use Rattle.std.proofs.Common.{◌≡◌, ◌<◌, ℕ, zero, suc, Bool, true, false, List, [], ◌∷◌, ◌++◌, map, length, refl, sym, ap, ◌∙◌, ◌&&◌, ◌||◌, IsTrue, Option, Some, None, cond, subst, arith}
-use Rattle.std.specs.List.{flat_map, slice_index_or, list_all, list_any, range_with_len, AllByRecursion, Contains}
+use Rattle.std.specs.List.{flat_map, slice_index_or, list_all, list_any, AllByRecursion, Contains}
 use Rattle.std.specs.Option.{option_map_or}
 use Rattle.std.proofs.lemmas.List.Elements.{All-from_recursion, All-contains, Contains-append_left, Contains-append_right}
 use Rattle.fhir_json.specs.Tree.{Text}
 use Rattle.fhir_json.specs.Bytes.{is_empty}
 use Rattle.fhir_elements.specs.TypeEntry.{TypeEntry}
 use Rattle.fhir_nodes.specs.declared.node.NodeRef.{NodeRef}
-use Rattle.fhir_nodes.specs.Slots.{Slot}
 use Rattle.fhir_schema.specs.Covers.{covers}
-use Rattle.fhir_schema.specs.Schemas.{SchemaValue, element_at, is_root_node, target, holder, slots, slices, is_closed, entry_of, type_root, loaded, types as node_types}
+use Rattle.fhir_schema.specs.Schemas.{SchemaValue, is_root_node, type_root, loaded, types as node_types}
 use Rattle.fhir_instance.specs.Items.{Item, item, type_of}
 use Rattle.fhir_facets.specs.Unread.{Meaning}
-use Rattle.fhir_conformance.specs.Positions.{members}
-use Rattle.fhir_conformance.specs.Asks.{ElementRuleName, Ask, own, types, profile, root, child, child_ask, apart_ask, in_slice_ask, facet_asks, constraint_ask, own_constraint_asks, constraint_asks, slice_asks, sliced_asks, named_asks, slot_asks, own_root, roots_named, entry_roots, profile_asks, slots_ask, kids_asks, root_asks, inner_asks, asks, places_of}
-use Rattle.fhir_conformance.specs.Asks.{root_type, fixed, pattern, range, length_limit, binding, too_few, too_many, too_few_in, too_many_in, apart, in_a_slice, constraint}
+use Rattle.fhir_conformance.specs.Asks.{ElementRuleName, Ask, own, types, profile, root, child, facet_asks, constraint_asks, own_root, roots_named, entry_roots, profile_asks, kids_asks, root_asks, inner_asks, asks}
+use Rattle.fhir_conformance.specs.Asks.{root_type, fixed, pattern, range, length_limit, binding, constraint}
 use Rattle.fhir_conformance.specs.Conformance.{Interpretation, Around, meaning_at, resource_at, inside, profile_holds, profiles_hold, entry_allows, entry_holds, types_hold, is_untyped, ask_holds, ask_conforms, root_holds, conforms, kid_tests}
+use Rattle.fhir_conformance.proofs.Lists.{all_same, all_of_each, all_join, all_gathered, all_mapped}
+use Rattle.fhir_conformance.proofs.Asked.{of_kids, of_constraints}
 use Rattle.fhir_validator.specs.Judging.{IsOrdered}
 
 -- ---- lists
-
-all_join : {A : Type 0} (P : A → Type 0) (xs ys : List A) → AllByRecursion P xs → AllByRecursion P ys → AllByRecursion P (xs ++ ys)
-all_join P [] ys each more = more
-all_join P (x ∷ xs) ys each more = (each.0, all_join P xs ys each.1 more)
-
-all_gathered : {A B : Type 0} (P : B → Type 0) (f : A → List B) → ((x : A) → AllByRecursion P (f x)) → (xs : List A) → AllByRecursion P (flat_map f xs)
-all_gathered P f each [] = tt
-all_gathered P f each (x ∷ xs) = all_join P (f x) (flat_map f xs) (each x) (all_gathered P f each xs)
-
-list_all_alike : {A : Type 0} (p q : A → Bool) (xs : List A) → AllByRecursion (λ x. p x ≡ q x) xs → list_all p xs ≡ list_all q xs
-list_all_alike p q [] each = refl
-list_all_alike p q (x ∷ xs) each = λ i. each.0 i && list_all_alike p q xs each.1 i
-
-all_weaker : {A : Type 0} (P Q : A → Type 0) → ((x : A) → P x → Q x) → (xs : List A) → AllByRecursion P xs → AllByRecursion Q xs
-all_weaker P Q f [] each = tt
-all_weaker P Q f (x ∷ xs) each = (f x each.0, all_weaker P Q f xs each.1)
 
 list_any_alike : {A : Type 0} (p q : A → Bool) → ((x : A) → p x ≡ q x) → (xs : List A) → list_any p xs ≡ list_any q xs
 list_any_alike p q each [] = refl
 list_any_alike p q each (x ∷ xs) = λ i. each x i || list_any_alike p q each xs i
 
-all_mapped : {A B : Type 0} (P : B → Type 0) (f : A → B) → ((x : A) → P (f x)) → (xs : List A) → AllByRecursion P (map f xs)
-all_mapped P f each [] = tt
-all_mapped P f each (x ∷ xs) = (each x, all_mapped P f each xs)
-
 -- ---- asks for roots
 
 module _ (P : Ask → Type 0) (of_own : (rule : ElementRuleName) (n : NodeRef) → P (own rule n)) (of_child : (i : ℕ) (n : NodeRef) → P (child i n)) (s : SchemaValue) (x : Item) where
-  children_are : (m : NodeRef) (is : List ℕ) → AllByRecursion P (map (child_ask m) is)
-  children_are m is = all_mapped P (child_ask m) (λ i. of_child i m) is
-
-  slice_are : (name : Text) (places : List ℕ) (n : NodeRef) (slice : Slot) → AllByRecursion P (slice_asks s x name places n slice)
-  slice_are name places n slice =
-      let m = entry_of n slice in
-      all_join P (map (child_ask m) (members s x m places)) (own (too_few_in name) m ∷ own (too_many_in name) m ∷ [])
-      (children_are m (members s x m places)) (of_own (too_few_in name) m, (of_own (too_many_in name) m, tt))
-
-  closed_are : (b : Bool) (n : NodeRef) (places : List ℕ) → AllByRecursion P (cond b (map (in_slice_ask n) places) [])
-  closed_are true n places = all_mapped P (in_slice_ask n) (λ i. of_own (in_a_slice i) n) places
-  closed_are false n places = tt
-
-  slices_are : (name : Text) (places : List ℕ) (n : NodeRef) (b : Bool)
-      → AllByRecursion P (cond b [] (map (apart_ask n) places ++ (flat_map (slice_asks s x name places n) (slices s n) ++ cond (is_closed s n) (map (in_slice_ask n) places) [])))
-  slices_are name places n true = tt
-  slices_are name places n false =
-      let closing = cond (is_closed s n) (map (in_slice_ask n) places) [] in
-      let each = flat_map (slice_asks s x name places n) (slices s n) in
-      all_join P (map (apart_ask n) places) (each ++ closing) (all_mapped P (apart_ask n) (λ i. of_own (apart i) n) places)
-      (all_join P each closing (all_gathered P (slice_asks s x name places n) (slice_are name places n) (slices s n)) (closed_are (is_closed s n) n places))
-
-  named_are : (name : Text) (places : List ℕ) (n : NodeRef) → AllByRecursion P (named_asks s x name places n)
-  named_are name places n = (
-    of_own (too_few name) n,
-    (
-      of_own (too_many name) n,
-      all_join P (map (child_ask n) places) (sliced_asks s x name places n) (children_are n places) (slices_are name places n (is_empty (slices s n))),
-    ),
-  )
-
-  slots_are : (n : NodeRef) → AllByRecursion P (slots_ask s x n)
-  slots_are n =
-      all_gathered P (slot_asks s x n) (λ slot. named_are slot.name (places_of slot.name x) (entry_of n slot)) (slots s n)
-
   kids_are : (n : NodeRef) → AllByRecursion P (kids_asks s x n)
-  kids_are n = by_case (holder s n)
-    where
-      by_case : (o : Option NodeRef) → AllByRecursion P (option_map_or (slots_ask s x) o [])
-      by_case None = tt
-      by_case (Some h) = slots_are h
+  kids_are n = of_kids P (λ rule m is. of_own rule m) of_child s x n
 
   facets_are : (n : NodeRef) → AllByRecursion P (facet_asks n)
   facets_are n = (of_own fixed n, (of_own pattern n, (of_own range n, (of_own length_limit n, (of_own binding n, tt)))))
 
-  own_constraints_are : (n : NodeRef) → AllByRecursion P (own_constraint_asks s n)
-  own_constraints_are n =
-      all_mapped P (constraint_ask n) (λ i. of_own (constraint i) n) (range_with_len 0 (option_map_or (λ e. length e.constraints) (element_at s n) 0))
-
   constraints_are : (n : NodeRef) → AllByRecursion P (constraint_asks s n)
-  constraints_are n =
-      all_join P (own_constraint_asks s n) (option_map_or (own_constraint_asks s) (target s n) []) (own_constraints_are n) (by_case (target s n))
-    where
-      by_case : (o : Option NodeRef) → AllByRecursion P (option_map_or (own_constraint_asks s) o [])
-      by_case None = tt
-      by_case (Some t) = own_constraints_are t
+  constraints_are n = of_constraints P s n (λ position. of_own (constraint position) n) (λ t position is. of_own (constraint position) t)
 
   root_are : (n : NodeRef) → AllByRecursion P (root_asks s x n)
   root_are n = (of_own root_type n, all_join P (facet_asks n) (constraint_asks s n ++ kids_asks s x n) (facets_are n) (all_join P (constraint_asks s n) (kids_asks s x n) (constraints_are n) (kids_are n)))
@@ -130,17 +62,17 @@ module _ (s : SchemaValue) (x : Item) where
 
   named_roots : (P : NodeRef → Type 0) → ((p : Text) (r : NodeRef) → loaded s p ≡ Some r → P r) → (e : TypeEntry) → (b : Bool)
       → AllByRecursion P (cond b (roots_named s e.profiles) [])
-  named_roots P each e true = all_gathered P (λ p. option_map_or (λ r. r ∷ []) (loaded s p) []) (λ p. one_root P (loaded s p) (each p)) e.profiles
+  named_roots P each e true =
+      all_gathered P (λ p. option_map_or (λ r. r ∷ []) (loaded s p) []) e.profiles
+      (all_of_each (λ p. AllByRecursion P (option_map_or (λ r. r ∷ []) (loaded s p) [])) (λ p. one_root P (loaded s p) (each p)) e.profiles)
   named_roots P each e false = tt
 
   profiles_are : (P : Ask → Type 0) → ((p : Text) (r : NodeRef) → loaded s p ≡ Some r → P (profile r)) → (n : NodeRef) → AllByRecursion P (profile_asks s x n)
   profiles_are P each n =
-      all_through P profile (flat_map (entry_roots s x) (node_types s n))
-      (all_gathered (λ r. P (profile r)) (entry_roots s x) (λ e. named_roots (λ r. P (profile r)) each e (covers s e.code (type_of x))) (node_types s n))
-    where
-      all_through : {A B : Type 0} (P : B → Type 0) (f : A → B) (xs : List A) → AllByRecursion (λ x. P (f x)) xs → AllByRecursion P (map f xs)
-      all_through P f [] each = tt
-      all_through P f (x ∷ xs) each = (each.0, all_through P f xs each.1)
+      all_mapped P profile (flat_map (entry_roots s x) (node_types s n))
+      (all_gathered (λ r. P (profile r)) (entry_roots s x) (node_types s n)
+      (all_of_each (λ e. AllByRecursion (λ r. P (profile r)) (entry_roots s x e))
+      (λ e. named_roots (λ r. P (profile r)) each e (covers s e.code (type_of x))) (node_types s n)))
 
 abbrev pub IsOfType : SchemaValue → Type 0
 IsOfType s = (code : List ℕ) (n : NodeRef) → type_root s code ≡ Some n → IsTrue (is_root_node s n)
@@ -193,7 +125,7 @@ module _ (s : SchemaValue) (roots : IsOfType s) (others : IsOfCanonical s) (mean
       let m = meaning_at meaning around in
       let resource = resource_at s around x in
       ap (λ b. cond b (root_holds s m resource x tests r) (list_all (ask_holds s m resource x tests (root_holds s m resource x tests)) (inner_asks s x r))) is
-      ∙ list_all_alike (ask_holds s m resource x tests (λ r. true)) (ask_holds s m resource x tests any) (root_asks s x r)
+      ∙ all_same (ask_holds s m resource x tests (λ r. true)) (ask_holds s m resource x tests any) (root_asks s x r)
       (root_are (λ ask. ask_holds s m resource x tests (λ r. true) ask ≡ ask_holds s m resource x tests any ask) (λ rule n. refl) (λ i n. refl) s x r)
 
   pub conforms_to : (x : Item) (n : NodeRef) → conforms s meaning around x n ≡ list_all (ask_conforms s meaning around x) (asks s x n)
@@ -210,7 +142,7 @@ module _ (s : SchemaValue) (roots : IsOfType s) (others : IsOfCanonical s) (mean
           let by_roots = root_holds s m resource x tests in
           let same : (r : NodeRef) → IsTrue (is_root_node s r) → by_roots r ≡ conforms s meaning around x r = λ r e. sym (of_root type json kids r e (λ r. true)) in
           ap (λ b. cond b (root_holds s m resource x tests n) (list_all (ask_holds s m resource x tests by_roots) (inner_asks s x n))) is
-          ∙ list_all_alike (ask_holds s m resource x tests by_roots) (ask_conforms s meaning around x) (inner_asks s x n)
+          ∙ all_same (ask_holds s m resource x tests by_roots) (ask_conforms s meaning around x) (inner_asks s x n)
           (inner_are (λ ask. ask_holds s m resource x tests by_roots ask ≡ ask_conforms s meaning around x ask) (λ rule n. refl) (λ i n. refl) s x n
           (types_alike s m by_roots (conforms s meaning around x) x (λ p r e. same r (others p r e)) n)
           (own_root_are (λ ask. ask_holds s m resource x tests by_roots ask ≡ ask_conforms s meaning around x ask) (type_root s (type_of x))

@@ -1,7 +1,6 @@
 -- What the verdict on a tree says of the profile.
-use Rattle.std.proofs.Common.{◌≡◌, ◌↔◌, true, false, List, [], ◌∷◌, refl, sym, ◌∙◌, subst, IsTrue, Some, inl, inr}
+use Rattle.std.proofs.Common.{◌≡◌, ◌↔◌, true, false, List, refl, sym, ◌∙◌, subst, IsTrue, Some, inl, inr}
 use Rattle.std.specs.Prelude.{Result, Ok, Err, IfErr, IsSome}
-use Rattle.std.specs.List.{AllByRecursion}
 use Rattle.std.proofs.lemmas.Bool.{false≢true}
 use Rattle.fhir_json.specs.Tree.{Text, Tree}
 use Rattle.fhir_nodes.specs.declared.node.NodeRef.{NodeRef}
@@ -10,6 +9,7 @@ use Rattle.fhir_instance.specs.Items.{Item, Place}
 use Rattle.fhir_instance.specs.Typing.{Types}
 use Rattle.fhir_facets.specs.Unread.{Unread}
 use Rattle.fhir_conformance.specs.Conformance.{Interpretation, Around, Conforms, conforms, constant, outermost}
+use Rattle.fhir_conformance.proofs.Lists.{all_weaker}
 use Rattle.fhir_validator.specs.declared.issue.Issue.{Issue}
 use Rattle.fhir_validator.specs.declared.issue.Issue.TheVariants.{Misfit, Broken}
 use Rattle.fhir_validator.specs.declared.verdict.Verdict.{Verdict}
@@ -19,10 +19,6 @@ use Rattle.fhir_validator.specs.declared.fault.Fault.TheVariants.{Missing, Unusa
 use Rattle.fhir_validator.specs.Issues.{IsIssue, IsSite, IsOpenAt}
 use Rattle.fhir_validator.specs.Verdicts.{AreSome, IsExplained, Means, is_conforming, is_violating}
 use Rattle.fhir_validator.specs.Listing.{IsVerdictAt, IsVerdictOn, IsMisfitVerdict, IsListed, IsFound, IsOfMisfit, IsOfBytes}
-
-all_weaker : {A : Type 0} (P Q : A → Type 0) → ((x : A) → P x → Q x) → (xs : List A) → AllByRecursion P xs → AllByRecursion Q xs
-all_weaker P Q f [] each = tt
-all_weaker P Q f (x ∷ xs) each = (f x each.0, all_weaker P Q f xs each.1)
 
 some_weaker : {A : Type 0} (P Q : A → Type 0) → ((x : A) → P x → Q x) → (xs : List A) → AreSome P xs → AreSome Q xs
 some_weaker P Q f xs some = record { some = some.some; each = all_weaker P Q f xs some.each }

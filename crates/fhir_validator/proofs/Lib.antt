@@ -4,6 +4,7 @@ mod Faults
 mod Judged
 mod Kids
 mod Measures
+mod Needing
 mod Pairs
 mod Rows
 mod Told

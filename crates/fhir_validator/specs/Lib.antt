@@ -4,4 +4,5 @@ pub mod Issues
 pub mod Judging
 pub mod Layouts
 pub mod Listing
+pub mod Needed
 pub mod Verdicts

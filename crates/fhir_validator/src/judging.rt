@@ -133,7 +133,7 @@ impl<'s, 't, 'a, 'j> Judge<'s, 't, 'a, 'j> {
     }
 
     // The judgement on a pair, if it is known.
-    fn known(&self, pair: ItemPair) -> Option<Judgement>
+    fn known_judgement(&self, pair: ItemPair) -> Option<Judgement>
         ensures { IfSome result (IsRight self.now pair) }
     {
         self.judgements.get(&pair).copied()
@@ -159,7 +159,7 @@ impl<'s, 't, 'a, 'j> Judge<'s, 't, 'a, 'j> {
         ensures exact { IfOk result (IsRight self.old pair) }
         ensures same { OnOk result (self.new ≡ self.old) }
     {
-        if let Some(judgement) = self.known(pair) {
+        if let Some(judgement) = self.known_judgement(pair) {
             return Ok(judgement);
         }
         let judgement = self.judge_pair(pair)?;

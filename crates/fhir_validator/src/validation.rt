@@ -8,6 +8,7 @@ ghost use Rattle.fhir_schema.specs.Schemas.{root};
 ghost use Rattle.fhir_instance.specs.View.{item_of, is_no_memory};
 ghost use Rattle.fhir_conformance.specs.Conformance.{Interpretation, Conforms, constant};
 ghost use Rattle.fhir_validator.specs.Verdicts.{is_conforming, is_violating, IsExplained, Means};
+ghost use Rattle.fhir_validator.specs.Needed.{ConstraintsHold};
 ghost use Rattle.fhir_validator.specs.Layouts.{item_at, resource_of};
 ghost use Rattle.fhir_validator.specs.Judging.{IsRight};
 ghost use Rattle.fhir_validator.specs.Listing.{is_filled, AreFound, IsVerdictAt, IsMisfitVerdict, IsVerdictOn, IsOfBytes};
@@ -23,7 +24,7 @@ use crate::verdict::Verdict;
 use fhir_conformance::positive;
 use fhir_instance::{Misfit, MisfitKind, Typed, type_resource};
 use fhir_json::{JsonFault, NoMemory, one_tree};
-use fhir_schema::{NodeRef, Schema};
+use fhir_schema::{NodeRef, Schema, roots_are_roots};
 use std::alloc::Global;
 
 // What the outermost item's pair with a node rests on, which has that judgement.
@@ -160,6 +161,9 @@ pub fn validate<'s>(
         IsTrue (is_conforming v) ↔ Conforms schema.now (constant false) profile.now t) }
     ensures always { (t : Tree) → Reads bytes.now t → IfOk result (λ v.
         IsTrue (is_conforming v) → (meaning : Interpretation) → Conforms schema.now meaning profile.now t) }
+    // Each of its constraints is then read, and true under FHIRPath's meaning.
+    ensures constraints { (t : Tree) → Reads bytes.now t → IfOk result (λ v.
+        IsTrue (is_conforming v) → ConstraintsHold schema.now profile.now t) }
     // It violates exactly where it doesn't conform though each unread rule holds, and then whatever they mean.
     ensures violates { (t : Tree) → Reads bytes.now t → IfOk result (λ v.
         IsTrue (is_violating v) ↔ ¬ Conforms schema.now (constant true) profile.now t) }
@@ -173,6 +177,7 @@ pub fn validate<'s>(
     ensures refused { IfErr result (Means schema.now profile.now bytes.now) }
 {
     positive();
+    roots_are_roots();
     match schema.root(profile) {
         Some(node) => validate_at(alloc, schema, node, bytes),
         None => Err(root_fault(schema, profile)),

@@ -14,7 +14,7 @@
 //!
 //! In a line that begins with `|` or `?` signs stand for what can't be seen; `spelling` says which.
 
-use crate::spelling::{spell, spelled};
+use crate::spelling::{spell, spelled_out};
 use fhir_package::FolderFile;
 use std::alloc::{AllocError, AllocFailed, Global};
 use std::rt::Files;
@@ -104,8 +104,8 @@ fn asked_of(alloc: Global, question: &str) -> Result<Asked<'_>, Fault> {
     let (call, argument) = asked.split_once(' ').unwrap_or((asked, ""));
     Ok(Asked {
         call,
-        argument: spelled(alloc, argument)?,
-        expected: spelled(alloc, expected)?,
+        argument: spelled_out(alloc, argument)?,
+        expected: spelled_out(alloc, expected)?,
     })
 }
 

@@ -71,7 +71,7 @@ fn answer_of_schema(
     pair: &str,
 ) -> Result<String, AllocError> {
     match call {
-        Call::Bytes => return checked(alloc, schema, bytes),
+        Call::Bytes => return check_text(alloc, schema, bytes),
         Call::Fronts => return fronts(alloc, schema, bytes),
         _ => {}
     }
@@ -130,7 +130,7 @@ fn answer_told(alloc: Global, schema: &Schema, answer: Answer<'_>) -> Result<Str
     }
 }
 
-fn checked(alloc: Global, schema: &Schema, bytes: &[u8]) -> Result<String, AllocError> {
+fn check_text(alloc: Global, schema: &Schema, bytes: &[u8]) -> Result<String, AllocError> {
     match check_bytes(alloc, schema, bytes) {
         Ok(answer) => answer_told(alloc, schema, answer),
         Err(fault) => format!(in alloc; "{fault}"),
@@ -141,7 +141,7 @@ fn checked(alloc: Global, schema: &Schema, bytes: &[u8]) -> Result<String, Alloc
 fn fronts(alloc: Global, schema: &Schema, bytes: &[u8]) -> Result<String, AllocError> {
     let mut others = String::new(alloc);
     for length in 0..bytes.len() {
-        let answer = checked(alloc, schema, &bytes[..length])?;
+        let answer = check_text(alloc, schema, &bytes[..length])?;
         if answer.as_str() != "C1" {
             others.push_str(format!(in alloc; "{length} {answer} ")?.as_str())?;
         }

@@ -1,7 +1,7 @@
 //! Questions on items: `item JSON` answers which item the JSON is as a resource, or why it is none; without an argument it
 //! asks of the case's text.
 
-use crate::json::written;
+use crate::json::written_text;
 use crate::packages::package_of;
 use fhir_instance::{Kid, Typed, type_resource};
 use fhir_json::{Json, MAX_DEPTH, read};
@@ -100,7 +100,7 @@ fn put_value(alloc: Global, text: &mut String, json: Option<&Json<'_>>) -> Resul
         Some(Json::Obj(_)) => Ok(()),
         Some(json) => {
             text.push(' ')?;
-            text.push_str(written(alloc, json)?.as_str())
+            text.push_str(written_text(alloc, json)?.as_str())
         }
     }
 }

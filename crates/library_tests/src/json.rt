@@ -52,7 +52,7 @@ fn answer_of_call(alloc: Global, call: Call, text: &str) -> Result<String, Alloc
     match call {
         Call::Place => place_of(alloc, text.as_bytes()),
         Call::ReadsAFront => format!(in alloc; "{}", reads_a_front(alloc, text.as_bytes())),
-        Call::Broken => broken(alloc, text),
+        Call::Broken => faults_of_broken(alloc, text),
         // Trees that no text has.
         Call::SoundObject => format!(in alloc; "{}", sound(&object_of(alloc, text)?)),
         Call::SoundNumber => format!(in alloc; "{}", sound(&Json::Num(CowStr::Borrowed(text)))),
@@ -85,23 +85,23 @@ fn answer_of_bytes(alloc: Global, bytes: &[u8], call: Call) -> Result<String, Al
 fn answer_of_tree(alloc: Global, json: &Json<'_>, call: Call) -> Result<String, AllocError> {
     match call {
         Call::Sound => format!(in alloc; "{}", sound(json)),
-        Call::Write => written(alloc, json),
-        Call::Detach => detached(alloc, json),
+        Call::Write => written_text(alloc, json),
+        Call::Detach => detached_text(alloc, json),
         Call::FirstLoan => String::from_str(alloc, first_loan(json)),
         _ => String::from_str(alloc, "a tree"),
     }
 }
 
-pub(crate) fn written(alloc: Global, json: &Json<'_>) -> Result<String, AllocError> {
+pub(crate) fn written_text(alloc: Global, json: &Json<'_>) -> Result<String, AllocError> {
     match write(alloc, json) {
         Ok(bytes) => Ok(String::from_utf8_lossy(alloc, &bytes)?),
         Err(fault) => format!(in alloc; "{fault}"),
     }
 }
 
-fn detached(alloc: Global, json: &Json<'_>) -> Result<String, AllocError> {
+fn detached_text(alloc: Global, json: &Json<'_>) -> Result<String, AllocError> {
     match json.detach(alloc) {
-        Ok(kept) => written(alloc, &kept),
+        Ok(kept) => written_text(alloc, &kept),
         Err(fault) => format!(in alloc; "{fault}"),
     }
 }
@@ -145,7 +145,7 @@ fn fault_of_broken(alloc: Global, bytes: &[u8], place: usize) -> Result<String, 
 }
 
 // The faults of a text with each of its bytes in turn made one that UTF-8 doesn't have.
-fn broken(alloc: Global, text: &str) -> Result<String, AllocError> {
+fn faults_of_broken(alloc: Global, text: &str) -> Result<String, AllocError> {
     let bytes = text.as_bytes();
     let mut faults = String::new(alloc);
     for place in 0..bytes.len() {

@@ -95,7 +95,7 @@ enum Outcome {
     Wrong(String),
 }
 
-fn judged<'l, R: Files + AllocGlobal + Clone + Drop>(
+fn judge_line<'l, R: Files + AllocGlobal + Clone + Drop>(
     rt: &R,
     topic: Topic,
     case: &mut Case<'l>,
@@ -126,7 +126,7 @@ fn ask_line<'l, R: Files + Print + AllocGlobal + Clone + Drop>(
     line: &'l str,
     counts: &mut Counts,
 ) -> io::Result<()> {
-    let outcome = judged(rt, topic, case, line);
+    let outcome = judge_line(rt, topic, case, line);
     if line.starts_with('?') {
         counts.questions = counts.questions.saturating_add(1);
     }

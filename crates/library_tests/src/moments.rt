@@ -12,12 +12,12 @@ pub(crate) fn answer(
 ) -> Result<Option<String>, AllocError> {
     match call {
         "is_moment" => Ok(Some(format!(in alloc; "{}", Moment::of(argument).is_some())?)),
-        "compare" => Ok(Some(compared(alloc, argument)?)),
+        "compare" => Ok(Some(order_text(alloc, argument)?)),
         _ => Ok(None),
     }
 }
 
-fn compared(alloc: Global, texts: &str) -> Result<String, AllocError> {
+fn order_text(alloc: Global, texts: &str) -> Result<String, AllocError> {
     let (one, other) = pair_of(texts);
     let (Some(one), Some(other)) = (Moment::of(one), Moment::of(other)) else {
         return String::from_str(alloc, "no moment");

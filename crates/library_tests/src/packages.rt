@@ -121,9 +121,9 @@ fn answer_of_folder(
     argument: &str,
 ) -> Result<String, AllocError> {
     let text = match call {
-        Call::List => listed(alloc, folder)?,
+        Call::List => list_text(alloc, folder)?,
         Call::Read => read_all(alloc, folder, argument)?,
-        _ => loaded(alloc, folder)?,
+        _ => load_text(alloc, folder)?,
     };
     let failures = folder.failures();
     format!(in alloc; "{text}; {failures}")
@@ -139,7 +139,7 @@ fn answer_of_unlisted(alloc: Global) -> Result<String, AllocError> {
 }
 
 // What a folder is loaded as: the urls, or the fault's text.
-fn loaded(alloc: Global, folder: &mut MemoryFolder) -> Result<String, AllocError> {
+fn load_text(alloc: Global, folder: &mut MemoryFolder) -> Result<String, AllocError> {
     match load(alloc, folder) {
         Ok(package) => names_of(alloc, &package),
         Err(fault) => format!(in alloc; "{fault}"),
@@ -148,7 +148,7 @@ fn loaded(alloc: Global, folder: &mut MemoryFolder) -> Result<String, AllocError
 
 fn fault_text(alloc: Global, fault: &FileFault<'_>) -> Result<String, AllocError> {
     match fault {
-        FileFault::Unread(file) => format!(in alloc; "{file} unread"),
+        FileFault::Unreadable(file) => format!(in alloc; "{file} unread"),
         FileFault::NotJson(fault) => {
             let place = fault.position;
             format!(in alloc;
@@ -195,7 +195,7 @@ fn answer_of_survey(
     }
 }
 
-fn listed(alloc: Global, folder: &mut MemoryFolder) -> Result<String, AllocError> {
+fn list_text(alloc: Global, folder: &mut MemoryFolder) -> Result<String, AllocError> {
     match folder.list(alloc) {
         Ok(names) => format!(in alloc; "{names:?}"),
         Err(fault) => format!(in alloc; "{fault:?}"),

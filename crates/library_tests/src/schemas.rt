@@ -2,7 +2,7 @@
 //! `property URL ID NAME`, `slices URL ID`, `slice URL ID NAME`, `covers CODE OTHER`, `type_root CODE`; and of the definition
 //! `http://example.org/flat/one` `node ID`, `name ID`, `slot NAME`.
 
-use crate::json::written;
+use crate::json::written_text;
 use crate::packages::package_of;
 use fhir_elements::TypeEntry;
 use fhir_package::{FolderFile, Package};
@@ -141,7 +141,7 @@ fn content_at(alloc: Global, schema: &Schema, named: &str) -> Result<String, All
         return String::from_str(alloc, "none");
     };
     let target = id_of(schema, schema.target(node));
-    let holder = id_of(schema, schema.holder(node));
+    let holder = id_of(schema, schema.child_holder(node));
     format!(in alloc; "{target}, children {holder}")
 }
 
@@ -198,8 +198,8 @@ fn criteria_told(alloc: Global, criteria: &[Criterion]) -> Result<String, AllocE
 
 fn sought_told(alloc: Global, sought: &Sought) -> Result<String, AllocError> {
     match sought {
-        Sought::Fixed(json) => format!(in alloc; "fixed {}", written(alloc, json)?),
-        Sought::Pattern(json) => format!(in alloc; "pattern {}", written(alloc, json)?),
+        Sought::Fixed(json) => format!(in alloc; "fixed {}", written_text(alloc, json)?),
+        Sought::Pattern(json) => format!(in alloc; "pattern {}", written_text(alloc, json)?),
         Sought::Present => String::from_str(alloc, "present"),
         Sought::Absent => String::from_str(alloc, "absent"),
         Sought::Typed(codes) => codes_told(alloc, codes),

@@ -26,7 +26,7 @@ pub(crate) fn spell(alloc: Global, bytes: &mut Vec<u8>, text: &str) -> Result<()
 }
 
 /// A text with its signs spelled out.
-pub(crate) fn spelled(alloc: Global, text: &str) -> Result<String, Fault> {
+pub(crate) fn spelled_out(alloc: Global, text: &str) -> Result<String, Fault> {
     let mut bytes = Vec::new(alloc);
     spell(alloc, &mut bytes, text)?;
     String::from_utf8(bytes).map_err(|_| Fault::NotUtf8)

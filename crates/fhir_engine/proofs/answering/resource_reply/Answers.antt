@@ -12,6 +12,7 @@ returns-clause-told c =
     record {
       conforms = said.conforms;
       always = said.always;
+      constraints = said.constraints;
       violates = said.violates;
       never = said.never;
       explained = said.explained;

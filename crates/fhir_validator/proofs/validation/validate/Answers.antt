@@ -2,6 +2,8 @@ use Rattle.std.proofs.Common.{◌↔◌, true, false, IsTrue, sym}
 use Rattle.fhir_conformance.specs.Conformance.{Interpretation, Conforms, constant}
 use Rattle.fhir_validator.specs.Verdicts.{is_conforming, is_violating, IsExplained, Means}
 use Rattle.fhir_validator.specs.Listing.{IsVerdictOn, IsOfBytes}
+use Rattle.fhir_validator.specs.Needed.{ConstraintsHold}
+use Rattle.fhir_validator.proofs.Needing.{constraints_hold}
 use Rattle.fhir_validator.proofs.Concluding.{concluded, explained, of_bytes, err_weaker}
 use Rattle.fhir_validator.proofs.Judged.{weaker}
 use Rattle.fhir_validator.proofs.validation.validate.Goals as goal
@@ -19,6 +21,15 @@ returns-in-Some-clause-always c = λ t reads.
     let profile = c.args.profile.now in
     weaker (IsVerdictOn s c.in-Some.node t) (λ v. IsTrue (is_conforming v) → (meaning : Interpretation) → Conforms s meaning profile t)
     (λ v h. (concluded s profile t c.in-Some.node (sym c.in-Some.ensures) (c.positive.ensures.items s) v h).1) c.validate_at.result (c.validate_at.ensures.verdict t reads)
+
+pub returns-in-Some-clause-constraints : goal.returns-in-Some-clause-constraints
+returns-in-Some-clause-constraints c = λ t reads.
+    let s = c.args.schema.now in
+    let profile = c.args.profile.now in
+    weaker (IsVerdictOn s c.in-Some.node t) (λ v. IsTrue (is_conforming v) → ConstraintsHold s profile t)
+    (λ v h conforming. constraints_hold s (c.roots_are_roots.ensures.of_type s) (c.roots_are_roots.ensures.of_canonical s) profile t
+    ((concluded s profile t c.in-Some.node (sym c.in-Some.ensures) (c.positive.ensures.items s) v h).0.0 conforming))
+    c.validate_at.result (c.validate_at.ensures.verdict t reads)
 
 pub returns-in-Some-clause-violates : goal.returns-in-Some-clause-violates
 returns-in-Some-clause-violates c = λ t reads.

@@ -1,0 +1,42 @@
+-- The pairs of node and item to which a resource that conforms has to conform, and their constraints (FHIR R4, ElementDefinition,
+-- constraint; FHIRPath N1).
+use Rattle.std.specs.Prelude.{◌≡◌, ◌⊎◌, ℕ, [], ◌∷◌, ◌++◌, Some, IsTrue}
+use Rattle.std.specs.List.{Contains}
+use Rattle.fhir_json.specs.Tree.{Text, Tree}
+use Rattle.fhir_elements.specs.Constraint.{Constraint, must_hold}
+use Rattle.fhir_nodes.specs.declared.node.NodeRef.{NodeRef}
+use Rattle.fhir_nodes.specs.Expressions.{expression_of}
+use Rattle.fhir_fp_syntax.specs.Expression.{Expression}
+use Rattle.fhir_fp_eval.specs.Meaning.{is_true}
+use Rattle.fhir_schema.specs.Schemas.{SchemaValue, root as root_of, target}
+use Rattle.fhir_schema.specs.Expressions.{constraint_at}
+use Rattle.fhir_instance.specs.Items.{Item, Place, kids_of}
+use Rattle.fhir_instance.specs.Typing.{Types}
+use Rattle.fhir_conformance.specs.Positions.{kid_at}
+use Rattle.fhir_conformance.specs.Asks.{asks, root, child}
+use Rattle.fhir_conformance.specs.Conformance.{nearest_to}
+
+-- The profile's root with the outermost item; and with a pair the root of the item's own type, and each child with the node that it is
+-- asked to conform to. Those that only one of several profiles of a type asks for aren't needed.
+pub data Needed (s : SchemaValue) (outermost : Item) (profile : NodeRef) : Place → Item → Item → NodeRef → Type 0 where
+  first : {place : Place} {resource x : Item} {n : NodeRef}
+      → place ≡ [] → resource ≡ outermost → x ≡ outermost → n ≡ profile → Needed s outermost profile place resource x n
+  at_item : {place : Place} {resource x : Item} {n m : NodeRef}
+      → Needed s outermost profile place resource x n → Contains (asks s x n) (root m) → Needed s outermost profile place resource x m
+  at_child : {place within : Place} {resource nearer x y : Item} {n m : NodeRef} (i : ℕ)
+      → Needed s outermost profile place resource x n → Contains (asks s x n) (child i m) → kid_at (kids_of x) i ≡ Some y
+      → within ≡ place ++ i ∷ [] → nearer ≡ nearest_to s resource y → Needed s outermost profile within nearer y m
+
+-- the constraint has an expression that is read, and that is true of the item, where that is the nearest resource
+pub record IsTrueOf (s : SchemaValue) (resource x : Item) (c : Constraint) : Type 0 where
+  pub expression : Expression
+  pub read : expression_of c ≡ Some expression
+  pub holds : IsTrue (is_true (record { schema = s; resource = resource; context = x }) expression x)
+
+-- Of each pair that is needed each constraint that must hold is true, be it the node's own or one of the node that this one refers to for
+-- its content.
+abbrev pub ConstraintsHold : SchemaValue → Text → Tree → Type 0
+ConstraintsHold s profile t =
+    (node : NodeRef) (outermost : Item) → root_of s profile ≡ Some node → Types s t outermost
+    → (place : Place) (resource x : Item) (n k : NodeRef) → Needed s outermost node place resource x n → (k ≡ n) ⊎ (target s n ≡ Some k)
+    → (position : ℕ) (c : Constraint) → constraint_at s k position ≡ Some c → IsTrue (must_hold c) → IsTrueOf s resource x c
