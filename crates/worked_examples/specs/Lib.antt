@@ -1,4 +1,5 @@
 pub mod CodeSystems
+pub mod Contents
 pub mod Definitions
 pub mod Elements
 pub mod Packages
@@ -6,3 +7,4 @@ pub mod Pairs
 pub mod Schemas
 pub mod Roots
 pub mod Sliced
+pub mod Slicings

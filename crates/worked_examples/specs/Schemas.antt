@@ -53,6 +53,12 @@ of_no_type = many (codes "A.b") (of_type (codes "missing"))
 abbrev pub orphan : Tree
 orphan = many (codes "A.b.c") coded
 
+abbrev pub two_roots : Tree
+two_roots = many (codes "B") no_members
+
+abbrev pub no_root : Tree
+no_root = definition (codes "resource") (codes "A") (with_snapshot (one_more right no_items))
+
 abbrev pub no_target : Tree
 no_target = many (codes "A.b") (member (codes "contentReference") (string (codes "#A.z")) no_members)
 

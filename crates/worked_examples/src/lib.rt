@@ -4,20 +4,24 @@
 #![tactic(auto)]
 
 mod code_systems;
+mod contents;
 mod definitions;
 mod elements;
 mod expressions;
 mod packages;
 mod pairs;
 mod schemas;
+mod slicings;
 
 pub use code_systems::{code_system_contents, code_system_versions, codes_from_elsewhere};
+pub use contents::{companions_example, contents_example, references_of_types};
 pub use definitions::{bound_types, derivations, type_kinds};
 pub use elements::{element_example, element_tables};
-pub use expressions::{function_names, operators};
+pub use expressions::{escapes, function_names, operators, system_types};
 pub use packages::{canonicals, file_names};
 pub use pairs::{
     children_of_pairs, constraints_of_pairs, first_rule_of_pairs, lengths_of_pairs, roots_of_pairs,
     slices_of_pairs, values_of_pairs,
 };
 pub use schemas::{covering_example, reasons_example};
+pub use slicings::{discriminators_example, orders_of_slices};

@@ -2,7 +2,7 @@
 
 ghost use Rattle.std.specs.Prelude.{◌≡◌, true, false, None, Some, codes};
 ghost use Rattle.fhir_elements.specs.declared.reason.Reason.TheVariants as reasons;
-ghost use Rattle.worked_examples.specs.Schemas.{reason_of, reason_with, right, no_min, min_over_max, type_twice, id_twice, of_no_type, orphan, no_target, own_base, sliced_by_profile, no_snapshot, second_reason, covers_type};
+ghost use Rattle.worked_examples.specs.Schemas.{reason_of, reason_with, right, no_min, min_over_max, type_twice, id_twice, of_no_type, orphan, two_roots, no_root, no_target, own_base, sliced_by_profile, no_snapshot, second_reason, covers_type};
 
 /// One small definition for each reason for which a definition can't be used, and one that can.
 pub fn reasons_example()
@@ -13,6 +13,8 @@ pub fn reasons_example()
     ensures wrong_id { reason_of id_twice ≡ Some reasons.WrongId }
     ensures unusable_type { reason_with of_no_type ≡ Some reasons.UnusableType }
     ensures no_tree { reason_with orphan ≡ Some reasons.NoTree }
+    ensures two_roots { reason_with two_roots ≡ Some reasons.NoTree }
+    ensures no_root { reason_of no_root ≡ Some reasons.NoTree }
     ensures missing_content { reason_with no_target ≡ Some reasons.MissingContent }
     ensures base_cycle { reason_of own_base ≡ Some reasons.BaseCycle }
     ensures unsupported_slicing { reason_of sliced_by_profile ≡ Some reasons.UnsupportedSlicing }
