@@ -1,7 +1,7 @@
 //! Places under names.
 
 ghost use Rattle.std.specs.Prelude.{◌≡◌, ℕ, List, [], ◌∷◌, ◌++◌, length, OnOk, OnErr};
-ghost use Rattle.fhir_names.specs.Places.{place_of, Puts, Finds};
+ghost use Rattle.fhir_names.specs.Places.{place_of, Puts, Sets, Removes, Finds};
 
 use std::alloc::{AllocError, Global};
 use std::collections::BTreeMap;
@@ -61,5 +61,21 @@ impl Index {
         }
         self.put(alloc, name, place)?;
         Ok(())
+    }
+
+    /// Gives a name that has a place another one, and does nothing where it has none. It takes no memory.
+    pub fn set(&mut self, name: &str, place: usize)
+        ensures { Sets self.old self.new name.now place }
+    {
+        if let Some(there) = self.places.get_mut(name) {
+            *there = place;
+        }
+    }
+
+    /// Takes a name's place away, if it has one. It takes no memory.
+    pub fn remove(&mut self, name: &str)
+        ensures { Removes self.old self.new name.now }
+    {
+        let _place = self.places.remove(name);
     }
 }
