@@ -46,7 +46,7 @@ Ends In Held p (Err refusal) = Refuses In refusal
 -- ---- one kind
 
 -- what holds of the new entries of one kind and of the old ones of each
-with_kind_each : (P : Kind → ByUrl → Type 0) (k : Kind) (es : ByUrl) (p : Definitions) → P k es → ((kind : Kind) → P kind (of_kind kind p)) → (kind : Kind)
+pub with_kind_each : (P : Kind → ByUrl → Type 0) (k : Kind) (es : ByUrl) (p : Definitions) → P k es → ((kind : Kind) → P kind (of_kind kind p)) → (kind : Kind)
     → P kind (of_kind kind (with_kind k es p))
 with_kind_each P StructureDefinition es p h each StructureDefinition = h
 with_kind_each P StructureDefinition es p h each ValueSet = each ValueSet
@@ -58,7 +58,7 @@ with_kind_each P CodeSystem es p h each StructureDefinition = each StructureDefi
 with_kind_each P CodeSystem es p h each ValueSet = each ValueSet
 with_kind_each P CodeSystem es p h each CodeSystem = h
 
-with_kind_there : (k : Kind) (es : ByUrl) (p : Definitions) → of_kind k (with_kind k es p) ≡ es
+pub with_kind_there : (k : Kind) (es : ByUrl) (p : Definitions) → of_kind k (with_kind k es p) ≡ es
 with_kind_there StructureDefinition es p = refl
 with_kind_there ValueSet es p = refl
 with_kind_there CodeSystem es p = refl

@@ -1,6 +1,7 @@
 -- Lemmas on packages and folders.
 pub mod MemoryFiles
 pub mod Seen
+pub mod Placed
 pub mod Held
 pub mod Ordered
 pub mod Among
@@ -10,6 +11,7 @@ pub mod Packs
 pub mod Files
 pub mod EachHeld
 pub mod Sounds
+pub mod Changed
 pub mod Rising
 pub mod Holding
 pub mod Lists

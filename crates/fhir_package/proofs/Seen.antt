@@ -7,7 +7,7 @@ use Rattle.std.specs.Str.{bytes_eq}
 use Rattle.fhir_names.specs.Places.{Places, place_of, Finds}
 
 -- places that are counted from one more
-position-shift : (t : List ℕ → Bool) (i : ℕ) (xs : List (List ℕ)) → position_from t (i + 1) xs ≡ option_map (λ p. p + 1) (position_from t i xs)
+pub position-shift : (t : List ℕ → Bool) (i : ℕ) (xs : List (List ℕ)) → position_from t (i + 1) xs ≡ option_map (λ p. p + 1) (position_from t i xs)
 position-shift t i [] = refl
 position-shift t i (x ∷ xs) =
     let rest = position-shift t (i + 1) xs in

@@ -1,5 +1,5 @@
--- The trees of a package are sound.
-use Rattle.std.proofs.Common.{◌≡◌, zero, suc, Bool, true, false, cond, List, [], ◌∷◌, ◌++◌, Option, None, Some, Result, Ok, Err, refl, subst, arith}
+-- The definitions of a package are sound.
+use Rattle.std.proofs.Common.{◌≡◌, zero, suc, Bool, true, false, cond, List, [], ◌∷◌, ◌++◌, Option, None, Some, Result, Ok, Err, refl, sym, ap, subst, ◌∙◌, arith}
 use Rattle.std.specs.Prelude.{All, codes}
 use Rattle.std.specs.List.{AllByRecursion}
 use Rattle.std.specs.Option.{option_map, option_map_or, option_and_then}
@@ -7,63 +7,66 @@ use Rattle.std.specs.Map.{keys_of}
 use Rattle.fhir_json.specs.declared.fault.JsonFault.{JsonFault}
 use Rattle.fhir_json.specs.Tree.{Text, Tree}
 use Rattle.fhir_json.specs.Fields.{text_in}
-use Rattle.fhir_json.specs.Sound.{IsSound}
+use Rattle.fhir_json.specs.Sound.{sound, IsSound}
 use Rattle.fhir_json.specs.Reading.{reading}
 use Rattle.fhir_matching.specs.Equality.{equal}
 use Rattle.fhir_package.specs.declared.kind.Kind.{Kind}
 use Rattle.fhir_package.specs.declared.kind.Kind.TheVariants.{StructureDefinition, ValueSet, CodeSystem}
-use Rattle.fhir_package.specs.Definitions.{Definitions, ByUrl, no_definitions, of_kind, with_kind, at_url}
+use Rattle.fhir_package.specs.Definitions.{Definitions, ByUrl, no_definitions, of_kind, at_url}
 use Rattle.fhir_package.specs.Folder.{Files}
-use Rattle.fhir_package.specs.Packing.{Refusal, Definition, kind_named, resource_type, definition_with, definition_of}
+use Rattle.fhir_package.specs.Packing.{Refusal, Definition, definition_with, definition_of}
 use Rattle.fhir_package.specs.Packing.{definitions_in, join, joined, join_all, and_then, or_clash, take_tree, bytes_at, json_names, pack}
+use Rattle.fhir_package.specs.Changing.{sound_definition, IsSoundEntry, AreSound}
 use Rattle.fhir_package.proofs.Packs.{Agrees, take_named}
+use Rattle.fhir_package.proofs.Joins.{with_kind_each}
 use Rattle.fhir_package.proofs.EachHeld.{all_held}
 
 -- ---- what a tree holds
 
-abbrev HoldSound : List Definition → Type 0
-HoldSound ds = AllByRecursion (λ d. IsSound d.tree) ds
-
-itself_holds : (t : Tree) → IsSound t → HoldSound (option_map_or (λ d. d ∷ []) (definition_of t) [])
-itself_holds t h = by (kind_named (resource_type t))
+held_tree : (t : Tree) (kind : Option Kind) (d : Definition) → option_and_then (definition_with t) kind ≡ Some d → d.tree ≡ t
+held_tree t None d e = absurd cc
+held_tree t (Some kind) d e = by (text_in (codes "url") t) e
   where
-    with_url : (kind : Kind) (url : Option Text)
-        → HoldSound (option_map_or (λ d. d ∷ []) (option_map (λ url. let d : Definition = record { kind = kind; url = url; tree = t } in d) url) [])
-    with_url kind None = tt
-    with_url kind (Some url) = (h, tt)
+    made : Text → Definition
+    made url = record { kind = kind; url = url; tree = t }
 
-    by : (kind : Option Kind) → HoldSound (option_map_or (λ d. d ∷ []) (option_and_then (definition_with t) kind) [])
-    by None = tt
-    by (Some kind) = with_url kind (text_in (codes "url") t)
+    same : (url : Text) → Some (made url) ≡ Some d → made url ≡ d
+    same url e = cc
+
+    by : (url : Option Text) → option_map made url ≡ Some d → d.tree ≡ t
+    by None e = absurd cc
+    by (Some url) e = sym (ap (λ (x : Definition). x.tree) (same url e))
+
+-- a definition that is all of its tree, which is sound
+abbrev IsSoundly : Definition → Type 0
+IsSoundly d = sound_definition d.tree ≡ Some d
+
+itself_holds : (t : Tree) → IsSound t → AllByRecursion IsSoundly (option_map_or (λ d. d ∷ []) (definition_of t) [])
+itself_holds t h = by (definition_of t) refl
+  where
+    by : (r : Option Definition) → definition_of t ≡ r → AllByRecursion IsSoundly (option_map_or (λ d. d ∷ []) r [])
+    by None is = tt
+    by (Some d) is =
+        let itself : sound_definition t ≡ Some d = ap (λ (b : Bool). cond b (definition_of t) None) h ∙ is in
+        (subst (λ (u : Tree). sound_definition u ≡ Some d) (sym (held_tree t _ d is)) itself, tt)
 
 -- ---- what is put in
 
-abbrev EntriesSound : ByUrl → Type 0
-EntriesSound es = AllByRecursion (λ e. IsSound e.1) es
+abbrev EntriesSound : Kind → ByUrl → Type 0
+EntriesSound kind es = AllByRecursion (IsSoundEntry kind) es
 
 abbrev KindsSound : Definitions → Type 0
-KindsSound p = (kind : Kind) → EntriesSound (of_kind kind p)
+KindsSound p = (kind : Kind) → EntriesSound kind (of_kind kind p)
 
-behind_sound : (es : ByUrl) (url : Text) (t : Tree) → EntriesSound es → IsSound t → EntriesSound (es ++ (url, t) ∷ [])
-behind_sound [] url t h k = (k, tt)
-behind_sound (e ∷ es) url t h k = (h.0, behind_sound es url t h.1 k)
-
-with_kind_sound : (kind : Kind) (es : ByUrl) (p : Definitions) → EntriesSound es → KindsSound p → KindsSound (with_kind kind es p)
-with_kind_sound StructureDefinition es p h k StructureDefinition = h
-with_kind_sound StructureDefinition es p h k ValueSet = k ValueSet
-with_kind_sound StructureDefinition es p h k CodeSystem = k CodeSystem
-with_kind_sound ValueSet es p h k StructureDefinition = k StructureDefinition
-with_kind_sound ValueSet es p h k ValueSet = h
-with_kind_sound ValueSet es p h k CodeSystem = k CodeSystem
-with_kind_sound CodeSystem es p h k StructureDefinition = k StructureDefinition
-with_kind_sound CodeSystem es p h k ValueSet = k ValueSet
-with_kind_sound CodeSystem es p h k CodeSystem = h
+behind_sound : (kind : Kind) (es : ByUrl) (e : Text × Tree) → EntriesSound kind es → IsSoundEntry kind e → EntriesSound kind (es ++ e ∷ [])
+behind_sound kind [] e h k = (k, tt)
+behind_sound kind (x ∷ es) e h k = (h.0, behind_sound kind es e h.1 k)
 
 abbrev SoundIfOk : {F : Type 0} → Result Definitions F → Type 0
 SoundIfOk (Ok p) = KindsSound p
 SoundIfOk (Err e) = Unit {0}
 
-join_sound : (d : Definition) (p : Definitions) → IsSound d.tree → KindsSound p → SoundIfOk (join d p)
+join_sound : (d : Definition) (p : Definitions) → IsSoundly d → KindsSound p → SoundIfOk (join d p)
 join_sound d p h k = by (at_url d.kind d.url p)
   where
     or_kept : (b : Bool) → (let r : Result Definitions Text = cond b (Ok p) (Err d.url) in SoundIfOk r)
@@ -71,10 +74,11 @@ join_sound d p h k = by (at_url d.kind d.url p)
     or_kept false = tt
 
     by : (there : Option Tree) → SoundIfOk (joined there d p)
-    by None = with_kind_sound d.kind (of_kind d.kind p ++ (d.url, d.tree) ∷ []) p (behind_sound (of_kind d.kind p) d.url d.tree (k d.kind) h) k
+    by None =
+        with_kind_each EntriesSound d.kind (of_kind d.kind p ++ (d.url, d.tree) ∷ []) p (behind_sound d.kind (of_kind d.kind p) (d.url, d.tree) (k d.kind) h) k
     by (Some t) = or_kept (equal t d.tree)
 
-join_all_sound : (ds : List Definition) (p : Definitions) → HoldSound ds → KindsSound p → SoundIfOk (join_all ds p)
+join_all_sound : (ds : List Definition) (p : Definitions) → AllByRecursion IsSoundly ds → KindsSound p → SoundIfOk (join_all ds p)
 join_all_sound [] p h k = k
 join_all_sound (d ∷ ds) p h k = by (join d p) (join_sound d p h.0 k) (λ q. join_all_sound ds q h.1)
   where
@@ -94,7 +98,7 @@ files_sound agrees files (n ∷ ns) p k = by (reading (bytes_at files n)) refl (
     by : (r : Result Tree JsonFault) → reading (bytes_at files n) ≡ r → ((q : Definitions) → KindsSound q → SoundIfOk (take_named files ns q))
         → SoundIfOk (and_then (take_named files ns) (take_tree n r p))
     by (Ok t) is rest =
-        joins (join_all (definitions_in t) p) (join_all_sound (definitions_in t) p (all_held (λ d. IsSound d.tree) itself_holds t ((agrees (bytes_at files n) t).0 is).sound) k) rest
+        joins (join_all (definitions_in t) p) (join_all_sound (definitions_in t) p (all_held IsSoundly itself_holds t ((agrees (bytes_at files n) t).0 is).sound) k) rest
     by (Err fault) is rest = tt
 
 none_sound : KindsSound no_definitions
@@ -102,13 +106,28 @@ none_sound StructureDefinition = tt
 none_sound ValueSet = tt
 none_sound CodeSystem = tt
 
-by_index : (es : ByUrl) → EntriesSound es → All (λ e. IsSound e.1) es
-by_index [] h k d l = absurd (omega arith)
-by_index (e ∷ es) h zero d l = h.0
-by_index (e ∷ es) h (suc k) d l = by_index es h.1 k d (omega arith)
+by_index : (P : Text × Tree → Type 0) (es : ByUrl) → AllByRecursion P es → All P es
+by_index P [] h k d l = absurd (omega arith)
+by_index P (e ∷ es) h zero d l = h.0
+by_index P (e ∷ es) h (suc k) d l = by_index P es h.1 k d (omega arith)
 
-pub sound_lem : Agrees → (files : Files) (p : Definitions) (kind : Kind) → pack files ≡ Ok p → All (λ e. IsSound e.1) (of_kind kind p)
-sound_lem agrees files p kind e = by_index (of_kind kind p) (subst P e (files_sound agrees files (json_names (keys_of files)) no_definitions none_sound) kind)
+pub are_sound : Agrees → (files : Files) (p : Definitions) → pack files ≡ Ok p → AreSound p
+are_sound agrees files p e = λ kind.
+    by_index (IsSoundEntry kind) (of_kind kind p) (subst P e (files_sound agrees files (json_names (keys_of files)) no_definitions none_sound) kind)
   where
     P : Result Definitions Refusal → Type 0
     P r = SoundIfOk r
+
+-- what the entry of a sound definition is
+pub sound_entry : (kind : Kind) (e : Text × Tree) → IsSoundEntry kind e → IsSound e.1 × (definition_of e.1 ≡ Some (record { kind = kind; url = e.0; tree = e.1 }))
+sound_entry kind e h = by (sound e.1) refl h
+  where
+    d : Definition
+    d = record { kind = kind; url = e.0; tree = e.1 }
+
+    by : (b : Bool) → sound e.1 ≡ b → cond b (definition_of e.1) None ≡ Some d → IsSound e.1 × (definition_of e.1 ≡ Some d)
+    by true is h = (is, h)
+    by false isnt h = absurd cc
+
+pub sound_lem : Agrees → (files : Files) (p : Definitions) (kind : Kind) → pack files ≡ Ok p → All (λ e. IsSound e.1) (of_kind kind p)
+sound_lem agrees files p kind is = λ k d l. (sound_entry kind _ (are_sound agrees files p is kind k d l)).0

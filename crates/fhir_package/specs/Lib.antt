@@ -5,6 +5,7 @@ pub mod Folder
 pub mod Memory
 pub mod FilesView
 pub mod Packing
+pub mod Changing
 pub mod ReadFiles
 pub mod Found
 pub mod Surveying

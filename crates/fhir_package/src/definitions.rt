@@ -65,8 +65,8 @@ fn definition_with<'a>(
     }))
 }
 
-// The definition that a tree is, if it is one.
-fn definition_of<'a>(alloc: Global, json: Json<'a>) -> Result<Option<Held<'a>>, NoMemory>
+/// The definition that a tree is, if it is one.
+pub(crate) fn definition_of<'a>(alloc: Global, json: Json<'a>) -> Result<Option<Held<'a>>, NoMemory>
     ensures { IfOk result (λ d. d ≡ definition_of (tree_of json.entry)) }
 {
     match kind_named(json.text_at("resourceType")) {

@@ -1,6 +1,6 @@
 //! Laws: what the definitions say of a folder and its package.
 
-ghost use Rattle.std.specs.Prelude.{◌≡◌, ◌≢◌, ◌≤◌, ◌↔◌, List, [], ◌∷◌, map, filter, Ok, Err, None, Some, false, All, Contains, IsTrue, codes};
+ghost use Rattle.std.specs.Prelude.{◌≡◌, ◌≢◌, ◌≤◌, ◌↔◌, ℕ, List, [], ◌∷◌, ◌++◌, map, filter, slice_get, Ok, Err, None, Some, false, All, Contains, IsTrue, codes};
 ghost use Rattle.std.specs.List.{IsDistinct, flat_map};
 ghost use Rattle.std.specs.List.Sorted.{IsStrictlySortedBy};
 ghost use Rattle.std.specs.Cmp.Lexicographic.{slice_cmp};
@@ -16,6 +16,7 @@ ghost use Rattle.fhir_package.specs.declared.kind.Kind.{Kind};
 ghost use Rattle.fhir_package.specs.Definitions.{Definitions, of_kind, at_url};
 ghost use Rattle.fhir_package.specs.Folder.{Files};
 ghost use Rattle.fhir_package.specs.Packing.{Definition, not_json, clash, is_bundle, definitions_in, is_json_name, json_names, json_files, bytes_at, pack};
+ghost use Rattle.fhir_package.specs.Changing.{sound_definition, put_in, without, has, with_tree, AreSound, EachOnce};
 ghost use Rattle.fhir_package.specs.ReadFiles.{ReadFiles, IsFrom, unreadable_names, given, all_given, pack_given};
 ghost use Rattle.fhir_package.specs.Surveying.{unreadable, is_unreadable, survey, refusal, packed_by};
 ghost use Rattle.fhir_package.specs.Found.{IsInFolder, Clashes, itself, in_resource};
@@ -55,6 +56,37 @@ pub fn packages()
 {
     reading_agrees();
     equivalence();
+}
+
+/// In a package of files each tree is the sound definition of its kind and url, and no url comes twice in a kind. It stays so
+/// where a sound definition is put in or takes the place of another, and where a url is taken out. What is put in is then at
+/// its kind and url, in the place of the one that was there or else behind the others of its kind; a url that is taken out has
+/// no definition. Of other urls and kinds nothing changes.
+pub fn changes()
+    ensures packed { (files : Files) (p : Definitions) → pack files ≡ Ok p → AreSound p × EachOnce p }
+    ensures put_sound { (d : Definition) (p : Definitions) → sound_definition d.tree ≡ Some d → AreSound p → AreSound (put_in d p) }
+    ensures put_once { (d : Definition) (p : Definitions) → EachOnce p → EachOnce (put_in d p) }
+    ensures put { (d : Definition) (p : Definitions) → at_url d.kind d.url (put_in d p) ≡ Some d.tree }
+    ensures put_other_url { (d : Definition) (p : Definitions) (url : Text) → url ≢ d.url
+        → at_url d.kind url (put_in d p) ≡ at_url d.kind url p }
+    ensures put_other_kind { (d : Definition) (p : Definitions) (kind : Kind) → kind ≢ d.kind
+        → of_kind kind (put_in d p) ≡ of_kind kind p }
+    ensures put_in_place { (d : Definition) (p : Definitions) → IsTrue (has d.kind d.url p)
+        → keys_of (of_kind d.kind (put_in d p)) ≡ keys_of (of_kind d.kind p) }
+    ensures put_behind { (d : Definition) (p : Definitions) → at_url d.kind d.url p ≡ None
+        → of_kind d.kind (put_in d p) ≡ of_kind d.kind p ++ (d.url, d.tree) ∷ [] }
+    ensures removed_sound { (url : Text) (p : Definitions) → AreSound p → AreSound (without url p) }
+    ensures removed_once { (url : Text) (p : Definitions) → EachOnce p → EachOnce (without url p) }
+    ensures removed { (url : Text) (p : Definitions) (kind : Kind) → at_url kind url (without url p) ≡ None }
+    ensures removed_other_url { (url : Text) (p : Definitions) (kind : Kind) (other : Text) → other ≢ url
+        → at_url kind other (without url p) ≡ at_url kind other p }
+    ensures replaced_sound { (d : Definition) (place : ℕ) (p : Definitions) → sound_definition d.tree ≡ Some d
+        → slice_get (keys_of (of_kind d.kind p)) place ≡ Some d.url → AreSound p → AreSound (with_tree d.kind place d.tree p) }
+    ensures replaced_once { (kind : Kind) (place : ℕ) (t : Tree) (p : Definitions) → EachOnce p
+        → EachOnce (with_tree kind place t p) }
+{
+    reading_agrees();
+    packages();
 }
 
 /// Files of which a survey finds nothing wrong are the package that it has, and all others are refused for its first fault. Where

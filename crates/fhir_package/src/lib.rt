@@ -35,7 +35,7 @@ pub use fault::LoadFault;
 pub use folder::{Folder, FolderFault};
 pub use folder_files::{FolderFile, FolderFiles, is_json_name};
 pub use kind::Kind;
-pub use laws::{bundles, given_files, ordered_names, packages, packing, surveys};
+pub use laws::{bundles, changes, given_files, ordered_names, packages, packing, surveys};
 pub use loading::load;
 pub use memory::MemoryFolder;
 pub use package::{Names, Package};

@@ -1,19 +1,20 @@
 //! The definitions of a package.
 
-ghost use Rattle.std.specs.Prelude.{◌≡◌, length, slice_get, OnOk};
+ghost use Rattle.std.specs.Prelude.{◌≡◌, length, slice_get, is_some, IfOk, OnOk, OnErr};
 ghost use Rattle.std.specs.Map.{keys_of};
-ghost use Rattle.std.specs.Option.{option_map};
+ghost use Rattle.std.specs.Option.{option_map, option_map_or};
 ghost use Rattle.fhir_json.specs.Views.{tree_of, tree_seen};
 ghost use Rattle.fhir_json.specs.Memory.{Gives};
 ghost use Rattle.fhir_package.specs.Definitions.{no_definitions, of_kind, at_url, place_in};
 ghost use Rattle.fhir_package.specs.Canonical.{at_version, named_by};
 ghost use Rattle.fhir_package.specs.Packing.{with_definition};
+ghost use Rattle.fhir_package.specs.Changing.{sound_definition, put_in, without, has_url, with_tree};
 
 use crate::canonical::is_of_version;
-use crate::definitions::Held;
+use crate::definitions::{Held, definition_of};
 use crate::kind::Kind;
 use crate::url_map::{UrlEntry, UrlMap};
-use fhir_json::{Json, NoMemory};
+use fhir_json::{Json, NoMemory, sound};
 use fhir_names::Canonical;
 use std::alloc::Global;
 use std::marker::Model;
@@ -134,6 +135,64 @@ impl<'a> Package<'a> {
             Kind::StructureDefinition => self.structure_definitions.push(alloc, url.as_str(), tree),
             Kind::ValueSet => self.value_sets.push(alloc, url.as_str(), tree),
             Kind::CodeSystem => self.code_systems.push(alloc, url.as_str(), tree),
+        }
+    }
+
+    // Puts a definition in place of the one of its kind and url, or behind the others of its kind.
+    fn put_held(&mut self, alloc: Global, definition: Held<'a>) -> Result<(), NoMemory>
+        ensures put { OnOk result (self.new ≡ put_in definition.entry self.old) }
+        ensures unchanged { OnErr result (self.new ≡ self.old) }
+    {
+        let Held { kind, url, tree } = definition;
+        match kind {
+            Kind::StructureDefinition => self.structure_definitions.put(alloc, url.as_str(), tree),
+            Kind::ValueSet => self.value_sets.put(alloc, url.as_str(), tree),
+            Kind::CodeSystem => self.code_systems.put(alloc, url.as_str(), tree),
+        }
+    }
+
+    /// Puts a definition in place of the one of its kind and url, or behind the others of its kind, and says that it is put.
+    /// A tree that isn't sound or is no definition isn't put, and `false` says so. The one refusal is want of memory, which
+    /// changes nothing.
+    pub fn put(&mut self, alloc: Global, tree: Json<'a>) -> Result<bool, NoMemory>
+        ensures told { IfOk result (λ done. done ≡ is_some (sound_definition (tree_of tree.entry))) }
+        ensures put { OnOk result (self.new
+            ≡ option_map_or (λ d. put_in d self.old) (sound_definition (tree_of tree.entry)) self.old) }
+        ensures unchanged { OnErr result (self.new ≡ self.old) }
+    {
+        if !sound(&tree) {
+            return Ok(false);
+        }
+        match definition_of(alloc, tree)? {
+            Some(definition) => {
+                self.put_held(alloc, definition)?;
+                Ok(true)
+            }
+            None => Ok(false),
+        }
+    }
+
+    /// Takes out the definitions of a url, of each kind, and says whether there was one. It takes no memory.
+    pub fn remove(&mut self, url: &str) -> bool
+        ensures gone { self.new ≡ without url.now self.old }
+        ensures told { result ≡ has_url url.now self.old }
+    {
+        let structure_definition = self.structure_definitions.remove(url);
+        let value_set = self.value_sets.remove(url);
+        let code_system = self.code_systems.remove(url);
+        structure_definition | value_set | code_system
+    }
+
+    /// Puts a tree in place of the one at a place of a kind, under the same url. Where there is none, nothing is changed. It
+    /// takes no memory, and doesn't look at the tree: keep the package to sound definitions by giving it one of that kind and
+    /// url.
+    pub fn replace(&mut self, kind: Kind, place: usize, tree: Json<'a>)
+        ensures { self.new ≡ with_tree kind place (tree_of tree.entry) self.old }
+    {
+        match kind {
+            Kind::StructureDefinition => self.structure_definitions.replace(place, tree),
+            Kind::ValueSet => self.value_sets.replace(place, tree),
+            Kind::CodeSystem => self.code_systems.replace(place, tree),
         }
     }
 

@@ -1,13 +1,15 @@
 //! Trees under urls.
 
-ghost use Rattle.std.specs.Prelude.{◌≡◌, [], ◌∷◌, ◌++◌, length, slice_get, OnOk};
+ghost use Rattle.std.specs.Prelude.{◌≡◌, [], ◌∷◌, ◌++◌, length, slice_get, is_some, OnOk, OnErr};
 ghost use Rattle.std.specs.List.{position_from};
 ghost use Rattle.std.specs.Option.{option_map, option_copied};
 ghost use Rattle.std.specs.Map.{keys_of, lookup};
 ghost use Rattle.std.specs.Str.{bytes_eq};
 ghost use Rattle.fhir_json.specs.Views.{tree_of, tree_seen};
 ghost use Rattle.fhir_json.specs.Memory.{Gives};
+ghost use Rattle.fhir_names.specs.Places.{Finds, Knows};
 ghost use Rattle.fhir_package.specs.View.{entries_seen, entry_seen};
+ghost use Rattle.fhir_package.specs.Changing.{put_at, without_url, with_tree_at};
 
 use fhir_json::{Json, NoMemory};
 use fhir_names::Index;
@@ -74,6 +76,24 @@ fn detach_entries(alloc: Global, entries: &[UrlEntry<'_>]) -> Result<UrlMap<'sta
     Ok(all)
 }
 
+fn set_tree<'a>(entry: &mut UrlEntry<'a>, tree: Json<'a>)
+    ensures { entry_seen entry.new ≡ ((entry_seen entry.old).0, tree_of tree.entry) }
+{
+    entry.tree = tree;
+}
+
+// Gives each url the place at which it first stands. It goes from the last to the first, so that the first stays.
+fn set_places(urls: &mut Index, entries: &[UrlEntry<'_>])
+    ensures { Knows urls.old (keys_of (entries_seen entries.now)) → Finds urls.new (keys_of (entries_seen entries.now)) }
+{
+    let mut place = entries.len();
+    while place > 0 {
+        place -= 1;
+        let entry = &entries[place];
+        urls.set(entry.url.as_str(), place);
+    }
+}
+
 impl<'a> UrlMap<'a> {
     /// No trees, which allocates nothing.
     pub(crate) fn new(alloc: Global) -> UrlMap<'a>
@@ -131,9 +151,11 @@ impl<'a> UrlMap<'a> {
         detach_entries(alloc, &self.entries)
     }
 
-    /// Puts a tree under a url behind the others. Where another is there, that one is still found.
+    /// Puts a tree under a url behind the others. Where another is there, that one is still found. Where memory runs out,
+    /// nothing is changed.
     pub(crate) fn push(&mut self, alloc: Global, url: &str, tree: Json<'a>) -> Result<(), NoMemory>
-        ensures { OnOk result (self.new ≡ self.old ++ (url.now, tree_of tree.entry) ∷ []) }
+        ensures pushed { OnOk result (self.new ≡ self.old ++ (url.now, tree_of tree.entry) ∷ []) }
+        ensures unchanged { OnErr result (self.new ≡ self.old) }
     {
         let own_url = String::from_str(alloc, url)?;
         let place = self.entries.len();
@@ -143,5 +165,41 @@ impl<'a> UrlMap<'a> {
             return Err(NoMemory);
         }
         Ok(())
+    }
+
+    /// Puts a tree in place of the one at a place, under the same url. Where there is none, nothing is changed.
+    pub(crate) fn replace(&mut self, place: usize, tree: Json<'a>)
+        ensures { self.new ≡ with_tree_at place (tree_of tree.entry) self.old }
+    {
+        let Some(entry) = self.entries.get_mut(place) else {
+            return;
+        };
+        set_tree(entry, tree);
+    }
+
+    /// Puts a tree in place of the one under a url, or behind the others where there is none. Where memory runs out, nothing
+    /// is changed.
+    pub(crate) fn put(&mut self, alloc: Global, url: &str, tree: Json<'a>) -> Result<(), NoMemory>
+        ensures put { OnOk result (self.new ≡ put_at url.now (tree_of tree.entry) self.old) }
+        ensures unchanged { OnErr result (self.new ≡ self.old) }
+    {
+        match self.urls.get(url) {
+            Some(place) => Ok(self.replace(place, tree)),
+            None => self.push(alloc, url, tree),
+        }
+    }
+
+    /// Takes out the trees under a url, and says whether there was one. It takes no memory.
+    pub(crate) fn remove(&mut self, url: &str) -> bool
+        ensures gone { self.new ≡ without_url url.now self.old }
+        ensures told { result ≡ is_some (lookup (bytes_eq url.now) self.old) }
+    {
+        if self.urls.get(url).is_none() {
+            return false;
+        }
+        self.entries.retain(|entry| entry.url.as_str() != url);
+        self.urls.remove(url);
+        set_places(&mut self.urls, &self.entries);
+        true
     }
 }
