@@ -3,8 +3,7 @@
 ghost use Rattle.std.specs.Prelude.{◌≡◌, ◌≤◌, ◌+◌, length, Some, Ok, IsTrue, IsUtf8};
 ghost use Rattle.fhir_json.specs.Tree.{Text};
 ghost use Rattle.fhir_package.specs.Definitions.{Definitions};
-ghost use Rattle.fhir_package.specs.Folder.{Files};
-ghost use Rattle.fhir_package.specs.Packing.{pack};
+ghost use Rattle.fhir_package.specs.Changing.{AreSound, EachOnce};
 ghost use Rattle.fhir_schema.specs.Schemas.{SchemaValue, schema_of};
 ghost use Rattle.fhir_certificate.specs.Certificate.{CertificateValue, fits};
 ghost use Rattle.fhir_certificate.specs.Format.{Written, Spells, text_of};
@@ -12,7 +11,6 @@ ghost use Rattle.fhir_certificate.specs.Judging.{limit, Stands};
 ghost use Rattle.fhir_certificate.specs.Reading.{written_of, reading};
 ghost use Rattle.fhir_certificate.specs.Writing.{written_by, AreNamed, IsWritable};
 
-use fhir_package::packages;
 use fhir_schema::{names_are_utf8, nodes_by_name};
 
 /// Reading from left to right gives what the bytes spell, and nothing where they spell nothing. What they spell is one.
@@ -31,16 +29,16 @@ pub fn written_back()
         → length c.items + length c.kids ≤ limit → reading s (text_of (written_by s c)) ≡ Ok c }
 {}
 
-/// In the schema of a folder's package what is written for a certificate that fits is read as it, within the limit.
+/// In the schema of a package of sound definitions, each url of a kind once, what is written for a certificate that fits is
+/// read as it, within the limit. A package of files is one, also behind changes by sound definitions.
 pub fn written_back_in_packages()
-    ensures stands { (files : Files) (p : Definitions) (c : CertificateValue) → pack files ≡ Ok p → IsTrue (fits (schema_of p) c)
+    ensures stands { (p : Definitions) (c : CertificateValue) → AreSound p → EachOnce p → IsTrue (fits (schema_of p) c)
         → length c.items + length c.kids ≤ limit
         → Stands (schema_of p) (text_of (written_by (schema_of p) c)) c }
-    ensures read { (files : Files) (p : Definitions) (c : CertificateValue) → pack files ≡ Ok p → IsTrue (fits (schema_of p) c)
+    ensures read { (p : Definitions) (c : CertificateValue) → AreSound p → EachOnce p → IsTrue (fits (schema_of p) c)
         → length c.items + length c.kids ≤ limit
         → reading (schema_of p) (text_of (written_by (schema_of p) c)) ≡ Ok c }
 {
-    packages();
     nodes_by_name();
     names_are_utf8();
 }

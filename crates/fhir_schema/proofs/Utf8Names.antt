@@ -1,14 +1,14 @@
--- The urls and ids of a package's definitions are UTF-8, since the trees that are read from its files are sound.
+-- The urls and ids of a package of sound definitions are UTF-8.
 use Rattle.std.proofs.Common.{◌≡◌, ℕ, zero, suc, List, [], ◌∷◌, map, Bool, true, false, cond}
 use Rattle.std.proofs.Common.{Option, Some, None, is_some, refl, ap, sym, subst, All}
-use Rattle.std.specs.Prelude.{codes, IsUtf8, Contains, IsTrue}
+use Rattle.std.specs.Prelude.{codes, IsUtf8, IsTrue}
 use Rattle.std.specs.Option.{option_and_then, option_map, option_map_or}
 use Rattle.std.specs.List.{slice_get, AllByRecursion}
 use Rattle.std.specs.Map.{lookup}
 use Rattle.std.specs.Str.{bytes_eq}
 use Rattle.std.proofs.lemmas.Str.{IsUtf8-nil, IsUtf8-from_is_utf8}
 use Rattle.std.proofs.lemmas.Option.{none-some, same_Some}
-use Rattle.std.proofs.lemmas.List.Elements.{All-from_recursion, All-contains, recursion_from_All}
+use Rattle.std.proofs.lemmas.List.Elements.{recursion_from_All}
 use Rattle.std.proofs.lemmas.Slice.Eq.{bytes_eq-Decides}
 use Rattle.fhir_json.specs.Tree.{Text, Tree, null, boolean, number, string, array, object}
 use Rattle.fhir_json.specs.Fields.{field, as_text, text_in, items_in}
@@ -16,8 +16,9 @@ use Rattle.fhir_json.specs.Sound.{IsSound}
 use Rattle.fhir_json.proofs.SoundParts.{SoundIfAny, AreSound, field_sound, items_in_sound}
 use Rattle.fhir_package.specs.declared.kind.Kind.{Kind}
 use Rattle.fhir_package.specs.Packing as packing
-use Rattle.fhir_package.specs.Packing.{kind_named, resource_type, definitions_in}
-use Rattle.fhir_package.proofs.EachHeld.{all_held}
+use Rattle.fhir_package.specs.Packing.{kind_named, resource_type}
+use Rattle.fhir_package.specs.Changing.{IsSoundEntry}
+use Rattle.fhir_package.proofs.Sounds.{sound_entry}
 use Rattle.fhir_codes.specs.Expanding.{Expansions}
 use Rattle.fhir_elements.specs.Element.{fields_of}
 use Rattle.fhir_definition.specs.Definition.{Definition, element_trees, definition_of, definitions_from}
@@ -59,26 +60,36 @@ text_or_nil : (o : Option Text) → TextIfAny o → IsUtf8 (option_map_or (λ s.
 text_or_nil None h = IsUtf8-nil
 text_or_nil (Some s) h = h
 
--- ---- the urls of what a tree holds
+-- ---- the urls of sound definitions
 
-abbrev AreUtf8 : List packing.Definition → Type 0
-AreUtf8 ds = AllByRecursion (λ d. IsUtf8 d.url) ds
-
-itself_holds : (t : Tree) → IsSound t → AreUtf8 (option_map_or (λ d. d ∷ []) (packing.definition_of t) [])
-itself_holds t h = by (kind_named (resource_type t))
+definition_url : (t : Tree) (d : packing.Definition) → IsSound t → packing.definition_of t ≡ Some d → IsUtf8 d.url
+definition_url t d h is = by (kind_named (resource_type t)) is
   where
     with_url : (kind : Kind) (url : Option Text) → TextIfAny url
-        → AreUtf8 (option_map_or (λ d. d ∷ []) (option_map (λ url. let d : packing.Definition = record { kind = kind; url = url; tree = t } in d) url) [])
-    with_url kind None u = tt
-    with_url kind (Some url) u = (u, tt)
+        → option_map (λ url. let d : packing.Definition = record { kind = kind; url = url; tree = t } in d) url ≡ Some d → IsUtf8 d.url
+    with_url kind None u e = absurd (none-some d e)
+    with_url kind (Some url) u e = subst (λ (d : packing.Definition). IsUtf8 d.url) (same_Some _ d e) u
 
-    by : (kind : Option Kind) → AreUtf8 (option_map_or (λ d. d ∷ []) (option_and_then (packing.definition_with t) kind) [])
-    by None = tt
-    by (Some kind) = with_url kind (text_in (codes "url") t) (text_in_utf8 (codes "url") t h)
+    by : (kind : Option Kind) → option_and_then (packing.definition_with t) kind ≡ Some d → IsUtf8 d.url
+    by None e = absurd (none-some d e)
+    by (Some kind) e = with_url kind (text_in (codes "url") t) (text_in_utf8 (codes "url") t h) e
 
-pub held_url : (t : Tree) (d : packing.Definition) → IsSound t → Contains (definitions_in t) d → IsUtf8 d.url
-held_url t d h among =
-    All-contains (λ d. IsUtf8 d.url) (definitions_in t) d (All-from_recursion (λ d. IsUtf8 d.url) (definitions_in t) (all_held (λ d. IsUtf8 d.url) itself_holds t h)) among
+found_holds : (P : Text × Tree → Type 0) (es : List (Text × Tree)) (url : Text) (t : Tree) → AllByRecursion P es → lookup (bytes_eq url) es ≡ Some t → P (url, t)
+found_holds P [] url t h at = absurd (none-some t at)
+found_holds P (e ∷ es) url t h at = by (bytes_eq url e.0) refl at (found_holds P es url t h.1)
+  where
+    by : (b : Bool) → bytes_eq url e.0 ≡ b → cond b (Some e.1) (lookup (bytes_eq url) es) ≡ Some t → (lookup (bytes_eq url) es ≡ Some t → P (url, t)) → P (url, t)
+    by true is at behind =
+        subst (λ (u : Text). P (u, t)) (sym ((bytes_eq-Decides url e.0).0 is)) (subst (λ (tree : Tree). P (e.0, tree)) (same_Some e.1 t at) h.0)
+    by false is at behind = behind at
+
+pub urls_utf8 : (kind : Kind) (es : List (Text × Tree)) → All (IsSoundEntry kind) es → (url : Text) (t : Tree) → lookup (bytes_eq url) es ≡ Some t → IsUtf8 url
+urls_utf8 kind es h url t at =
+    let whole = sound_entry kind (url, t) (found_holds (IsSoundEntry kind) es url t (recursion_from_All (IsSoundEntry kind) es h) at) in
+    definition_url t (record { kind = kind; url = url; tree = t }) whole.0 whole.1
+
+pub trees_sound : (kind : Kind) (es : List (Text × Tree)) → All (IsSoundEntry kind) es → All (λ e. IsSound e.1) es
+trees_sound kind es h = λ k d l. (sound_entry kind _ (h k d l)).0
 
 -- ---- what a schema names
 
