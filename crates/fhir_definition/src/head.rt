@@ -47,8 +47,8 @@ fn has_right_derivation(json: &Json<'_>) -> bool
     has_derivation(json) && json.allows_text("derivation")
 }
 
-/// Whether it defines a type, and doesn't constrain one.
-pub(crate) fn is_type_definition(json: &Json<'_>) -> bool
+/// Whether a StructureDefinition defines a type, and doesn't constrain one (FHIR R4, StructureDefinition, derivation).
+pub fn is_type_definition(json: &Json<'_>) -> bool
     ensures { result ≡ is_type_definition (tree_of json.now) }
 {
     let derivation = json.text_at("derivation");

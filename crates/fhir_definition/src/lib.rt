@@ -29,5 +29,6 @@ pub use by_id::{is_root, up_of};
 pub use children::{empty_lists, put_at};
 pub use definition::Definition;
 pub use elements::element_trees;
+pub use head::is_type_definition;
 pub use kind::TypeKind;
 pub use laws::children_and_slices;

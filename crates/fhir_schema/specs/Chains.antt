@@ -1,4 +1,4 @@
--- Where chains of bases are after so many steps (used by private contracts alone).
+-- Where chains of bases are after so many steps (used by private contracts, and by the laws of `further_laws`).
 use Rattle.std.specs.Prelude.{ℕ, zero, suc, List, map, Option}
 use Rattle.std.specs.Option.{option_and_then}
 use Rattle.fhir_definition.specs.Definition.{Definition}

@@ -13,7 +13,8 @@ ghost use Rattle.fhir_nodes.specs.declared.node.NodeRef.{NodeRef};
 ghost use Rattle.fhir_schema.specs.Schemas.{schema_of, has, node, root, url_at, id_of_node};
 
 /// Each node is found by the url of its definition and its id, where no url comes twice, as in each package that is read
-/// from a folder, also behind changes. The url is a uri, as is each url under which a root is found, and the id has no character below U+0020.
+/// from a folder, also behind changes. The url is a uri, as is each url under which a root is found, and the id has no
+/// character below U+0020.
 pub fn nodes_by_name()
     ensures found { (p : Definitions) (n : NodeRef) → IsDistinct bytes_eq (keys_of p.structure_definitions)
         → IsTrue (has (schema_of p) n)

@@ -1,4 +1,4 @@
-mod Asking
+pub mod Asking
 mod Concluding
 mod Faults
 mod Judged

@@ -7,8 +7,8 @@ ghost use Rattle.fhir_nodes.specs.declared.node.NodeRef.{NodeRef};
 ghost use Rattle.fhir_schema.specs.Schemas.{SchemaValue};
 ghost use Rattle.fhir_instance.specs.Items.{Item};
 ghost use Rattle.fhir_facets.specs.Unread.{Meaning};
-ghost use Rattle.fhir_conformance.specs.Asks.{kids_asks};
-ghost use Rattle.fhir_conformance.specs.Conformance.{Interpretation, Around, profile_holds, profiles_hold, ask_conforms};
+ghost use Rattle.fhir_conformance.specs.Asks.{kids_asks, asks};
+ghost use Rattle.fhir_conformance.specs.Conformance.{Interpretation, Around, profile_holds, profiles_hold, ask_conforms, conforms};
 ghost use Rattle.further_laws.specs.Children.{slots_hold};
 
 /// Of the profiles that a type names the item conforms to one, where there are any.
@@ -24,4 +24,10 @@ pub fn one_of_several_profiles()
 pub fn children_by_name()
     ensures { (s : SchemaValue) (meaning : Interpretation) (around : Around) (x : Item) (n : NodeRef)
         → list_all (ask_conforms s meaning around x) (kids_asks s x n) ≡ slots_hold s meaning around x n }
+{}
+
+/// An item conforms to a node exactly where each thing that the node asks of it holds.
+pub fn all_asks()
+    ensures { (s : SchemaValue) (meaning : Interpretation) (around : Around) (x : Item) (n : NodeRef)
+        → conforms s meaning around x n ≡ list_all (ask_conforms s meaning around x) (asks s x n) }
 {}
