@@ -1,0 +1,2 @@
+pub mod Overlay
+pub mod Stages

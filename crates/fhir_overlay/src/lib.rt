@@ -1,0 +1,10 @@
+//! Elements of definitions laid over one another, as a profile's differential is laid over what it inherits (FHIR R4,
+//! Profiling, snapshots).
+#![tactic(auto)]
+
+mod constraints;
+mod copying;
+mod overlay;
+
+pub use copying::copied;
+pub use overlay::{as_slice, bounds_fit, laid_over};
