@@ -1,2 +1,3 @@
 pub mod Overlay
 pub mod Stages
+pub mod Json

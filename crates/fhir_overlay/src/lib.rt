@@ -4,7 +4,11 @@
 
 mod constraints;
 mod copying;
+mod members;
 mod overlay;
+mod parts;
+mod writing;
 
 pub use copying::copied;
 pub use overlay::{as_slice, bounds_fit, laid_over};
+pub use writing::element_json;
