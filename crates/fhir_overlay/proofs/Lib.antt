@@ -1,1 +1,10 @@
+pub mod Lookups
+pub mod Numbers
 pub mod Joining
+pub mod Truths
+pub mod Staying
+pub mod Laying
+pub mod Reading
+pub mod Fields
+pub mod Back
+pub mod Written

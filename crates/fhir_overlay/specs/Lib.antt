@@ -1,3 +1,4 @@
 pub mod Overlay
 pub mod Stages
 pub mod Json
+pub mod Writable
