@@ -8,3 +8,8 @@ pub mod Reading
 pub mod Fields
 pub mod Back
 pub mod Written
+pub mod Objects
+pub mod SoundLaid
+pub mod SoundRead
+pub mod SoundNumbers
+pub mod SoundWritten

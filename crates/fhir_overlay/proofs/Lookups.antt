@@ -31,7 +31,7 @@ or_none None = refl
 or_none (Some x) = refl
 
 -- a name that is a choice of a stem isn't one that is none
-differs : (stem name n : Text) → is_choice stem name ≡ false → is_choice stem n ≡ true → bytes_eq name n ≡ false
+pub differs : (stem name n : Text) → is_choice stem name ≡ false → is_choice stem n ≡ true → bytes_eq name n ≡ false
 differs [] [] [] other is = absurd (false≢true is)
 differs [] [] (c ∷ cs) other is = refl
 differs [] (b ∷ bs) [] other is = absurd (false≢true is)
@@ -78,7 +78,7 @@ are_apart [] (b ∷ bs) = not (is_ascii_uppercase b)
 are_apart (a ∷ at) [] = not (is_ascii_uppercase a)
 are_apart (a ∷ at) (b ∷ bs) = not (nat_eq a b) || are_apart at bs
 
-apart : (stem other n : Text) → are_apart stem other ≡ true → is_choice stem n ≡ true → is_choice other n ≡ false
+pub apart : (stem other n : Text) → are_apart stem other ≡ true → is_choice stem n ≡ true → is_choice other n ≡ false
 apart [] [] n differ is = absurd (false≢true differ)
 apart [] (b ∷ bs) [] differ is = absurd (false≢true is)
 apart [] (b ∷ bs) (c ∷ cs) differ is = grind arith

@@ -22,13 +22,13 @@ use Rattle.fhir_overlay.specs.Writable.{is_count, is_max, is_integer}
 numerals : IsNumeralModel (λ ds. list_all is_ascii_digit ds ≡ true) (digits_value 10)
 numerals = numerals_by_value _ (search rules)
 
-all_digits : (n : ℕ) → n < 2 ^ 64 → list_all is_ascii_digit (decimal n) ≡ true
+pub all_digits : (n : ℕ) → n < 2 ^ 64 → list_all is_ascii_digit (decimal n) ≡ true
 all_digits n small = digits_decimal numerals n small
 
 value_of : (n : ℕ) → n < 2 ^ 64 → digits_value 10 (decimal n) ≡ n
 value_of n small = digits_value-decimal numerals n small
 
-begins : (n : ℕ) → n < 2 ^ 64 → is_count_text (decimal n) ≡ true
+pub begins : (n : ℕ) → n < 2 ^ 64 → is_count_text (decimal n) ≡ true
 begins zero small = rw (decimal_digit 0 (lit< tt)) refl
 begins (suc n) small =
     let first : 48 < get_or (decimal (suc n)) 0 0 = first_decimal (suc n) (omega arith) small in
@@ -38,7 +38,7 @@ begins (suc n) small =
 counted : (text : List ℕ) (n : ℕ) → is_count_text text ≡ true → digits_value 10 text ≡ n → nat_le n most_count ≡ true → count_of text ≡ Some n
 counted text n is value small = grind arith
 
-small_count : (n : ℕ) → IsTrue (is_count n) → n ≤ 2147483647
+pub small_count : (n : ℕ) → IsTrue (is_count n) → n ≤ 2147483647
 small_count n small = grind arith
 
 pub count_again : (n : ℕ) → IsTrue (is_count n) → count_of (decimal n) ≡ Some n

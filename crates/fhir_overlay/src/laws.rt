@@ -35,3 +35,13 @@ pub fn constraints_stay()
     ensures there { (old more : List Constraint)
         → IsTrue (list_all (λ c. list_any (same_constraint c) (with_constraints old more)) more) }
 {}
+
+/// An element of a sound tree is sound; laying one over another keeps that, and so does inheriting it as a slice; and a
+/// sound element that can be written has a sound tree.
+pub fn sound_elements()
+    ensures read { (t : Tree) (e : Element) → IsSound t → element_of t ≡ Ok e → IsTrue (is_sound e) }
+    ensures laid { (over under : Element) → IsTrue (is_sound over) → IsTrue (is_sound under)
+        → IsTrue (is_sound (laid_over over under)) }
+    ensures sliced { (e : Element) → IsTrue (is_sound e) → IsTrue (is_sound (as_slice e)) }
+    ensures tree { (e : Element) → IsTrue (is_sound e) → IsTrue (is_writable e) → IsSound (element_tree e) }
+{}

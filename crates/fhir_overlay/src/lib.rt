@@ -11,6 +11,6 @@ mod parts;
 mod writing;
 
 pub use copying::copied;
-pub use laws::{constraints_stay, laid_elements, of_elements, written_back};
+pub use laws::{constraints_stay, laid_elements, of_elements, sound_elements, written_back};
 pub use overlay::{as_slice, bounds_fit, laid_over};
 pub use writing::element_json;
