@@ -1,11 +1,11 @@
 -- The parts of an element that are written are read again.
-use Rattle.std.proofs.Common.{◌≡◌, ℕ, ℤ, List, [], ◌∷◌, map, Bool, true, false, Option, None, Some, IsTrue, is_some, refl, sym, ap, ◌∙◌}
+use Rattle.std.proofs.Common.{◌≡◌, ℕ, ℤ, List, [], ◌∷◌, map, Bool, true, Option, None, Some, IsTrue, is_some, refl, ap, ◌∙◌}
 use Rattle.std.specs.Prelude.{codes, ◌&&◌}
 use Rattle.std.specs.Fmt.{decimal, signed_decimal}
 use Rattle.std.specs.List.{list_all}
 use Rattle.std.specs.Option.{option_map, option_map_or, option_and_then}
-use Rattle.fhir_json.specs.Tree.{Text, Tree, boolean, string, number, array, items_of, list_of}
-use Rattle.fhir_json.specs.Fields.{field, is_object, as_text, as_number, as_flag, as_items, is_array, count_of, text_in, text_at, texts_in, items_in, flag_in, text_or_empty, allows_text, allows_texts, allows_items, allows_flag}
+use Rattle.fhir_json.specs.Tree.{Text, Tree, boolean, string, number, items_of, list_of}
+use Rattle.fhir_json.specs.Fields.{field, as_text, as_number, as_flag, as_items, is_array, count_of, text_in, texts_in, items_in, flag_in, text_or_empty}
 use Rattle.fhir_elements.specs.declared.binding.Strength.{Strength}
 use Rattle.fhir_elements.specs.declared.binding.Strength.TheVariants as strengths
 use Rattle.fhir_elements.specs.declared.constraint.Severity.{Severity}
@@ -16,7 +16,7 @@ use Rattle.fhir_elements.specs.declared.slicing.SlicingRules.{SlicingRules}
 use Rattle.fhir_elements.specs.declared.slicing.SlicingRules.TheVariants as slicings
 use Rattle.fhir_elements.specs.Integers.{as_integer}
 use Rattle.fhir_elements.specs.Binding.{Binding, strength_of, is_binding, binding_of}
-use Rattle.fhir_elements.specs.Codes.{code_in, allows_code}
+use Rattle.fhir_elements.specs.Codes.{code_in}
 use Rattle.fhir_elements.specs.Constraint.{Constraint, severity_of, is_constraint, constraint_of}
 use Rattle.fhir_elements.specs.Slicing.{Discriminator, Slicing, discriminator_type_of, slicing_rules_of, is_discriminator, discriminator_of, is_slicing, slicing_of}
 use Rattle.fhir_elements.specs.TypeEntry.{TypeEntry, is_type_entry, type_entry_of}
@@ -168,8 +168,8 @@ expression c = simp (field-more, taken-named, or_none)
 pub constraint_again : (c : Constraint) → constraint_of (constraint_tree c) ≡ c
 constraint_again c =
     let s : code_in severity_of (codes "severity") (constraint_tree c) ≡ c.severity =
-        ap (λ f. option_and_then severity_of (option_and_then as_text f)) (severity c)
-        ∙ code_again severity_of severity_code (λ x. true) severity_back c.severity (any c.severity) in
+    ap (λ f. option_and_then severity_of (option_and_then as_text f)) (severity c)
+    ∙ code_again severity_of severity_code (λ x. true) severity_back c.severity (any c.severity) in
     let x : text_in (codes "expression") (constraint_tree c) ≡ c.expression = ap (option_and_then as_text) (expression c) ∙ text_again c.expression in
     rw (s, x) refl
 
@@ -191,8 +191,8 @@ value_set b = simp (field-more, taken-named, or_none)
 pub binding_again : (b : Binding) → binding_of (binding_tree b) ≡ b
 binding_again b =
     let s : code_in strength_of (codes "strength") (binding_tree b) ≡ b.strength =
-        ap (λ f. option_and_then strength_of (option_and_then as_text f)) (strength b)
-        ∙ code_again strength_of strength_code (λ x. true) strength_back b.strength (any b.strength) in
+    ap (λ f. option_and_then strength_of (option_and_then as_text f)) (strength b)
+    ∙ code_again strength_of strength_code (λ x. true) strength_back b.strength (any b.strength) in
     let v : text_in (codes "valueSet") (binding_tree b) ≡ b.value_set = ap (option_and_then as_text) (value_set b) ∙ text_again b.value_set in
     rw (s, v) refl
 
@@ -214,8 +214,8 @@ path d = simp (field-more, taken-named, or_none)
 discriminator_again : (d : Discriminator) → discriminator_of (discriminator_tree d) ≡ d
 discriminator_again d =
     let b : code_in discriminator_type_of (codes "type") (discriminator_tree d) ≡ d.by =
-        ap (λ f. option_and_then discriminator_type_of (option_and_then as_text f)) (by d)
-        ∙ code_again discriminator_type_of discriminator_code (λ x. true) discriminator_back d.by (any d.by) in
+    ap (λ f. option_and_then discriminator_type_of (option_and_then as_text f)) (by d)
+    ∙ code_again discriminator_type_of discriminator_code (λ x. true) discriminator_back d.by (any d.by) in
     let p : text_in (codes "path") (discriminator_tree d) ≡ d.path = ap (option_and_then as_text) (path d) ∙ text_again d.path in
     rw (b, p) refl
 
@@ -242,11 +242,11 @@ discriminator_items s =
 pub slicing_again : (s : Slicing) → slicing_of (slicing_tree s) ≡ s
 slicing_again s =
     let d : map discriminator_of (items_in (codes "discriminator") (slicing_tree s)) ≡ s.discriminators =
-        ap (map discriminator_of) (discriminator_items s) ∙ map_again discriminator_of discriminator_tree discriminator_again s.discriminators in
+    ap (map discriminator_of) (discriminator_items s) ∙ map_again discriminator_of discriminator_tree discriminator_again s.discriminators in
     let o : flag_in (codes "ordered") (slicing_tree s) ≡ s.ordered = ap (option_and_then as_flag) (ordered s) ∙ flag_again s.ordered in
     let r : code_in slicing_rules_of (codes "rules") (slicing_tree s) ≡ s.rules =
-        ap (λ f. option_and_then slicing_rules_of (option_and_then as_text f)) (rules_field s)
-        ∙ code_again slicing_rules_of rules_code (λ x. true) rules_back s.rules (any s.rules) in
+    ap (λ f. option_and_then slicing_rules_of (option_and_then as_text f)) (rules_field s)
+    ∙ code_again slicing_rules_of rules_code (λ x. true) rules_back s.rules (any s.rules) in
     rw (d, o, r) refl
 
 pub slicing_fits : (s : Slicing) → IsTrue (is_slicing (slicing_tree s))

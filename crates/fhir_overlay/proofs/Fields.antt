@@ -1,9 +1,9 @@
 -- What stands in the fields of an element that is written.
-use Rattle.std.proofs.Common.{◌≡◌, List, [], ◌∷◌, ◌++◌, map, Bool, true, false, Option, None, Some, IsTrue, refl, sym, ap, ◌∙◌, if◌then◌else◌}
+use Rattle.std.proofs.Common.{◌≡◌, List, [], ◌∷◌, ◌++◌, map, Bool, true, false, Option, Some, IsTrue, refl, ◌∙◌, if◌then◌else◌}
 use Rattle.std.specs.Prelude.{codes}
 use Rattle.std.specs.Fmt.{decimal, signed_decimal}
-use Rattle.std.specs.Option.{option_map, option_or}
-use Rattle.fhir_json.specs.Tree.{Text, Tree, string, number, Property}
+use Rattle.std.specs.Option.{option_map}
+use Rattle.fhir_json.specs.Tree.{Text, string, number, Property}
 use Rattle.fhir_json.specs.Fields.{field, choice_in, allows_choice, is_choice}
 use Rattle.fhir_elements.specs.Element.{Element}
 use Rattle.fhir_overlay.specs.Json.{member_if, max_code, filled_array, object_of, type_entry_tree, constraint_tree, binding_tree, slicing_tree, naming_members, counting_members, typing_members, rule_members, element_tree}
@@ -22,7 +22,7 @@ pub record Named (e : Element) : Type 0 where
 pub named_parts : (e : Element) → IsTrue (has_named_choices e) → Named e
 named_parts e h =
     let parts = four (is_named (codes "fixed") e.fixed) (is_named (codes "pattern") e.pattern) (is_named (codes "minValue") e.min_value)
-        (is_named (codes "maxValue") e.max_value) h in
+    (is_named (codes "maxValue") e.max_value) h in
     record { fixed = parts.0; pattern = parts.1; min_value = parts.2; max_value = parts.3 }
 
 -- ---- fields that are no choices

@@ -1,5 +1,5 @@
 -- Members that are put behind one another.
-use Rattle.std.proofs.Common.{◌≡◌, List, [], ◌∷◌, ◌++◌, Option, refl, ap, sym, ◌∙◌, append_assoc}
+use Rattle.std.proofs.Common.{◌≡◌, List, [], ◌++◌, Option, append_assoc}
 use Rattle.std.proofs.lemmas.List.Elements.{filter_map-append}
 use Rattle.fhir_json.specs.Tree.{Property}
 use Rattle.fhir_overlay.specs.Json.{present}

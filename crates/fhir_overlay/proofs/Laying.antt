@@ -1,8 +1,7 @@
 -- What laying one element over another keeps.
-use Rattle.std.proofs.Common.{◌≡◌, List, [], ◌∷◌, map, Bool, true, Option, None, Some, IsTrue, is_ok, refl}
+use Rattle.std.proofs.Common.{List, [], ◌∷◌, map, Bool, true, Option, None, Some, IsTrue, is_ok, refl}
 use Rattle.std.specs.Prelude.{codes}
 use Rattle.std.specs.Option.{option_map_or, option_or}
-use Rattle.fhir_json.specs.Tree.{Text}
 use Rattle.fhir_json.specs.Fields.{is_choice}
 use Rattle.fhir_json.specs.Sound.{differ}
 use Rattle.fhir_names.specs.Ids.{read_id}
@@ -32,8 +31,8 @@ choices : (over under : Element) → IsTrue (has_named_choices over) → IsTrue 
     → IsTrue (has_named_choices (laid_over over under))
 choices over under h i =
     let parts = λ (e : Element).
-        four (is_named (codes "fixed") e.fixed) (is_named (codes "pattern") e.pattern) (is_named (codes "minValue") e.min_value)
-        (is_named (codes "maxValue") e.max_value) in
+    four (is_named (codes "fixed") e.fixed) (is_named (codes "pattern") e.pattern) (is_named (codes "minValue") e.min_value)
+    (is_named (codes "maxValue") e.max_value) in
     let o = parts over h in
     let u = parts under i in
     all_four _ _ _ _ (or_holds (λ p. is_choice (codes "fixed") p.0) over.fixed under.fixed o.0 u.0)

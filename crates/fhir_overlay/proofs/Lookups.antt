@@ -1,13 +1,13 @@
 -- Members of an object of which some may be absent: what stands under a name, and which is a choice of a stem.
-use Rattle.std.proofs.Common.{◌≡◌, ℕ, List, [], ◌∷◌, ◌++◌, map, Bool, true, false, Option, None, Some, refl, arith, ap, ◌∙◌, sym, if◌then◌else◌, is_some, not, IsTrue}
-use Rattle.std.specs.Prelude.{nat_eq, ◌&&◌, ◌||◌}
-use Rattle.std.specs.Option.{option_map, option_or, option_and_then}
+use Rattle.std.proofs.Common.{◌≡◌, List, [], ◌∷◌, Bool, true, false, Option, None, Some, refl, arith, if◌then◌else◌, is_some, not, IsTrue}
+use Rattle.std.specs.Prelude.{nat_eq, ◌||◌}
+use Rattle.std.specs.Option.{option_or}
 use Rattle.std.specs.Char.{is_ascii_uppercase}
 use Rattle.std.specs.Str.{bytes_eq}
 use Rattle.std.proofs.lemmas.Bool.{false≢true}
-use Rattle.fhir_json.specs.Tree.{Text, Tree, Property, object, members_of}
-use Rattle.fhir_json.specs.Fields.{value_named, field, first_choice, has_one_choice, choice_in, allows_choice, is_choice}
-use Rattle.fhir_overlay.specs.Json.{member_if, present, object_of}
+use Rattle.fhir_json.specs.Tree.{Text, Tree, Property}
+use Rattle.fhir_json.specs.Fields.{field, choice_in, allows_choice, is_choice}
+use Rattle.fhir_overlay.specs.Json.{member_if, object_of}
 use Rattle.fhir_overlay.specs.Writable.{is_named}
 
 -- ---- fields

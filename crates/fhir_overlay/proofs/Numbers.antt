@@ -1,13 +1,13 @@
 -- Numbers and codes that are written, and read again.
-use Rattle.std.proofs.Common.{◌≡◌, ◌≢◌, ◌≤◌, ◌<◌, ◌^◌, ℕ, zero, suc, ℤ, List, [], ◌∷◌, length, Bool, true, false, Option, None, Some, refl, arith, rules, codes, nat_le, nat_lt, nat_eq, ap, sym, ◌∙◌, lit<, get_or, IsTrue}
-use Rattle.std.specs.Prelude.{pos, negsuc, ◌&&◌, slice_index}
-use Rattle.std.specs.Fmt.{decimal, signed_decimal, digits}
+use Rattle.std.proofs.Common.{◌≡◌, ◌≢◌, ◌≤◌, ◌<◌, ◌^◌, ℕ, zero, suc, ℤ, List, [], ◌∷◌, Bool, true, false, Some, refl, arith, rules, codes, nat_le, ap, sym, ◌∙◌, lit<, get_or, IsTrue}
+use Rattle.std.specs.Prelude.{pos, negsuc}
+use Rattle.std.specs.Fmt.{decimal, signed_decimal}
 use Rattle.std.specs.List.{list_all}
-use Rattle.std.specs.Option.{option_map, option_and_then}
+use Rattle.std.specs.Option.{option_map}
 use Rattle.std.specs.Char.{is_ascii_digit}
 use Rattle.std.specs.Str.{bytes_eq}
 use Rattle.std.specs.Str.Parse.{digits_value}
-use Rattle.std.proofs.lemmas.Bool.{and_parts, false≢true}
+use Rattle.std.proofs.lemmas.Bool.{false≢true}
 use Rattle.std.proofs.lemmas.Slice.Eq.{bytes_eq-Decides}
 use Rattle.std.proofs.lemmas.Str.Parse.{IsNumeralModel, numerals_by_value}
 use Rattle.std.proofs.lemmas.Fmt.{digits_decimal, digits_value-decimal, decimal_digit, first_decimal, decimal-digits_value}
@@ -15,7 +15,7 @@ use Rattle.fhir_json.specs.Fields.{is_count_text, most_count, count_of}
 use Rattle.fhir_elements.specs.declared.max.Max.{Max}
 use Rattle.fhir_elements.specs.declared.max.Max.TheVariants.{Unbounded, UpTo}
 use Rattle.fhir_elements.specs.Max.{max_of}
-use Rattle.fhir_elements.specs.Integers.{negative_of, below_zero, integer_of}
+use Rattle.fhir_elements.specs.Integers.{below_zero, integer_of}
 use Rattle.fhir_overlay.specs.Json.{max_code}
 use Rattle.fhir_overlay.specs.Writable.{is_count, is_max, is_integer}
 

@@ -1,18 +1,18 @@
 -- When an object of members, of which some may be absent, is sound.
-use Rattle.std.proofs.Common.{◌≡◌, ◌<◌, ℕ, List, [], ◌∷◌, map, Bool, true, false, Option, None, Some, IsTrue, refl, sym, ap, ◌∙◌, arith, if◌then◌else◌, not}
+use Rattle.std.proofs.Common.{◌≡◌, ◌<◌, List, [], ◌∷◌, map, Bool, true, false, Option, None, Some, IsTrue, refl, ap, ◌∙◌, arith, if◌then◌else◌, not}
 use Rattle.std.specs.Prelude.{◌&&◌, ◌||◌, nat_lt}
 use Rattle.std.specs.List.{list_all}
 use Rattle.std.specs.Option.{option_map, option_map_or}
 use Rattle.std.specs.Str.{bytes_eq, is_utf8, IsAscii}
-use Rattle.std.proofs.lemmas.Bool.{and_parts, false≢true}
+use Rattle.std.proofs.lemmas.Bool.{and_parts}
 use Rattle.std.proofs.lemmas.Str.{is_utf8-from_IsUtf8, IsUtf8-from_ascii}
 use Rattle.std.proofs.lemmas.Str.Ascii.{IsAscii-nil, IsAscii-cons}
-use Rattle.fhir_json.specs.Tree.{Text, Tree, string, object, array, Members, no_members, member, members_of, items_of, names, Property}
+use Rattle.fhir_json.specs.Tree.{Text, Tree, string, Members, no_members, member, members_of, items_of, names, Property}
 use Rattle.fhir_json.specs.Fields.{value_named, field, is_choice}
 use Rattle.fhir_json.specs.Sound.{IsSound, sound, items_sound, members_sound, is_among, differ}
 use Rattle.fhir_overlay.specs.Json.{member_if, filled_array, present, object_of}
 use Rattle.fhir_overlay.specs.Writable.{is_named, text_sound, choice_sound}
-use Rattle.fhir_overlay.proofs.Truths.{both, all_three}
+use Rattle.fhir_overlay.proofs.Truths.{both}
 use Rattle.fhir_overlay.proofs.Lookups.{taken, differs}
 
 -- ---- names

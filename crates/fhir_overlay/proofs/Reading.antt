@@ -1,26 +1,22 @@
 -- An element that a tree is can be written.
-use Rattle.std.proofs.Common.{◌≡◌, ℕ, zero, suc, ℤ, List, [], ◌∷◌, map, Bool, true, false, Option, None, Some, Result, Ok, Err, IsTrue, is_ok, refl, sym, ap, ◌∙◌, arith, if◌then◌else◌}
-use Rattle.std.specs.Prelude.{pos, negsuc, codes, nat_le, ◌&&◌, ◌||◌, not, ◌==◌}
+use Rattle.std.proofs.Common.{◌≡◌, ℕ, zero, suc, ℤ, List, [], ◌∷◌, map, Bool, true, false, Option, None, Some, Ok, IsTrue, is_ok, refl, sym, ap, ◌∙◌, arith, if◌then◌else◌}
+use Rattle.std.specs.Prelude.{pos, codes, ◌||◌, ◌==◌}
 use Rattle.std.specs.Option.{option_map, option_map_or, option_and_then}
 use Rattle.std.specs.List.{list_any}
 use Rattle.std.specs.Str.{bytes_eq}
-use Rattle.std.specs.Str.Parse.{digits_value}
 use Rattle.std.proofs.lemmas.Bool.{false≢true}
 use Rattle.fhir_json.specs.Tree.{Text, Tree, null, boolean, number, string, array, object, Members, no_members, member, Property}
-use Rattle.fhir_json.specs.Fields.{field, text_in, text_at, items_in, count_of, count_in, is_count_text, most_count, as_number, is_choice, first_choice, choice_in}
+use Rattle.fhir_json.specs.Fields.{field, text_in, text_at, items_in, count_of, as_number, is_choice, first_choice, choice_in}
 use Rattle.fhir_json.specs.Sound.{is_among, differ}
 use Rattle.fhir_names.specs.Ids.{read_id}
-use Rattle.fhir_elements.specs.declared.max.Max.{Max}
-use Rattle.fhir_elements.specs.declared.max.Max.TheVariants.{Unbounded, UpTo}
+use Rattle.fhir_elements.specs.declared.max.Max.TheVariants.{UpTo}
 use Rattle.fhir_elements.specs.declared.reason.Reason.{Reason}
 use Rattle.fhir_elements.specs.declared.reason.Reason.TheVariants.{WrongField, MinOverMax, RepeatedType, WrongId}
-use Rattle.fhir_elements.specs.declared.fault.ElementFault.{ElementFault}
 use Rattle.fhir_elements.specs.Tests.{first_of}
 use Rattle.fhir_elements.specs.Max.{max_of}
-use Rattle.fhir_elements.specs.Codes.{code_in}
 use Rattle.fhir_elements.specs.Integers.{negative_of, below_zero, integer_of, as_integer}
-use Rattle.fhir_elements.specs.TypeEntry.{TypeEntry, type_entry_of, has_code, codes_differ}
-use Rattle.fhir_elements.specs.Element.{Element, has_right_fields, has_right_bounds, has_readable_id, element_tests, element_fault, fields_of, unless, element_of}
+use Rattle.fhir_elements.specs.TypeEntry.{type_entry_of, codes_differ}
+use Rattle.fhir_elements.specs.Element.{Element, has_right_fields, has_right_bounds, has_readable_id, element_fault, fields_of, unless, element_of}
 use Rattle.fhir_overlay.specs.Overlay.{bounds_fit}
 use Rattle.fhir_overlay.specs.Writable.{is_count, is_max, is_integer, is_named, has_writable_numbers, has_named_choices, is_writable}
 use Rattle.fhir_overlay.proofs.Truths.{all_three, all_four}

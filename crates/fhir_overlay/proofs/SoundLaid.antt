@@ -1,5 +1,5 @@
 -- What laying one element over another keeps of soundness.
-use Rattle.std.proofs.Common.{◌≡◌, List, [], ◌∷◌, ◌++◌, Bool, true, false, Option, IsTrue, refl, arith, if◌then◌else◌}
+use Rattle.std.proofs.Common.{List, [], ◌∷◌, ◌++◌, Bool, true, false, IsTrue, refl, if◌then◌else◌}
 use Rattle.std.specs.Prelude.{◌&&◌}
 use Rattle.std.specs.List.{list_all, list_any}
 use Rattle.std.specs.Option.{option_map_or}
@@ -36,7 +36,7 @@ sound_parts e h =
     let texts = four (is_utf8 e.id) (text_sound e.path) (text_sound e.slice_name) (text_sound e.content_reference) all.0 in
     let choices = four (choice_sound e.fixed) (choice_sound e.pattern) (choice_sound e.min_value) (choice_sound e.max_value) all.1 in
     let parts = four (list_all type_entry_sound e.types) (list_all constraint_sound e.constraints) (option_map_or binding_sound e.binding true)
-        (option_map_or slicing_sound e.slicing true) all.2 in
+    (option_map_or slicing_sound e.slicing true) all.2 in
     record {
       id = texts.0;
       path = texts.1;

@@ -1,13 +1,13 @@
 -- Counts and integers are written as numbers of JSON.
-use Rattle.std.proofs.Common.{◌≡◌, ◌≤◌, ◌<◌, ◌^◌, ℕ, suc, ℤ, List, [], ◌∷◌, length, Bool, true, false, Option, None, Some, IsTrue, refl, arith, if◌then◌else◌}
-use Rattle.std.specs.Prelude.{pos, negsuc, ◌&&◌, ◌||◌, ◌==◌, slice_index, nat_eq, nat_lt}
+use Rattle.std.proofs.Common.{◌≡◌, ◌≤◌, ◌<◌, ◌^◌, ℕ, suc, ℤ, List, [], ◌∷◌, true, false, Some, IsTrue, refl, arith}
+use Rattle.std.specs.Prelude.{pos, negsuc, ◌==◌}
 use Rattle.std.specs.Fmt.{decimal, signed_decimal}
 use Rattle.std.specs.List.{list_all}
 use Rattle.std.specs.Char.{is_ascii_digit}
 use Rattle.std.specs.Str.{is_utf8}
 use Rattle.std.proofs.lemmas.Bool.{and_parts, false≢true}
 use Rattle.std.proofs.lemmas.Fmt.{IsAscii-decimal}
-use Rattle.fhir_json.specs.Number.{after_digits, after_some_digits, after_minus, after_whole, after_fraction, after_exponent, after_number, is_number}
+use Rattle.fhir_json.specs.Number.{after_digits, after_minus, after_whole, after_number, is_number}
 use Rattle.fhir_json.specs.Fields.{is_count_text}
 use Rattle.fhir_elements.specs.declared.max.Max.{Max}
 use Rattle.fhir_elements.specs.declared.max.Max.TheVariants.{Unbounded, UpTo}

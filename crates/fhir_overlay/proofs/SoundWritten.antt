@@ -1,6 +1,6 @@
 -- A sound element that can be written has a sound tree.
-use Rattle.std.proofs.Common.{◌≡◌, ℕ, List, [], ◌∷◌, ◌++◌, map, Bool, true, false, Option, None, Some, IsTrue, refl, ap, ◌∙◌}
-use Rattle.std.specs.Prelude.{codes, ◌&&◌, ℤ, nat_lt}
+use Rattle.std.proofs.Common.{◌≡◌, List, [], ◌∷◌, map, Bool, true, false, Option, None, Some, IsTrue, refl, ap, ◌∙◌}
+use Rattle.std.specs.Prelude.{codes, nat_lt}
 use Rattle.std.specs.Fmt.{decimal, signed_decimal}
 use Rattle.std.specs.List.{list_all}
 use Rattle.std.specs.Option.{option_map, option_map_or, option_or}
@@ -22,8 +22,8 @@ use Rattle.fhir_elements.specs.Constraint.{Constraint}
 use Rattle.fhir_elements.specs.Slicing.{Discriminator, Slicing}
 use Rattle.fhir_elements.specs.TypeEntry.{TypeEntry}
 use Rattle.fhir_elements.specs.Element.{Element}
-use Rattle.fhir_overlay.specs.Json.{member_if, text_member, array_member, filled_array, object_of, max_code, strength_code, severity_code, discriminator_code, rules_code, type_entry_tree, constraint_tree, binding_tree, discriminator_tree, slicing_tree, value_members, rule_members, element_tree}
-use Rattle.fhir_overlay.specs.Writable.{is_count, is_max, is_integer, has_writable_numbers, has_named_choices, is_writable, text_sound, type_entry_sound, constraint_sound, binding_sound, discriminator_sound, slicing_sound, choice_sound, is_sound}
+use Rattle.fhir_overlay.specs.Json.{member_if, text_member, array_member, filled_array, object_of, max_code, strength_code, severity_code, discriminator_code, rules_code, type_entry_tree, constraint_tree, binding_tree, discriminator_tree, slicing_tree, rule_members, element_tree}
+use Rattle.fhir_overlay.specs.Writable.{is_count, is_max, is_integer, has_writable_numbers, is_writable, text_sound, type_entry_sound, constraint_sound, binding_sound, discriminator_sound, slicing_sound, choice_sound, is_sound}
 use Rattle.fhir_overlay.proofs.Truths.{both, two, three}
 use Rattle.fhir_overlay.proofs.Laying.{writable_parts}
 use Rattle.fhir_overlay.proofs.Lookups.{taken, field-more, taken-named, taken-choice, apart}
@@ -205,33 +205,33 @@ min_value_unlike : (e : Element) → Named e → IsTrue (unlike (from_min_value 
 min_value_unlike e named =
     unlike-choice (codes "minValue") e.min_value (from_max_value e) named.min_value
     (λ n is.
-        passed n e.max_value (from_length e)
-        (taken-choice (codes "maxValue") n e.max_value named.max_value (apart (codes "minValue") (codes "maxValue") n refl is))
-        (length_passed e (codes "minValue") n refl refl refl is))
+    passed n e.max_value (from_length e)
+    (taken-choice (codes "maxValue") n e.max_value named.max_value (apart (codes "minValue") (codes "maxValue") n refl is))
+    (length_passed e (codes "minValue") n refl refl refl is))
     (max_value_unlike e named)
 
 pattern_unlike : (e : Element) → Named e → IsTrue (unlike (from_pattern e))
 pattern_unlike e named =
     unlike-choice (codes "pattern") e.pattern (from_min_value e) named.pattern
     (λ n is.
-        passed n e.min_value (from_max_value e)
-        (taken-choice (codes "minValue") n e.min_value named.min_value (apart (codes "pattern") (codes "minValue") n refl is))
-        (passed n e.max_value (from_length e)
-        (taken-choice (codes "maxValue") n e.max_value named.max_value (apart (codes "pattern") (codes "maxValue") n refl is))
-        (length_passed e (codes "pattern") n refl refl refl is)))
+    passed n e.min_value (from_max_value e)
+    (taken-choice (codes "minValue") n e.min_value named.min_value (apart (codes "pattern") (codes "minValue") n refl is))
+    (passed n e.max_value (from_length e)
+    (taken-choice (codes "maxValue") n e.max_value named.max_value (apart (codes "pattern") (codes "maxValue") n refl is))
+    (length_passed e (codes "pattern") n refl refl refl is)))
     (min_value_unlike e named)
 
 fixed_unlike : (e : Element) → Named e → IsTrue (unlike (from_fixed e))
 fixed_unlike e named =
     unlike-choice (codes "fixed") e.fixed (from_pattern e) named.fixed
     (λ n is.
-        passed n e.pattern (from_min_value e)
-        (taken-choice (codes "pattern") n e.pattern named.pattern (apart (codes "fixed") (codes "pattern") n refl is))
-        (passed n e.min_value (from_max_value e)
-        (taken-choice (codes "minValue") n e.min_value named.min_value (apart (codes "fixed") (codes "minValue") n refl is))
-        (passed n e.max_value (from_length e)
-        (taken-choice (codes "maxValue") n e.max_value named.max_value (apart (codes "fixed") (codes "maxValue") n refl is))
-        (length_passed e (codes "fixed") n refl refl refl is))))
+    passed n e.pattern (from_min_value e)
+    (taken-choice (codes "pattern") n e.pattern named.pattern (apart (codes "fixed") (codes "pattern") n refl is))
+    (passed n e.min_value (from_max_value e)
+    (taken-choice (codes "minValue") n e.min_value named.min_value (apart (codes "fixed") (codes "minValue") n refl is))
+    (passed n e.max_value (from_length e)
+    (taken-choice (codes "maxValue") n e.max_value named.max_value (apart (codes "fixed") (codes "maxValue") n refl is))
+    (length_passed e (codes "fixed") n refl refl refl is))))
     (pattern_unlike e named)
 
 -- none of the choices has a name that is no choice of their stems

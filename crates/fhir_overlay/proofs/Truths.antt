@@ -1,5 +1,5 @@
 -- Tests that hold together, and their parts.
-use Rattle.std.proofs.Common.{◌≡◌, Bool, true, IsTrue, arith}
+use Rattle.std.proofs.Common.{Bool, IsTrue, arith}
 use Rattle.std.specs.Prelude.{◌&&◌}
 use Rattle.std.proofs.lemmas.Bool.{and_parts}
 

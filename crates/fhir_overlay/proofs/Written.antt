@@ -1,10 +1,10 @@
 -- An element that can be written, and whose bounds fit, is the one that is read of its tree.
-use Rattle.std.proofs.Common.{◌≡◌, ℕ, ℤ, List, [], ◌∷◌, map, Bool, true, Option, None, Some, Result, Ok, IsTrue, is_some, is_ok, refl, sym, ap, ◌∙◌}
+use Rattle.std.proofs.Common.{◌≡◌, ℕ, ℤ, List, [], ◌∷◌, map, Bool, true, Option, None, Some, Ok, IsTrue, is_some, is_ok, refl, sym, ap, ◌∙◌}
 use Rattle.std.specs.Prelude.{codes, ◌&&◌}
 use Rattle.std.specs.List.{list_all}
 use Rattle.std.specs.Option.{option_map, option_map_or, option_and_then}
 use Rattle.fhir_json.specs.Tree.{Text, Tree, string, list_of, Property}
-use Rattle.fhir_json.specs.Fields.{field, as_text, as_number, as_items, is_array, count_of, count_in, text_in, text_at, items_in, choice_in}
+use Rattle.fhir_json.specs.Fields.{field, as_text, as_number, as_items, is_array, count_of, count_in, text_in, items_in}
 use Rattle.fhir_json.specs.Sound.{differ}
 use Rattle.fhir_names.specs.Ids.{read_id}
 use Rattle.fhir_elements.specs.declared.max.Max.{Max}
@@ -18,15 +18,15 @@ use Rattle.fhir_elements.specs.TypeEntry.{TypeEntry, is_type_entry, type_entry_o
 use Rattle.fhir_elements.specs.Constraint.{Constraint, is_constraint, constraint_of}
 use Rattle.fhir_elements.specs.Binding.{Binding, is_binding, binding_of}
 use Rattle.fhir_elements.specs.Slicing.{Slicing, is_slicing, slicing_of}
-use Rattle.fhir_elements.specs.Element.{Element, allows_part, allows_parts, has_right_texts, has_right_numbers, has_right_choices, has_right_parts, has_right_fields, has_right_bounds, has_readable_id, element_fault, fields_of, unless, element_of}
+use Rattle.fhir_elements.specs.Element.{Element, has_right_texts, has_right_numbers, has_right_choices, has_right_parts, has_right_fields, has_right_bounds, has_readable_id, element_fault, fields_of, unless, element_of}
 use Rattle.fhir_overlay.specs.Overlay.{bounds_fit}
 use Rattle.fhir_overlay.specs.Json.{max_code, filled_array, type_entry_tree, constraint_tree, binding_tree, slicing_tree, element_tree}
-use Rattle.fhir_overlay.specs.Writable.{is_count, is_max, is_integer, has_writable_numbers, has_named_choices, is_writable}
+use Rattle.fhir_overlay.specs.Writable.{is_count, is_max, is_integer, is_writable}
 use Rattle.fhir_overlay.proofs.Truths.{both, three, all_three, all_four}
 use Rattle.fhir_overlay.proofs.Laying.{writable_parts}
 use Rattle.fhir_overlay.proofs.Numbers.{max_again}
 use Rattle.fhir_overlay.proofs.Reading.{types_differ}
-use Rattle.fhir_overlay.proofs.Fields.{Named, named_parts, field-id, field-path, field-slice_name, field-slicing, field-min, field-max, field-content_reference, field-type, field-max_length, field-constraint, field-binding, choice-fixed, choice-pattern, choice-min_value, choice-max_value, allowed-fixed, allowed-pattern, allowed-min_value, allowed-max_value}
+use Rattle.fhir_overlay.proofs.Fields.{Named, named_parts, field-path, field-slice_name, field-slicing, field-min, field-max, field-content_reference, field-type, field-max_length, field-constraint, field-binding, choice-fixed, choice-pattern, choice-min_value, choice-max_value, allowed-fixed, allowed-pattern, allowed-min_value, allowed-max_value}
 use Rattle.fhir_overlay.proofs.Back.{text_again, text_allowed, code_again, code_allowed, min_again, min_allowed, length_again, length_allowed, items_again, items_allowed, map_again, map_allowed, type_again, type_fits, constraint_again, constraint_fits, binding_again, binding_fits, slicing_again, slicing_fits}
 
 -- what makes an element one that can be written
@@ -184,21 +184,21 @@ same e h =
     let min : count_in (codes "min") (element_tree e) ≡ e.min = min_is e h in
     let max : code_in max_of (codes "max") (element_tree e) ≡ e.max = max_is e h in
     let types : map type_entry_of (items_in (codes "type") (element_tree e)) ≡ e.types =
-        ap (map type_entry_of) (types_are e h) ∙ map_again type_entry_of type_entry_tree type_again e.types in
+    ap (map type_entry_of) (types_are e h) ∙ map_again type_entry_of type_entry_tree type_again e.types in
     let content_reference : text_in (codes "contentReference") (element_tree e) ≡ e.content_reference =
-        text_is _ e.content_reference (field-content_reference e h.named) in
+    text_is _ e.content_reference (field-content_reference e h.named) in
     let fixed = choice-fixed e h.named in
     let pattern = choice-pattern e h.named in
     let min_value = choice-min_value e h.named in
     let max_value = choice-max_value e h.named in
     let max_length = length_is e h in
     let binding : option_map binding_of (field (codes "binding") (element_tree e)) ≡ e.binding =
-        part_is binding_of binding_tree binding_again _ e.binding (field-binding e h.named) in
+    part_is binding_of binding_tree binding_again _ e.binding (field-binding e h.named) in
     let constraints : map constraint_of (items_in (codes "constraint") (element_tree e)) ≡ e.constraints =
-        ap (map constraint_of) (items_are constraint_tree _ e.constraints (field-constraint e h.named))
-        ∙ map_again constraint_of constraint_tree constraint_again e.constraints in
+    ap (map constraint_of) (items_are constraint_tree _ e.constraints (field-constraint e h.named))
+    ∙ map_again constraint_of constraint_tree constraint_again e.constraints in
     let slicing : option_map slicing_of (field (codes "slicing") (element_tree e)) ≡ e.slicing =
-        part_is slicing_of slicing_tree slicing_again _ e.slicing (field-slicing e h.named) in
+    part_is slicing_of slicing_tree slicing_again _ e.slicing (field-slicing e h.named) in
     element_is (fields_of (element_tree e)) e refl path slice_name min max types content_reference fixed pattern min_value max_value max_length binding
     constraints slicing
 

@@ -1,5 +1,5 @@
 -- How an element is written as JSON (FHIR R4, ElementDefinition; JSON): an object with the members that the element has.
-use Rattle.std.specs.Prelude.{ℕ, ℤ, List, [], ◌∷◌, ◌++◌, map, Bool, Option, None, Some, codes}
+use Rattle.std.specs.Prelude.{List, [], ◌∷◌, ◌++◌, map, Option, None, Some, codes}
 use Rattle.std.specs.Option.{option_map}
 use Rattle.std.specs.List.{filter_map}
 use Rattle.std.specs.Fmt.{decimal, signed_decimal}

@@ -1,6 +1,6 @@
 -- One element of a definition laid over another, as a profile's differential is laid over what it inherits (FHIR R4,
 -- Profiling, snapshots): what the upper one says holds, and where it says nothing, what the lower one says.
-use Rattle.std.specs.Prelude.{ℕ, List, [], ◌∷◌, ◌++◌, Bool, true, false, ◌&&◌, Option, None, Some, if◌then◌else◌}
+use Rattle.std.specs.Prelude.{List, [], ◌∷◌, ◌++◌, Bool, true, false, ◌&&◌, None, Some, if◌then◌else◌}
 use Rattle.std.specs.Option.{option_or, option_eq, option_map_or}
 use Rattle.std.specs.List.{list_any}
 use Rattle.std.specs.Str.{bytes_eq}

@@ -1,5 +1,5 @@
 -- Which elements can be written as JSON so that they are read again, and which of them are sound.
-use Rattle.std.specs.Prelude.{ℕ, ℤ, pos, negsuc, List, map, Bool, true, ◌&&◌, nat_le, Option, is_ok, codes}
+use Rattle.std.specs.Prelude.{ℕ, ℤ, pos, negsuc, map, Bool, true, ◌&&◌, nat_le, Option, is_ok, codes}
 use Rattle.std.specs.Option.{option_map_or}
 use Rattle.std.specs.List.{list_all}
 use Rattle.std.specs.Str.{is_utf8}

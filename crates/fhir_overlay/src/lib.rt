@@ -1,5 +1,21 @@
-//! Elements of definitions laid over one another, as a profile's differential is laid over what it inherits (FHIR R4,
-//! Profiling, snapshots).
+//! One element of a definition laid over another, as a profile's differential is laid over what it inherits (FHIR R4,
+//! Profiling, snapshots); and elements written as JSON.
+//!
+//! ```
+//! /// The element that `over` makes of one that it is laid over, as a JSON object.
+//! pub fn inherited(alloc: Global, over: &ElementDef, under: &ElementDef) -> Result<Json<'static>, NoMemory>
+//!     ensures { IfOk result (λ j. tree_of j ≡ element_tree (laid_over over.now under.now)) }
+//! {
+//!     let under = copied(alloc, under)?;
+//!     let laid = laid_over(alloc, over, under)?;
+//!     element_json(alloc, &ElementDef::new(laid))
+//! }
+//! ```
+//!
+//! Read first the contract of `laid_over`, whose words stand in `specs/Overlay.antt`, and that of `element_json`, whose
+//! words stand in `specs/Json.antt`. Then read `written_back`: what is written is read again, where `specs/Writable.antt`
+//! says that it can be; and `of_elements` and `laid_elements`: an element that was read can be written, and so can one
+//! that is laid over another.
 #![tactic(auto)]
 
 mod constraints;
