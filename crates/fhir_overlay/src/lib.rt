@@ -2,13 +2,13 @@
 //! Profiling, snapshots); and elements written as JSON.
 //!
 //! ```
-//! /// The element that `over` makes of one that it is laid over, as a JSON object.
-//! pub fn inherited(alloc: Global, over: &ElementDef, under: &ElementDef) -> Result<Json<'static>, NoMemory>
-//!     ensures { IfOk result (λ j. tree_of j ≡ element_tree (laid_over over.now under.now)) }
+//! /// The element that `over` makes of one that it is laid over.
+//! pub fn inherited(alloc: Global, over: &ElementDef, under: &ElementDef) -> Result<ElementDef, NoMemory>
+//!     ensures { IfOk result (λ e. e ≡ laid_over over.now under.now) }
 //! {
 //!     let under = copied(alloc, under)?;
 //!     let laid = laid_over(alloc, over, under)?;
-//!     element_json(alloc, &ElementDef::new(laid))
+//!     Ok(ElementDef::new(laid))
 //! }
 //! ```
 //!
