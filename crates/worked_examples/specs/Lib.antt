@@ -2,8 +2,10 @@ pub mod CodeSystems
 pub mod Contents
 pub mod Definitions
 pub mod Elements
+pub mod Folders
 pub mod Packages
 pub mod Pairs
+pub mod Positions
 pub mod Schemas
 pub mod Roots
 pub mod Sliced

@@ -8,8 +8,10 @@ mod contents;
 mod definitions;
 mod elements;
 mod expressions;
+mod folders;
 mod packages;
 mod pairs;
+mod positions;
 mod schemas;
 mod slicings;
 
@@ -18,10 +20,12 @@ pub use contents::{companions_example, contents_example, references_of_types};
 pub use definitions::{bound_types, derivations, type_kinds};
 pub use elements::{element_example, element_tables};
 pub use expressions::{escapes, function_names, operators, system_types};
+pub use folders::{clashes_example, surveys_example};
 pub use packages::{canonicals, file_names};
 pub use pairs::{
     children_of_pairs, constraints_of_pairs, first_rule_of_pairs, lengths_of_pairs, roots_of_pairs,
     slices_of_pairs, values_of_pairs,
 };
+pub use positions::{positions_example, stops_example};
 pub use schemas::{covering_example, reasons_example};
 pub use slicings::{discriminators_example, orders_of_slices};
