@@ -24,9 +24,9 @@ pub fn positions_example()
 
 /// Where small files stop being JSON (RFC 8259), and what was expected there: on the first line and behind it, behind a byte order mark,
 /// of which there may be one (`second_mark`), and behind characters of more than one byte (`wide`); and each thing that can be expected.
-/// Bytes that aren't UTF-8 are told before all else (`utf8_first`). A fault is told where that begins which is at fault: a number
-/// (`number`), a name that stood before it (`new_name`), the digits of an escape (`digits`), the first bracket that nests too deep
-/// (`levels`), of which there may be 128 (`deepest`).
+/// Bytes that aren't UTF-8 are told before all else (`utf8_first`). A fault is told at the start of what is at fault: of a number
+/// (`number`), of a name that stood before it (`new_name`), of the digits of an escape (`digits`), at the first bracket that nests too
+/// deep (`levels`); 128 levels are not (`deepest`).
 pub fn stops_example()
     ensures first_line { faults_of (codes "[1,]") ≡ missing wants.Value 1 4 }
     ensures line_feed { faults_of (codes "[1,\n]") ≡ missing wants.Value 2 1 }
