@@ -1,0 +1,7 @@
+pub mod Maps
+pub mod Grouped
+pub mod Listed
+pub mod Keeping
+pub mod Paths
+pub mod Reading
+pub mod Ordered

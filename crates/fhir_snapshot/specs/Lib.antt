@@ -1,0 +1,10 @@
+pub mod Keys
+pub mod Lists
+pub mod Named
+pub mod Elements
+pub mod Sources
+pub mod Node
+pub mod Laying
+pub mod Inheriting
+pub mod Order
+pub mod Listing
