@@ -1,12 +1,13 @@
 -- Elements as they are kept.
-use Rattle.std.proofs.Common.{◌≡◌, ℕ, suc, Bool, cond, true, false, List, [], ◌∷◌, ◌++◌, map, Option, None, Some, refl, ap, sym, ◌∙◌, subst}
+use Rattle.std.proofs.Common.{◌≡◌, ℕ, suc, ◌+◌, Bool, cond, true, false, List, [], ◌∷◌, ◌++◌, map, Option, None, Some, refl, ap, sym, ◌∙◌, subst, arith}
 use Rattle.std.specs.List.{position_from, slice_get}
 use Rattle.std.specs.Option.{option_map, option_and_then}
 use Rattle.std.specs.Str.{bytes_eq}
 use Rattle.std.proofs.lemmas.List.{map-append}
 use Rattle.fhir_json.specs.Tree.{Text}
 use Rattle.fhir_names.specs.Parents.{name_of, sliced_of}
-use Rattle.fhir_names.specs.Places.{Places, Finds}
+use Rattle.fhir_names.specs.Places.{Places, Finds, place_of}
+use Rattle.fhir_definition.specs.Snapshot.{id_place, id_place_from}
 use Rattle.fhir_elements.specs.Element.{Element}
 use Rattle.fhir_snapshot.specs.Named.{Groups, texts_under}
 use Rattle.fhir_snapshot.specs.Elements.{find, is_this, parent_of, IsKept}
@@ -55,3 +56,18 @@ kept-by es e own places more children slices others parts is h found children_ar
     (subst (λ x. Finds more (map (λ (e : Element). e.id) es ++ x ∷ [])) is found)
     (λ id. children_are id ∙ ap (λ (x : Text). texts_under children id ++ cond (is_this id (parent_of x)) (name_of x ∷ []) []) is)
     (λ id. slices_are id ∙ ap (λ (x : Text). texts_under slices id ++ cond (is_this id (sliced_of x)) (x ∷ []) []) is)
+
+-- ---- the first of an id
+
+next_place : (n : ℕ) → suc n ≡ n + 1
+next_place n = omega arith
+
+id-place-from : (n : ℕ) (es : List Element) (id : Text) → id_place_from n es id ≡ position_from (bytes_eq id) n (map (λ e. e.id) es)
+id-place-from n [] id = refl
+id-place-from n (e ∷ es) id =
+    ap (λ (o : Option ℕ). cond (bytes_eq id e.id) (Some n) o)
+    (id-place-from (suc n) es id ∙ ap (λ (k : ℕ). position_from (bytes_eq id) k (map (λ (e : Element). e.id) es)) (next_place n))
+
+-- the place of an id is that under which it is kept
+pub place-is : (es : List Element) (places : Places) (id : Text) → Finds places (map (λ e. e.id) es) → id_place es id ≡ place_of places id
+place-is es places id h = id-place-from 0 es id ∙ sym (h id)

@@ -3,5 +3,6 @@ pub mod Grouped
 pub mod Listed
 pub mod Keeping
 pub mod Paths
-pub mod Reading
+pub mod Sourced
 pub mod Ordered
+pub mod Snapshotting

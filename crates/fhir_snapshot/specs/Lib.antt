@@ -8,3 +8,5 @@ pub mod Laying
 pub mod Inheriting
 pub mod Order
 pub mod Listing
+pub mod Snapshots
+pub mod Chains

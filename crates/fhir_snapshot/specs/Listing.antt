@@ -1,5 +1,5 @@
 -- Words that the contracts of private functions alone cite: what they answer of elements in order.
-use Rattle.std.specs.Prelude.{◌≡◌, List, [], ◌∷◌, ◌++◌, reverse, Bool, true, false, Option, None, Some}
+use Rattle.std.specs.Prelude.{◌≡◌, List, [], ◌∷◌, ◌++◌, reverse, Bool, true, false, Option, Some}
 use Rattle.std.specs.Option.{option_map_or}
 use Rattle.fhir_json.specs.Tree.{Text}
 use Rattle.fhir_elements.specs.Element.{Element}
@@ -8,7 +8,7 @@ use Rattle.fhir_asking.specs.Asking.{Has, known, found}
 use Rattle.fhir_overlay.specs.Overlay.{bounds_fit}
 use Rattle.fhir_snapshot.specs.Node.{Node}
 use Rattle.fhir_snapshot.specs.Inheriting.{asking}
-use Rattle.fhir_snapshot.specs.Order.{IsAt, Lists, under}
+use Rattle.fhir_snapshot.specs.Order.{IsAt, under}
 
 abbrev pub node_fits : Option Node → Bool
 node_fits node = option_map_or (λ n. bounds_fit n.element) node false
@@ -23,10 +23,6 @@ abbrev pub Places : Definitions → Text → Text → List Element → List Elem
 Places p url id listed more left rest true =
     (n : Node) × IsAt p url id n × (bounds_fit n.element ≡ true) × (more ≡ listed ++ n.element ∷ []) × (reverse rest ≡ under id n ++ reverse left)
 Places p url id listed more left rest false = (n : Node) → IsAt p url id n → bounds_fit n.element ≡ true → ⊥
-
-abbrev pub Listed : Definitions → Text → List Text → Option (List Element) → Type 0
-Listed p url ids (Some es) = Lists p url es ids
-Listed p url ids None = (es : List Element) → Lists p url es ids → ⊥
 
 -- whether something is so
 abbrev pub Decides : Bool → Type 0 → Type 0

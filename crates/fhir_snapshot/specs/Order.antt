@@ -49,8 +49,3 @@ roots es = map (λ e. e.id) (filter is_root es)
 abbrev pub IsLaid : Definitions → Text → List Element → List Element → List Element → Type 0
 IsLaid p url base differential es =
     AreThere p url base × AreThere p url differential × Lists p url es (roots base)
-
--- those elements, or none where there are none such
-abbrev pub Laid : Definitions → Text → List Element → List Element → Option (List Element) → Type 0
-Laid p url base differential (Some es) = IsLaid p url base differential es
-Laid p url base differential None = (es : List Element) → IsLaid p url base differential es → ⊥

@@ -1,11 +1,12 @@
 //! Elements of a definition, looked up by what their ids say.
 
-ghost use Rattle.std.specs.Prelude.{◌≡◌, ◌∷◌, ◌++◌, List, [], length, IfOk, OnOk, map, string_bytes, if◌then◌else◌};
+ghost use Rattle.std.specs.Prelude.{◌≡◌, ◌∷◌, ◌++◌, List, [], length, is_none, IfOk, OnOk, map, string_bytes, if◌then◌else◌};
 ghost use Rattle.std.specs.List.{slice_get};
 ghost use Rattle.std.specs.Option.{option_copied, option_map};
 ghost use Rattle.fhir_json.specs.Tree.{Text};
 ghost use Rattle.fhir_names.specs.Parents.{name_of, sliced_of};
 ghost use Rattle.fhir_elements.specs.Element.{Element};
+ghost use Rattle.fhir_definition.specs.Snapshot.{id_place, is_at, ids_differ};
 ghost use Rattle.fhir_snapshot.specs.Named.{texts_under};
 ghost use Rattle.fhir_snapshot.specs.Elements.{find, is_this, parent_of, names_under, slices_under, IsKept};
 
@@ -140,6 +141,28 @@ impl Elements {
         ensures { map string_bytes result.now ≡ slices_under self.now id.now }
     {
         self.slices.get(id)
+    }
+
+    // Whether an element at a place is the first of its id.
+    fn is_first(&self, place: usize, element: &ElementDef) -> bool
+        ensures { result ≡ is_at place (id_place self.now element.now.id) }
+    {
+        match self.ids.get(element.id()) {
+            Some(first) => place == first,
+            None => false,
+        }
+    }
+
+    /// The first element whose id an element before it has.
+    pub(crate) fn repeated(&self) -> Option<&ElementDef>
+        ensures { is_none result ≡ ids_differ self.now }
+    {
+        for (place, element) in self.all.iter().enumerate() {
+            if !self.is_first(place, element) {
+                return Some(element);
+            }
+        }
+        None
     }
 
     /// These elements.

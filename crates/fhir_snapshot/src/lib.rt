@@ -1,29 +1,23 @@
-//! Snapshots of profiles that are written by differential (FHIR R4, Profiling, snapshots): what each element inherits, and
-//! the elements in order.
+//! Snapshots of profiles that are written by differential (FHIR R4, Profiling, snapshots).
 //!
 //! ```
-//! /// The elements of a profile, from those of its base and its differential; none where it has no snapshot.
-//! pub fn elements_of(
-//!     alloc: Global,
-//!     package: &Package<'_>,
-//!     url: &str,
-//!     base: &[ElementDef],
-//!     differential: &[ElementDef],
-//! ) -> Result<Option<Vec<ElementDef>>, NoMemory>
-//!     ensures { IfOk result (λ o. Laid «package».now url.now base.now differential.now (option_map (λ v. v.items) o)) }
+//! /// How many elements the snapshot of a definition has, or why it has none.
+//! pub fn count_of(alloc: Global, package: &Package<'_>, url: &str) -> Result<usize, SnapFault>
+//!     ensures { IfOk result (λ n. (es : List Element) × IsSnapshot «package».now url.now es × (n ≡ length es)) }
 //! {
-//!     let sources = Sources::of(alloc, package)?;
-//!     let mut table = Table::new(alloc);
-//!     elements_by_differential(alloc, &sources, &mut table, url, base, differential)
+//!     let elements = generate(alloc, package, url)?;
+//!     Ok(elements.len())
 //! }
 //! ```
 //!
-//! Read first `specs/Inheriting.antt`: `asking` says what an element is by the other elements that it asks for, and the words
-//! of `fhir_asking` what it then is. Then `specs/Order.antt`: `IsLaid` says which elements a differential makes of those of its base,
-//! and in which order. The contract of [`elements_by_differential`] says that it gives these, and none exactly where there are none.
+//! Read first the contract of [`generate`] and `specs/Snapshots.antt`: which snapshot a definition has, if it has one. Then
+//! `specs/Order.antt`: which elements a differential makes of those of its base, and in which order; and `specs/Inheriting.antt`:
+//! what an element is, by the other elements that it asks for, and by the words of `fhir_asking`.
 #![tactic(auto)]
 
+mod chains;
 mod elements;
+mod fault;
 mod generating;
 mod groups;
 mod inheriting;
@@ -32,9 +26,11 @@ mod laying;
 mod listing;
 mod named;
 mod node;
+mod reading;
 mod sources;
 mod texts;
 
-pub use generating::elements_by_differential;
+pub use fault::SnapFault;
+pub use generating::{elements_by_differential, generate};
 pub use node::NodeDef;
 pub use sources::Sources;

@@ -1,14 +1,17 @@
 //! The elements in order.
 
-ghost use Rattle.std.specs.Prelude.{◌≡◌, ◌∷◌, ◌++◌, ◌<◌, ◌^◌, [], Some, length, map, string_bytes, reverse, IfOk, OnOk};
+ghost use Rattle.std.specs.Prelude.{◌≡◌, ◌∷◌, ◌++◌, ◌<◌, ◌^◌, List, [], Some, false, length, map, string_bytes, reverse, IfOk, IfErr, OnOk};
 ghost use Rattle.std.specs.Option.{option_map};
 ghost use Rattle.fhir_asking.specs.Asking.{Holds, known, found};
 ghost use Rattle.fhir_snapshot.specs.Keys.{child_id};
 ghost use Rattle.fhir_snapshot.specs.Node.{Node};
 ghost use Rattle.fhir_snapshot.specs.Inheriting.{asking};
-ghost use Rattle.fhir_snapshot.specs.Order.{under};
-ghost use Rattle.fhir_snapshot.specs.Listing.{node_fits, IsFine, Places, Listed};
+ghost use Rattle.fhir_elements.specs.Element.{Element};
+ghost use Rattle.fhir_snapshot.specs.Order.{under, Lists};
+ghost use Rattle.fhir_snapshot.specs.Listing.{node_fits, IsFine, Places};
+ghost use Rattle.fhir_snapshot.specs.Snapshots.{is_no_memory};
 
+use crate::fault::SnapFault;
 use crate::keys::{child_id, key};
 use crate::node::NodeDef;
 use crate::sources::Sources;
@@ -164,17 +167,27 @@ fn list_one(
     Ok(true)
 }
 
-/// The elements of ids of the definition of a url, the last one first, and of what stands under them; none where one isn't
-/// there or its bounds don't fit.
+// What is wrong with an id whose element isn't fine.
+fn fault_of(table: &Table<NodeDef>, name: &str, id: String) -> SnapFault {
+    match table.get(name) {
+        Some(Some(_)) => SnapFault::MinOverMax(id),
+        _ => SnapFault::NoElement(id),
+    }
+}
+
+/// The elements of ids of the definition of a url, the last one first, and of what stands under them; a fault where one
+/// isn't there or its bounds don't fit.
 pub(crate) fn list(
     alloc: Global,
     sources: &Sources<'_, '_>,
     table: &mut Table<NodeDef>,
     url: &str,
     left: Vec<String>,
-) -> Result<Option<Vec<ElementDef>>, NoMemory>
+) -> Result<Vec<ElementDef>, SnapFault>
     requires { Holds (asking sources.now) table.old }
-    ensures listed { IfOk result (λ o. Listed sources.now url.now (reverse (map string_bytes left.items)) (option_map (λ v. v.items) o)) }
+    ensures listed { IfOk result (λ v. Lists sources.now url.now v.items (reverse (map string_bytes left.items))) }
+    ensures none { IfErr result (λ f. is_no_memory f ≡ false
+        → (es : List Element) → Lists sources.now url.now es (reverse (map string_bytes left.items)) → ⊥) }
     ensures holds { Holds (asking sources.now) table.new }
 {
     one_answer::<NodeDef>();
@@ -190,8 +203,9 @@ pub(crate) fn list(
             &mut listed,
             &mut left,
         )? {
-            return Ok(None);
+            let name = key(alloc, id.as_str(), url)?;
+            return Err(fault_of(table, name.as_str(), id));
         }
     }
-    Ok(Some(listed))
+    Ok(listed)
 }

@@ -1,18 +1,22 @@
 //! What snapshots are made of.
 
-ghost use Rattle.std.specs.Prelude.{◌≡◌, [], None, Some, is_some, IfOk, OnOk, map, string_bytes, if◌then◌else◌};
+ghost use Rattle.std.specs.Prelude.{◌≡◌, [], None, Some, is_some, false, IfOk, OnOk, map, string_bytes, if◌then◌else◌};
 ghost use Rattle.std.specs.Option.{option_map, option_copied, option_or};
 ghost use Rattle.std.specs.List.{find};
 ghost use Rattle.std.specs.Map.{lookup};
 ghost use Rattle.std.specs.Str.{bytes_eq};
 ghost use Rattle.fhir_json.specs.Tree.{Text};
-ghost use Rattle.fhir_json.specs.Views.{tree_of, trees_of, text_seen};
+ghost use Rattle.fhir_json.specs.Views.{tree_of, trees_of, text_seen, tree_seen};
+ghost use Rattle.fhir_package.specs.declared.kind.Kind.TheVariants.{StructureDefinition};
+ghost use Rattle.fhir_package.specs.Definitions.{at_url};
+ghost use Rattle.fhir_snapshot.specs.Snapshots.{is_no_memory};
 ghost use Rattle.fhir_names.specs.Texts.{cut_at_first};
 ghost use Rattle.fhir_definition.specs.Snapshot.{is_root};
 ghost use Rattle.fhir_elements.specs.Element.{fields_of};
 ghost use Rattle.fhir_snapshot.specs.Sources.{has_elements, brings_snapshot, trees_in, elements_in, is_constraint, canonical_url, base_of, source_of, source_at, root_key, is_type_of, type_key, only_type_key, url_in_front, hash, target_key, written_root_key, keys_seen};
 
 use crate::elements::Elements;
+use crate::fault::SnapFault;
 use crate::keys::key;
 use crate::named::Named;
 use fhir_definition::{is_root, is_type_definition};
@@ -289,6 +293,23 @@ impl<'p, 'a> Sources<'p, 'a> {
             sources,
             types,
         })
+    }
+
+    /// The definition of a url.
+    pub(crate) fn definition(&self, url: &str) -> Option<&'p Json<'a>>
+        ensures { tree_seen result ≡ at_url StructureDefinition url.now self.now }
+    {
+        self.package.at_url(Kind::StructureDefinition, url)
+    }
+
+    /// What is wrong where a definition brings no snapshot and rests on none that is there.
+    pub(crate) fn fault_without_base(&self, url: &str) -> SnapFault
+        ensures { is_no_memory result ≡ false }
+    {
+        match self.definition(url) {
+            Some(definition) if !is_constraint(definition) => SnapFault::NoSnapshot,
+            _ => SnapFault::Missing,
+        }
     }
 
     /// What the definition of a url brings.

@@ -8,8 +8,8 @@ use Rattle.fhir_snapshot.specs.Listing.{Places}
 use Rattle.fhir_snapshot.proofs.Ordered.{nothing_left, last_first, none_so, goes_on, only_so}
 use Rattle.fhir_snapshot.proofs.listing.list.Goals as goal
 
-pub returns-then-not-branch-clause-listed : goal.returns-then-not-branch-clause-listed
-returns-then-not-branch-clause-listed c =
+pub returns-then-not-branch-clause-none : goal.returns-then-not-branch-clause-none
+returns-then-not-branch-clause-none c = λ memory.
     let p = c.args.sources.now in
     let url = c.args.url.now in
     let id = string_bytes c.in-Some.id in

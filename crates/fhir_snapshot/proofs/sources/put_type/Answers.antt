@@ -6,7 +6,7 @@ use Rattle.fhir_json.specs.Tree.{Text}
 use Rattle.fhir_json.specs.Views.{tree_of}
 use Rattle.fhir_definition.specs.Head.{is_type_definition}
 use Rattle.fhir_snapshot.specs.Sources.{keys_seen, written_root_key, is_type_of}
-use Rattle.fhir_snapshot.proofs.Reading.{no-type, known-type, new-type, seen-some, gets-seen}
+use Rattle.fhir_snapshot.proofs.Sourced.{no-type, known-type, new-type, seen-some, gets-seen}
 use Rattle.fhir_snapshot.proofs.sources.put_type.Goals as goal
 
 pub returns-then-not-is_type_definition : goal.returns-then-not-is_type_definition

@@ -5,7 +5,7 @@ use Rattle.std.specs.Option.{option_map, option_or}
 use Rattle.fhir_json.specs.Tree.{Text, Tree}
 use Rattle.fhir_json.specs.Views.{tree_of}
 use Rattle.fhir_snapshot.specs.Sources.{Source, source_of, is_type_of, root_key_in, written_root_key, keys_seen}
-use Rattle.fhir_snapshot.proofs.Reading.{take-some, take-none, source-snoc, root-key-snoc, written-root}
+use Rattle.fhir_snapshot.proofs.Sourced.{take-some, take-none, source-snoc, root-key-snoc, written-root}
 use Rattle.fhir_snapshot.proofs.sources.Sources.of.Goals as goal
 use Rattle.fhir_snapshot.proofs.sources.Sources.of.Goals.{in-Some+in_ok-source+in_ok-put_type+in_ok-put_source, in_default}
 

@@ -2,7 +2,7 @@ use Rattle.std.proofs.Common.{drop}
 use Rattle.fhir_asking.specs.Asking.{Holds}
 use Rattle.fhir_snapshot.specs.Inheriting.{asking}
 use Rattle.fhir_snapshot.specs.Order.{AreThere}
-use Rattle.fhir_snapshot.proofs.generating.are_there.Given as goal
+use Rattle.fhir_snapshot.proofs.generating.missing.Given as goal
 
 abbrev pub invariant-loop-element : goal.invariant-loop-element
 invariant-loop-element l = record {
