@@ -1,0 +1,86 @@
+//! Makes the snapshots of the profiles of `data/package.txt`, of which each line is a file: its name, a blank and its JSON on
+//! one line. For each definition without a snapshot a line is printed: its url, a blank, and the elements as JSON or the
+//! number of the fault. `stdout` has what they are by hand.
+#![tactic(auto)]
+
+use fhir_elements::ElementDef;
+use fhir_json::write;
+use fhir_overlay::element_json;
+use fhir_package::{FolderFile, Kind, MemoryFolder, Package, load};
+use fhir_snapshot::generate;
+use std::alloc::{AllocError, Global};
+use std::{fs, io};
+
+fn file_of(alloc: Global, line: &str) -> Result<FolderFile, AllocError> {
+    let (name, text) = line.split_once(' ').unwrap_or((line, ""));
+    let bytes = Some(text.as_bytes().to_vec(alloc)?);
+    let name = String::from_str(alloc, name)?;
+    Ok(FolderFile { name, bytes })
+}
+
+fn folder_of_lines(alloc: Global, text: &str) -> Result<MemoryFolder, AllocError> {
+    let mut files = Vec::new(alloc);
+    for line in text.lines() {
+        files.push(file_of(alloc, line)?)?;
+    }
+    MemoryFolder::new(alloc, files).map_err(|_| AllocError)
+}
+
+fn text_of_element(alloc: Global, element: &ElementDef) -> Result<String, AllocError> {
+    let Ok(json) = element_json(alloc, element) else {
+        return Err(AllocError);
+    };
+    let Ok(bytes) = write(alloc, &json) else {
+        return Err(AllocError);
+    };
+    String::from_utf8_lossy(alloc, &bytes)?.into_owned(alloc)
+}
+
+fn text_of_elements(alloc: Global, elements: &[ElementDef]) -> Result<String, AllocError> {
+    let mut text = String::from_str(alloc, "[")?;
+    for (place, element) in elements.iter().enumerate() {
+        if place > 0 {
+            text.push_str(",")?;
+        }
+        let element = text_of_element(alloc, element)?;
+        text.push_str(element.as_str())?;
+    }
+    text.push_str("]")?;
+    Ok(text)
+}
+
+fn answer(alloc: Global, package: &Package<'_>, url: &str) -> Result<String, AllocError> {
+    match generate(alloc, package, url) {
+        Ok(elements) => text_of_elements(alloc, &elements),
+        Err(fault) => format!(in alloc; "{fault}"),
+    }
+}
+
+fn brings_snapshot(package: &Package<'_>, url: &str) -> bool {
+    match package.at_url(Kind::StructureDefinition, url) {
+        Some(definition) => definition.field("snapshot").is_some(),
+        None => false,
+    }
+}
+
+fn print_snapshots<R: Print + AllocGlobal + Clone + Drop>(
+    rt: &R,
+    package: &Package<'_>,
+) -> io::Result<()> {
+    for url in package.names(Kind::StructureDefinition) {
+        if !brings_snapshot(package, url) {
+            let told = answer(rt.alloc(), package, url)?;
+            println!(rt; "{url} {told}")?;
+        }
+    }
+    Ok(())
+}
+
+fn main(rt: HostRuntime) -> io::Result<()> {
+    let text = fs::read_to_string(&rt, "package.txt")?;
+    let mut folder = folder_of_lines(rt.alloc(), text.as_str())?;
+    match load(rt.alloc(), &mut folder) {
+        Ok(package) => print_snapshots(&rt, &package),
+        Err(fault) => println!(&rt; "{fault}"),
+    }
+}
