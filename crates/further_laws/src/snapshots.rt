@@ -1,0 +1,43 @@
+//! Snapshots (FHIR R4, Profiling, snapshots).
+
+ghost use Rattle.std.specs.Prelude.{◌≡◌, ◌++◌, List, None, Some, true, false};
+ghost use Rattle.fhir_json.specs.Tree.{Text};
+ghost use Rattle.fhir_json.specs.Bytes.{line_feed};
+ghost use Rattle.fhir_names.specs.Texts.{lacks};
+ghost use Rattle.fhir_names.specs.Parents.{sliced_of};
+ghost use Rattle.fhir_elements.specs.Constraint.{Constraint};
+ghost use Rattle.fhir_elements.specs.Element.{Element};
+ghost use Rattle.fhir_package.specs.Definitions.{Definitions};
+ghost use Rattle.fhir_snapshot.specs.Node.{Node};
+ghost use Rattle.fhir_snapshot.specs.Elements.{find};
+ghost use Rattle.fhir_snapshot.specs.Sources.{Source, source_at};
+ghost use Rattle.fhir_snapshot.specs.Order.{IsAt};
+
+use fhir_asking::{answers_come_of_answers, one_answer};
+use fhir_overlay::constraints_stay;
+use fhir_snapshot::NodeDef;
+
+/// In a profile that is written by differential each element of the base keeps its constraints, behind which others may come
+/// (`constraints`). Where the differential has no element of its id, it is the base's element, but for a slicing (`untouched`).
+pub fn base_elements_stay()
+    ensures constraints { (p : Definitions) (id url base : Text) (s : Source) (n m : Node) → lacks line_feed id ≡ true
+        → source_at p url ≡ Some s → s.written ≡ false → s.base ≡ Some base → IsAt p base id m → IsAt p url id n → m.element.id ≡ id
+        → (added : List Constraint) × (n.element.constraints ≡ m.element.constraints ++ added) }
+    ensures untouched { (p : Definitions) (id url base : Text) (s : Source) (n m : Node) → lacks line_feed id ≡ true
+        → source_at p url ≡ Some s → s.written ≡ false → s.base ≡ Some base → IsAt p base id m → IsAt p url id n → m.element.id ≡ id
+        → find s.elements id ≡ None → n.element ≡ record (m.element) { slicing = n.element.slicing } }
+{
+    one_answer::<NodeDef>();
+    answers_come_of_answers::<NodeDef>();
+    constraints_stay();
+}
+
+/// A slice that the base doesn't have has a `min` of 0, unless the differential says another.
+pub fn new_slices()
+    ensures { (p : Definitions) (id whole url base : Text) (s : Source) (d : Element) (n : Node) → lacks line_feed id ≡ true
+        → source_at p url ≡ Some s → s.written ≡ false → s.base ≡ Some base → ((m : Node) → IsAt p base id m → ⊥) → sliced_of id ≡ Some whole
+        → find s.elements id ≡ Some d → d.min ≡ None → IsAt p url id n → n.element.min ≡ Some 0 }
+{
+    one_answer::<NodeDef>();
+    answers_come_of_answers::<NodeDef>();
+}
