@@ -11,6 +11,8 @@ ghost use Rattle.fhir_conformance.specs.Asks.{kids_asks, asks};
 ghost use Rattle.fhir_conformance.specs.Conformance.{Interpretation, Around, profile_holds, profiles_hold, ask_conforms, conforms};
 ghost use Rattle.further_laws.specs.Children.{slots_hold};
 
+use fhir_schema::roots_are_roots;
+
 /// Of the profiles that a type names the item conforms to one, where there are any.
 pub fn one_of_several_profiles()
     ensures { (s : SchemaValue) (m : Meaning) (roots : NodeRef → Bool) (x : Item) (profiles : List Text)
@@ -30,4 +32,6 @@ pub fn children_by_name()
 pub fn all_asks()
     ensures { (s : SchemaValue) (meaning : Interpretation) (around : Around) (x : Item) (n : NodeRef)
         → conforms s meaning around x n ≡ list_all (ask_conforms s meaning around x) (asks s x n) }
-{}
+{
+    roots_are_roots();
+}

@@ -2,4 +2,4 @@ use Rattle.fhir_validator.proofs.Asking.{conforms_to}
 use Rattle.further_laws.proofs.children.all_asks.Goals as goal
 
 pub returns : goal.returns
-returns c = conforms_to
+returns c = λ s. conforms_to s (c.roots_are_roots.ensures.of_type s) (c.roots_are_roots.ensures.of_canonical s)
