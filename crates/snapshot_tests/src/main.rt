@@ -33,7 +33,7 @@ fn text_of_element(alloc: Global, element: &ElementDef) -> Result<String, AllocE
     let Ok(bytes) = write(alloc, &json) else {
         return Err(AllocError);
     };
-    String::from_utf8_lossy(alloc, &bytes)?.into_owned(alloc)
+    String::from_utf8_lossy(alloc, &bytes)
 }
 
 fn text_of_elements(alloc: Global, elements: &[ElementDef]) -> Result<String, AllocError> {
