@@ -124,9 +124,9 @@ fn roots(alloc: Global, elements: &[ElementDef]) -> Result<Vec<String>, NoMemory
     Ok(ids)
 }
 
-/// The elements that the differential of the definition of a url makes of those of its base, in order (FHIR R4, Profiling,
-/// snapshots). A fault says that there are none such, or that memory ran out. The table keeps what was found on the way.
-pub fn elements_by_differential(
+// The elements that the differential of the definition of a url makes of those of its base, in order (FHIR R4, Profiling,
+// snapshots). A fault says that there are none such, or that memory ran out. The table keeps what was found on the way.
+fn elements_by_differential(
     alloc: Global,
     sources: &Sources<'_, '_>,
     table: &mut Table<NodeDef>,

@@ -31,6 +31,5 @@ mod sources;
 mod texts;
 
 pub use fault::SnapFault;
-pub use generating::{elements_by_differential, generate};
+pub use generating::generate;
 pub use node::NodeDef;
-pub use sources::Sources;

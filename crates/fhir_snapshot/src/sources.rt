@@ -185,7 +185,7 @@ fn cut_at_hash(text: &str) -> Option<(&str, &str)>
 
 /// The definitions of a package, as what snapshots are made of.
 #[derive(Drop)]
-pub struct Sources<'p, 'a> {
+pub(crate) struct Sources<'p, 'a> {
     package: &'p Package<'a>,
     sources: Named<SourceDef>,
     types: Named<String>,
@@ -276,7 +276,7 @@ fn put_source(
 
 impl<'p, 'a> Sources<'p, 'a> {
     /// Reads what the definitions of a package bring.
-    pub fn of(alloc: Global, package: &'p Package<'a>) -> Result<Sources<'p, 'a>, NoMemory>
+    pub(crate) fn of(alloc: Global, package: &'p Package<'a>) -> Result<Sources<'p, 'a>, NoMemory>
         ensures { IfOk result (λ s. s ≡ «package».now) }
     {
         let mut sources = Named::new(alloc);
