@@ -18,6 +18,7 @@ use fhir_json::{Expected, NoMemory, Position, Refusal, position_of, read_or_plac
 use fhir_matching::json_eq_in;
 use std::alloc::{AllocError, Global};
 use std::marker::Model;
+use std::mem;
 
 /// Two different definitions of one kind and url.
 #[derive(Debug, Drop)]
@@ -203,6 +204,14 @@ impl<'f> Survey<'f> {
         ensures { result.now ≡ self.now.definitions }
     {
         &self.package
+    }
+
+    /// Puts another package in place of that one, and gives that one. The faults and the files of the definitions stay.
+    pub fn replace_package(&mut self, other: Package<'f>) -> Package<'f>
+        ensures put { self.new ≡ record self.old { definitions = other.entry } }
+        ensures taken { result ≡ self.old.definitions }
+    {
+        mem::replace(&mut self.package, other)
     }
 
     /// The faults, in the order of the files and within one in that of the text.

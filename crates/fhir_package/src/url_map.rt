@@ -184,7 +184,10 @@ impl<'a> UrlMap<'a> {
         ensures unchanged { OnErr result (self.new ≡ self.old) }
     {
         match self.urls.get(url) {
-            Some(place) => Ok(self.replace(place, tree)),
+            Some(place) => {
+                self.replace(place, tree);
+                Ok(())
+            }
             None => self.push(alloc, url, tree),
         }
     }
