@@ -18,14 +18,17 @@
 //! that is laid over another.
 #![tactic(auto)]
 
+mod completed;
 mod constraints;
 mod copying;
 mod laws;
 mod members;
 mod overlay;
+mod owning;
 mod parts;
 mod writing;
 
+pub use completed::{elements_json, with_snapshot};
 pub use copying::copied;
 pub use laws::{constraints_stay, laid_elements, of_elements, sound_elements, written_back};
 pub use overlay::{as_slice, bounds_fit, laid_over};
