@@ -7,7 +7,7 @@
 //! pub fn has_answer<S: Asks>(alloc: Global, asks: &S, name: &str) -> Result<bool, NoMemory>
 //!     ensures { IfOk result (λ done. OnFalse done (NeedsItself (S.asking asks.now) name.now)) }
 //! {
-//!     let mut table = Table::new(alloc);
+//!     let mut table = fhir_asking::Table::new(alloc);
 //!     settle(alloc, asks, &mut table, name)
 //! }
 //! ```

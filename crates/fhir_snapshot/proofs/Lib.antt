@@ -1,8 +1,7 @@
-pub mod Maps
-pub mod Grouped
-pub mod Listed
-pub mod Keeping
-pub mod Paths
-pub mod Sourced
+pub mod Texts
 pub mod Ordered
 pub mod Snapshotting
+pub mod Refused
+pub mod Known
+pub mod Planned
+pub mod Completed

@@ -11,12 +11,12 @@ use Rattle.fhir_elements.specs.Element.{Element}
 use Rattle.fhir_package.specs.Definitions.{Definitions}
 use Rattle.fhir_asking.specs.Asking.{Asking, wants, found, is_wanting, known, Has, Holds, NeedsItself}
 use Rattle.fhir_overlay.specs.Overlay.{bounds_fit}
-use Rattle.fhir_snapshot.specs.Keys.{key}
-use Rattle.fhir_snapshot.specs.Node.{Node}
-use Rattle.fhir_snapshot.specs.Inheriting.{asking}
+use Rattle.fhir_inheritance.specs.Keys.{key}
+use Rattle.fhir_inheritance.specs.Node.{Node}
+use Rattle.fhir_inheritance.specs.Inheriting.{asking}
 use Rattle.fhir_snapshot.specs.Order.{IsAt, Lists, under, IsThere}
 use Rattle.fhir_snapshot.specs.Listing.{node_fits, IsFine, Decides}
-use Rattle.fhir_snapshot.proofs.Listed.{seen_snoc}
+use Rattle.fhir_snapshot.proofs.Texts.{seen_snoc}
 
 -- no name has two answers
 abbrev pub OneAnswer : Type 0

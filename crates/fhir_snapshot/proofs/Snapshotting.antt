@@ -10,8 +10,8 @@ use Rattle.fhir_package.specs.declared.kind.Kind.TheVariants.{StructureDefinitio
 use Rattle.fhir_package.specs.Definitions.{Definitions, at_url}
 use Rattle.fhir_definition.specs.Snapshot.{ids_differ}
 use Rattle.fhir_asking.specs.Asking.{given, Answer, found, run, once, answer, is_wanting, NeedsItself}
-use Rattle.fhir_snapshot.specs.Node.{Node}
-use Rattle.fhir_snapshot.specs.Sources.{Source, brings_snapshot, elements_in, source_of, source_at, base_of}
+use Rattle.fhir_inheritance.specs.Node.{Node}
+use Rattle.fhir_inheritance.specs.Sources.{Source, brings_snapshot, elements_in, source_of, source_at, base_of}
 use Rattle.fhir_snapshot.specs.Order.{Lists, under, IsLaid}
 use Rattle.fhir_snapshot.specs.Snapshots.{SnapshotIn, IsSnapshot, IsMade, HasNone, brings_elements, is_right}
 use Rattle.fhir_snapshot.specs.Chains.{asks_base, chain_of, ending, Rests, IsWritten, IsChain, Starts}
@@ -22,10 +22,6 @@ use Rattle.fhir_snapshot.proofs.Ordered.{OneAnswer, one_node}
 -- a definition that is there brings what its tree says
 source_is : (p : Definitions) (url : Text) (t : Tree) (s : Source) → at_url StructureDefinition url p ≡ Some t → source_at p url ≡ Some s → s ≡ source_of p t
 source_is p url t s at is = same_Some s (source_of p t) (sym is ∙ ap (option_map (source_of p)) at)
-
-pub not_there : (p : Definitions) (url : Text) → source_at p url ≡ None → HasNone p url
-not_there p url none es (zero, h) = h
-not_there p url none es (suc n, h) = none-some (source_of p h.0) (sym none ∙ ap (option_map (source_of p)) h.1)
 
 -- ---- down a chain
 
@@ -53,16 +49,9 @@ module _ (p : Definitions) where
   none_up (x ∷ y ∷ urls) last url chain starts none =
       subst (HasNone p) starts (none_above x y chain.0 (none_up (y ∷ urls) last y chain.1 refl none))
 
-  no_base_made : (n : ℕ) (url : Text) (t : Tree) (es : List Element) (b : Bool) → b ≡ false → base_of p t ≡ None → IsMade (SnapshotIn n p) p url t b es → ⊥
+  pub no_base_made : (n : ℕ) (url : Text) (t : Tree) (es : List Element) (b : Bool) → b ≡ false → base_of p t ≡ None → IsMade (SnapshotIn n p) p url t b es → ⊥
   no_base_made n url t es true isnt is made = false≢true (sym isnt)
   no_base_made n url t es false isnt is made = none-some made.0 (sym is ∙ made.1)
-
-  -- what brings no snapshot and rests on nothing has none
-  pub no_base : (url : Text) (s : Source) → source_at p url ≡ Some s → s.written ≡ false → s.base ≡ None → HasNone p url
-  no_base url s is isnt none es (zero, h) = h
-  no_base url s is isnt none es (suc n, h) =
-      let same = source_is p url h.0 s h.1 is in
-      no_base_made n url h.0 es (brings_snapshot h.0) (ap (λ (s : Source). s.written) (sym same) ∙ isnt) (ap (λ (s : Source). s.base) (sym same) ∙ none) h.3
 
   -- ---- chains that end
 
@@ -146,9 +135,9 @@ pub if_ok : {A E : Type 0} (P Q : A → Type 0) → ((x : A) → P x → Q x) �
 if_ok P Q f (Ok x) h = f x h
 if_ok P Q f (Err e) h = tt
 
-pub if_err : {A E : Type 0} (P Q : E → Type 0) → ((e : E) → P e → Q e) → (r : Result A E) → IfErr r P → IfErr r Q
-if_err P Q f (Ok x) h = tt
-if_err P Q f (Err e) h = f e h
+pub if_err_both : {A E : Type 0} (P R Q : E → Type 0) → ((e : E) → P e → R e → Q e) → (r : Result A E) → IfErr r P → IfErr r R → IfErr r Q
+if_err_both P R Q f (Ok x) h k = tt
+if_err_both P R Q f (Err e) h k = f e h k
 
 module _ (p : Definitions) (url : Text) (t : Tree) (at : at_url StructureDefinition url p ≡ Some t) where
   pub wrong : is_right t ≡ false → HasNone p url
@@ -156,10 +145,10 @@ module _ (p : Definitions) (url : Text) (t : Tree) (at : at_url StructureDefinit
   wrong isnt es (suc n, h) = false≢true (sym isnt ∙ ap is_right (same_Some t h.0 (sym at ∙ h.1)) ∙ h.2)
 
   module _ (base : Text) (rests : Rests p url base) where
-    unbrought : brings_snapshot t ≡ false
+    pub unbrought : brings_snapshot t ≡ false
     unbrought = ap (λ (s : Source). s.written) (sym (source_is p url t rests.0 at rests.1)) ∙ rests.2
 
-    base_is : base_of p t ≡ Some base
+    pub base_is : base_of p t ≡ Some base
     base_is = ap (λ (s : Source). s.base) (sym (source_is p url t rests.0 at rests.1)) ∙ rests.3
 
     pub elements_are : (s : Source) → source_at p url ≡ Some s → s.elements ≡ elements_in (codes "differential") t
@@ -206,9 +195,3 @@ brought_is p url t s at is written right =
     let whole : is_right t ≡ true =
     ap (λ (b : Bool). cond b (brings_elements (codes "snapshot") t) (brings_elements (codes "differential") t && ids_differ (elements_in (codes "differential") t))) brings ∙ right in
     (1, (t, at, whole, subst (λ b. IsMade (SnapshotIn 0 p) p url t b s.elements) (sym brings) same))
-
-pub brought_none : (p : Definitions) (url : Text) (t : Tree) → at_url StructureDefinition url p ≡ Some t → IsWritten p url → brings_elements (codes "snapshot") t ≡ false → HasNone p url
-brought_none p url t at written isnt =
-    let brings : brings_snapshot t ≡ true = ap (λ (s : Source). s.written) (sym (source_is p url t written.0 at written.1)) ∙ written.2 in
-    wrong p url t at
-    (ap (λ (b : Bool). cond b (brings_elements (codes "snapshot") t) (brings_elements (codes "differential") t && ids_differ (elements_in (codes "differential") t))) brings ∙ isnt)

@@ -5,7 +5,7 @@ use Rattle.fhir_json.specs.Tree.{Text}
 use Rattle.fhir_elements.specs.Element.{Element}
 use Rattle.fhir_package.specs.Definitions.{Definitions}
 use Rattle.fhir_asking.specs.Asking.{Asking, given, asks}
-use Rattle.fhir_snapshot.specs.Sources.{Source, source_at}
+use Rattle.fhir_inheritance.specs.Sources.{Source, source_at}
 use Rattle.fhir_snapshot.specs.Snapshots.{IsSnapshot}
 
 -- whether a chain ends at a snapshot that is brought: that of a definition's base does, if the definition brings none
@@ -26,11 +26,6 @@ Rests p url base = (source : Source) × (source_at p url ≡ Some source) × (so
 -- a definition brings a snapshot
 abbrev pub IsWritten : Definitions → Text → Type 0
 IsWritten p url = (source : Source) × (source_at p url ≡ Some source) × (source.written ≡ true)
-
--- the definition on which one rests, or none where that brings a snapshot
-abbrev pub IsNext : Definitions → Text → Option Text → Type 0
-IsNext p url None = IsWritten p url
-IsNext p url (Some base) = Rests p url base
 
 -- each definition rests on the next
 abbrev pub IsChain : Definitions → List Text → Type 0

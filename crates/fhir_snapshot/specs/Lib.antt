@@ -1,12 +1,9 @@
-pub mod Keys
-pub mod Lists
-pub mod Named
-pub mod Elements
-pub mod Sources
-pub mod Node
-pub mod Laying
-pub mod Inheriting
+pub mod Faults
 pub mod Order
 pub mod Listing
 pub mod Snapshots
 pub mod Chains
+pub mod Refusing
+pub mod Knowing
+pub mod Completing
+pub mod Planning

@@ -6,8 +6,8 @@ use Rattle.fhir_elements.specs.Element.{Element}
 use Rattle.fhir_package.specs.Definitions.{Definitions}
 use Rattle.fhir_asking.specs.Asking.{Has, known, found}
 use Rattle.fhir_overlay.specs.Overlay.{bounds_fit}
-use Rattle.fhir_snapshot.specs.Node.{Node}
-use Rattle.fhir_snapshot.specs.Inheriting.{asking}
+use Rattle.fhir_inheritance.specs.Node.{Node}
+use Rattle.fhir_inheritance.specs.Inheriting.{asking}
 use Rattle.fhir_snapshot.specs.Order.{IsAt, under}
 
 abbrev pub node_fits : Option Node → Bool

@@ -6,9 +6,9 @@ use Rattle.fhir_package.specs.Definitions.{Definitions}
 use Rattle.fhir_definition.specs.Snapshot.{up_of, is_root}
 use Rattle.fhir_asking.specs.Asking.{Has}
 use Rattle.fhir_overlay.specs.Overlay.{bounds_fit}
-use Rattle.fhir_snapshot.specs.Keys.{key, child_id}
-use Rattle.fhir_snapshot.specs.Node.{Node}
-use Rattle.fhir_snapshot.specs.Inheriting.{asking}
+use Rattle.fhir_inheritance.specs.Keys.{key, child_id}
+use Rattle.fhir_inheritance.specs.Node.{Node}
+use Rattle.fhir_inheritance.specs.Inheriting.{asking}
 
 -- the element of an id in the definition of a url
 abbrev pub IsAt : Definitions → Text → Text → Node → Type 0

@@ -11,7 +11,7 @@ use Rattle.fhir_package.specs.Definitions.{Definitions, at_url}
 use Rattle.fhir_definition.specs.Snapshot.{ids_differ}
 use Rattle.fhir_snapshot.specs.declared.fault.SnapFault.{SnapFault}
 use Rattle.fhir_snapshot.specs.declared.fault.SnapFault.TheVariants as faults
-use Rattle.fhir_snapshot.specs.Sources.{brings_snapshot, trees_in, elements_in, base_of}
+use Rattle.fhir_inheritance.specs.Sources.{brings_snapshot, trees_in, elements_in, base_of}
 use Rattle.fhir_snapshot.specs.Order.{IsLaid}
 
 -- ---- what a definition brings

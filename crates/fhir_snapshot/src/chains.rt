@@ -1,14 +1,17 @@
 //! Chains of bases: from a definition to the snapshot on which it rests.
 
-ghost use Rattle.std.specs.Prelude.{◌≡◌, ◌∷◌, ◌++◌, [], false, map, string_bytes, option_map, IfOk, IfErr};
+ghost use Rattle.std.specs.Prelude.{◌≡◌, false, None, Some, IfOk};
 ghost use Rattle.fhir_asking.specs.Asking.{run, known};
 ghost use Rattle.fhir_asking.specs.Steps.{step_seen};
-ghost use Rattle.fhir_snapshot.specs.Snapshots.{HasNone, is_no_memory};
-ghost use Rattle.fhir_snapshot.specs.Chains.{chain_of, ending, IsNext, IsChain, Starts, IsWritten};
+ghost use Rattle.fhir_inheritance.specs.Sources.{Source, source_at};
+ghost use Rattle.fhir_snapshot.specs.Faults.{number_of};
+ghost use Rattle.fhir_snapshot.specs.Chains.{chain_of, ending};
+ghost use Rattle.fhir_snapshot.specs.Refusing.{HasOwn};
+ghost use Rattle.fhir_snapshot.specs.Knowing.{IsGround};
 
 use crate::fault::SnapFault;
-use crate::sources::{SourceDef, Sources};
 use fhir_asking::{Asks, Step, Table};
+use fhir_inheritance::{SourceDef, Sources, is_constraint};
 use fhir_json::NoMemory;
 use std::alloc::Global;
 use std::marker::Model;
@@ -73,40 +76,44 @@ impl<'s, 'p, 'a> Asks for Chains<'s, 'p, 'a> {
     }
 }
 
-// The url of the definition on which one rests; none where that brings a snapshot.
-fn next(alloc: Global, sources: &Sources<'_, '_>, url: &str) -> Result<Option<String>, SnapFault>
-    ensures next { IfOk result (λ base. IsNext sources.now url.now (option_map string_bytes base)) }
-    ensures none { IfErr result (λ f. is_no_memory f ≡ false → HasNone sources.now url.now) }
+/// What the snapshot of a definition is made of.
+#[derive(Drop)]
+pub(crate) enum Ground {
+    /// That of the definition of this url, on which it rests.
+    Base(String),
+    /// The definition brings it.
+    Own,
+    /// There is none, for this fault.
+    Nothing(SnapFault),
+}
+
+// What is wrong where a definition brings no snapshot and rests on none that is there.
+fn fault_without_base(sources: &Sources<'_, '_>, url: &str) -> SnapFault
+    ensures { (source : Source) → source_at sources.now url.now ≡ Some source → source.written ≡ false → source.base ≡ None
+        → HasOwn sources.now url.now (number_of result) }
 {
-    let Some(source) = sources.get(url) else {
-        return Err(SnapFault::Missing);
-    };
-    if source.is_written() {
-        return Ok(None);
-    }
-    match source.base() {
-        Some(base) => Ok(Some(String::from_str(alloc, base)?)),
-        None => Err(sources.fault_without_base(url)),
+    match sources.definition(url) {
+        Some(definition) if !is_constraint(definition) => SnapFault::NoSnapshot,
+        _ => SnapFault::Missing,
     }
 }
 
-/// The definitions from that of a url down to one that brings a snapshot, each of which rests on the next; the last one by
-/// itself.
-pub(crate) fn chain(
+/// What the snapshot of the definition of a url is made of.
+pub(crate) fn ground_of(
     alloc: Global,
     sources: &Sources<'_, '_>,
     url: &str,
-) -> Result<(Vec<String>, String), SnapFault>
-    ensures chain { IfOk result (λ r. IsChain sources.now (map string_bytes r.0.items ++ string_bytes r.1 ∷ [])) }
-    ensures starts { IfOk result (λ r. Starts url.now (map string_bytes r.0.items ++ string_bytes r.1 ∷ [])) }
-    ensures written { IfOk result (λ r. IsWritten sources.now (string_bytes r.1)) }
-    ensures none { IfErr result (λ f. is_no_memory f ≡ false → HasNone sources.now url.now) }
+) -> Result<Ground, NoMemory>
+    ensures { IfOk result (λ g. IsGround sources.now url.now g) }
 {
-    let mut urls = Vec::new(alloc);
-    let mut last = String::from_str(alloc, url)?;
-    while let Some(base) = next(alloc, sources, last.as_str())? {
-        urls.push(last)?;
-        last = base;
+    let Some(source) = sources.get(url) else {
+        return Ok(Ground::Nothing(SnapFault::Missing));
+    };
+    if source.is_written() {
+        return Ok(Ground::Own);
     }
-    Ok((urls, last))
+    match source.base() {
+        Some(base) => Ok(Ground::Base(String::from_str(alloc, base)?)),
+        None => Ok(Ground::Nothing(fault_without_base(sources, url))),
+    }
 }

@@ -2,7 +2,7 @@
 //!
 //! ```
 //! /// How many elements the snapshot of a definition has, or why it has none.
-//! pub fn count_of(alloc: Global, package: &Package<'_>, url: &str) -> Result<usize, SnapFault>
+//! pub fn element_count(alloc: Global, package: &Package<'_>, url: &str) -> Result<usize, SnapFault>
 //!     ensures { IfOk result (λ n. (es : List Element) × IsSnapshot «package».now url.now es × (n ≡ length es)) }
 //! {
 //!     let elements = generate(alloc, package, url)?;
@@ -10,26 +10,24 @@
 //! }
 //! ```
 //!
-//! Read first the contract of [`generate`] and `specs/Snapshots.antt`: which snapshot a definition has, if it has one. Then
-//! `specs/Order.antt`: which elements a differential makes of those of its base, and in which order; and `specs/Inheriting.antt`:
-//! what an element is, by the other elements that it asks for, and by the words of `fhir_asking`.
+//! Read first the contract of [`generate`] and `specs/Snapshots.antt`: which snapshot a definition has, if it has one; and that of
+//! [`complete`], which gives each definition of a package the one that it has (`specs/Completing.antt`). Then
+//! `specs/Order.antt`: which elements a differential makes of those of its base, and in which order. What each element is stands
+//! in `fhir_inheritance`.
 #![tactic(auto)]
 
 mod chains;
-mod elements;
+mod completing;
 mod fault;
 mod generating;
-mod groups;
-mod inheriting;
-mod keys;
-mod laying;
+mod knowing;
+mod laws;
 mod listing;
-mod named;
-mod node;
+mod making;
+mod outcome;
 mod reading;
-mod sources;
-mod texts;
 
-pub use fault::SnapFault;
+pub use completing::complete;
+pub use fault::{SnapFault, SnapNumber};
 pub use generating::generate;
-pub use node::NodeDef;
+pub use laws::{numbers_apply, one_completion};

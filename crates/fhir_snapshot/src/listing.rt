@@ -3,20 +3,20 @@
 ghost use Rattle.std.specs.Prelude.{◌≡◌, ◌∷◌, ◌++◌, ◌<◌, ◌^◌, List, [], Some, false, length, map, string_bytes, reverse, IfOk, IfErr, OnOk};
 ghost use Rattle.std.specs.Option.{option_map};
 ghost use Rattle.fhir_asking.specs.Asking.{Holds, known, found};
-ghost use Rattle.fhir_snapshot.specs.Keys.{child_id};
-ghost use Rattle.fhir_snapshot.specs.Node.{Node};
-ghost use Rattle.fhir_snapshot.specs.Inheriting.{asking};
+ghost use Rattle.fhir_inheritance.specs.Keys.{child_id};
+ghost use Rattle.fhir_inheritance.specs.Node.{Node};
+ghost use Rattle.fhir_inheritance.specs.Inheriting.{asking};
 ghost use Rattle.fhir_elements.specs.Element.{Element};
 ghost use Rattle.fhir_snapshot.specs.Order.{under, Lists};
 ghost use Rattle.fhir_snapshot.specs.Listing.{node_fits, IsFine, Places};
+ghost use Rattle.fhir_snapshot.specs.declared.fault.SnapNumber.TheVariants.{S3};
+ghost use Rattle.fhir_snapshot.specs.Faults.{number_of};
 ghost use Rattle.fhir_snapshot.specs.Snapshots.{is_no_memory};
 
 use crate::fault::SnapFault;
-use crate::keys::{child_id, key};
-use crate::node::NodeDef;
-use crate::sources::Sources;
 use fhir_asking::{Table, one_answer, settle};
 use fhir_elements::ElementDef;
+use fhir_inheritance::{NodeDef, Sources, child_id, key};
 use fhir_json::NoMemory;
 use fhir_overlay::{bounds_fit, copied};
 use std::alloc::Global;
@@ -168,7 +168,9 @@ fn list_one(
 }
 
 // What is wrong with an id whose element isn't fine.
-fn fault_of(table: &Table<NodeDef>, name: &str, id: String) -> SnapFault {
+fn fault_of(table: &Table<NodeDef>, name: &str, id: String) -> SnapFault
+    ensures { number_of result ≡ S3 }
+{
     match table.get(name) {
         Some(Some(_)) => SnapFault::MinOverMax(id),
         _ => SnapFault::NoElement(id),
@@ -188,6 +190,7 @@ pub(crate) fn list(
     ensures listed { IfOk result (λ v. Lists sources.now url.now v.items (reverse (map string_bytes left.items))) }
     ensures none { IfErr result (λ f. is_no_memory f ≡ false
         → (es : List Element) → Lists sources.now url.now es (reverse (map string_bytes left.items)) → ⊥) }
+    ensures number { IfErr result (λ f. is_no_memory f ≡ false → number_of f ≡ S3) }
     ensures holds { Holds (asking sources.now) table.new }
 {
     one_answer::<NodeDef>();

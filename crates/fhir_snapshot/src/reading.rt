@@ -1,16 +1,18 @@
 //! What is wrong with what a definition brings.
 
-ghost use Rattle.std.specs.Prelude.{◌≡◌, ◌&&◌, IfOk, is_none, codes};
+ghost use Rattle.std.specs.Prelude.{◌≡◌, ◌&&◌, IfOk, IfSome, is_none, codes};
 ghost use Rattle.std.specs.List.{list_all};
 ghost use Rattle.fhir_json.specs.Views.{tree_of, trees_of};
 ghost use Rattle.fhir_elements.specs.Element.{element_fault};
 ghost use Rattle.fhir_definition.specs.Snapshot.{ids_differ};
+ghost use Rattle.fhir_snapshot.specs.declared.fault.SnapNumber.TheVariants.{S3, S4};
+ghost use Rattle.fhir_snapshot.specs.Faults.{number_of};
 ghost use Rattle.fhir_snapshot.specs.Snapshots.{has_right_part, brings_elements};
+ghost use Rattle.fhir_snapshot.specs.Knowing.{IsDraftFault};
 
-use crate::elements::Elements;
 use crate::fault::SnapFault;
-use crate::sources::trees_in;
 use fhir_elements::element_cause;
+use fhir_inheritance::{Elements, trees_in};
 use fhir_json::{Json, NoMemory};
 use std::alloc::Global;
 
@@ -44,7 +46,8 @@ fn fault_in_part(
     part: &str,
     definition: &Json<'_>,
 ) -> Result<Option<SnapFault>, NoMemory>
-    ensures { IfOk result (λ f. is_none f ≡ brings_elements part.now (tree_of definition.now)) }
+    ensures none { IfOk result (λ f. is_none f ≡ brings_elements part.now (tree_of definition.now)) }
+    ensures number { IfOk result (λ f. IfSome f (λ f. number_of f ≡ S3)) }
 {
     if !has_right_part(part, definition) {
         return Ok(Some(SnapFault::WrongPart));
@@ -60,7 +63,8 @@ fn fault_in_part(
 
 // An id that stands twice in a differential.
 fn repeated(alloc: Global, elements: &Elements) -> Result<Option<SnapFault>, NoMemory>
-    ensures { IfOk result (λ f. is_none f ≡ ids_differ elements.now) }
+    ensures none { IfOk result (λ f. is_none f ≡ ids_differ elements.now) }
+    ensures number { IfOk result (λ f. IfSome f (λ f. number_of f ≡ S4)) }
 {
     match elements.repeated() {
         Some(element) => {
@@ -76,7 +80,8 @@ pub(crate) fn fault_of_snapshot(
     alloc: Global,
     definition: &Json<'_>,
 ) -> Result<Option<SnapFault>, NoMemory>
-    ensures { IfOk result (λ f. is_none f ≡ brings_elements (codes "snapshot") (tree_of definition.now)) }
+    ensures none { IfOk result (λ f. is_none f ≡ brings_elements (codes "snapshot") (tree_of definition.now)) }
+    ensures number { IfOk result (λ f. IfSome f (λ f. number_of f ≡ S3)) }
 {
     fault_in_part(alloc, "snapshot", definition)
 }
@@ -87,7 +92,8 @@ pub(crate) fn fault_of_differential(
     definition: &Json<'_>,
     elements: &Elements,
 ) -> Result<Option<SnapFault>, NoMemory>
-    ensures { IfOk result (λ f. is_none f ≡ (brings_elements (codes "differential") (tree_of definition.now) && ids_differ elements.now)) }
+    ensures none { IfOk result (λ f. is_none f ≡ (brings_elements (codes "differential") (tree_of definition.now) && ids_differ elements.now)) }
+    ensures number { IfOk result (λ f. IfSome f (λ f. IsDraftFault (tree_of definition.now) elements.now (number_of f))) }
 {
     match fault_in_part(alloc, "differential", definition)? {
         Some(fault) => Ok(Some(fault)),

@@ -2,7 +2,7 @@ use Rattle.std.proofs.Common.{◌≡◌, ◌++◌, [], List, map, string_bytes, 
 use Rattle.std.proofs.lemmas.List.{append-nil}
 use Rattle.fhir_elements.specs.Element.{Element}
 use Rattle.fhir_overlay.specs.Overlay.{bounds_fit}
-use Rattle.fhir_snapshot.specs.Node.{Node}
+use Rattle.fhir_inheritance.specs.Node.{Node}
 use Rattle.fhir_snapshot.specs.Order.{IsAt, Lists}
 use Rattle.fhir_snapshot.specs.Listing.{Places}
 use Rattle.fhir_snapshot.proofs.Ordered.{nothing_left, last_first, none_so, goes_on, only_so}

@@ -1,7 +1,7 @@
 use Rattle.std.proofs.Common.{◌≡◌, ◌++◌, ◌-◌, ◌^◌, List, length, map, string_bytes, reverse}
 use Rattle.fhir_asking.specs.Asking.{Holds}
 use Rattle.fhir_elements.specs.Element.{Element}
-use Rattle.fhir_snapshot.specs.Inheriting.{asking}
+use Rattle.fhir_inheritance.specs.Inheriting.{asking}
 use Rattle.fhir_snapshot.specs.Order.{Lists}
 use Rattle.fhir_snapshot.proofs.listing.list.Given as goal
 

@@ -1,5 +1,5 @@
 use Rattle.std.proofs.Common.{◌≡◌, ◌++◌, map, take, string_bytes}
-use Rattle.fhir_snapshot.specs.Keys.{child_id}
+use Rattle.fhir_inheritance.specs.Keys.{child_id}
 use Rattle.fhir_snapshot.proofs.listing.put_children.Given as goal
 
 abbrev pub invariant-loop-name : goal.invariant-loop-name
