@@ -28,4 +28,4 @@ mod unread;
 pub use collecting::findings;
 pub use counting::{Counts, counts_of};
 pub use finding::{Finding, UnreadRule, Unusable, has_faults};
-pub use laws::{all_usable, clean_files};
+pub use laws::all_usable;

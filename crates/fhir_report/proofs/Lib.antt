@@ -1,4 +1,5 @@
 -- Lemmas on reports.
+pub mod Placing
 pub mod Saying
 pub mod Shown
 pub mod Told

@@ -16,6 +16,7 @@ use Rattle.fhir_certificate.specs.declared.pair.Pair.{Pair}
 use Rattle.fhir_cert_check.specs.Rule.{RuleName}
 use Rattle.fhir_report.specs.Report.{Head, head, fault_head, unusable_head, is_of_file, is_unusable, kept, all_told, IsOfCertificate, TellsAnswer, pair_text}
 use Rattle.fhir_report.specs.Growing.{Grows}
+use Rattle.fhir_report.specs.Lacking.{Lacking}
 
 -- ---- of several
 
@@ -48,25 +49,27 @@ flat_more view f xs i x less is =
     (ap (λ (ys : List _). flat_map f (take i xs) ++ ys) (sym (append-nil (f x))) ∙ sym (flat_map-append f (take i xs) (x ∷ []))
     ∙ ap (flat_map f) (ap (λ (y : _). take i xs ++ y ∷ []) is ∙ sym (take_more xs i x less)))
 
--- a line tells one finding more
-pub next : (a b : List Line) (found : List Finding) (i : ℕ) (x : Finding) → i < length found → x ≡ get_or found i x
-    → Grows [] a (map fault_head (faults_told (take i found))) (map unusable_head (unusable_each (take i found)))
-    → Grows a b (map fault_head (fault_told x)) (map unusable_head (unusable_told x))
-    → Grows [] b (map fault_head (faults_told (take (i + 1) found))) (map unusable_head (unusable_each (take (i + 1) found)))
-next a b found i x less is before line =
-    let f = map fault_head (faults_told (take i found)) in
-    let d = map unusable_head (unusable_each (take i found)) in
-    let g = map fault_head (fault_told x) in
-    let e = map unusable_head (unusable_told x) in
-    grows_of [] b (f ++ g) (d ++ e) (map fault_head (faults_told (take (i + 1) found))) (map unusable_head (unusable_each (take (i + 1) found)))
-    (flat_more fault_head fault_told found i x less is) (flat_more unusable_head unusable_told found i x less is)
-    (then [] a b f d g e before line)
+module _ (lacking : Lacking) where
+  -- a line tells one finding more
+  pub next : (a b : List Line) (found : List Finding) (i : ℕ) (x : Finding) → i < length found → x ≡ get_or found i x
+      → Grows [] a (map fault_head (faults_told (take i found))) (map (unusable_head lacking) (unusable_each (take i found)))
+      → Grows a b (map fault_head (fault_told x)) (map (unusable_head lacking) (unusable_told x))
+      → Grows [] b (map fault_head (faults_told (take (i + 1) found))) (map (unusable_head lacking) (unusable_each (take (i + 1) found)))
+  next a b found i x less is before line =
+      let f = map fault_head (faults_told (take i found)) in
+      let d = map (unusable_head lacking) (unusable_each (take i found)) in
+      let g = map fault_head (fault_told x) in
+      let e = map (unusable_head lacking) (unusable_told x) in
+      grows_of [] b (f ++ g) (d ++ e) (map fault_head (faults_told (take (i + 1) found))) (map (unusable_head lacking) (unusable_each (take (i + 1) found)))
+      (flat_more fault_head fault_told found i x less is) (flat_more (unusable_head lacking) unusable_told found i x less is)
+      (then [] a b f d g e before line)
 
--- all are told
-pub last : (a : List Line) (found : List Finding) (i : ℕ) → length found ≤ i
-    → Grows [] a (map fault_head (faults_told (take i found))) (map unusable_head (unusable_each (take i found)))
-    → Grows [] a (map fault_head (faults_told found)) (map unusable_head (unusable_each found))
-last a found i all before = subst (λ (fs : List Finding). Grows [] a (map fault_head (faults_told fs)) (map unusable_head (unusable_each fs))) (take_all i found all) before
+  -- all are told
+  pub last : (a : List Line) (found : List Finding) (i : ℕ) → length found ≤ i
+      → Grows [] a (map fault_head (faults_told (take i found))) (map (unusable_head lacking) (unusable_each (take i found)))
+      → Grows [] a (map fault_head (faults_told found)) (map (unusable_head lacking) (unusable_each found))
+  last a found i all before =
+      subst (λ (fs : List Finding). Grows [] a (map fault_head (faults_told fs)) (map (unusable_head lacking) (unusable_each fs))) (take_all i found all) before
 
 -- ---- rows
 

@@ -4,6 +4,7 @@ use Rattle.fhir_json.specs.Tree.{Text}
 use Rattle.fhir_package.specs.Definitions.{Definitions}
 use Rattle.fhir_package.specs.ReadFiles.{ReadFiles, pack_given}
 use Rattle.fhir_package.specs.Surveying.{Surveyed, survey}
+use Rattle.fhir_snapshot.specs.Completing.{Numbered, IsCompletion, Completes}
 use Rattle.fhir_schema.specs.Schemas.{SchemaValue, schema_of}
 use Rattle.fhir_certificate.specs.Format.{Written, Spells}
 use Rattle.fhir_certificate.specs.Reading.{reading}
@@ -41,18 +42,25 @@ IsRightBy s sv certificate = (sv.faults ≡ []) × (all_unusable s sv ≡ []) ×
 
 -- ---- the same of files
 
--- a survey of files, and the schema of its package
-abbrev pub AreOf : ReadFiles → Surveyed → SchemaValue → Type 0
-AreOf files sv s = (sv ≡ survey files) × (s ≡ schema_of sv.definitions)
+-- a survey of files whose package is completed, and the schema of that
+pub record AreOf (files : ReadFiles) (sv : Surveyed) (s : SchemaValue) : Type 0 where
+  pub faults : Numbered
+  pub completed : IsCompletion (survey files).definitions sv.definitions faults
+  pub survey_is : sv ≡ record (survey files) { definitions = sv.definitions }
+  pub schema_is : s ≡ schema_of sv.definitions
 
--- The files were all given and are a package, each of its definitions can be used, and the certificate, if there is one, is right.
+-- The files were all given and are a package. Of that package completed, each definition can be used, and the certificate, if there is
+-- one, is right.
 abbrev pub IsFaultless : ReadFiles → Option CertificateValue → Type 0
 IsFaultless files certificate =
-    (p : Definitions) × (pack_given files ≡ Some (Ok p)) × AreUsable (schema_of p) × IsRightIfAny (schema_of p) certificate
+    (p : Definitions) × (completed : Definitions) × (pack_given files ≡ Some (Ok p)) × Completes p completed
+    × AreUsable (schema_of completed) × IsRightIfAny (schema_of completed) certificate
 
 -- what that promises
 abbrev pub IsPromised : ReadFiles → Option CertificateValue → Type 0
-IsPromised files certificate = (p : Definitions) × (pack_given files ≡ Some (Ok p)) × PromisesIfAny (schema_of p) certificate
+IsPromised files certificate =
+    (p : Definitions) × (completed : Definitions) × (pack_given files ≡ Some (Ok p)) × Completes p completed
+    × PromisesIfAny (schema_of completed) certificate
 
 -- ---- what contracts see
 

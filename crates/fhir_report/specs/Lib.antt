@@ -1,3 +1,4 @@
+pub mod Lacking
 pub mod Faultless
 pub mod Lines
 pub mod Report

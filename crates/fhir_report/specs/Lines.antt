@@ -7,10 +7,11 @@ use Rattle.fhir_json.specs.Tree.{Text, Tree, string, number, object, members_of,
 use Rattle.fhir_json.specs.Compact.{compact}
 use Rattle.fhir_json.specs.Faults.{fault_number}
 use Rattle.fhir_elements.specs.Numbers.{reason_number}
+use Rattle.fhir_snapshot.specs.Faults.{number_text as snapshot_number}
 use Rattle.fhir_certificate.specs.Faults.{cert_number}
 use Rattle.fhir_report.specs.declared.line.Line.{Line}
 use Rattle.fhir_report.specs.declared.line.FaultNumber.{FaultNumber}
-use Rattle.fhir_report.specs.declared.line.FaultNumber.TheVariants.{Unreadable, Clash, Json, Unusable, Certificate}
+use Rattle.fhir_report.specs.declared.line.FaultNumber.TheVariants.{Unreadable, Clash, Json, Unusable, Snapshot, Certificate}
 use Rattle.fhir_report.specs.declared.writing.Format.{Format}
 use Rattle.fhir_report.specs.declared.writing.Format.TheVariants.{Text as AsText, Json as AsJson}
 
@@ -38,6 +39,7 @@ number_text Unreadable = codes "P1"
 number_text Clash = codes "P3"
 number_text (Json fault) = fault_number fault
 number_text (Unusable reason) = reason_number reason
+number_text (Snapshot n) = snapshot_number n
 number_text (Certificate fault) = cert_number fault
 
 -- what is there

@@ -1,12 +1,13 @@
 -- What a report says.
 use Rattle.std.specs.Prelude.{◌≡◌, ℕ, length, List, [], ◌∷◌, ◌++◌, map, flat_map, Bool, true, false, Option, None, Some, Result, Ok, Err, if◌then◌else◌, codes, All}
 use Rattle.std.specs.Option.{option_map_or}
+use Rattle.std.specs.Map.{lookup}
+use Rattle.std.specs.Str.{bytes_eq}
 use Rattle.fhir_json.specs.Tree.{Text}
 use Rattle.fhir_json.specs.Refusals.{fault_of}
-use Rattle.fhir_package.specs.ReadFiles.{ReadFiles}
-use Rattle.fhir_package.specs.Surveying.{FileFault, unreadable, not_json, clash, Surveyed, survey}
+use Rattle.fhir_package.specs.Surveying.{FileFault, unreadable, not_json, clash, Surveyed}
 use Rattle.fhir_nodes.specs.declared.node.NodeRef.{NodeRef}
-use Rattle.fhir_schema.specs.Schemas.{SchemaValue, schema_of, url_at, id_of_node}
+use Rattle.fhir_schema.specs.Schemas.{SchemaValue, url_at, id_of_node}
 use Rattle.fhir_certificate.specs.declared.fault.CertFault.{CertFault}
 use Rattle.fhir_certificate.specs.declared.pair.Pair.{Pair}
 use Rattle.fhir_certificate.specs.declared.pair.Pair.TheVariants.{Item, Kids}
@@ -19,9 +20,11 @@ use Rattle.fhir_findings.specs.declared.finding.Finding.TheVariants.{File as Fil
 use Rattle.fhir_findings.specs.Counting.{counts, counts_text}
 use Rattle.fhir_findings.specs.Finding.{UnusableValue, all_unusable}
 use Rattle.fhir_report.specs.declared.line.FaultNumber.{FaultNumber}
-use Rattle.fhir_report.specs.declared.line.FaultNumber.TheVariants.{Unreadable, Clash, Json, Unusable, Certificate}
+use Rattle.fhir_snapshot.specs.Faults.{number_of}
+use Rattle.fhir_report.specs.declared.line.FaultNumber.TheVariants.{Unreadable, Clash, Json, Unusable, Snapshot, Certificate}
 use Rattle.fhir_report.specs.declared.writing.Format.{Format}
 use Rattle.fhir_report.specs.Faultless.{CertificateValue}
+use Rattle.fhir_report.specs.Lacking.{Lacking}
 use Rattle.fhir_report.specs.Lines.{LineValue, text_line, file_line, rows}
 
 -- ---- what was found
@@ -44,9 +47,17 @@ fault_head (not_json file expected position) =
     record { file = Some file; line = Some position.line; column = Some position.column; number = Some (Json (fault_of expected)); url = None }
 fault_head (clash kind url file first) = record { file = Some file; line = None; column = None; number = Some Clash; url = Some url }
 
--- of a definition that can't be used
-abbrev pub unusable_head : UnusableValue → Head
-unusable_head u = record { file = Some u.0; line = None; column = None; number = Some (Unusable u.2); url = Some u.1 }
+-- The number of a definition that can't be used: that of the fault for which it has no snapshot, where the snapshots that the
+-- package lacks are these; else that of the reason.
+abbrev pub unusable_number : Lacking → UnusableValue → FaultNumber
+unusable_number lacking u = option_map_or (λ fault. Snapshot (number_of fault)) (lookup (bytes_eq u.1) lacking) (Unusable u.2)
+
+-- of a definition that can't be used, told with a number
+abbrev pub numbered_head : FaultNumber → UnusableValue → Head
+numbered_head number u = record { file = Some u.0; line = None; column = None; number = Some number; url = Some u.1 }
+
+abbrev pub unusable_head : Lacking → UnusableValue → Head
+unusable_head lacking u = numbered_head (unusable_number lacking u) u
 
 -- ---- the lines of each kind, by their numbers
 
@@ -58,6 +69,7 @@ is_of_file _ = false
 
 abbrev pub is_unusable : FaultNumber → Bool
 is_unusable (Unusable reason) = true
+is_unusable (Snapshot n) = true
 is_unusable _ = false
 
 abbrev pub kept : (FaultNumber → Bool) → Head → List Head
@@ -68,15 +80,15 @@ abbrev pub all_told : (FaultNumber → Bool) → List LineValue → List Head
 all_told is ls = flat_map (λ l. kept is (head l)) ls
 
 -- The lines tell each fault of a file and each definition that can't be used, once and in their order, and no other.
-pub record TellsFindings (s : SchemaValue) (survey : Surveyed) (ls : List LineValue) : Type 0 where
+pub record TellsFindings (s : SchemaValue) (survey : Surveyed) (lacking : Lacking) (ls : List LineValue) : Type 0 where
   pub of_faults : all_told is_of_file ls ≡ map fault_head survey.faults
-  pub of_unusable : all_told is_unusable ls ≡ map unusable_head (all_unusable s survey)
+  pub of_unusable : all_told is_unusable ls ≡ map (unusable_head lacking) (all_unusable s survey)
 
 -- A line tells a finding: of an unread rule it has no number, and the element's id.
-abbrev pub TellsFinding : Finding → LineValue → Type 0
-TellsFinding (FileOne fault) l = head l ≡ fault_head (fault_seen fault.now)
-TellsFinding (UnusableOne u) l = head l ≡ unusable_head (u.file.now, u.url.now, u.reason)
-TellsFinding (UnreadOne u) l =
+abbrev pub TellsFinding : Lacking → Finding → LineValue → Type 0
+TellsFinding lacking (FileOne fault) l = head l ≡ fault_head (fault_seen fault.now)
+TellsFinding lacking (UnusableOne u) l = head l ≡ unusable_head lacking (u.file.now, u.url.now, u.reason)
+TellsFinding lacking (UnreadOne u) l =
     (head l ≡ record { file = Some u.file.now; line = None; column = None; number = None; url = Some u.url.now }) × (l.id ≡ Some u.id.now)
 
 -- ---- what is told of a certificate
@@ -120,14 +132,9 @@ TellsCertificate s (Some c) ls = TellsAnswer s c.0 (answer_of (reading s c.1) s)
 -- ---- a report
 
 -- The text has a row for each finding, then those on the certificate, and a last one with the counts of a package of so many files.
-pub record IsReport (format : Format) (files : ℕ) (s : SchemaValue) (survey : Surveyed) (certificate : Option CertificateValue) (text : Text) : Type 0 where
+pub record IsReport (format : Format) (files : ℕ) (s : SchemaValue) (survey : Surveyed) (lacking : Lacking) (certificate : Option CertificateValue) (text : Text) : Type 0 where
   pub found : List LineValue
   pub judged : List LineValue
   pub written : text ≡ rows format (found ++ judged ++ text_line (counts_text (counts files survey s)) ∷ [])
-  pub tells_findings : TellsFindings s survey found
+  pub tells_findings : TellsFindings s survey lacking found
   pub tells_certificate : TellsCertificate s certificate judged
-
--- the same by the survey of files and the schema of its package
-abbrev pub IsReportOn : Format → ReadFiles → Option CertificateValue → Text → Type 0
-IsReportOn format files certificate text =
-    IsReport format (length files) (schema_of (survey files).definitions) (survey files) certificate text

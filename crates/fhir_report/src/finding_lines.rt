@@ -5,15 +5,19 @@ ghost use Rattle.fhir_package.specs.Surveying.{unreadable};
 ghost use Rattle.fhir_package.specs.SurveyView.{fault_seen};
 ghost use Rattle.fhir_package.specs.declared.survey.FileFault.TheVariants.{NotJson as NotJsonOne, Clash as ClashOne};
 ghost use Rattle.fhir_report.specs.Lines.{line_seen};
-ghost use Rattle.fhir_report.specs.Report.{head, fault_head, unusable_head, TellsFinding};
+ghost use Rattle.fhir_snapshot.specs.Faults.{number_of};
+ghost use Rattle.fhir_report.specs.declared.line.FaultNumber.TheVariants.{Unusable as ByReason, Snapshot as BySnapshot};
+ghost use Rattle.fhir_report.specs.Report.{head, fault_head, numbered_head, unusable_head, TellsFinding};
 
 use crate::blaming::Blamed;
+use crate::lacking::LackingTable;
 use crate::line::{FaultNumber, Line};
-use crate::wording::expected_words;
+use crate::wording::{expected_words, lacking_words};
 use fhir_findings::{Finding, UnreadRule, Unusable};
 use fhir_json::NoMemory;
 use fhir_package::{Clash, FileFault, Kind, NotJson, Survey};
 use fhir_schema::Schema;
+use fhir_snapshot::SnapFault;
 use std::alloc::{AllocError, Global};
 
 fn no_bytes_line<'s>(alloc: Global, file: &'s str) -> Result<Line<'s>, AllocError>
@@ -92,13 +96,15 @@ fn blame_of<'s>(survey: &Survey<'_>, schema: &'s Schema, url: &str) -> Option<Bl
     })
 }
 
-fn unusable_line<'s>(
+// Of a definition that has a snapshot, or can't be used for another reason.
+fn reason_line<'s>(
     alloc: Global,
     survey: &Survey<'_>,
     schema: &'s Schema,
     unusable: &Unusable<'s>,
 ) -> Result<Line<'s>, AllocError>
-    ensures { IfOk result (λ l. head (line_seen l) ≡ unusable_head (unusable.now.file.now, unusable.now.url.now, unusable.now.reason)) }
+    ensures { IfOk result (λ l. head (line_seen l)
+        ≡ numbered_head (ByReason unusable.now.reason) (unusable.now.file.now, unusable.now.url.now, unusable.now.reason)) }
 {
     let number = FaultNumber::Unusable(unusable.reason);
     let blamed = blame_of(survey, schema, unusable.url);
@@ -108,18 +114,55 @@ fn unusable_line<'s>(
     Ok(line)
 }
 
-/// The line of what was found in the package of a survey, by its schema. The one refusal is want of memory.
+// Of a definition that has no snapshot.
+fn lacking_line<'s>(
+    alloc: Global,
+    unusable: &Unusable<'s>,
+    fault: &'s SnapFault,
+) -> Result<Line<'s>, AllocError>
+    ensures { IfOk result (λ l. head (line_seen l)
+        ≡ numbered_head (BySnapshot (number_of fault.now)) (unusable.now.file.now, unusable.now.url.now, unusable.now.reason)) }
+{
+    let number = FaultNumber::Snapshot(fault.number());
+    let text = String::from_str(alloc, lacking_words(fault))?;
+    let mut line = Line::of_file(unusable.file, Some(number), text);
+    line.url = Some(unusable.url);
+    line.id = fault.element();
+    Ok(line)
+}
+
+fn unusable_line<'s>(
+    alloc: Global,
+    survey: &Survey<'_>,
+    schema: &'s Schema,
+    lacking: &'s LackingTable,
+    unusable: &Unusable<'s>,
+) -> Result<Line<'s>, AllocError>
+    ensures { IfOk result (λ l. head (line_seen l)
+        ≡ unusable_head lacking.now (unusable.now.file.now, unusable.now.url.now, unusable.now.reason)) }
+{
+    match lacking.get(unusable.url) {
+        Some(fault) => lacking_line(alloc, unusable, fault),
+        None => reason_line(alloc, survey, schema, unusable),
+    }
+}
+
+/// The line of what was found in the package of a survey, by its schema and by what snapshots it lacks. The one refusal is want
+/// of memory.
 pub fn finding_line<'s, 'f: 's>(
     alloc: Global,
     survey: &'s Survey<'f>,
     schema: &'s Schema,
+    lacking: &'s LackingTable,
     finding: &Finding<'s, 'f>,
 ) -> Result<Line<'s>, NoMemory>
-    ensures { IfOk result (λ l. TellsFinding finding.now (line_seen l)) }
+    ensures { IfOk result (λ l. TellsFinding lacking.now finding.now (line_seen l)) }
 {
     match finding {
         Finding::File(fault) => Ok(file_line(alloc, fault)?),
-        Finding::Unusable(unusable) => Ok(unusable_line(alloc, survey, schema, unusable)?),
+        Finding::Unusable(unusable) => {
+            Ok(unusable_line(alloc, survey, schema, lacking, unusable)?)
+        }
         Finding::Unread(unread) => Ok(unread_line(alloc, unread)?),
     }
 }

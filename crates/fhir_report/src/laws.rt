@@ -10,25 +10,23 @@ ghost use Rattle.fhir_package.specs.Surveying.{Surveyed};
 ghost use Rattle.fhir_schema.specs.Schemas.{SchemaValue};
 ghost use Rattle.fhir_report.specs.Faultless.{CertificateValue, PromisesIfAny, IsRightBy, AreOf, IsFaultless, IsPromised};
 ghost use Rattle.fhir_report.specs.Lines.{LineValue, row_text, rows};
-ghost use Rattle.fhir_report.specs.Report.{IsReport, IsReportOn};
 ghost use Rattle.fhir_report.specs.declared.writing.Format.{Format};
 
-use fhir_findings::{all_usable, clean_files};
+use fhir_findings::all_usable;
 use fhir_package::surveys;
+use fhir_snapshot::one_completion;
 
-/// What is right by the survey of files and the schema of its package is right of the files and promised of them, and a report by
-/// these is one on the files.
+/// What is right by the survey of files whose package is completed and by the schema of that is right of the files, and promised of
+/// them.
 pub fn reports()
     ensures faultless { (files : ReadFiles) (survey : Surveyed) (s : SchemaValue) (certificate : Option CertificateValue)
         → AreOf files survey s → IsRightBy s survey certificate ↔ IsFaultless files certificate }
     ensures promised { (files : ReadFiles) (survey : Surveyed) (s : SchemaValue) (certificate : Option CertificateValue)
         → AreOf files survey s → IsRightBy s survey certificate → PromisesIfAny s certificate → IsPromised files certificate }
-    ensures told { (format : Format) (files : ReadFiles) (survey : Surveyed) (s : SchemaValue) (certificate : Option CertificateValue) (text : Text)
-        → AreOf files survey s → IsReport format (length files) s survey certificate text → IsReportOn format files certificate text }
 {
     surveys();
     all_usable();
-    clean_files();
+    one_completion();
 }
 
 /// Of the control characters the rows of lines have one line feed for each, and no other, where the lines are texts of UTF-8.

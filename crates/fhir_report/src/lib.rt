@@ -6,6 +6,7 @@
 //!     alloc: Global,
 //!     survey: &'s Survey<'f>,
 //!     schema: &'s Schema,
+//!     lacking: &'s LackingTable,
 //!     files: usize,
 //! ) -> Result<bool, NoMemory>
 //!     ensures { IfOk result (λ is_clean. IsTrue is_clean → IsRightBy schema.now survey.now None) }
@@ -13,6 +14,7 @@
 //!     let subject = Subject {
 //!         survey,
 //!         schema,
+//!         lacking,
 //!         files,
 //!         certificate: None,
 //!     };
@@ -29,6 +31,7 @@ mod blaming;
 mod certificates;
 mod failing;
 mod finding_lines;
+mod lacking;
 mod laws;
 mod line;
 mod narrowing;
@@ -39,6 +42,7 @@ mod writing;
 pub use certificates::{flaw_line, no_line, pair_text};
 pub use failing::{no_text, rule_text};
 pub use finding_lines::finding_line;
+pub use lacking::LackingTable;
 pub use laws::{reports, rows_are_lines};
 pub use line::{FaultNumber, Line};
 pub use narrowing::rule_words;

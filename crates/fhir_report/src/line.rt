@@ -10,6 +10,7 @@ ghost use Rattle.fhir_report.specs.Lines.{text_line, file_line, number_text, par
 use fhir_certificate::CertFault;
 use fhir_elements::Reason;
 use fhir_json::{Json, JsonFault, Member, NoMemory, Position};
+use fhir_snapshot::SnapNumber;
 use std::alloc::{AllocError, Global};
 use std::borrow::CowStr;
 use std::fmt;
@@ -25,6 +26,8 @@ pub enum FaultNumber {
     Json(JsonFault),
     /// `U1` to `U11`: a definition can't be used.
     Unusable(Reason),
+    /// `S1` to `S4`: a definition has no snapshot.
+    Snapshot(SnapNumber),
     /// `C1` to `C3`: a line of a certificate isn't written as it should be or names what isn't there, or there are too many.
     Certificate(CertFault),
 }
@@ -39,6 +42,7 @@ impl FaultNumber {
             FaultNumber::Clash => "P3",
             FaultNumber::Json(fault) => fault.number(),
             FaultNumber::Unusable(reason) => reason.number(),
+            FaultNumber::Snapshot(number) => number.text(),
             FaultNumber::Certificate(fault) => fault.number(),
         }
     }

@@ -12,6 +12,7 @@ ghost use Rattle.fhir_report.specs.Growing.{Grows};
 
 use crate::certificates::{flaw_line, no_line};
 use crate::finding_lines::finding_line;
+use crate::lacking::LackingTable;
 use crate::line::{FaultNumber, Line};
 use crate::writing::{Format, push_row, push_rows};
 use fhir_cert_check::{Answer, check_bytes};
@@ -38,6 +39,8 @@ pub struct Subject<'s, 'f> {
     pub survey: &'s Survey<'f>,
     /// The schema of the survey's package.
     pub schema: &'s Schema,
+    /// The definitions of the package that have no snapshot.
+    pub lacking: &'s LackingTable,
     /// How many files there are.
     pub files: usize,
     /// The certificate, if there is one.
@@ -58,12 +61,14 @@ fn push_finding<'s, 'f: 's>(
     alloc: Global,
     survey: &'s Survey<'f>,
     schema: &'s Schema,
+    lacking: &'s LackingTable,
     finding: &Finding<'s, 'f>,
     lines: &mut Vec<Line<'s>>,
 ) -> Result<(), NoMemory>
-    ensures { OnOk result (Grows lines.old.items lines.new.items (map fault_head (fault_told finding.now)) (map unusable_head (unusable_told finding.now))) }
+    ensures { OnOk result (Grows lines.old.items lines.new.items (map fault_head (fault_told finding.now))
+        (map (unusable_head lacking.now) (unusable_told finding.now))) }
 {
-    Ok(lines.push(finding_line(alloc, survey, schema, finding)?)?)
+    Ok(lines.push(finding_line(alloc, survey, schema, lacking, finding)?)?)
 }
 
 // The lines on findings.
@@ -71,13 +76,15 @@ fn lines_of<'s, 'f: 's>(
     alloc: Global,
     survey: &'s Survey<'f>,
     schema: &'s Schema,
+    lacking: &'s LackingTable,
     found: &[Finding<'s, 'f>],
 ) -> Result<Vec<Line<'s>>, NoMemory>
-    ensures { IfOk result (λ ls. Grows [] ls.items (map fault_head (faults_told found.now)) (map unusable_head (all_told found.now))) }
+    ensures { IfOk result (λ ls. Grows [] ls.items (map fault_head (faults_told found.now))
+        (map (unusable_head lacking.now) (all_told found.now))) }
 {
     let mut lines: Vec<Line<'s>> = Vec::new(alloc);
     for finding in found {
-        push_finding(alloc, survey, schema, finding, &mut lines)?;
+        push_finding(alloc, survey, schema, lacking, finding, &mut lines)?;
     }
     Ok(lines)
 }
@@ -212,7 +219,7 @@ fn text_of(
 }
 
 /// The report on a survey and a certificate: a line for each file that can't be read or isn't JSON, for each definition that
-/// differs from one before it or can't be used, and for each rule that isn't judged, in the order of the files; then what is
+/// differs from one before it, has no snapshot or can't be used, and for each rule that isn't judged, in the order of the files; then what is
 /// wrong with the certificate, or a yes; then the counts. The one refusal is want of memory.
 pub fn report_on<'s, 'f: 's>(
     alloc: Global,
@@ -226,16 +233,17 @@ pub fn report_on<'s, 'f: 's>(
     ensures faulty { IfOk result (λ r. r.is_clean ≡ false
         → IsRightBy subject.entry.schema.now subject.entry.survey.now (certificate_seen subject.entry.certificate) → ⊥) }
     ensures told { IfOk result (λ r. IsReport format subject.entry.files subject.entry.schema.now subject.entry.survey.now
-        (certificate_seen subject.entry.certificate) (string_bytes r.text)) }
+        subject.entry.lacking.now (certificate_seen subject.entry.certificate) (string_bytes r.text)) }
 {
     let Subject {
         survey,
         schema,
+        lacking,
         files,
         certificate,
     } = subject;
     let found = findings(alloc, survey, schema)?;
-    let lines = lines_of(alloc, survey, schema, &found)?;
+    let lines = lines_of(alloc, survey, schema, lacking, &found)?;
     let judged = judge_if_any(alloc, schema, certificate)?;
     let counts = counts_of(files, survey, schema);
     let text = text_of(alloc, format, &lines, &judged.lines, counts)?;

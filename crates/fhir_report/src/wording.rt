@@ -1,6 +1,7 @@
-//! What was expected of a JSON text, in plain words.
+//! What was expected of a JSON text, and why a definition has no snapshot, in plain words.
 
 use fhir_json::Expected;
+use fhir_snapshot::SnapFault;
 
 /// What was expected.
 pub(crate) fn expected_words(expected: Expected) -> &'static str {
@@ -20,5 +21,29 @@ pub(crate) fn expected_words(expected: Expected) -> &'static str {
         Expected::FewerLevels => "no more than 128 arrays and objects in one another were expected",
         Expected::End => "the end of the file was expected",
         Expected::Memory => "memory was expected",
+    }
+}
+
+/// Why a definition has no snapshot.
+pub(crate) fn lacking_words(fault: &SnapFault) -> &'static str {
+    match fault {
+        SnapFault::Missing => "its base isn't in the package, or one further down",
+        SnapFault::BaseCycle => "its bases lead back to one of them",
+        SnapFault::NoSnapshot => {
+            "it defines a type, or rests on a definition that does, and that brings no snapshot"
+        }
+        SnapFault::WrongPart => {
+            "its `snapshot` or `differential`, or that of a base, is no object with an array `element`"
+        }
+        SnapFault::WrongElement(_) => {
+            "the element, here or in a base, has a field of a wrong kind or value, an `id` that can't be read, `min` over `max`, or a type twice"
+        }
+        SnapFault::NoElement(_) => {
+            "no element of this id in the base, and none that it could inherit from"
+        }
+        SnapFault::MinOverMax(_) =>
+            "`min` is over `max` as the differential is laid over what it inherits",
+        SnapFault::RepeatedId(_) => "two elements of the differential have this id",
+        SnapFault::NoMemory => "memory was expected",
     }
 }

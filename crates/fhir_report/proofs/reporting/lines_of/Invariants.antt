@@ -6,4 +6,4 @@ use Rattle.fhir_report.proofs.reporting.lines_of.Given as goal
 
 abbrev pub invariant-loop-finding : goal.invariant-loop-finding
 invariant-loop-finding l =
-    Grows [] l.lines.items (map fault_head (faults_told (take l.finding-index l.found))) (map unusable_head (all_told (take l.finding-index l.found)))
+    Grows [] l.lines.items (map fault_head (faults_told (take l.finding-index l.found))) (map (unusable_head l.lacking) (all_told (take l.finding-index l.found)))
