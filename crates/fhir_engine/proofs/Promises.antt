@@ -1,5 +1,5 @@
 -- What the promise of a session says of the files that it is of, and what that says of their folder.
-use Rattle.std.proofs.Common.{◌≡◌, List, Ok, Err, Result, Option, None, Some, All, refl, sym, ap, ◌∙◌}
+use Rattle.std.proofs.Common.{◌≡◌, List, [], Ok, Err, Result, Option, None, Some, All, refl, sym, ap, ◌∙◌}
 use Rattle.std.specs.Prelude.{find, slice_get}
 use Rattle.std.specs.Option.{option_map, option_or}
 use Rattle.std.specs.Map.{keys_of}
@@ -9,18 +9,20 @@ use Rattle.fhir_package.specs.Definitions.{Definitions}
 use Rattle.fhir_package.specs.Folder.{Files}
 use Rattle.fhir_package.specs.Packing.{Refusal, json_names, json_files, pack_files, pack}
 use Rattle.fhir_package.specs.ReadFiles.{ReadFiles, IsFrom, all_given, pack_given}
-use Rattle.fhir_package.specs.Surveying.{FileFault, survey, is_unreadable, told_by, packed_by}
+use Rattle.fhir_package.specs.Surveying.{FileFault, Surveyed, survey, is_unreadable, told_by, packed_by}
+use Rattle.fhir_report.specs.Lacking.{numbers}
 use Rattle.fhir_engine.specs.declared.request.WordsFault.{WordsFault}
 use Rattle.fhir_engine.specs.Promising.{SessionPromise, ReadPromise, WordsPromise, FolderPromise, Promise}
 use Rattle.fhir_engine.specs.Requests.{RequestValue, InvocationValue, request, version}
-use Rattle.fhir_engine.specs.Session.{IsReadOf, session_of}
+use Rattle.fhir_engine.specs.Session.{SessionValue, IsReadOf, IsSessionOf}
 
-pub of_read : ((files : ReadFiles) → packed_by (survey files) ≡ pack_given files) → (q : RequestValue) (files : ReadFiles) (file : Option Text)
-    → SessionPromise q (session_of files) file → ReadPromise q (Ok files) file
-of_read surveys q files file promise =
+pub of_read : ((files : ReadFiles) → packed_by (survey files) ≡ pack_given files) → (q : RequestValue) (files : ReadFiles) (s : SessionValue) (file : Option Text)
+    → IsSessionOf files s → SessionPromise q s file → ReadPromise q (Ok files) file
+of_read surveys q files s file of promise =
     let by_faults : List FileFault → Option (Result Definitions Refusal) =
     λ faults. told_by (option_or (find is_unreadable faults) (slice_get faults 0)) (survey files).definitions in
-    ((survey files).definitions, sym (surveys files) ∙ ap by_faults promise.0, promise.1)
+    let none : (survey files).faults ≡ [] = sym (ap (λ (v : Surveyed). v.faults) of.completed.survey_is) ∙ promise.0 in
+    ((survey files).definitions, s.survey.definitions, sym (surveys files) ∙ ap by_faults none, (numbers s.lacking, of.completed.completed), promise.1)
 
 -- ---- what was read of a folder is the folder's
 
@@ -41,7 +43,7 @@ packed law folder read p is_read is = by (all_given read) refl is
 
 of_request : AreOfFolder → (q : RequestValue) (folder : Files) (read : Result ReadFiles FolderFault) (file : Option Text) → IsReadOf folder read
     → ReadPromise q read file → FolderPromise q folder file
-of_request law q folder (Ok read) file is_read promise = (promise.0, packed law folder read promise.0 is_read promise.1, promise.2)
+of_request law q folder (Ok read) file is_read promise = (promise.0, promise.1, packed law folder read promise.0 is_read promise.2, promise.3, promise.4)
 of_request law q folder (Err fault) file is_read promise = absurd promise
 
 pub of_words : AreOfFolder → (asked : Result InvocationValue WordsFault) (folder : Files) (read : Result ReadFiles FolderFault) (file : Option Text)

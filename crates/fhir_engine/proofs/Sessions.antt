@@ -1,16 +1,22 @@
 -- What a session says of its schema and its files.
-use Rattle.std.proofs.Common.{◌≡◌, List, [], ◌∷◌, Bool, true, false, IsTrue, Option, None, Some, refl, subst}
+use Rattle.std.proofs.Common.{◌≡◌, map, String, string_bytes, ap, sym, ◌∙◌, List, [], ◌∷◌, Bool, true, false, IsTrue, Option, None, Some, refl, subst}
 use Rattle.std.specs.Prelude.{find, slice_get}
 use Rattle.std.specs.Option.{option_or}
 use Rattle.fhir_json.specs.Tree.{Text}
-use Rattle.fhir_package.specs.Surveying.{FileFault, Surveyed, is_unreadable, refusal}
+use Rattle.fhir_package.specs.Definitions.{Definitions}
+use Rattle.fhir_package.specs.ReadFiles.{ReadFiles}
+use Rattle.fhir_package.specs.Surveying.{FileFault, Surveyed, survey, is_unreadable, refusal}
+use Rattle.fhir_snapshot.specs.declared.fault.SnapFault.{SnapFault}
+use Rattle.fhir_snapshot.specs.Faults.{number_of}
+use Rattle.fhir_snapshot.specs.Completing.{Numbered, IsCompletion}
+use Rattle.fhir_report.specs.Lacking.{Lacking, numbers, lacking_seen}
 use Rattle.fhir_schema.specs.Schemas.{SchemaValue, schema_of}
 use Rattle.fhir_findings.specs.Clean.{AreUsable}
 use Rattle.fhir_findings.specs.Finding.{all_unusable}
 use Rattle.fhir_report.specs.Faultless.{CertificateValue, PromisesIfAny, IsRightBy}
 use Rattle.fhir_engine.specs.Promising.{AreRight, Checked}
 use Rattle.fhir_engine.specs.Reporting.{asked}
-use Rattle.fhir_engine.specs.Session.{SessionValue, schema_in}
+use Rattle.fhir_engine.specs.Session.{SessionValue, IsCompleted, schema_in}
 use Rattle.fhir_engine.specs.Status.{code_of, report_status}
 
 -- files that aren't refused have no fault
@@ -43,3 +49,26 @@ right_of usable schema survey s certificate same_survey same_schema right promis
 pub checked_so : (s : SessionValue) (name file : Option Text) (certificate : Option CertificateValue) → asked name file ≡ Some certificate
     → (s.survey.faults ≡ []) × AreRight (schema_in s) certificate → (s.survey.faults ≡ []) × Checked (schema_in s) name file
 checked_so s name file certificate is promise = (promise.0, (certificate, is, promise.1))
+
+-- ---- completing
+
+numbered : {Y : Type 0} (fs : List (String Y × SnapFault)) → map (λ f. (string_bytes f.0, number_of f.1)) fs ≡ numbers (lacking_seen fs)
+numbered [] = refl
+numbered (f ∷ fs) = ap (λ (l : Numbered). (string_bytes f.0, number_of f.1) ∷ l) (numbered fs)
+
+-- the package of a survey is taken out, completed and put back
+pub completed_so : {Y : Type 0} (files : ReadFiles) (surveyed without sv : Surveyed) (p none completed : Definitions) (fs : List (String Y × SnapFault)) (lacking : Lacking)
+    → surveyed ≡ survey files → p ≡ surveyed.definitions → without ≡ record surveyed { definitions = none } → sv ≡ record without { definitions = completed }
+    → IsCompletion p completed (map (λ f. (string_bytes f.0, number_of f.1)) fs) → lacking ≡ lacking_seen fs → IsCompleted files sv lacking
+completed_so files surveyed without sv p none completed fs lacking is taken out back whole listed =
+    let from : p ≡ (survey files).definitions = taken ∙ ap (λ (v : Surveyed). v.definitions) is in
+    let to : completed ≡ sv.definitions = sym (ap (λ (v : Surveyed). v.definitions) back) in
+    record {
+      completed =
+          subst (λ d. IsCompletion d sv.definitions (numbers lacking)) from
+          (subst (λ d. IsCompletion p d (numbers lacking)) to
+          (subst (IsCompletion p completed) (numbered fs ∙ sym (ap numbers listed)) whole));
+      survey_is =
+          back ∙ ap (λ (v : Surveyed). record v { definitions = completed }) (out ∙ ap (λ (v : Surveyed). record v { definitions = none }) is)
+          ∙ ap (λ (d : Definitions). record (survey files) { definitions = d }) to;
+    }

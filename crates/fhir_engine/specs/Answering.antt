@@ -1,10 +1,18 @@
 -- What is answered.
-use Rattle.std.specs.Prelude.{◌≡◌, ◌↔◌, List, ℕ, ◌++◌, Bool, IsTrue, Option, None, Some, Result, Ok, Err, codes}
+use Rattle.std.specs.Prelude.{◌≡◌, ◌↔◌, List, ℕ, ◌++◌, Bool, true, false, IsTrue, Option, None, Some, Result, Ok, Err, codes}
 use Rattle.fhir_json.specs.Tree.{Text, Tree}
 use Rattle.fhir_json.specs.Compact.{compact}
+use Rattle.fhir_elements.specs.Element.{Element}
 use Rattle.fhir_package.specs.declared.folder.FolderFault.{FolderFault}
+use Rattle.fhir_package.specs.Definitions.{Definitions}
 use Rattle.fhir_package.specs.ReadFiles.{ReadFiles}
 use Rattle.fhir_package.specs.Surveying.{FileFault, refusal}
+use Rattle.fhir_overlay.specs.Completed.{elements_tree}
+use Rattle.fhir_snapshot.specs.declared.fault.SnapNumber.{SnapNumber}
+use Rattle.fhir_snapshot.specs.declared.fault.SnapNumber.TheVariants.{S5}
+use Rattle.fhir_snapshot.specs.Faults.{number_text}
+use Rattle.fhir_snapshot.specs.Snapshots.{IsSnapshot}
+use Rattle.fhir_snapshot.specs.Refusing.{Applies}
 use Rattle.fhir_schema.specs.Schemas.{SchemaValue}
 use Rattle.fhir_validator.specs.declared.fault.Fault.{Fault}
 use Rattle.fhir_validator.specs.declared.verdict.Verdict.{Verdict}
@@ -16,17 +24,19 @@ use Rattle.fhir_engine.specs.declared.request.WordsFault.TheVariants.{Usage, NoM
 use Rattle.fhir_engine.specs.declared.version.TheConstants.{VERSION}
 use Rattle.fhir_engine.specs.Replying.{ReplyValue, written, told, fault_reply, refused_reply, unreadable_reply, certificate_reply}
 use Rattle.fhir_engine.specs.Reporting.{IsAllRight, IsReportOf}
-use Rattle.fhir_engine.specs.Requests.{RequestValue, certify, validate, check, folder_of, InvocationValue, request, version}
-use Rattle.fhir_engine.specs.Session.{SessionValue, session_of, schema_in}
+use Rattle.fhir_engine.specs.Requests.{RequestValue, certify, validate, snapshot, check, folder_of, InvocationValue, request, version}
+use Rattle.fhir_engine.specs.Session.{SessionValue, IsSessionOf, schema_in}
 use Rattle.fhir_engine.specs.Standing.{Stands}
 use Rattle.fhir_engine.specs.Status.{code_of, verdict_status, report_status, words_status}
 
 -- ---- answers, and the replies that are theirs
 
--- a reply that is stated; one on the bytes of a resource and a profile; or a report on a session and a certificate
+-- a reply that is stated; one on the bytes of a resource and a profile; one on the definition at a url; or a report on a session and
+-- a certificate
 pub data AnswerValue : Type 0 where
   stated : ReplyValue → AnswerValue
   judged : SchemaValue → (profile bytes : List ℕ) → AnswerValue
+  listed : Definitions → List ℕ → AnswerValue
   reported : Format → SessionValue → Option CertificateValue → AnswerValue
 
 -- The status is that of a verdict or a fault which says how the resource stands, and an outcome is written, with a line feed.
@@ -36,6 +46,19 @@ pub record IsJudged (s : SchemaValue) (profile bytes : Text) (reply : ReplyValue
   pub outcome : Tree
   pub is_outcome : IsOutcome validated outcome
   pub is_reply : reply ≡ written (code_of (verdict_status validated)) (compact outcome ++ codes "\n")
+
+-- whether the number is that of want of memory
+abbrev pub is_of_memory : SnapNumber → Bool
+is_of_memory S5 = true
+is_of_memory _ = false
+
+-- The elements of the snapshot of the definition at a url are written, with a line feed; or there is none, and a fault says so by a
+-- number that applies.
+abbrev pub IsListed : Definitions → Text → ReplyValue → Type 0
+IsListed p url (written status out) =
+    (es : List Element) × IsSnapshot p url es × (written status out ≡ written 0 (compact (elements_tree es) ++ codes "\n"))
+IsListed p url (told status err) =
+    (number : SnapNumber) × Applies p url number × (told status err ≡ fault_reply (number_text number) url)
 
 -- The status says whether all is right, and a report is written.
 pub record IsReported (format : Format) (s : SessionValue) (certificate : Option CertificateValue) (reply : ReplyValue) : Type 0 where
@@ -48,6 +71,7 @@ pub record IsReported (format : Format) (s : SessionValue) (certificate : Option
 abbrev pub IsReply : AnswerValue → ReplyValue → Type 0
 IsReply (stated answer) reply = reply ≡ answer
 IsReply (judged s profile bytes) reply = IsJudged s profile bytes reply
+IsReply (listed p url) reply = IsListed p url reply
 IsReply (reported format s certificate) reply = IsReported format s certificate reply
 
 -- ---- the answer to a request
@@ -76,12 +100,13 @@ check_answer format s (Some name) file = file_answer (λ bytes. reported format 
 abbrev pub answer_by : RequestValue → SessionValue → Option Text → AnswerValue
 answer_by (certify folder name) s file = package_answer (refusal s.survey) (certify_answer (schema_in s) name file)
 answer_by (validate folder profile name) s file = package_answer (refusal s.survey) (validate_answer (schema_in s) profile name file)
+answer_by (snapshot folder url) s file = package_answer (refusal s.survey) (listed s.survey.definitions url)
 answer_by (check folder certificate format) s file = check_answer format s certificate file
 
--- of the files that were read of a folder, or of a folder that wasn't listed
-abbrev pub answer_to : RequestValue → Result ReadFiles FolderFault → Option Text → AnswerValue
-answer_to q (Ok files) file = answer_by q (session_of files) file
-answer_to q (Err fault) file = stated (fault_reply (codes "P1") (folder_of q))
+-- A reply to a request, of the files that were read of a folder, or of a folder that wasn't listed.
+abbrev pub RepliesTo : RequestValue → Result ReadFiles FolderFault → Option Text → ReplyValue → Type 0
+RepliesTo q (Ok files) file reply = (s : SessionValue) × IsSessionOf files s × IsReply (answer_by q s file) reply
+RepliesTo q (Err fault) file reply = reply ≡ fault_reply (codes "P1") (folder_of q)
 
 -- ---- the answer to words
 
@@ -89,7 +114,7 @@ abbrev pub words_text : WordsFault → Text
 words_text Usage = codes "usage: fhirprof COMMAND ..\n"
 words_text NoMemory = codes "no memory\n"
 
-abbrev pub answer_for : Result InvocationValue WordsFault → Result ReadFiles FolderFault → Option Text → AnswerValue
-answer_for (Ok (request asked)) read file = answer_to asked read file
-answer_for (Ok version) read file = stated (written 0 VERSION.now)
-answer_for (Err fault) read file = stated (told (code_of (words_status fault)) (words_text fault))
+abbrev pub RepliesFor : Result InvocationValue WordsFault → Result ReadFiles FolderFault → Option Text → ReplyValue → Type 0
+RepliesFor (Ok (request asked)) read file reply = RepliesTo asked read file reply
+RepliesFor (Ok version) read file reply = reply ≡ written 0 VERSION.now
+RepliesFor (Err fault) read file reply = reply ≡ told (code_of (words_status fault)) (words_text fault)

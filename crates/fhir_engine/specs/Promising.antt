@@ -1,18 +1,21 @@
 -- What status 0 promises.
-use Rattle.std.specs.Prelude.{◌≡◌, [], Option, Some, Result, Ok, Err}
+use Rattle.std.specs.Prelude.{◌≡◌, List, [], Option, Some, Result, Ok, Err}
 use Rattle.fhir_json.specs.Tree.{Text}
 use Rattle.fhir_package.specs.declared.folder.FolderFault.{FolderFault}
 use Rattle.fhir_package.specs.Definitions.{Definitions}
 use Rattle.fhir_package.specs.Folder.{Files}
 use Rattle.fhir_package.specs.Packing.{pack}
 use Rattle.fhir_package.specs.ReadFiles.{ReadFiles, pack_given}
+use Rattle.fhir_elements.specs.Element.{Element}
+use Rattle.fhir_snapshot.specs.Snapshots.{IsSnapshot}
+use Rattle.fhir_snapshot.specs.Completing.{Completes}
 use Rattle.fhir_schema.specs.Schemas.{SchemaValue, schema_of}
 use Rattle.fhir_findings.specs.Clean.{AreUsable}
 use Rattle.fhir_report.specs.Faultless.{CertificateValue, Promises, IsRightIfAny, PromisesIfAny}
 use Rattle.fhir_engine.specs.declared.request.WordsFault.{WordsFault}
 use Rattle.fhir_engine.specs.Reporting.{asked}
-use Rattle.fhir_engine.specs.Requests.{RequestValue, certify, validate, check, InvocationValue, request, version}
-use Rattle.fhir_engine.specs.Session.{SessionValue, schema_in}
+use Rattle.fhir_engine.specs.Requests.{RequestValue, certify, validate, snapshot, check, InvocationValue, request, version}
+use Rattle.fhir_engine.specs.Session.{SessionValue}
 use Rattle.fhir_engine.specs.Standing.{AlwaysConforms}
 
 -- The file was read. Its bytes spell a certificate, and each resource that conforms to its derived profile conforms to its base, as
@@ -32,18 +35,25 @@ AreRight s certificate = AreUsable s × IsRightIfAny s certificate × PromisesIf
 abbrev pub Checked : SchemaValue → Option Text → Option Text → Type 0
 Checked s name file = (certificate : Option CertificateValue) × (asked name file ≡ Some certificate) × AreRight s certificate
 
-abbrev pub Promised : RequestValue → SchemaValue → Option Text → Type 0
-Promised (certify folder name) s file = Certified s file
-Promised (validate folder profile name) s file = Validated s profile file
-Promised (check folder certificate format) s file = Checked s certificate file
+-- There is a snapshot of the definition at a url.
+abbrev pub Listed : Definitions → Text → Type 0
+Listed p url = (es : List Element) × IsSnapshot p url es
 
--- of a session: nothing is wrong with any file, and the same of the schema
+-- of a package that is completed
+abbrev pub Promised : RequestValue → Definitions → Option Text → Type 0
+Promised (certify folder name) p file = Certified (schema_of p) file
+Promised (validate folder profile name) p file = Validated (schema_of p) profile file
+Promised (snapshot folder url) p file = Listed p url
+Promised (check folder certificate format) p file = Checked (schema_of p) certificate file
+
+-- of a session: nothing is wrong with any file, and the same of its package
 abbrev pub SessionPromise : RequestValue → SessionValue → Option Text → Type 0
-SessionPromise q s file = (s.survey.faults ≡ []) × Promised q (schema_in s) file
+SessionPromise q s file = (s.survey.faults ≡ []) × Promised q s.survey.definitions file
 
--- of what was read of a folder: it was listed, each file was given, the files are a package, and the same of its schema
+-- of what was read of a folder: it was listed, each file was given, the files are a package, and the same of that completed
 abbrev pub ReadPromise : RequestValue → Result ReadFiles FolderFault → Option Text → Type 0
-ReadPromise q (Ok files) file = (p : Definitions) × (pack_given files ≡ Some (Ok p)) × Promised q (schema_of p) file
+ReadPromise q (Ok files) file =
+    (p : Definitions) × (completed : Definitions) × (pack_given files ≡ Some (Ok p)) × Completes p completed × Promised q completed file
 ReadPromise q (Err fault) file = ⊥
 
 abbrev pub WordsPromise : Result InvocationValue WordsFault → Result ReadFiles FolderFault → Option Text → Type 0
@@ -51,9 +61,10 @@ WordsPromise (Ok (request asked)) read file = ReadPromise asked read file
 WordsPromise (Ok version) read file = Unit {0}
 WordsPromise (Err fault) read file = ⊥
 
--- of a folder's files: they are a package, and the same of its schema
+-- of a folder's files: they are a package, and the same of that completed
 abbrev pub FolderPromise : RequestValue → Files → Option Text → Type 0
-FolderPromise q files file = (p : Definitions) × (pack files ≡ Ok p) × Promised q (schema_of p) file
+FolderPromise q files file =
+    (p : Definitions) × (completed : Definitions) × (pack files ≡ Ok p) × Completes p completed × Promised q completed file
 
 -- of words: they ask for something, and of a request the same
 abbrev pub Promise : Result InvocationValue WordsFault → Files → Option Text → Type 0

@@ -17,4 +17,4 @@ abbrev pub IsAllRight : SessionValue → Option CertificateValue → Type 0
 IsAllRight s certificate = IsRightBy (schema_in s) s.survey certificate
 
 abbrev pub IsReportOf : Format → SessionValue → Option CertificateValue → Text → Type 0
-IsReportOf format s certificate text = IsReport format s.files (schema_in s) s.survey certificate text
+IsReportOf format s certificate text = IsReport format s.files (schema_in s) s.survey s.lacking certificate text

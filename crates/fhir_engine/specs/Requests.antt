@@ -1,5 +1,5 @@
 -- What is asked, and what words ask for.
-use Rattle.std.specs.Prelude.{ℕ, List, Option, Some}
+use Rattle.std.specs.Prelude.{ℕ, List, Option, None, Some}
 use Rattle.fhir_json.specs.Tree.{Text}
 use Rattle.fhir_report.specs.declared.writing.Format.{Format}
 
@@ -8,18 +8,22 @@ pub data RequestValue : Type 0 where
   certify : (folder file : List ℕ) → RequestValue
   -- whether the resource in a file conforms to the profile at a url, over the definitions in a folder
   validate : (folder profile file : List ℕ) → RequestValue
+  -- the snapshot of the definition at a url, among those in a folder
+  snapshot : (folder url : List ℕ) → RequestValue
   -- what is wrong with the files of a folder, and with the certificate in a file, if there is one
   check : List ℕ → Option (List ℕ) → Format → RequestValue
 
 abbrev pub folder_of : RequestValue → Text
 folder_of (certify folder file) = folder
 folder_of (validate folder profile file) = folder
+folder_of (snapshot folder url) = folder
 folder_of (check folder certificate format) = folder
 
 -- the file that is asked about
 abbrev pub file_of : RequestValue → Option Text
 file_of (certify folder file) = Some file
 file_of (validate folder profile file) = Some file
+file_of (snapshot folder url) = None
 file_of (check folder certificate format) = certificate
 
 -- what words ask for

@@ -1,11 +1,14 @@
 //! What is answered of a file, by a schema.
 
-ghost use Rattle.std.specs.Prelude.{◌≡◌, IfOk};
+ghost use Rattle.std.specs.Prelude.{◌≡◌, ◌++◌, IfOk, false, codes};
+ghost use Rattle.fhir_json.specs.Compact.{compact};
 ghost use Rattle.fhir_json.specs.Memory.{Gives};
+ghost use Rattle.fhir_overlay.specs.Completed.{elements_tree};
+ghost use Rattle.fhir_snapshot.specs.Faults.{number_text};
 ghost use Rattle.fhir_report.specs.Faultless.{Promises};
-ghost use Rattle.fhir_engine.specs.Answering.{IsJudged, IsReply, certify_answer, validate_answer};
-ghost use Rattle.fhir_engine.specs.Promising.{Certified, Validated};
-ghost use Rattle.fhir_engine.specs.Replying.{reply_seen, status_of, certificate_reply};
+ghost use Rattle.fhir_engine.specs.Answering.{IsJudged, is_of_memory, IsReply, listed, certify_answer, validate_answer};
+ghost use Rattle.fhir_engine.specs.Promising.{Certified, Validated, Listed};
+ghost use Rattle.fhir_engine.specs.Replying.{written, reply_seen, status_of, fault_reply, certificate_reply};
 ghost use Rattle.fhir_engine.specs.Standing.{AlwaysConforms};
 ghost use Rattle.fhir_engine.specs.Status.{verdict_status};
 ghost use Rattle.fhir_engine.specs.Views.{bytes_seen};
@@ -14,9 +17,13 @@ use crate::reply::{Reply, Status, fault_reply, unreadable_reply};
 use crate::wrong_reply::wrong_reply;
 use fhir_cert_check::check_bytes;
 use fhir_certificate::CertFault;
+use fhir_elements::ElementDef;
 use fhir_json::{NoMemory, write};
+use fhir_overlay::elements_json;
+use fhir_package::Package;
 use fhir_registry::outcome;
 use fhir_schema::Schema;
+use fhir_snapshot::{SnapNumber, generate};
 use fhir_validator::{Fault, Verdict, validate};
 use std::alloc::Global;
 
@@ -97,4 +104,51 @@ pub(crate) fn validate_file(
         Some(bytes) => resource_reply(alloc, profile, schema, bytes),
         None => Ok(unreadable_reply(alloc, name)?),
     }
+}
+
+/// What is answered of the snapshot of the definition at a url.
+pub(crate) fn list_snapshot(
+    alloc: Global,
+    package: &Package<'_>,
+    url: &str,
+) -> Result<Reply, NoMemory>
+    ensures told { IfOk result (λ r. IsReply (listed «package».now url.now) (reply_seen r)) }
+    ensures promised { IfOk result (λ r. status_of (reply_seen r) ≡ 0 → Listed «package».now url.now) }
+{
+    match generate(alloc, package, url) {
+        Ok(elements) => listed_reply(alloc, &elements),
+        Err(fault) => unlisted_reply(alloc, fault.number(), url),
+    }
+}
+
+fn is_of_memory(number: SnapNumber) -> bool
+    ensures { result ≡ is_of_memory number }
+{
+    match number {
+        SnapNumber::S1 | SnapNumber::S2 | SnapNumber::S3 | SnapNumber::S4 => false,
+        SnapNumber::S5 => true,
+    }
+}
+
+// That there is no snapshot.
+fn unlisted_reply(alloc: Global, number: SnapNumber, url: &str) -> Result<Reply, NoMemory>
+    ensures { IfOk result (λ r. (is_of_memory number ≡ false) × (reply_seen r ≡ fault_reply (number_text number) url.now)) }
+{
+    if is_of_memory(number) {
+        return Err(NoMemory);
+    }
+    Ok(fault_reply(alloc, number.text(), url)?)
+}
+
+// The elements on one line.
+fn listed_reply(alloc: Global, elements: &[ElementDef]) -> Result<Reply, NoMemory>
+    ensures { IfOk result (λ r. reply_seen r ≡ written 0 (compact (elements_tree elements.now) ++ codes "\n")) }
+{
+    let json = elements_json(alloc, elements)?;
+    let mut out = write(alloc, &json)?;
+    out.push(b'\n')?;
+    Ok(Reply::Answer {
+        status: Status::Yes,
+        out,
+    })
 }

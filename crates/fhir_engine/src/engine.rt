@@ -4,11 +4,11 @@ ghost use Rattle.std.specs.Prelude.{◌≡◌, false, Result, Ok, IfOk, IfErr, I
 ghost use Rattle.std.specs.Io.KnownBytes.{Appends};
 ghost use Rattle.fhir_package.specs.declared.folder.FolderFault.{FolderFault};
 ghost use Rattle.fhir_package.specs.ReadFiles.{ReadFiles};
-ghost use Rattle.fhir_engine.specs.Answering.{IsReply, answer_by, answer_to, answer_for};
+ghost use Rattle.fhir_engine.specs.Answering.{RepliesTo, RepliesFor};
 ghost use Rattle.fhir_engine.specs.Ending.{HasEnded, told_status};
 ghost use Rattle.fhir_engine.specs.Promising.{ReadPromise, WordsPromise, Promise};
 ghost use Rattle.fhir_engine.specs.Replying.{ReplyValue, written, reply_seen, status_of, is_told};
-ghost use Rattle.fhir_engine.specs.Session.{IsReadOf, session_of};
+ghost use Rattle.fhir_engine.specs.Session.{IsReadOf};
 ghost use Rattle.fhir_engine.specs.Status.{code_of, words_status};
 ghost use Rattle.fhir_engine.specs.Views.{bytes_seen, request_seen, asked_seen};
 
@@ -65,7 +65,7 @@ fn answer<P: Progress>(
     file: Option<&[u8]>,
     progress: &mut P,
 ) -> Result<Reply, NoMemory>
-    ensures told { IfOk result (λ r. IsReply (answer_to (request_seen request.entry) read.now (bytes_seen file.entry)) (reply_seen r)) }
+    ensures told { IfOk result (λ r. RepliesTo (request_seen request.entry) read.now (bytes_seen file.entry) (reply_seen r)) }
     ensures promised { IfOk result (λ r. status_of (reply_seen r) ≡ 0
         → ReadPromise (request_seen request.entry) read.now (bytes_seen file.entry)) }
 {
@@ -84,7 +84,7 @@ fn answer_read<P: Progress>(
     file: Option<&[u8]>,
     progress: &mut P,
 ) -> Result<Reply, NoMemory>
-    ensures told { IfOk result (λ r. IsReply (answer_by (request_seen request.entry) (session_of files.now) (bytes_seen file.entry)) (reply_seen r)) }
+    ensures told { IfOk result (λ r. RepliesTo (request_seen request.entry) (Ok files.now) (bytes_seen file.entry) (reply_seen r)) }
     ensures promised { IfOk result (λ r. status_of (reply_seen r) ≡ 0
         → ReadPromise (request_seen request.entry) (Ok files.now) (bytes_seen file.entry)) }
 {
@@ -104,7 +104,7 @@ fn respond<W: Write, E: Write, P: Progress>(
     err: &mut E,
 ) -> Status
     ensures told { (result ≡ Status.NoMemory → ⊥) → (reply : ReplyValue)
-        × IsReply (answer_to (request_seen request.entry) read.now (bytes_seen file.entry)) reply
+        × RepliesTo (request_seen request.entry) read.now (bytes_seen file.entry) reply
         × HasEnded result (W.contents out.old) (W.contents out.new) reply
         × (IsTrue (is_told reply) → (result ≡ Status.Fault) × (out.new ≡ out.old)) × (is_told reply ≡ false → err.new ≡ err.old) }
     ensures promised { result ≡ Status.Yes → ReadPromise (request_seen request.entry) read.now (bytes_seen file.entry) }
@@ -138,7 +138,7 @@ fn answer_words<W: Write, E: Write, P: Progress>(
     err: &mut E,
 ) -> Status
     ensures told { (result ≡ Status.NoMemory → ⊥) → (reply : ReplyValue)
-        × IsReply (answer_for (asked_seen asked.now) read.now (bytes_seen file.entry)) reply
+        × RepliesFor (asked_seen asked.now) read.now (bytes_seen file.entry) reply
         × HasEnded result (W.contents out.old) (W.contents out.new) reply
         × (IsTrue (is_told reply) → (result ≡ told_status (asked_seen asked.now)) × (out.new ≡ out.old))
         × (is_told reply ≡ false → err.new ≡ err.old) }
@@ -181,7 +181,7 @@ pub fn run<F: Folder + Drop, W: Write, E: Write, P: Progress>(
     // its status, and nothing is written to standard output; of any other reply nothing is written to standard error.
     ensures told { (result ≡ Status.NoMemory → ⊥) → (read : Result ReadFiles FolderFault) × (reply : ReplyValue)
         × IsReadOf (F.files folder) read
-        × IsReply (answer_for (asked_seen asked.now) read (bytes_seen file.entry)) reply
+        × RepliesFor (asked_seen asked.now) read (bytes_seen file.entry) reply
         × HasEnded result (W.contents out.old) (W.contents out.new) reply
         × (IsTrue (is_told reply) → (result ≡ told_status (asked_seen asked.now)) × (out.new ≡ out.old))
         × (is_told reply ≡ false → err.new ≡ err.old) }

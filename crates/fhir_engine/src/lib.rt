@@ -22,7 +22,7 @@
 //! }
 //! ```
 //!
-//! The contract to read first is that of [`run`]. What is answered stands in `specs/Answering.antt` (`answer_for`), and what
+//! The contract to read first is that of [`run`]. What is answered stands in `specs/Answering.antt` (`RepliesFor`), and what
 //! status 0 promises in `specs/Promising.antt` (`Promise`).
 #![tactic(auto)]
 

@@ -5,7 +5,7 @@ ghost use Rattle.std.specs.Result.{result_ok};
 ghost use Rattle.clap.specs.declared.error.kind.ErrorKind.TheVariants as kind;
 ghost use Rattle.fhir_engine.specs.declared.request.WordsFault.TheVariants as faults;
 ghost use Rattle.fhir_engine.specs.Requests.{InvocationValue, folder_of, file_of};
-ghost use Rattle.fhir_engine.specs.Words.{is_option, are_plain, certify_request, validate_request, check_request, check_beside, first_some, command_request, plain_request, plain_invocation};
+ghost use Rattle.fhir_engine.specs.Words.{is_option, are_plain, certify_request, validate_request, snapshot_request, check_request, check_beside, first_some, command_request, plain_request, plain_invocation};
 ghost use Rattle.fhir_engine.specs.Views.{bytes_seen, request_seen, invocation_seen};
 
 use crate::version::VERSION;
@@ -33,6 +33,13 @@ pub enum Request<'w> {
         /// The file.
         file: &'w str,
     },
+    /// The snapshot of the definition at a url, among those in a folder.
+    Snapshot {
+        /// The folder.
+        folder: &'w str,
+        /// The url.
+        url: &'w str,
+    },
     /// What is wrong with the files of a folder.
     Check {
         /// The folder.
@@ -52,6 +59,7 @@ impl<'w> Request<'w> {
         match self {
             Request::Certify { folder, .. }
             | Request::Validate { folder, .. }
+            | Request::Snapshot { folder, .. }
             | Request::Check { folder, .. } => *folder,
         }
     }
@@ -62,6 +70,7 @@ impl<'w> Request<'w> {
     {
         match self {
             Request::Certify { file, .. } | Request::Validate { file, .. } => Some(*file),
+            Request::Snapshot { .. } => None,
             Request::Check { certificate, .. } => *certificate,
         }
     }
@@ -106,6 +115,12 @@ fn validate<'a>(alloc: Global) -> Result<Command<'a>, AllocError> {
         .arg(Arg::new(alloc, "RESOURCE").required(true))
 }
 
+fn snapshot<'a>(alloc: Global) -> Result<Command<'a>, AllocError> {
+    Command::new(alloc, "snapshot")
+        .arg(Arg::new(alloc, "PACKAGE").required(true))?
+        .arg(Arg::new(alloc, "URL").required(true))
+}
+
 fn check<'a>(alloc: Global) -> Result<Command<'a>, AllocError> {
     Command::new(alloc, "check")
         .arg(Arg::new(alloc, "PACKAGE").required(true))?
@@ -123,6 +138,7 @@ fn program<'a>(alloc: Global) -> Result<Command<'a>, AllocError> {
         .subcommand_required(true)
         .subcommand(certify(alloc)?)?
         .subcommand(validate(alloc)?)?
+        .subcommand(snapshot(alloc)?)?
         .subcommand(check(alloc)?)
 }
 
@@ -181,6 +197,19 @@ fn validate_request<'w>(
     }
 }
 
+fn snapshot_request<'w>(command: &str, first: &'w str, second: &'w str) -> Option<Request<'w>>
+    ensures { option_map request_seen result ≡ snapshot_request command.now first.now second.now }
+{
+    if command == "snapshot" && are_plain(first, second) {
+        Some(Request::Snapshot {
+            folder: first,
+            url: second,
+        })
+    } else {
+        None
+    }
+}
+
 fn check_request<'w>(command: &str, folder: &'w str) -> Option<Request<'w>>
     ensures { option_map request_seen result ≡ check_request command.now folder.now }
 {
@@ -209,13 +238,23 @@ fn check_beside<'w>(command: &str, folder: &'w str, certificate: &'w str) -> Opt
     }
 }
 
-fn certify_or_check<'w>(command: &str, first: &'w str, second: &'w str) -> Option<Request<'w>>
+fn snapshot_or_check<'w>(command: &str, first: &'w str, second: &'w str) -> Option<Request<'w>>
     ensures { option_map request_seen result
-        ≡ first_some (certify_request command.now first.now second.now) (check_beside command.now first.now second.now) }
+        ≡ first_some (snapshot_request command.now first.now second.now) (check_beside command.now first.now second.now) }
+{
+    match snapshot_request(command, first, second) {
+        Some(request) => Some(request),
+        None => check_beside(command, first, second),
+    }
+}
+
+fn request_of_two<'w>(command: &str, first: &'w str, second: &'w str) -> Option<Request<'w>>
+    ensures { option_map request_seen result ≡ first_some (certify_request command.now first.now second.now)
+        (first_some (snapshot_request command.now first.now second.now) (check_beside command.now first.now second.now)) }
 {
     match certify_request(command, first, second) {
         Some(request) => Some(request),
-        None => check_beside(command, first, second),
+        None => snapshot_or_check(command, first, second),
     }
 }
 
@@ -224,7 +263,7 @@ fn command_request<'w>(command: &str, words: &'w [String]) -> Option<Request<'w>
 {
     match words {
         [first] => check_request(command, first.as_str()),
-        [first, second] => certify_or_check(command, first.as_str(), second.as_str()),
+        [first, second] => request_of_two(command, first.as_str(), second.as_str()),
         [first, second, third] => {
             validate_request(command, first.as_str(), second.as_str(), third.as_str())
         }
@@ -246,8 +285,8 @@ fn word<'a>(matches: &ArgMatches<'a>, id: &str) -> Result<&'a str, WordsFault> {
 }
 
 /// What the words ask for, of which the first is the program's name: `certify PACKAGE CERTIFICATE`,
-/// `validate PACKAGE PROFILE RESOURCE`, `check PACKAGE [CERTIFICATE] [--json]` or `--version`. Words without options are read as
-/// they stand, and all others by `clap`.
+/// `validate PACKAGE PROFILE RESOURCE`, `snapshot PACKAGE URL`, `check PACKAGE [CERTIFICATE] [--json]` or `--version`. Words without
+/// options are read as they stand, and all others by `clap`.
 pub fn invocation_of<'w>(alloc: Global, words: &'w [String]) -> Result<Invocation<'w>, WordsFault>
     ensures plain { (asked : InvocationValue) → plain_invocation (map string_bytes words.now) ≡ Some asked
         → option_map invocation_seen (result_ok result) ≡ Some asked }
@@ -269,6 +308,7 @@ fn other_invocation<'w>(alloc: Global, words: &'w [String]) -> Result<Invocation
     match name {
         "certify" => Ok(Invocation::Request(certify_matched(matches)?)),
         "validate" => Ok(Invocation::Request(validate_matched(matches)?)),
+        "snapshot" => Ok(Invocation::Request(snapshot_matched(matches)?)),
         "check" => Ok(Invocation::Request(check_matched(matches)?)),
         _ => Err(WordsFault::Usage),
     }
@@ -286,6 +326,13 @@ fn validate_matched<'w>(matches: &ArgMatches<'w>) -> Result<Request<'w>, WordsFa
         folder: word(matches, "PACKAGE")?,
         profile: word(matches, "PROFILE")?,
         file: word(matches, "RESOURCE")?,
+    })
+}
+
+fn snapshot_matched<'w>(matches: &ArgMatches<'w>) -> Result<Request<'w>, WordsFault> {
+    Ok(Request::Snapshot {
+        folder: word(matches, "PACKAGE")?,
+        url: word(matches, "URL")?,
     })
 }
 

@@ -1,32 +1,34 @@
 //! What is held between two answers, and what it answers.
 
 ghost use Rattle.std.specs.Prelude.{◌≡◌, [], None, Some, IfOk, IfErr};
-ghost use Rattle.fhir_json.specs.Memory.{Gives};
 ghost use Rattle.fhir_package.specs.Surveying.{refusal};
 ghost use Rattle.fhir_package.specs.SurveyView.{fault_seen};
 ghost use Rattle.fhir_report.specs.Faultless.{certificate_seen};
-ghost use Rattle.fhir_engine.specs.Answering.{IsReported, IsReply, package_answer, certify_answer, validate_answer, check_answer, answer_by};
-ghost use Rattle.fhir_engine.specs.Promising.{Certified, Validated, AreRight, Checked, SessionPromise};
+ghost use Rattle.fhir_engine.specs.Answering.{IsReported, IsReply, listed, package_answer, certify_answer, validate_answer, check_answer, answer_by};
+ghost use Rattle.fhir_engine.specs.Promising.{Certified, Validated, Listed, AreRight, Checked, SessionPromise};
 ghost use Rattle.fhir_engine.specs.Replying.{reply_seen, status_of, refused_reply};
-ghost use Rattle.fhir_engine.specs.Session.{session_of, schema_in};
+ghost use Rattle.fhir_engine.specs.Session.{IsCompleted, IsSessionOf, schema_in};
 ghost use Rattle.fhir_engine.specs.Status.{report_status};
 ghost use Rattle.fhir_engine.specs.Views.{bytes_seen, request_seen};
 
-use crate::answering::{certify, validate_file};
+use crate::answering::{certify, list_snapshot, validate_file};
 use crate::reply::{Reply, Status, fault_reply, unreadable_reply};
 use crate::request::Request;
 use fhir_findings::all_usable;
 use fhir_json::NoMemory;
-use fhir_package::{FileFault, FolderFiles, Progress, Stage, Survey};
-use fhir_report::{CertificateFile, Format, Subject, report_on};
+use fhir_package::{FileFault, FolderFiles, Package, Progress, Stage, Survey};
+use fhir_report::{CertificateFile, Format, LackingTable, Subject, report_on};
 use fhir_schema::Schema;
+use fhir_snapshot::complete;
 use std::alloc::{AllocError, Global};
 use std::marker::Model;
 
-/// What is held between two answers: the survey of a folder's files, and the schema of the package of all that is right.
+/// What is held between two answers: the survey of a folder's files, with the package of all that is right completed, and the schema
+/// of that package.
 #[derive(Drop)]
 pub struct Session<'f> {
     survey: Survey<'f>,
+    lacking: LackingTable,
     schema: Schema,
     files: usize,
 }
@@ -44,7 +46,7 @@ impl<'f> Model for Session<'f> {
     ghost use Rattle.std.specs.Prelude.{◌≡◌};
     ghost use Rattle.fhir_schema.specs.Schemas.{schema_of};
 
-    ghost view = { λ s. record { survey = s.survey; files = s.files } };
+    ghost view = { λ s. record { survey = s.survey; lacking = s.lacking; files = s.files } };
 
     ghost invariant = { λ s. s.schema ≡ schema_of s.survey.definitions };
 }
@@ -54,6 +56,22 @@ fn refused_reply(alloc: Global, fault: &FileFault<'_>) -> Result<Reply, AllocErr
     ensures { IfOk result (λ r. reply_seen r ≡ refused_reply (fault_seen fault.now)) }
 {
     fault_reply(alloc, fault.number(), fault.subject())
+}
+
+// The survey of files, with its package completed, and the definitions that have no snapshot.
+fn completed<'f, P: Progress>(
+    alloc: Global,
+    files: &'f FolderFiles,
+    progress: &mut P,
+) -> Result<(Survey<'f>, LackingTable), NoMemory>
+    ensures { IfOk result (λ r. IsCompleted files.now r.0 r.1) }
+{
+    let mut survey = Survey::of(alloc, files, progress)?;
+    let mut definitions = survey.replace_package(Package::new(alloc));
+    let faults = complete(alloc, &mut definitions)?;
+    let _none = survey.replace_package(definitions);
+    let lacking = LackingTable::of(alloc, faults)?;
+    Ok((survey, lacking))
 }
 
 fn report_status(is_clean: bool) -> Status
@@ -69,14 +87,15 @@ impl<'f> Session<'f> {
         files: &'f FolderFiles,
         progress: &mut P,
     ) -> Result<Session<'f>, NoMemory>
-        ensures { Gives (λ s. s) result (session_of files.now) }
+        ensures { IfOk result (λ s. IsSessionOf files.now s) }
     {
-        let survey = Survey::of(alloc, files, progress)?;
+        let (survey, lacking) = completed(alloc, files, progress)?;
         let schema = Schema::build(alloc, survey.package())?;
         let files = files.files().len();
         progress.tell(Stage::Surveying, files, files);
         Ok(Session {
             survey,
+            lacking,
             schema,
             files,
         })
@@ -118,6 +137,7 @@ impl<'f> Session<'f> {
                 file: name,
                 ..
             } => self.validate(alloc, profile, name, file),
+            Request::Snapshot { url, .. } => self.snapshot(alloc, url),
             Request::Check {
                 certificate,
                 format,
@@ -156,6 +176,18 @@ impl<'f> Session<'f> {
         }
     }
 
+    fn snapshot(&self, alloc: Global, url: &str) -> Result<Reply, NoMemory>
+        ensures told { IfOk result (λ r. IsReply
+            (package_answer (refusal self.now.survey) (listed self.now.survey.definitions url.now)) (reply_seen r)) }
+        ensures promised { IfOk result (λ r. status_of (reply_seen r) ≡ 0
+            → (self.now.survey.faults ≡ []) × Listed self.now.survey.definitions url.now) }
+    {
+        match self.survey.refusal() {
+            Some(fault) => Ok(refused_reply(alloc, fault)?),
+            None => list_snapshot(alloc, self.survey.package(), url),
+        }
+    }
+
     fn report(
         &self,
         alloc: Global,
@@ -170,6 +202,7 @@ impl<'f> Session<'f> {
         let subject = Subject {
             survey: &self.survey,
             schema: self.schema(),
+            lacking: &self.lacking,
             files: self.files,
             certificate,
         };

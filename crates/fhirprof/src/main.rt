@@ -4,7 +4,7 @@
 ghost use Rattle.std.specs.Prelude.{◌≡◌, Result};
 ghost use Rattle.std.specs.Process.{exit_status};
 ghost use Rattle.fhir_package.specs.ReadFiles.{ReadFiles};
-ghost use Rattle.fhir_engine.specs.Answering.{IsReply, answer_for};
+ghost use Rattle.fhir_engine.specs.Answering.{RepliesFor};
 ghost use Rattle.fhir_engine.specs.Promising.{Promise};
 ghost use Rattle.fhir_engine.specs.Replying.{ReplyValue, status_of};
 ghost use Rattle.fhir_engine.specs.Session.{IsReadOf};
@@ -68,7 +68,7 @@ fn code_of<F: Folder + Drop, W: Write, E: Write, P: Progress>(
     ensures promised { exit_status result ≡ 0 → Promise (asked_seen asked.now) (F.files folder) (bytes_seen file.entry) }
     ensures no { exit_status result ≡ 1 → (read : Result ReadFiles FolderFault) × (reply : ReplyValue)
         × IsReadOf (F.files folder) read
-        × IsReply (answer_for (asked_seen asked.now) read (bytes_seen file.entry)) reply × (status_of reply ≡ 1) }
+        × RepliesFor (asked_seen asked.now) read (bytes_seen file.entry) reply × (status_of reply ≡ 1) }
 {
     ExitCode::from(run(alloc, asked, folder, file, progress, out, err))
 }

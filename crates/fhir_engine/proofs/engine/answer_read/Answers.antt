@@ -1,14 +1,15 @@
-use Rattle.std.proofs.Common.{subst}
 use Rattle.std.proofs.lemmas.Result.{IfOk-weaker}
-use Rattle.fhir_engine.specs.Promising.{SessionPromise}
 use Rattle.fhir_engine.specs.Views.{bytes_seen, request_seen}
 use Rattle.fhir_engine.proofs.Promises.{of_read}
 use Rattle.fhir_engine.proofs.engine.answer_read.Goals as goal
+
+pub returns-clause-told : goal.returns-clause-told
+returns-clause-told g c =
+    IfOk-weaker c.answer.result _ _ (λ r told. (c.in_ok-session.session, c.in_ok-session.ensures, told)) c.answer.ensures.told
 
 pub returns-clause-promised : goal.returns-clause-promised
 returns-clause-promised g c =
     IfOk-weaker c.answer.result _ _
     (λ r promise zero.
-    of_read c.surveys.ensures.packed (request_seen c.args.request) c.args.files.now (bytes_seen c.args.file)
-    (subst (λ s. SessionPromise (request_seen c.args.request) s (bytes_seen c.args.file)) c.in_ok-session.ensures (promise zero)))
+    of_read c.surveys.ensures.packed (request_seen c.args.request) c.args.files.now c.in_ok-session.session (bytes_seen c.args.file) c.in_ok-session.ensures (promise zero))
     c.answer.ensures.promised
