@@ -2,7 +2,7 @@
 //! against each other.
 #![tactic(auto)]
 
-ghost use Rattle.std.specs.Prelude.{◌≡◌, ◌↔◌, ◌||◌, [], length, get_or, false, None, Ok, is_ok, is_some, Option, Result, if◌then◌else◌, IsTrue, IfOk, codes, string_bytes, option_map};
+ghost use Rattle.std.specs.Prelude.{◌≡◌, ◌↔◌, ◌||◌, [], length, get_or, false, None, Ok, is_ok, is_some, List, Option, Result, if◌then◌else◌, IsTrue, IfOk, codes, string_bytes, option_map};
 ghost use Rattle.std.specs.FinSet as set;
 ghost use Rattle.std.specs.Option.{option_map_or};
 ghost use Rattle.fhir_json.specs.Tree.{Text, Tree};
@@ -11,6 +11,11 @@ ghost use Rattle.fhir_json.specs.Fields.{text_in};
 ghost use Rattle.fhir_json.specs.Grammar.{Reads};
 ghost use Rattle.fhir_json.specs.Memory.{Gives};
 ghost use Rattle.fhir_json.specs.Compact.{compact};
+ghost use Rattle.std.specs.Bool.{OnFalse};
+ghost use Rattle.fhir_asking.specs.Asking.{NeedsItself};
+ghost use Rattle.fhir_overlay.specs.Overlay.{laid_over};
+ghost use Rattle.fhir_inheritance.specs.Sources.{source_at};
+ghost use Rattle.fhir_snapshot.specs.Snapshots.{IsSnapshot};
 ghost use Rattle.fhir_decimal.specs.Text.{Parts, IsDecimal};
 ghost use Rattle.fhir_decimal.specs.Value.{value_of, is_same_value};
 ghost use Rattle.fhir_names.specs.Ids.{read_id};
@@ -51,6 +56,7 @@ ghost use Rattle.fhir_engine.specs.declared.request.WordsFault.{WordsFault};
 ghost use Rattle.fhir_engine.specs.Promising.{Promise};
 ghost use Rattle.fhir_engine.specs.Requests.{InvocationValue};
 
+use fhir_asking::{Asks, settle};
 use fhir_cert_check::{Answer, check_bytes};
 use fhir_certificate::CertFault;
 use fhir_codes::expand;
@@ -63,17 +69,20 @@ use fhir_facets::{Facet, Pattern, narrower_holds};
 use fhir_forms::NodeForms;
 use fhir_fp_eval::{Env, holds};
 use fhir_fp_syntax::{Expr, Parsed, parse};
+use fhir_inheritance::Sources;
 use fhir_instance::{Misfit, Typed, type_resource};
 use fhir_json::{Json, JsonFault, NoMemory, write};
 use fhir_matching::{json_eq, matches};
 use fhir_names::{ElementId, front_of};
 use fhir_nodes::{Nodes, Table};
+use fhir_overlay::{copied, laid_over};
 use fhir_package::{Folder, Kind, LoadFault, Package, Silent, Survey, load};
 use fhir_prims::{PrimType, lexical};
 use fhir_registry::outcome;
-use fhir_report::{Format, Subject};
+use fhir_report::{Format, LackingTable, Subject};
 use fhir_schema::{NodeRef, Schema, Slot};
 use fhir_slicing::belongs;
+use fhir_snapshot::{SnapFault, generate};
 use fhir_validator::{Fault, Verdict, validate};
 use std::alloc::Global;
 use std::io::Write;
@@ -88,6 +97,46 @@ pub fn url_of(alloc: Global, bytes: &[u8]) -> Result<Option<String>, JsonFault>
         Some(url) => Ok(Some(String::from_str(alloc, url)?)),
         None => Ok(None),
     }
+}
+
+/// Whether a name has an answer; if not, it needs itself.
+pub fn has_answer<S: Asks>(alloc: Global, asks: &S, name: &str) -> Result<bool, NoMemory>
+    ensures { IfOk result (λ done. OnFalse done (NeedsItself (S.asking asks.now) name.now)) }
+{
+    let mut table = fhir_asking::Table::new(alloc);
+    settle(alloc, asks, &mut table, name)
+}
+
+/// The element that `over` makes of one that it is laid over.
+pub fn inherited(
+    alloc: Global,
+    over: &ElementDef,
+    under: &ElementDef,
+) -> Result<ElementDef, NoMemory>
+    ensures { IfOk result (λ e. e ≡ laid_over over.now under.now) }
+{
+    let under = copied(alloc, under)?;
+    let laid = laid_over(alloc, over, under)?;
+    Ok(ElementDef::new(laid))
+}
+
+/// Whether the definition of a url brings a snapshot.
+pub fn is_complete(alloc: Global, package: &Package<'_>, url: &str) -> Result<bool, NoMemory>
+    ensures { IfOk result (λ complete. complete ≡ option_map_or (λ s. s.written) (source_at «package».now url.now) false) }
+{
+    let sources = Sources::of(alloc, package)?;
+    match sources.get(url) {
+        Some(source) => Ok(source.is_written()),
+        None => Ok(false),
+    }
+}
+
+/// How many elements the snapshot of a definition has, or why it has none.
+pub fn element_count(alloc: Global, package: &Package<'_>, url: &str) -> Result<usize, SnapFault>
+    ensures { IfOk result (λ n. (es : List Element) × IsSnapshot «package».now url.now es × (n ≡ length es)) }
+{
+    let elements = generate(alloc, package, url)?;
+    Ok(elements.len())
 }
 
 /// Whether two texts are decimals of one value, as `0.010` and `1e-2` are.
@@ -310,6 +359,7 @@ pub fn is_clean<'s, 'f: 's>(
     alloc: Global,
     survey: &'s Survey<'f>,
     schema: &'s Schema,
+    lacking: &'s LackingTable,
     files: usize,
 ) -> Result<bool, NoMemory>
     ensures { IfOk result (λ is_clean. IsTrue is_clean → IsRightBy schema.now survey.now None) }
@@ -317,6 +367,7 @@ pub fn is_clean<'s, 'f: 's>(
     let subject = Subject {
         survey,
         schema,
+        lacking,
         files,
         certificate: None,
     };

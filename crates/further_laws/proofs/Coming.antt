@@ -14,14 +14,14 @@ use Rattle.fhir_elements.specs.Element.{Element}
 use Rattle.fhir_package.specs.Definitions.{Definitions}
 use Rattle.fhir_asking.specs.Asking.{Asking, given, asks, Has, ComesTo}
 use Rattle.fhir_overlay.specs.Overlay.{as_slice, with_constraints}
-use Rattle.fhir_snapshot.specs.Keys.{key}
-use Rattle.fhir_snapshot.specs.Node.{Node}
-use Rattle.fhir_snapshot.specs.Elements.{find}
-use Rattle.fhir_snapshot.specs.Sources.{Source, source_at, only_type_key, target_key}
-use Rattle.fhir_snapshot.specs.Laying.{laid, moved, all_slices, is_touched, over, slicing_with}
-use Rattle.fhir_snapshot.specs.Lists.{with_others}
+use Rattle.fhir_inheritance.specs.Keys.{key}
+use Rattle.fhir_inheritance.specs.Node.{Node}
+use Rattle.fhir_inheritance.specs.Elements.{find}
+use Rattle.fhir_inheritance.specs.Sources.{Source, source_at, only_type_key, target_key}
+use Rattle.fhir_inheritance.specs.Laying.{laid, moved, all_slices, is_touched, over, slicing_with}
+use Rattle.fhir_inheritance.specs.Lists.{with_others}
 use Rattle.fhir_snapshot.specs.Order.{IsAt}
-use Rattle.fhir_snapshot.specs.Inheriting.{written, names_in, asks_names, key_at, asks_targets, asks_kinds, touched_node, made, made_from, new, new_slice, new_child, inherits, in_source, at, asking}
+use Rattle.fhir_inheritance.specs.Inheriting.{written, names_in, asks_names, key_at, asks_targets, asks_kinds, touched_node, made, made_from, new, new_slice, new_child, inherits, in_source, at, asking}
 
 abbrev pub OneAnswer : Type 0
 OneAnswer = (asking : Text → Asking Node) (name : Text) (one other : Option Node) → Has asking name one → Has asking name other → one ≡ other

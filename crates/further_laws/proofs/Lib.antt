@@ -6,3 +6,4 @@ mod Sliced
 mod Some
 mod Typed
 mod Coming
+mod Standing

@@ -1,6 +1,6 @@
 //! Snapshots (FHIR R4, Profiling, snapshots).
 
-ghost use Rattle.std.specs.Prelude.{◌≡◌, ◌++◌, List, None, Some, true, false};
+ghost use Rattle.std.specs.Prelude.{◌≡◌, ◌∷◌, ◌++◌, List, map, None, Some, true, false};
 ghost use Rattle.fhir_json.specs.Tree.{Text};
 ghost use Rattle.fhir_json.specs.Bytes.{line_feed};
 ghost use Rattle.fhir_names.specs.Texts.{lacks};
@@ -8,14 +8,15 @@ ghost use Rattle.fhir_names.specs.Parents.{sliced_of};
 ghost use Rattle.fhir_elements.specs.Constraint.{Constraint};
 ghost use Rattle.fhir_elements.specs.Element.{Element};
 ghost use Rattle.fhir_package.specs.Definitions.{Definitions};
-ghost use Rattle.fhir_snapshot.specs.Node.{Node};
-ghost use Rattle.fhir_snapshot.specs.Elements.{find};
-ghost use Rattle.fhir_snapshot.specs.Sources.{Source, source_at};
-ghost use Rattle.fhir_snapshot.specs.Order.{IsAt};
+ghost use Rattle.fhir_inheritance.specs.Node.{Node};
+ghost use Rattle.fhir_inheritance.specs.Elements.{find};
+ghost use Rattle.fhir_inheritance.specs.Sources.{Source, source_at};
+ghost use Rattle.fhir_inheritance.specs.Keys.{child_id};
+ghost use Rattle.fhir_snapshot.specs.Order.{IsAt, Lists};
 
 use fhir_asking::{answers_come_of_answers, one_answer};
+use fhir_inheritance::NodeDef;
 use fhir_overlay::constraints_stay;
-use fhir_snapshot::NodeDef;
 
 /// In a profile that is written by differential each element of the base keeps its constraints, behind which others may come
 /// (`constraints`). Where the differential has no element of its id, it is the base's element, but for a slicing (`untouched`).
@@ -41,3 +42,12 @@ pub fn new_slices()
     one_answer::<NodeDef>();
     answers_come_of_answers::<NodeDef>();
 }
+
+/// In a snapshot an element is followed by its children, each with what stands under it. Then come its slices, each with what stands
+/// under it, and only then the others.
+pub fn children_then_slices()
+    ensures { (p : Definitions) (url id : Text) (ids : List Text) (es : List Element) → Lists p url es (id ∷ ids)
+        → (n : Node) × (children : List Element) × (slices : List Element) × (others : List Element)
+        × IsAt p url id n × (es ≡ n.element ∷ (children ++ (slices ++ others)))
+        × Lists p url children (map (child_id id) n.names) × Lists p url slices n.slices × Lists p url others ids }
+{}

@@ -1,5 +1,6 @@
 pub mod CodeSystems
 pub mod Contents
+pub mod Drafts
 pub mod Definitions
 pub mod Elements
 pub mod Folders

@@ -6,6 +6,7 @@
 mod code_systems;
 mod contents;
 mod definitions;
+mod drafts;
 mod elements;
 mod expressions;
 mod folders;
@@ -18,6 +19,7 @@ mod slicings;
 pub use code_systems::{code_system_contents, code_system_versions, codes_from_elsewhere};
 pub use contents::{companions_example, contents_example, references_of_types};
 pub use definitions::{bound_types, derivations, type_kinds};
+pub use drafts::draft_example;
 pub use elements::{element_example, element_tables};
 pub use expressions::{escapes, function_names, operators, system_types};
 pub use folders::{clashes_example, surveys_example};

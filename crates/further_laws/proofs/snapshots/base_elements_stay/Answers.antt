@@ -1,7 +1,7 @@
 use Rattle.std.proofs.Common.{ap, ◌∙◌}
-use Rattle.fhir_snapshot.specs.Elements.{find}
-use Rattle.fhir_snapshot.specs.Laying.{all_slices}
-use Rattle.fhir_snapshot.specs.Inheriting.{asking}
+use Rattle.fhir_inheritance.specs.Elements.{find}
+use Rattle.fhir_inheritance.specs.Laying.{all_slices}
+use Rattle.fhir_inheritance.specs.Inheriting.{asking}
 use Rattle.further_laws.proofs.Coming.{base_element, laid_constraints, laid_untouched}
 use Rattle.further_laws.proofs.snapshots.base_elements_stay.Goals as goal
 

@@ -1,7 +1,7 @@
 use Rattle.std.proofs.Common.{[]}
 use Rattle.fhir_overlay.specs.Overlay.{as_slice}
-use Rattle.fhir_snapshot.specs.Laying.{all_slices, moved}
-use Rattle.fhir_snapshot.specs.Inheriting.{asking}
+use Rattle.fhir_inheritance.specs.Laying.{all_slices, moved}
+use Rattle.fhir_inheritance.specs.Inheriting.{asking}
 use Rattle.further_laws.proofs.Coming.{slice_element, laid_min}
 use Rattle.further_laws.proofs.snapshots.new_slices.Goals as goal
 
