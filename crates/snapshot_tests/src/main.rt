@@ -1,13 +1,14 @@
 //! Makes the snapshots of the profiles of `data/package.txt`, of which each line is a file: its name, a blank and its JSON on
 //! one line. For each definition without a snapshot a line is printed: its url, a blank, and the elements as JSON or the
-//! number of the fault. `stdout` has what they are by hand.
+//! number of the fault. Then the package is completed, and the definitions are printed that have no snapshot, and how many have one
+//! now that is the one generated. `stdout` has what they are by hand.
 #![tactic(auto)]
 
 use fhir_elements::ElementDef;
 use fhir_json::write;
 use fhir_overlay::element_json;
 use fhir_package::{FolderFile, Kind, MemoryFolder, Package, load};
-use fhir_snapshot::generate;
+use fhir_snapshot::{complete, generate};
 use std::alloc::{AllocError, Global};
 use std::{fs, io};
 
@@ -76,11 +77,46 @@ fn print_snapshots<R: Print + AllocGlobal + Clone + Drop>(
     Ok(())
 }
 
+// How many definitions have a snapshot behind completing that they hadn't before, each of which is the one that is generated.
+fn count_completed(
+    alloc: Global,
+    package: &Package<'_>,
+    completed: &Package<'_>,
+) -> Result<usize, AllocError> {
+    let mut count = 0_usize;
+    for url in package.names(Kind::StructureDefinition) {
+        if !brings_snapshot(package, url) && brings_snapshot(completed, url) {
+            let generated = answer(alloc, package, url)?;
+            let there = answer(alloc, completed, url)?;
+            if generated.as_str() == there.as_str() {
+                count = count.saturating_add(1);
+            }
+        }
+    }
+    Ok(count)
+}
+
+fn print_completion<R: Print + AllocGlobal + Clone + Drop>(
+    rt: &R,
+    package: &Package<'_>,
+) -> io::Result<()> {
+    let alloc = rt.alloc();
+    let mut completed = package.detach(alloc).map_err(|_| AllocError)?;
+    for (url, fault) in &complete(alloc, &mut completed).map_err(|_| AllocError)? {
+        println!(rt; "without: {url} {fault}")?;
+    }
+    let count = count_completed(alloc, package, &completed)?;
+    println!(rt; "completed: {count}")
+}
+
 fn main(rt: HostRuntime) -> io::Result<()> {
     let text = fs::read_to_string(&rt, "package.txt")?;
     let mut folder = folder_of_lines(rt.alloc(), text.as_str())?;
     match load(rt.alloc(), &mut folder) {
-        Ok(package) => print_snapshots(&rt, &package),
+        Ok(package) => {
+            print_snapshots(&rt, &package)?;
+            print_completion(&rt, &package)
+        }
         Err(fault) => println!(&rt; "{fault}"),
     }
 }
