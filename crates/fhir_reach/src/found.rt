@@ -1,0 +1,178 @@
+//! Keys that are found, each once.
+
+ghost use Rattle.std.specs.Prelude.{◌≡◌, [], false, length, OnOk};
+ghost use Rattle.std.specs.List.{slice_get};
+ghost use Rattle.std.specs.Option.{option_map, option_map_or, option_copied};
+ghost use Rattle.fhir_reach.specs.Keys.{of_url, of_code, key_eq, key_seen, keys_seen, has_key, with_key};
+
+use crate::key::Key;
+use fhir_json::NoMemory;
+use fhir_names::Index;
+use std::alloc::Global;
+use std::marker::Model;
+
+/// Keys, each once, in the order in which they were added. A key is looked up in time logarithmic in their number, whatever they
+/// are. A place may be kept of a key that isn't there, so what stands at a place is looked at.
+#[derive(Drop)]
+pub(crate) struct Found {
+    keys: Vec<Key>,
+    urls: Index,
+    codes: Index,
+}
+
+impl Model for Found {
+    ghost use Rattle.std.specs.Prelude.{List};
+    ghost use Rattle.fhir_reach.specs.Keys.{KeyValue, keys_seen};
+    ghost use Rattle.fhir_reach.specs.Places.{MarksKeys};
+
+    ghost Value = { List KeyValue };
+
+    ghost view = { λ f. keys_seen f.keys.items };
+
+    ghost invariant = { λ f. MarksKeys f.urls f.codes (keys_seen f.keys.items) };
+}
+
+fn key_at(keys: &[Key], place: usize) -> Option<&Key>
+    ensures { option_map key_seen (option_copied result) ≡ slice_get (keys_seen keys.now) place }
+{
+    keys.get(place)
+}
+
+fn is_url(key: &Key, url: &str) -> bool
+    ensures { result ≡ key_eq (of_url url.now) (key_seen key.now) }
+{
+    match key {
+        Key::Url(text) => url == text.as_str(),
+        Key::Code(_) => false,
+    }
+}
+
+fn is_code(key: &Key, code: &str) -> bool
+    ensures { result ≡ key_eq (of_code code.now) (key_seen key.now) }
+{
+    match key {
+        Key::Url(_) => false,
+        Key::Code(text) => code == text.as_str(),
+    }
+}
+
+fn url_stands_at(keys: &[Key], place: usize, url: &str) -> bool
+    ensures { result ≡ option_map_or (key_eq (of_url url.now)) (slice_get (keys_seen keys.now) place) false }
+{
+    match key_at(keys, place) {
+        Some(key) => is_url(key, url),
+        None => false,
+    }
+}
+
+fn code_stands_at(keys: &[Key], place: usize, code: &str) -> bool
+    ensures { result ≡ option_map_or (key_eq (of_code code.now)) (slice_get (keys_seen keys.now) place) false }
+{
+    match key_at(keys, place) {
+        Some(key) => is_code(key, code),
+        None => false,
+    }
+}
+
+impl Found {
+    /// No keys, which allocates nothing.
+    pub(crate) fn new(alloc: Global) -> Found
+        ensures { result ≡ [] }
+    {
+        Found {
+            keys: Vec::new(alloc),
+            urls: Index::new(alloc),
+            codes: Index::new(alloc),
+        }
+    }
+
+    /// How many there are.
+    pub(crate) fn len(&self) -> usize
+        ensures { result ≡ length self.now }
+    {
+        self.keys.len()
+    }
+
+    /// The key at a place.
+    pub(crate) fn at(&self, place: usize) -> Option<&Key>
+        ensures { option_map key_seen (option_copied result) ≡ slice_get self.now place }
+    {
+        key_at(&self.keys, place)
+    }
+
+    /// The keys.
+    pub(crate) fn into_keys(self) -> Vec<Key>
+        ensures { keys_seen result.items ≡ self }
+    {
+        let Found { keys, .. } = self;
+        keys
+    }
+
+    fn has_url(&self, url: &str) -> bool
+        ensures { result ≡ has_key self.now (of_url url.now) }
+    {
+        match self.urls.get(url) {
+            Some(place) => url_stands_at(&self.keys, place, url),
+            None => false,
+        }
+    }
+
+    fn has_code(&self, code: &str) -> bool
+        ensures { result ≡ has_key self.now (of_code code.now) }
+    {
+        match self.codes.get(code) {
+            Some(place) => code_stands_at(&self.keys, place, code),
+            None => false,
+        }
+    }
+
+    fn push_url(&mut self, alloc: Global, url: &str) -> Result<(), NoMemory>
+        requires { has_key self.old (of_url url.now) ≡ false }
+        ensures { OnOk result (self.new ≡ with_key self.old (of_url url.now)) }
+    {
+        let text = String::from_str(alloc, url)?;
+        self.urls.put(alloc, url, self.keys.len())?;
+        self.keys.push(Key::Url(text))?;
+        Ok(())
+    }
+
+    fn push_code(&mut self, alloc: Global, code: &str) -> Result<(), NoMemory>
+        requires { has_key self.old (of_code code.now) ≡ false }
+        ensures { OnOk result (self.new ≡ with_key self.old (of_code code.now)) }
+    {
+        let text = String::from_str(alloc, code)?;
+        self.codes.put(alloc, code, self.keys.len())?;
+        self.keys.push(Key::Code(text))?;
+        Ok(())
+    }
+
+    /// Adds a url, unless it is there.
+    pub(crate) fn add_url(&mut self, alloc: Global, url: &str) -> Result<(), NoMemory>
+        ensures { OnOk result (self.new ≡ with_key self.old (of_url url.now)) }
+    {
+        if self.has_url(url) {
+            return Ok(());
+        }
+        self.push_url(alloc, url)
+    }
+
+    /// Adds the code of a type, unless it is there.
+    pub(crate) fn add_code(&mut self, alloc: Global, code: &str) -> Result<(), NoMemory>
+        ensures { OnOk result (self.new ≡ with_key self.old (of_code code.now)) }
+    {
+        if self.has_code(code) {
+            return Ok(());
+        }
+        self.push_code(alloc, code)
+    }
+
+    /// Adds a key, unless it is there.
+    pub(crate) fn add(&mut self, alloc: Global, key: &Key) -> Result<(), NoMemory>
+        ensures { OnOk result (self.new ≡ with_key self.old (key_seen key.now)) }
+    {
+        match key {
+            Key::Url(url) => self.add_url(alloc, url.as_str()),
+            Key::Code(code) => self.add_code(alloc, code.as_str()),
+        }
+    }
+}
