@@ -13,6 +13,7 @@ mod folders;
 mod packages;
 mod pairs;
 mod positions;
+mod reaching;
 mod schemas;
 mod slicings;
 
@@ -29,5 +30,6 @@ pub use pairs::{
     slices_of_pairs, values_of_pairs,
 };
 pub use positions::{positions_example, stops_example};
+pub use reaching::{named_keys, standing_keys, starting_keys};
 pub use schemas::{covering_example, reasons_example};
 pub use slicings::{discriminators_example, orders_of_slices};
