@@ -5,5 +5,3 @@ mod Places
 mod Sliced
 mod Some
 mod Typed
-mod Coming
-mod Standing

@@ -6,12 +6,10 @@ mod bases;
 mod children;
 mod collections;
 mod slices;
-mod snapshots;
 mod types;
 
 pub use bases::{chains_of_bases, covered_codes};
 pub use children::{all_asks, children_by_name, one_of_several_profiles};
 pub use collections::{positions, shared_values, united_values};
 pub use slices::{criteria_of_slices, items_in_two_slices};
-pub use snapshots::{base_elements_stay, children_then_slices, new_slices};
 pub use types::typing_by_types;

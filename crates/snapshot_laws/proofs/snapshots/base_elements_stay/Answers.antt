@@ -2,8 +2,8 @@ use Rattle.std.proofs.Common.{ap, ◌∙◌}
 use Rattle.fhir_inheritance.specs.Elements.{find}
 use Rattle.fhir_inheritance.specs.Laying.{all_slices}
 use Rattle.fhir_inheritance.specs.Inheriting.{asking}
-use Rattle.further_laws.proofs.Coming.{base_element, laid_constraints, laid_untouched}
-use Rattle.further_laws.proofs.snapshots.base_elements_stay.Goals as goal
+use Rattle.snapshot_laws.proofs.Coming.{base_element, laid_constraints, laid_untouched}
+use Rattle.snapshot_laws.proofs.snapshots.base_elements_stay.Goals as goal
 
 pub returns-clause-constraints : goal.returns-clause-constraints
 returns-clause-constraints c = λ p id url base s n m plain is isnt base_is below at own.

@@ -2,8 +2,8 @@ use Rattle.std.proofs.Common.{[]}
 use Rattle.fhir_overlay.specs.Overlay.{as_slice}
 use Rattle.fhir_inheritance.specs.Laying.{all_slices, moved}
 use Rattle.fhir_inheritance.specs.Inheriting.{asking}
-use Rattle.further_laws.proofs.Coming.{slice_element, laid_min}
-use Rattle.further_laws.proofs.snapshots.new_slices.Goals as goal
+use Rattle.snapshot_laws.proofs.Coming.{slice_element, laid_min}
+use Rattle.snapshot_laws.proofs.snapshots.new_slices.Goals as goal
 
 pub returns : goal.returns
 returns c = λ p id whole url base s d n plain is isnt base_is none sliced found unsaid at.

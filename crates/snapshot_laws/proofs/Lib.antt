@@ -1,0 +1,14 @@
+mod Coming
+mod Standing
+mod Among
+mod Asked
+mod Finding
+mod Listed
+mod Nodes
+mod Origins
+mod Parents
+mod Placed
+mod Rising
+mod There
+mod Ups
+mod Whole

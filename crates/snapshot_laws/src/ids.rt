@@ -1,0 +1,28 @@
+//! Which ids a snapshot has (FHIR R4, Profiling, snapshots; ElementDefinition, id).
+
+ghost use Rattle.std.specs.Prelude.{◌≡◌, List, Some, true, false};
+ghost use Rattle.fhir_json.specs.Tree.{Text};
+ghost use Rattle.fhir_elements.specs.Element.{Element};
+ghost use Rattle.fhir_package.specs.Definitions.{Definitions};
+ghost use Rattle.fhir_definition.specs.Snapshot.{ids_differ};
+ghost use Rattle.fhir_inheritance.specs.Sources.{Source, source_at};
+ghost use Rattle.fhir_snapshot.specs.Chains.{Rests};
+ghost use Rattle.fhir_snapshot.specs.Snapshots.{IsSnapshot};
+ghost use Rattle.snapshot_laws.specs.Snapshots.{Stands, AreWhole};
+
+use fhir_asking::one_answer;
+use fhir_inheritance::NodeDef;
+use fhir_snapshot::one_completion;
+
+/// In the snapshot of a profile that is written by differential each id of the base is there (`of_base`), and each of the
+/// differential (`of_differential`), and none is there twice (`once`), where the snapshots that are brought are whole.
+pub fn each_id_once()
+    ensures once { (p : Definitions) (url : Text) (es : List Element) → AreWhole p → IsSnapshot p url es → ids_differ es ≡ true }
+    ensures of_base { (p : Definitions) (url base id : Text) (below es : List Element) → AreWhole p
+        → Rests p url base → IsSnapshot p base below → IsSnapshot p url es → Stands id below → Stands id es }
+    ensures of_differential { (p : Definitions) (url id : Text) (s : Source) (es : List Element) → AreWhole p
+        → source_at p url ≡ Some s → s.written ≡ false → IsSnapshot p url es → Stands id s.elements → Stands id es }
+{
+    one_answer::<NodeDef>();
+    one_completion();
+}
