@@ -1,0 +1,156 @@
+//! Commands, and the lines on which they are written.
+
+ghost use Rattle.std.specs.Prelude.{◌≡◌, IfOk, map, option_map};
+ghost use Rattle.std.specs.Option.{option_and_then};
+ghost use Rattle.fhir_json.specs.Fields.{as_text, as_items};
+ghost use Rattle.fhir_json.specs.Compact.{compact};
+ghost use Rattle.fhir_json.specs.Tree.{list_of};
+ghost use Rattle.fhir_json.specs.Views.{tree_of, trees_of, property_of};
+ghost use Rattle.fhir_commands.specs.Commands.{remove, validate, command_seen, kind_of, only_of, only_member, put_in, validate_in, command_of_member, command_of, line_command};
+
+use fhir_json::{Json, JsonFault, Member, NoMemory, lists, read, write};
+use std::alloc::Global;
+
+/// What is asked of a session.
+#[derive(Debug, Drop)]
+pub enum Command<'a> {
+    /// Definitions are put in, all of them or none.
+    Put(Vec<Json<'a>>),
+    /// The definitions of a url are taken out.
+    Remove(String),
+    /// The bytes of a resource are judged against the profile of a url.
+    Validate {
+        /// The url of the profile.
+        profile: String,
+        /// The bytes.
+        resource: Vec<u8>,
+    },
+}
+
+/// Which command it is.
+#[derive(Clone, Copy, Debug, PartialEq, Eq)]
+pub enum CommandKind {
+    /// `put`.
+    Put,
+    /// `remove`.
+    Remove,
+    /// `validate`.
+    Validate,
+}
+
+// The member, where there is one alone.
+fn take_only<'a>(members: Vec<Member<'a>>) -> Option<Member<'a>>
+    ensures { option_map property_of result ≡ only_of (map property_of members.entry.items) }
+{
+    let mut members = members;
+    if members.len() != 1 {
+        return None;
+    }
+    members.pop()
+}
+
+fn only_member<'a>(json: Json<'a>) -> Option<Member<'a>>
+    ensures { option_map property_of result ≡ only_member (tree_of json.entry) }
+{
+    match json {
+        Json::Obj(members) => take_only(members),
+        _ => None,
+    }
+}
+
+fn put_in<'a>(value: Json<'a>) -> Option<Command<'a>>
+    ensures { option_map command_seen result ≡ put_in (tree_of value.entry) }
+{
+    lists();
+    match value {
+        Json::Arr(trees) => Some(Command::Put(trees)),
+        _ => None,
+    }
+}
+
+fn remove_in<'o>(alloc: Global, value: &Json<'_>) -> Result<Option<Command<'o>>, NoMemory>
+    ensures { IfOk result (λ c. option_map command_seen c ≡ option_map remove (as_text (tree_of value.now))) }
+{
+    match value.as_text() {
+        Some(url) => Ok(Some(Command::Remove(String::from_str(alloc, url)?))),
+        None => Ok(None),
+    }
+}
+
+fn validate_with<'o>(
+    alloc: Global,
+    profile: &Json<'_>,
+    resource: &Json<'_>,
+) -> Result<Option<Command<'o>>, NoMemory>
+    ensures { IfOk result (λ c. option_map command_seen c ≡ option_map (λ url. validate url (compact (tree_of resource.now))) (as_text (tree_of profile.now))) }
+{
+    let Some(profile) = profile.as_text() else {
+        return Ok(None);
+    };
+    let profile = String::from_str(alloc, profile)?;
+    let resource = write(alloc, resource)?;
+    Ok(Some(Command::Validate { profile, resource }))
+}
+
+fn validate_in<'o>(alloc: Global, items: &[Json<'_>]) -> Result<Option<Command<'o>>, NoMemory>
+    ensures { IfOk result (λ c. option_map command_seen c ≡ validate_in (trees_of items.now)) }
+{
+    match items {
+        [profile, resource] => validate_with(alloc, profile, resource),
+        _ => Ok(None),
+    }
+}
+
+fn validate_of<'o>(alloc: Global, value: &Json<'_>) -> Result<Option<Command<'o>>, NoMemory>
+    ensures { IfOk result (λ c. option_map command_seen c ≡ validate_in (list_of (as_items (tree_of value.now)))) }
+{
+    match value {
+        Json::Arr(items) => validate_in(alloc, items),
+        _ => Ok(None),
+    }
+}
+
+fn command_of_member<'a>(alloc: Global, member: Member<'a>) -> Result<Option<Command<'a>>, NoMemory>
+    ensures { IfOk result (λ c. option_map command_seen c ≡ command_of_member (property_of member.entry)) }
+{
+    match member.name.as_str() {
+        "put" => Ok(put_in(member.value)),
+        "remove" => remove_in(alloc, &member.value),
+        "validate" => validate_of(alloc, &member.value),
+        _ => Ok(None),
+    }
+}
+
+fn command_of<'a>(alloc: Global, json: Json<'a>) -> Result<Option<Command<'a>>, NoMemory>
+    ensures { IfOk result (λ c. option_map command_seen c ≡ command_of (tree_of json.entry)) }
+{
+    match only_member(json) {
+        Some(member) => command_of_member(alloc, member),
+        None => Ok(None),
+    }
+}
+
+impl<'a> Command<'a> {
+    /// The command that the bytes of a line are, which has no line feed at its end; none where they are no JSON, or none that is a command.
+    /// The one refusal is want of memory.
+    pub fn of_line(alloc: Global, line: &'a [u8]) -> Result<Option<Command<'a>>, NoMemory>
+        ensures { IfOk result (λ c. option_map command_seen c ≡ line_command line.now) }
+    {
+        match read(alloc, line) {
+            Ok(json) => command_of(alloc, json),
+            Err(JsonFault::NoMemory) => Err(NoMemory),
+            Err(_) => Ok(None),
+        }
+    }
+
+    /// Which command it is.
+    pub fn kind(&self) -> CommandKind
+        ensures { result ≡ kind_of (command_seen self.now) }
+    {
+        match self {
+            Command::Put(_) => CommandKind::Put,
+            Command::Remove(_) => CommandKind::Remove,
+            Command::Validate { .. } => CommandKind::Validate,
+        }
+    }
+}
