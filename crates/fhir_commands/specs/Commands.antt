@@ -10,8 +10,6 @@ use Rattle.fhir_json.specs.Compact.{compact}
 use Rattle.fhir_json.specs.Reading.{reading}
 use Rattle.fhir_commands.specs.declared.command.Command.{Command}
 use Rattle.fhir_commands.specs.declared.command.Command.TheVariants.{Put, Remove, Validate}
-use Rattle.fhir_commands.specs.declared.command.CommandKind.{CommandKind}
-use Rattle.fhir_commands.specs.declared.command.CommandKind.TheVariants as kinds
 
 pub data CommandValue : Type 0 where
   put : List Tree → CommandValue
@@ -23,11 +21,6 @@ abbrev pub command_seen : Command → CommandValue
 command_seen (Put trees) = put (trees_of trees.items)
 command_seen (Remove url) = remove (string_bytes url)
 command_seen (Validate profile resource) = validate (string_bytes profile) resource.items
-
-abbrev pub kind_of : CommandValue → CommandKind
-kind_of (put trees) = kinds.Put
-kind_of (remove url) = kinds.Remove
-kind_of (validate profile resource) = kinds.Validate
 
 -- ---- how one is written
 

@@ -6,7 +6,7 @@ ghost use Rattle.fhir_json.specs.Fields.{as_text, as_items};
 ghost use Rattle.fhir_json.specs.Compact.{compact};
 ghost use Rattle.fhir_json.specs.Tree.{list_of};
 ghost use Rattle.fhir_json.specs.Views.{tree_of, trees_of, property_of};
-ghost use Rattle.fhir_commands.specs.Commands.{remove, validate, command_seen, kind_of, only_of, only_member, put_in, validate_in, command_of_member, command_of, line_command};
+ghost use Rattle.fhir_commands.specs.Commands.{remove, validate, command_seen, only_of, only_member, put_in, validate_in, command_of_member, command_of, line_command};
 
 use fhir_json::{Json, JsonFault, Member, NoMemory, lists, read, write};
 use std::alloc::Global;
@@ -25,17 +25,6 @@ pub enum Command<'a> {
         /// The bytes.
         resource: Vec<u8>,
     },
-}
-
-/// Which command it is.
-#[derive(Clone, Copy, Debug, PartialEq, Eq)]
-pub enum CommandKind {
-    /// `put`.
-    Put,
-    /// `remove`.
-    Remove,
-    /// `validate`.
-    Validate,
 }
 
 // The member, where there is one alone.
@@ -140,17 +129,6 @@ impl<'a> Command<'a> {
             Ok(json) => command_of(alloc, json),
             Err(JsonFault::NoMemory) => Err(NoMemory),
             Err(_) => Ok(None),
-        }
-    }
-
-    /// Which command it is.
-    pub fn kind(&self) -> CommandKind
-        ensures { result ≡ kind_of (command_seen self.now) }
-    {
-        match self {
-            Command::Put(_) => CommandKind::Put,
-            Command::Remove(_) => CommandKind::Remove,
-            Command::Validate { .. } => CommandKind::Validate,
         }
     }
 }

@@ -5,7 +5,9 @@
 #![tactic(auto)]
 
 mod command;
+mod line;
 mod reply;
 
-pub use command::{Command, CommandKind};
-pub use reply::{LINE_FAULT, MEMORY_FAULT, Refusal, Reply, Standing, fault_lines};
+pub use command::Command;
+pub use line::{LINE_FAULT, Line, MEMORY_FAULT, fixed_lines};
+pub use reply::{PutAnswer, RemoveAnswer, Reply, Standing};

@@ -1,23 +1,36 @@
 //! Replies, and the lines on which they are written.
 
-ghost use Rattle.std.specs.Prelude.{◌≡◌, ◌∷◌, [], map, IfOk, codes};
+ghost use Rattle.std.specs.Prelude.{◌≡◌, ◌∷◌, [], true, IfOk, IsOk, codes};
 ghost use Rattle.fhir_json.specs.Tree.{string};
 ghost use Rattle.fhir_json.specs.Views.{tree_of, property_of};
 ghost use Rattle.fhir_json.specs.Memory.{Gives};
-ghost use Rattle.fhir_commands.specs.Replies.{kind_text, refusal_text, standing_text, reply_seen, reply_tree, fault_tree, fields, line_of};
+ghost use Rattle.fhir_commands.specs.Replies.{put, remove, validate, put_text, remove_text, standing_text, reply_seen, reply_tree, line_of, line_seen, is_short, fields};
 
-use crate::command::CommandKind;
+use crate::line::{
+    Line, PUT_DONE, PUT_NO_DEFINITION, PUT_TWICE, REMOVE_ABSENT, REMOVE_DONE, fixed_lines,
+};
 use fhir_json::{Json, Member, NoMemory, write};
 use std::alloc::Global;
 use std::borrow::CowStr;
 
-/// Why definitions aren't put in.
+/// What comes of definitions that are to be put in.
 #[derive(Clone, Copy, Debug, PartialEq, Eq)]
-pub enum Refusal {
-    /// `G1`: one of them is no sound definition with a `url`.
+pub enum PutAnswer {
+    /// They are put in.
+    Done,
+    /// `G1`: one of them is no sound definition with a `url`. None is put in.
     NoDefinition,
-    /// `G2`: two of them are of one kind and url.
+    /// `G2`: two of them are of one kind and url. None is put in.
     Twice,
+}
+
+/// What comes of a url whose definitions are to be taken out.
+#[derive(Clone, Copy, Debug, PartialEq, Eq)]
+pub enum RemoveAnswer {
+    /// They are taken out.
+    Done,
+    /// It has none.
+    Absent,
 }
 
 /// How a resource stands with a profile.
@@ -36,43 +49,56 @@ pub enum Standing {
 /// What comes of a command, unless memory runs out.
 #[derive(Debug, Drop)]
 pub enum Reply {
-    /// The definitions are put in, or taken out.
-    Done,
-    /// No definition has the url.
-    Absent,
-    /// The definitions aren't put in.
-    Refused(Refusal),
+    /// Of definitions that were to be put in.
+    Put(PutAnswer),
+    /// Of a url whose definitions were to be taken out.
+    Remove(RemoveAnswer),
     /// How a resource stands, and the outcome of its validation.
-    Validated(Standing, Json<'static>),
+    Validate(Standing, Json<'static>),
 }
 
-/// The line that answers one that is no command.
-pub const LINE_FAULT: &str = "{\"fault\":\"line\"}\n";
-
-/// The line that answers a command for which memory ran out.
-pub const MEMORY_FAULT: &str = "{\"fault\":\"memory\"}\n";
-
-impl CommandKind {
-    /// Its word.
+impl PutAnswer {
+    /// `done`, or the number of the refusal.
     pub fn text(self) -> &'static str
-        ensures { result.now ≡ kind_text self }
+        ensures { result.now ≡ put_text self }
     {
         match self {
-            CommandKind::Put => "put",
-            CommandKind::Remove => "remove",
-            CommandKind::Validate => "validate",
+            PutAnswer::Done => "done",
+            PutAnswer::NoDefinition => "G1",
+            PutAnswer::Twice => "G2",
+        }
+    }
+
+    fn line(self) -> &'static str
+        ensures { result.now ≡ line_of (reply_tree (put self)) }
+    {
+        fixed_lines();
+        match self {
+            PutAnswer::Done => PUT_DONE,
+            PutAnswer::NoDefinition => PUT_NO_DEFINITION,
+            PutAnswer::Twice => PUT_TWICE,
         }
     }
 }
 
-impl Refusal {
-    /// Its number.
-    pub fn number(self) -> &'static str
-        ensures { result.now ≡ refusal_text self }
+impl RemoveAnswer {
+    /// `done` or `absent`.
+    pub fn text(self) -> &'static str
+        ensures { result.now ≡ remove_text self }
     {
         match self {
-            Refusal::NoDefinition => "G1",
-            Refusal::Twice => "G2",
+            RemoveAnswer::Done => "done",
+            RemoveAnswer::Absent => "absent",
+        }
+    }
+
+    fn line(self) -> &'static str
+        ensures { result.now ≡ line_of (reply_tree (remove self)) }
+    {
+        fixed_lines();
+        match self {
+            RemoveAnswer::Done => REMOVE_DONE,
+            RemoveAnswer::Absent => REMOVE_ABSENT,
         }
     }
 }
@@ -91,49 +117,34 @@ impl Standing {
     }
 }
 
-fn word(name: &'static str, text: &'static str) -> Member<'static>
-    ensures { property_of result ≡ (name.now, string text.now) }
+fn standing_member(standing: Standing) -> Member<'static>
+    ensures { property_of result ≡ (codes "validate", string (standing_text standing)) }
 {
     Member {
-        name: CowStr::Borrowed(name),
-        value: Json::Str(CowStr::Borrowed(text)),
+        name: CowStr::Borrowed("validate"),
+        value: Json::Str(CowStr::Borrowed(standing.text())),
     }
 }
 
-fn object_of_one(alloc: Global, member: Member<'static>) -> Result<Json<'static>, NoMemory>
-    ensures { IfOk result (λ json. tree_of json ≡ fields (property_of member.entry ∷ [])) }
+fn outcome_member(outcome: Json<'static>) -> Member<'static>
+    ensures { property_of result ≡ (codes "outcome", tree_of outcome.entry) }
 {
-    let members = vec![in alloc; member]?;
-    Ok(Json::Obj(members))
+    Member {
+        name: CowStr::Borrowed("outcome"),
+        value: outcome,
+    }
 }
 
-fn validated(
+fn judgement_tree(
     alloc: Global,
-    kind: CommandKind,
     standing: Standing,
     outcome: Json<'static>,
 ) -> Result<Json<'static>, NoMemory>
     ensures { IfOk result (λ json. tree_of json
-        ≡ fields ((kind_text kind, string (standing_text standing)) ∷ (codes "outcome", tree_of outcome.entry) ∷ [])) }
+        ≡ fields ((codes "validate", string (standing_text standing)) ∷ (codes "outcome", tree_of outcome.entry) ∷ [])) }
 {
-    let first = word(kind.text(), standing.text());
-    let second = Member {
-        name: CowStr::Borrowed("outcome"),
-        value: outcome,
-    };
-    let members = vec![in alloc; first, second]?;
+    let members = vec![in alloc; standing_member(standing), outcome_member(outcome)]?;
     Ok(Json::Obj(members))
-}
-
-fn reply_tree(alloc: Global, kind: CommandKind, reply: Reply) -> Result<Json<'static>, NoMemory>
-    ensures { IfOk result (λ json. tree_of json ≡ reply_tree kind (reply_seen reply)) }
-{
-    match reply {
-        Reply::Done => object_of_one(alloc, word(kind.text(), "done")),
-        Reply::Absent => object_of_one(alloc, word(kind.text(), "absent")),
-        Reply::Refused(refusal) => object_of_one(alloc, word(kind.text(), refusal.number())),
-        Reply::Validated(standing, outcome) => validated(alloc, kind, standing, outcome),
-    }
 }
 
 fn line_of(alloc: Global, json: &Json<'_>) -> Result<Vec<u8>, NoMemory>
@@ -144,18 +155,28 @@ fn line_of(alloc: Global, json: &Json<'_>) -> Result<Vec<u8>, NoMemory>
     Ok(line)
 }
 
-impl Reply {
-    /// The line on which the reply to a command of that kind is written, with its line feed.
-    pub fn into_line(self, alloc: Global, kind: CommandKind) -> Result<Vec<u8>, NoMemory>
-        ensures { Gives (λ bytes. bytes.items) result (line_of (reply_tree kind (reply_seen self))) }
-    {
-        let json = reply_tree(alloc, kind, self)?;
-        line_of(alloc, &json)
-    }
+fn judgement_line(
+    alloc: Global,
+    standing: Standing,
+    outcome: Json<'static>,
+) -> Result<Line, NoMemory>
+    ensures { Gives line_seen result (line_of (reply_tree (validate standing (tree_of outcome.entry)))) }
+{
+    let json = judgement_tree(alloc, standing, outcome)?;
+    Ok(Line::Made(line_of(alloc, &json)?))
 }
 
-/// The lines that answer what is no command, and a command for which memory ran out.
-pub fn fault_lines()
-    ensures line { LINE_FAULT.now ≡ line_of (fault_tree (codes "line")) }
-    ensures memory { MEMORY_FAULT.now ≡ line_of (fault_tree (codes "memory")) }
-{}
+impl Reply {
+    /// The line on which the reply is written. Where definitions were to be changed it takes no memory, so that what was done is always
+    /// told; else want of memory is the one refusal.
+    pub fn into_line(self, alloc: Global) -> Result<Line, NoMemory>
+        ensures line { Gives line_seen result (line_of (reply_tree (reply_seen self))) }
+        ensures always { is_short (reply_seen self) ≡ true → IsOk result }
+    {
+        match self {
+            Reply::Put(answer) => Ok(Line::Fixed(answer.line())),
+            Reply::Remove(answer) => Ok(Line::Fixed(answer.line())),
+            Reply::Validate(standing, outcome) => judgement_line(alloc, standing, outcome),
+        }
+    }
+}
