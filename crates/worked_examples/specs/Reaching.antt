@@ -64,10 +64,13 @@ definitions = record {
 
 abbrev pub value_set : Tree
 value_set =
-    fields ((codes "compose", fields (
-    list (codes "include") (fields (text (codes "system") (codes "urn:s") ∷ list (codes "valueSet") (string (codes "urn:W") ∷ []) ∷ []) ∷ [])
-    ∷ list (codes "exclude") (fields (text (codes "system") (codes "urn:t") ∷ []) ∷ [])
-    ∷ [])) ∷ [])
+    fields ((
+      codes "compose",
+      fields (
+          list (codes "include") (fields (text (codes "system") (codes "urn:s") ∷ list (codes "valueSet") (string (codes "urn:W") ∷ []) ∷ []) ∷ [])
+          ∷ list (codes "exclude") (fields (text (codes "system") (codes "urn:t") ∷ []) ∷ [])
+          ∷ []),
+    ) ∷ [])
 
 -- ---- a resource
 

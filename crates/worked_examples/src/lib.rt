@@ -4,6 +4,7 @@
 #![tactic(auto)]
 
 mod code_systems;
+mod commands;
 mod contents;
 mod definitions;
 mod drafts;
@@ -18,6 +19,7 @@ mod schemas;
 mod slicings;
 
 pub use code_systems::{code_system_contents, code_system_versions, codes_from_elsewhere};
+pub use commands::{commands_example, replies_example};
 pub use contents::{companions_example, contents_example, references_of_types};
 pub use definitions::{bound_types, derivations, type_kinds};
 pub use drafts::draft_example;
