@@ -32,6 +32,6 @@ pub use pairs::{
     slices_of_pairs, values_of_pairs,
 };
 pub use positions::{positions_example, stops_example};
-pub use reaching::{named_keys, standing_keys, starting_keys};
+pub use reaching::{changed_keys, followed_keys, named_keys, standing_keys, starting_keys};
 pub use schemas::{covering_example, reasons_example};
 pub use slicings::{discriminators_example, orders_of_slices};
