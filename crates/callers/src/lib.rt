@@ -1,5 +1,5 @@
 //! A caller of each library, as the front page of the library shows it. Here they are proved, and `tests/rules` holds the two
-//! against each other.
+//! against each other. That of `fhir_engine` stands in `engine_tests`, which stands on it in any case.
 #![tactic(auto)]
 
 ghost use Rattle.std.specs.Prelude.{◌≡◌, ◌↔◌, ◌||◌, [], length, get_or, false, None, Ok, is_ok, is_some, List, Option, Result, if◌then◌else◌, IsTrue, IfOk, codes, string_bytes, option_map};
@@ -52,9 +52,6 @@ ghost use Rattle.fhir_cert_check.specs.Checking.{SpellsCertificate};
 ghost use Rattle.fhir_findings.specs.Finding.{all_unusable};
 ghost use Rattle.fhir_report.specs.Faultless.{IsRightBy};
 ghost use Rattle.fhir_registry.specs.Outcomes.{IsOutcome, is_explained};
-ghost use Rattle.fhir_engine.specs.declared.request.WordsFault.{WordsFault};
-ghost use Rattle.fhir_engine.specs.Promising.{Promise};
-ghost use Rattle.fhir_engine.specs.Requests.{InvocationValue};
 
 use fhir_asking::{Asks, settle};
 use fhir_cert_check::{Answer, check_bytes};
@@ -64,7 +61,6 @@ use fhir_conformance::{KidsByName, asks};
 use fhir_decimal::Decimal;
 use fhir_definition::Definition;
 use fhir_elements::{ElementDef, ElementFault};
-use fhir_engine::{Opened, Status, invocation_of, open_asked, run};
 use fhir_facets::{Facet, Pattern, narrower_holds};
 use fhir_forms::NodeForms;
 use fhir_fp_eval::{Env, holds};
@@ -76,7 +72,7 @@ use fhir_matching::{json_eq, matches};
 use fhir_names::{ElementId, front_of};
 use fhir_nodes::{Nodes, Table};
 use fhir_overlay::{copied, laid_over};
-use fhir_package::{Folder, Kind, LoadFault, Package, Silent, Survey, load};
+use fhir_package::{Folder, Kind, LoadFault, Package, Survey, load};
 use fhir_prims::{PrimType, lexical};
 use fhir_registry::outcome;
 use fhir_report::{Format, LackingTable, Subject};
@@ -85,8 +81,6 @@ use fhir_slicing::belongs;
 use fhir_snapshot::{SnapFault, generate};
 use fhir_validator::{Fault, Verdict, validate};
 use std::alloc::Global;
-use std::io::Write;
-use std::rt::Files;
 
 /// The text of the field `url` of a JSON object, or why the bytes are no text of JSON.
 pub fn url_of(alloc: Global, bytes: &[u8]) -> Result<Option<String>, JsonFault>
@@ -386,24 +380,4 @@ pub fn outcome_text(
 {
     let outcome = outcome(alloc, profile, validated)?;
     write(alloc, &outcome)
-}
-
-/// Does what words ask, of which the first is the program's name, and gives the status.
-pub fn status_of<R: Files + AllocGlobal + Clone + Drop, W: Write, E: Write>(
-    rt: &R,
-    words: &[String],
-    out: &mut W,
-    err: &mut E,
-) -> Status
-    ensures { result ≡ Status.Yes → (asked : Result InvocationValue WordsFault)
-        × (files : Files) × (file : Option Text) × Promise asked files file }
-{
-    let asked = invocation_of(rt.alloc(), words);
-    let Opened {
-        asked,
-        folder,
-        file,
-    } = open_asked(rt, asked, &mut Silent);
-    let bytes = file.as_deref();
-    run(rt.alloc(), &asked, folder, bytes, &mut Silent, out, err)
 }

@@ -11,6 +11,13 @@
 //!   there as it is, without its line feed.
 #![tactic(auto)]
 
+ghost use Rattle.std.specs.Prelude.{◌≡◌, Option, Result};
+ghost use Rattle.fhir_json.specs.Tree.{Text};
+ghost use Rattle.fhir_package.specs.Folder.{Files};
+ghost use Rattle.fhir_engine.specs.declared.request.WordsFault.{WordsFault};
+ghost use Rattle.fhir_engine.specs.Promising.{Promise};
+ghost use Rattle.fhir_engine.specs.Requests.{InvocationValue};
+
 use fhir_engine::{Opened, Status, invocation_of, open_asked, run};
 use fhir_package::Silent;
 use std::alloc::{AllocError, Global};
@@ -40,25 +47,29 @@ fn reply_text<R: Files + AllocGlobal + Clone + Drop>(
     let mut full: &mut [u8] = &mut [];
     let words = words_of(alloc, command)?;
     let status = if is_full {
-        done(rt, &words, &mut full, &mut err)
+        status_of(rt, &words, &mut full, &mut err)
     } else {
-        done(rt, &words, &mut out, &mut err)
+        status_of(rt, &words, &mut out, &mut err)
     };
     Ok(line_of(alloc, status, &out, &err)?)
 }
 
-// What the engine does.
-fn done<R: Files + AllocGlobal + Clone + Drop, W: Write>(
+/// Does what words ask, of which the first is the program's name, and gives the status.
+pub fn status_of<R: Files + AllocGlobal + Clone + Drop, W: Write, E: Write>(
     rt: &R,
     words: &[String],
     out: &mut W,
-    err: &mut Vec<u8>,
-) -> Status {
+    err: &mut E,
+) -> Status
+    ensures { result ≡ Status.Yes → (asked : Result InvocationValue WordsFault)
+        × (files : Files) × (file : Option Text) × Promise asked files file }
+{
+    let asked = invocation_of(rt.alloc(), words);
     let Opened {
         asked,
         folder,
         file,
-    } = open_asked(rt, invocation_of(rt.alloc(), words), &mut Silent);
+    } = open_asked(rt, asked, &mut Silent);
     let bytes = file.as_deref();
     run(rt.alloc(), &asked, folder, bytes, &mut Silent, out, err)
 }
