@@ -10,8 +10,8 @@ ghost use Rattle.fhir_reach.specs.Keys.{KeyValue, has_key};
 ghost use Rattle.fhir_reach.specs.Reach.{IsReach, restrict, put_keys, removed_keys};
 ghost use Rattle.fhir_reach.specs.Search.{reached};
 
-/// What is reached is the least closed set (`least`), of which there is one (`one_set`). Where two packages have one restriction to what one of them reaches, they
-/// reach the same keys (`one_reach`), and so the same definitions.
+/// What is reached is the least closed set (`least`), of which there is one (`one_set`). Where two packages have one restriction to what
+/// one of them reaches, they reach the same keys (`one_reach`), and so the same definitions.
 pub fn frame()
     ensures least { (p : Definitions) (start : List KeyValue) → IsReach p start (reached p start) }
     ensures one_set { (p : Definitions) (start keys others : List KeyValue) → IsReach p start keys → IsReach p start others
