@@ -14,7 +14,7 @@ use Rattle.fhir_package.specs.declared.kind.Kind.{Kind}
 use Rattle.fhir_package.specs.declared.kind.Kind.TheVariants.{StructureDefinition, ValueSet, CodeSystem}
 use Rattle.fhir_package.specs.Definitions.{Definitions, ByUrl, of_kind, with_kind, at_url}
 use Rattle.fhir_package.specs.Packing.{Definition}
-use Rattle.fhir_package.specs.Changing.{sound_definition, put_at, without_url, with_tree_at, put_in, without, has, with_tree, IsSoundEntry, AreSound, EachOnce}
+use Rattle.fhir_package.specs.Changing.{sound_definition, put_at, without_url, with_tree_at, put_in, put_each, without, has, with_tree, IsSoundEntry, AreSound, EachOnce}
 use Rattle.fhir_package.proofs.Entries.{distinct_behind}
 use Rattle.fhir_package.proofs.Joins.{with_kind_each, with_kind_there}
 use Rattle.fhir_package.proofs.Placed.{later, same_urls}
@@ -128,6 +128,16 @@ put_sound d p new h =
 
 pub put_once : (d : Definition) (p : Definitions) → EachOnce p → EachOnce (put_in d p)
 put_once d p h = with_kind_each Once d.kind (put_at d.url d.tree (of_kind d.kind p)) p (put_distinct d.url d.tree (of_kind d.kind p) (h d.kind)) h
+
+pub each_sound : (ds : List Definition) (p : Definitions) → All (λ d. sound_definition d.tree ≡ Some d) ds → AreSound p → AreSound (put_each ds p)
+each_sound [] p new h = h
+each_sound (d ∷ ds) p new h =
+    each_sound ds (put_in d p) (All-tail (λ e. sound_definition e.tree ≡ Some e) d ds new)
+    (put_sound d p (All-head (λ e. sound_definition e.tree ≡ Some e) d ds new) h)
+
+pub each_once : (ds : List Definition) (p : Definitions) → EachOnce p → EachOnce (put_each ds p)
+each_once [] p h = h
+each_once (d ∷ ds) p h = each_once ds (put_in d p) (put_once d p h)
 
 there : (d : Definition) (p : Definitions) → of_kind d.kind (put_in d p) ≡ put_at d.url d.tree (of_kind d.kind p)
 there d p = with_kind_there d.kind (put_at d.url d.tree (of_kind d.kind p)) p

@@ -12,6 +12,9 @@ pub mod Files
 pub mod EachHeld
 pub mod Sounds
 pub mod Changed
+pub mod Forgotten
+pub mod Kept
+pub mod Meeting
 pub mod Rising
 pub mod Holding
 pub mod Lists

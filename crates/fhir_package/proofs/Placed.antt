@@ -50,7 +50,7 @@ put_later : (url : Text) (t : Tree) (e : Text × Tree) (es : ByUrl) (place : Opt
 put_later url t e es None = refl
 put_later url t e es (Some p) = ap (λ (n : ℕ). with_tree_at n t (e ∷ es)) (add-one p) ∙ later p t e es
 
-put_by_place : (url : Text) (t : Tree) (es : ByUrl)
+pub put_by_place : (url : Text) (t : Tree) (es : ByUrl)
     → option_map_or (λ p. with_tree_at p t es) (position_from (bytes_eq url) 0 (keys_of es)) (es ++ (url, t) ∷ []) ≡ put_at url t es
 put_by_place url t [] = refl
 put_by_place url t (e ∷ es) =
@@ -89,7 +89,7 @@ kept_seen url (x ∷ xs) =
     by true rest = rest
     by false rest = ap (λ (es : ByUrl). entry_seen x ∷ es) rest
 
-is_some-place : (test : Text → Bool) (i : ℕ) (names : List Text) → is_some (position_from test i names) ≡ list_any test names
+pub is_some-place : (test : Text → Bool) (i : ℕ) (names : List Text) → is_some (position_from test i names) ≡ list_any test names
 is_some-place test i [] = refl
 is_some-place test i (n ∷ names) =
     let rest = is_some-place test (i + 1) names in

@@ -1,7 +1,7 @@
 -- What a package is behind a change of one definition, and which packages have nothing but sound definitions.
-use Rattle.std.specs.Prelude.{◌≡◌, ℕ, [], ◌∷◌, filter, slice_get, slice_set, Bool, not, ◌||◌, Option, None, Some, is_some, if◌then◌else◌, All}
+use Rattle.std.specs.Prelude.{◌≡◌, ℕ, List, [], ◌∷◌, filter, slice_get, slice_set, Bool, true, false, not, ◌||◌, ◌&&◌, Option, None, Some, is_some, if◌then◌else◌, All}
 use Rattle.std.specs.Option.{option_map_or}
-use Rattle.std.specs.List.{IsDistinct}
+use Rattle.std.specs.List.{IsDistinct, list_any}
 use Rattle.std.specs.Map.{keys_of}
 use Rattle.std.specs.Str.{bytes_eq}
 use Rattle.fhir_json.specs.Tree.{Text, Tree}
@@ -36,6 +36,11 @@ with_tree_at place t es = option_map_or (λ e. slice_set es place (e.0, t)) (sli
 abbrev pub put_in : Definition → Definitions → Definitions
 put_in d p = with_kind d.kind (put_at d.url d.tree (of_kind d.kind p)) p
 
+-- definitions put in, one after the other
+abbrev pub put_each : List Definition → Definitions → Definitions
+put_each [] p = p
+put_each (d ∷ ds) p = put_each ds (put_in d p)
+
 -- of each kind all definitions but those of that url
 abbrev pub without : Text → Definitions → Definitions
 without url p = record {
@@ -54,6 +59,23 @@ has_url url p = has StructureDefinition url p || has ValueSet url p || has CodeS
 -- the tree in place of the one at that place of the kind, under the same url
 abbrev pub with_tree : Kind → ℕ → Tree → Definitions → Definitions
 with_tree kind place t p = with_kind kind (with_tree_at place t (of_kind kind p)) p
+
+-- ---- definitions of one kind and url
+
+abbrev pub is_same_kind : Kind → Kind → Bool
+is_same_kind StructureDefinition StructureDefinition = true
+is_same_kind ValueSet ValueSet = true
+is_same_kind CodeSystem CodeSystem = true
+is_same_kind kind other = false
+
+-- they are of one kind and url
+abbrev pub is_same : Definition → Definition → Bool
+is_same d e = is_same_kind d.kind e.kind && bytes_eq d.url e.url
+
+-- two of them are of one kind and url
+abbrev pub has_twice : List Definition → Bool
+has_twice [] = false
+has_twice (d ∷ ds) = list_any (is_same d) ds || has_twice ds
 
 -- ---- sound packages
 

@@ -6,6 +6,7 @@ pub mod Memory
 pub mod FilesView
 pub mod Packing
 pub mod Changing
+pub mod Keeping
 pub mod ReadFiles
 pub mod Found
 pub mod Surveying

@@ -16,7 +16,7 @@ ghost use Rattle.fhir_package.specs.declared.kind.Kind.{Kind};
 ghost use Rattle.fhir_package.specs.Definitions.{Definitions, of_kind, at_url};
 ghost use Rattle.fhir_package.specs.Folder.{Files};
 ghost use Rattle.fhir_package.specs.Packing.{Definition, not_json, clash, is_bundle, definitions_in, is_json_name, json_names, json_files, bytes_at, pack};
-ghost use Rattle.fhir_package.specs.Changing.{sound_definition, put_in, without, has, with_tree, AreSound, EachOnce};
+ghost use Rattle.fhir_package.specs.Changing.{sound_definition, put_in, put_each, without, has, with_tree, AreSound, EachOnce};
 ghost use Rattle.fhir_package.specs.ReadFiles.{ReadFiles, IsFrom, unreadable_names, given, all_given, pack_given};
 ghost use Rattle.fhir_package.specs.Surveying.{unreadable, is_unreadable, survey, refusal, packed_by};
 ghost use Rattle.fhir_package.specs.Found.{IsInFolder, Clashes, itself, in_resource};
@@ -59,13 +59,16 @@ pub fn packages()
 }
 
 /// In a package of files each tree is the sound definition of its kind and url, and no url comes twice in a kind. It stays so
-/// where a sound definition is put in or takes the place of another, and where a url is taken out. What is put in is then at
-/// its kind and url, in the place of the one that was there or else behind the others of its kind; a url that is taken out has
-/// no definition. Of other urls and kinds nothing changes.
+/// where a sound definition is put in or takes the place of another, where several are put in, and where a url is taken out.
+/// What is put in is then at its kind and url, in the place of the one that was there or else behind the others of its kind; a
+/// url that is taken out has no definition. Of other urls and kinds nothing changes.
 pub fn changes()
     ensures packed { (files : Files) (p : Definitions) → pack files ≡ Ok p → AreSound p × EachOnce p }
     ensures put_sound { (d : Definition) (p : Definitions) → sound_definition d.tree ≡ Some d → AreSound p → AreSound (put_in d p) }
     ensures put_once { (d : Definition) (p : Definitions) → EachOnce p → EachOnce (put_in d p) }
+    ensures each_sound { (ds : List Definition) (p : Definitions) → All (λ d. sound_definition d.tree ≡ Some d) ds → AreSound p
+        → AreSound (put_each ds p) }
+    ensures each_once { (ds : List Definition) (p : Definitions) → EachOnce p → EachOnce (put_each ds p) }
     ensures put { (d : Definition) (p : Definitions) → at_url d.kind d.url (put_in d p) ≡ Some d.tree }
     ensures put_other_url { (d : Definition) (p : Definitions) (url : Text) → url ≢ d.url
         → at_url d.kind url (put_in d p) ≡ at_url d.kind url p }

@@ -28,9 +28,11 @@ mod package;
 mod parts;
 mod progress;
 mod survey;
+mod twice;
 mod url_map;
 
 pub use canonical::has_version;
+pub use definitions::Definition;
 pub use fault::LoadFault;
 pub use folder::{Folder, FolderFault};
 pub use folder_files::{FolderFile, FolderFiles, is_json_name};
@@ -41,3 +43,4 @@ pub use memory::MemoryFolder;
 pub use package::{Names, Package};
 pub use progress::{Progress, Silent, Stage};
 pub use survey::{Clash, FileFault, NotJson, Survey};
+pub use twice::has_twice;

@@ -1,6 +1,6 @@
 //! The definitions of a package.
 
-ghost use Rattle.std.specs.Prelude.{◌≡◌, length, slice_get, is_some, IfOk, OnOk, OnErr};
+ghost use Rattle.std.specs.Prelude.{◌≡◌, length, take, slice_get, true, is_some, IfOk, OnOk, OnErr};
 ghost use Rattle.std.specs.Map.{keys_of};
 ghost use Rattle.std.specs.Option.{option_map, option_map_or};
 ghost use Rattle.fhir_json.specs.Views.{tree_of, tree_seen};
@@ -8,13 +8,14 @@ ghost use Rattle.fhir_json.specs.Memory.{Gives};
 ghost use Rattle.fhir_package.specs.Definitions.{no_definitions, of_kind, at_url, place_in};
 ghost use Rattle.fhir_package.specs.Canonical.{at_version, named_by};
 ghost use Rattle.fhir_package.specs.Packing.{with_definition};
-ghost use Rattle.fhir_package.specs.Changing.{sound_definition, put_in, without, has_url, with_tree};
+ghost use Rattle.fhir_package.specs.Changing.{sound_definition, put_in, put_each, without, has, has_url, with_tree};
+ghost use Rattle.fhir_package.specs.Keeping.{with_place, with_places, have_places, Extends};
 
 use crate::canonical::is_of_version;
-use crate::definitions::{Held, definition_of};
+use crate::definitions::Definition;
 use crate::kind::Kind;
 use crate::url_map::{UrlEntry, UrlMap};
-use fhir_json::{Json, NoMemory, sound};
+use fhir_json::{Json, NoMemory};
 use fhir_names::Canonical;
 use std::alloc::Global;
 use std::marker::Model;
@@ -126,24 +127,41 @@ impl<'a> Package<'a> {
         }
     }
 
-    // Puts a definition behind the others of its kind.
-    pub(crate) fn push(&mut self, alloc: Global, definition: Held<'a>) -> Result<(), NoMemory>
-        ensures { OnOk result (self.new ≡ with_definition definition.entry self.old) }
+    /// Puts a tree behind the others of a kind, under a url. It doesn't look at the tree, nor whether the url is there: keep the
+    /// package to sound definitions and to each url once by giving it a sound definition of that kind and url that isn't there.
+    /// The one refusal is want of memory, which changes nothing.
+    pub fn add(
+        &mut self,
+        alloc: Global,
+        kind: Kind,
+        url: &str,
+        tree: Json<'a>,
+    ) -> Result<(), NoMemory>
+        ensures added { OnOk result (self.new
+            ≡ with_definition (record { kind = kind; url = url.now; tree = tree_of tree.entry }) self.old) }
+        ensures unchanged { OnErr result (self.new ≡ self.old) }
     {
-        let Held { kind, url, tree } = definition;
         match kind {
-            Kind::StructureDefinition => self.structure_definitions.push(alloc, url.as_str(), tree),
-            Kind::ValueSet => self.value_sets.push(alloc, url.as_str(), tree),
-            Kind::CodeSystem => self.code_systems.push(alloc, url.as_str(), tree),
+            Kind::StructureDefinition => self.structure_definitions.push(alloc, url, tree),
+            Kind::ValueSet => self.value_sets.push(alloc, url, tree),
+            Kind::CodeSystem => self.code_systems.push(alloc, url, tree),
         }
     }
 
+    // Puts a definition behind the others of its kind.
+    pub(crate) fn push(&mut self, alloc: Global, definition: Definition<'a>) -> Result<(), NoMemory>
+        ensures { OnOk result (self.new ≡ with_definition definition.entry self.old) }
+    {
+        let Definition { kind, url, tree } = definition;
+        self.add(alloc, kind, url.as_str(), tree)
+    }
+
     // Puts a definition in place of the one of its kind and url, or behind the others of its kind.
-    fn put_held(&mut self, alloc: Global, definition: Held<'a>) -> Result<(), NoMemory>
+    fn put_held(&mut self, alloc: Global, definition: Definition<'a>) -> Result<(), NoMemory>
         ensures put { OnOk result (self.new ≡ put_in definition.entry self.old) }
         ensures unchanged { OnErr result (self.new ≡ self.old) }
     {
-        let Held { kind, url, tree } = definition;
+        let Definition { kind, url, tree } = definition;
         match kind {
             Kind::StructureDefinition => self.structure_definitions.put(alloc, url.as_str(), tree),
             Kind::ValueSet => self.value_sets.put(alloc, url.as_str(), tree),
@@ -160,16 +178,90 @@ impl<'a> Package<'a> {
             ≡ option_map_or (λ d. put_in d self.old) (sound_definition (tree_of tree.entry)) self.old) }
         ensures unchanged { OnErr result (self.new ≡ self.old) }
     {
-        if !sound(&tree) {
-            return Ok(false);
-        }
-        match definition_of(alloc, tree)? {
+        match Definition::of(alloc, tree)? {
             Some(definition) => {
                 self.put_held(alloc, definition)?;
                 Ok(true)
             }
             None => Ok(false),
         }
+    }
+
+    // Puts a place holder behind the others of a definition's kind, under its url, unless one of that kind and url is there.
+    fn keep_place(&mut self, alloc: Global, definition: &Definition<'_>) -> Result<(), NoMemory>
+        ensures kept { OnOk result (self.new ≡ with_place definition.now self.old) }
+        ensures unchanged { OnErr result (self.new ≡ self.old) }
+    {
+        match self.place(definition.kind(), definition.url()) {
+            Some(_) => Ok(()),
+            None => self.add(alloc, definition.kind(), definition.url(), Json::Null),
+        }
+    }
+
+    // Where memory runs out, the places that are kept until then stay.
+    fn keep_places(&mut self, alloc: Global, definitions: &[Definition<'_>]) -> Result<(), NoMemory>
+        ensures kept { OnOk result (self.new ≡ with_places definitions.now self.old) }
+        ensures extended { Extends self.old self.new }
+    {
+        for definition in definitions {
+            self.keep_place(alloc, definition)?;
+        }
+        Ok(())
+    }
+
+    // Takes out all but so many of the first of each kind.
+    fn truncate(&mut self, structure_definitions: usize, value_sets: usize, code_systems: usize)
+        ensures { self.new ≡ record {
+          structure_definitions = take structure_definitions self.old.structure_definitions;
+          value_sets = take value_sets self.old.value_sets;
+          code_systems = take code_systems self.old.code_systems;
+        } }
+    {
+        self.structure_definitions.truncate(structure_definitions);
+        self.value_sets.truncate(value_sets);
+        self.code_systems.truncate(code_systems);
+    }
+
+    // Puts a definition in place of the one of its kind and url.
+    fn set(&mut self, definition: Definition<'a>)
+        ensures { has definition.entry.kind definition.entry.url self.old ≡ true
+            → self.new ≡ put_in definition.entry self.old }
+    {
+        let Definition { kind, url, tree } = definition;
+        let Some(place) = self.place(kind, url.as_str()) else {
+            return;
+        };
+        self.replace(kind, place, tree);
+    }
+
+    fn set_each(&mut self, definitions: Vec<Definition<'a>>)
+        ensures { have_places definitions.entry.items self.old ≡ true
+            → self.new ≡ put_each definitions.entry.items self.old }
+    {
+        for definition in definitions {
+            self.set(definition);
+        }
+    }
+
+    /// Puts definitions in, one after the other, each in place of the one of its kind and url or behind the others of its kind.
+    /// The one refusal is want of memory, which changes nothing: then none is put in.
+    pub fn put_all(
+        &mut self,
+        alloc: Global,
+        definitions: Vec<Definition<'a>>,
+    ) -> Result<(), NoMemory>
+        ensures put { OnOk result (self.new ≡ put_each definitions.entry.items self.old) }
+        ensures unchanged { OnErr result (self.new ≡ self.old) }
+    {
+        let structure_definitions = self.len(Kind::StructureDefinition);
+        let value_sets = self.len(Kind::ValueSet);
+        let code_systems = self.len(Kind::CodeSystem);
+        if self.keep_places(alloc, &definitions).is_err() {
+            self.truncate(structure_definitions, value_sets, code_systems);
+            return Err(NoMemory);
+        }
+        self.set_each(definitions);
+        Ok(())
     }
 
     /// Takes out the definitions of a url, of each kind, and says whether there was one. It takes no memory.

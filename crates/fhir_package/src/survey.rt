@@ -9,7 +9,7 @@ ghost use Rattle.fhir_package.specs.Faults.{fault_number, fault_subject};
 ghost use Rattle.fhir_package.specs.Surveying.{no_sources, sources_of, with_sources, nothing_surveyed, source_of, not_json, position_in, with_fault, clash, with_new, put, put_each, survey_tree, survey_file, survey_each, survey, is_unreadable, refusal};
 ghost use Rattle.fhir_package.specs.SurveyView.{fault_seen, faults_seen};
 
-use crate::definitions::{Held, definitions_in};
+use crate::definitions::{Definition, definitions_in};
 use crate::folder_files::{FolderFile, FolderFiles};
 use crate::kind::Kind;
 use crate::package::Package;
@@ -256,12 +256,12 @@ impl<'f> Survey<'f> {
     }
 
     // A definition of a file that differs from the one at its url.
-    fn push_clash(&mut self, file: &'f str, definition: Held<'f>) -> Result<(), AllocError>
+    fn push_clash(&mut self, file: &'f str, definition: Definition<'f>) -> Result<(), AllocError>
         ensures { OnOk result (self.new ≡ with_fault
             (clash definition.entry.kind definition.entry.url file.now
             (source_of definition.entry.kind definition.entry.url self.old)) self.old) }
     {
-        let Held { kind, url, .. } = definition;
+        let Definition { kind, url, .. } = definition;
         let first = self.source_of(kind, url.as_str());
         self.push_fault(FileFault::Clash(Clash {
             kind,
@@ -275,7 +275,7 @@ impl<'f> Survey<'f> {
         &mut self,
         alloc: Global,
         file: &'f str,
-        definition: Held<'f>,
+        definition: Definition<'f>,
     ) -> Result<(), NoMemory>
         ensures { OnOk result (self.new ≡ with_new file.now definition.entry self.old) }
     {
@@ -284,7 +284,12 @@ impl<'f> Survey<'f> {
     }
 
     // A definition of a file.
-    fn put(&mut self, alloc: Global, file: &'f str, definition: Held<'f>) -> Result<(), NoMemory>
+    fn put(
+        &mut self,
+        alloc: Global,
+        file: &'f str,
+        definition: Definition<'f>,
+    ) -> Result<(), NoMemory>
         ensures { OnOk result (self.new ≡ put file.now definition.entry self.old) }
     {
         match self
@@ -306,7 +311,7 @@ impl<'f> Survey<'f> {
         &mut self,
         alloc: Global,
         file: &'f str,
-        definitions: Vec<Held<'f>>,
+        definitions: Vec<Definition<'f>>,
     ) -> Result<(), NoMemory>
         ensures { OnOk result (self.new ≡ put_each file.now definitions.entry.items self.old) }
     {

@@ -1,10 +1,11 @@
 //! Trees under urls.
 
-ghost use Rattle.std.specs.Prelude.{◌≡◌, [], ◌∷◌, ◌++◌, length, slice_get, is_some, OnOk, OnErr};
+ghost use Rattle.std.specs.Prelude.{◌≡◌, [], ◌∷◌, ◌++◌, ◌-◌, List, length, take, slice_get, is_some, OnOk, OnErr};
 ghost use Rattle.std.specs.List.{position_from};
 ghost use Rattle.std.specs.Option.{option_map, option_copied};
 ghost use Rattle.std.specs.Map.{keys_of, lookup};
 ghost use Rattle.std.specs.Str.{bytes_eq};
+ghost use Rattle.fhir_json.specs.Tree.{Text};
 ghost use Rattle.fhir_json.specs.Views.{tree_of, tree_seen};
 ghost use Rattle.fhir_json.specs.Memory.{Gives};
 ghost use Rattle.fhir_names.specs.Places.{Finds, Knows};
@@ -91,6 +92,18 @@ fn set_places(urls: &mut Index, entries: &[UrlEntry<'_>])
         place -= 1;
         let entry = &entries[place];
         urls.set(entry.url.as_str(), place);
+    }
+}
+
+// Takes a name's place away where it is that one: the last name of a list goes, unless it stands there before.
+fn forget_last(urls: &mut Index, url: &str, place: usize)
+    ensures { (names : List Text) → Finds urls.old (names ++ url.now ∷ []) → length names ≡ place → Finds urls.new names }
+{
+    let Some(there) = urls.get(url) else {
+        return;
+    };
+    if there == place {
+        urls.remove(url);
     }
 }
 
@@ -189,6 +202,25 @@ impl<'a> UrlMap<'a> {
                 Ok(())
             }
             None => self.push(alloc, url, tree),
+        }
+    }
+
+    // Takes out the last tree, if there is one. It takes no memory.
+    fn pop(&mut self)
+        ensures { self.new ≡ take (length self.old - 1) self.old }
+    {
+        let Some(entry) = self.entries.pop() else {
+            return;
+        };
+        forget_last(&mut self.urls, entry.url.as_str(), self.entries.len());
+    }
+
+    /// Takes out all but so many of the first. It takes no memory.
+    pub(crate) fn truncate(&mut self, length: usize)
+        ensures { self.new ≡ take length self.old }
+    {
+        while self.len() > length {
+            self.pop();
         }
     }
 

@@ -1,4 +1,4 @@
-use Rattle.fhir_package.proofs.Changed.{put_sound, put_once, put_is_found, put_other_url, put_other_kind, put_in_place, put_behind}
+use Rattle.fhir_package.proofs.Changed.{put_sound, put_once, each_sound, each_once, put_is_found, put_other_url, put_other_kind, put_in_place, put_behind}
 use Rattle.fhir_package.proofs.Changed.{removed_sound, removed_once, removed_none, removed_other_url, replaced_sound, replaced_once}
 use Rattle.fhir_package.proofs.Sounds.{are_sound}
 use Rattle.fhir_package.proofs.laws.changes.Goals as goal
@@ -11,6 +11,12 @@ returns-clause-put_sound c = put_sound
 
 pub returns-clause-put_once : goal.returns-clause-put_once
 returns-clause-put_once c = put_once
+
+pub returns-clause-each_sound : goal.returns-clause-each_sound
+returns-clause-each_sound c = each_sound
+
+pub returns-clause-each_once : goal.returns-clause-each_once
+returns-clause-each_once c = each_once
 
 pub returns-clause-put : goal.returns-clause-put
 returns-clause-put c = put_is_found
