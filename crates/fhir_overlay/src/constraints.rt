@@ -2,7 +2,7 @@
 
 ghost use Rattle.std.specs.List.{list_any};
 ghost use Rattle.std.specs.Option.{option_eq};
-ghost use Rattle.std.specs.Prelude.{◌≡◌, ◌<◌, IfOk, OnOk};
+ghost use Rattle.std.specs.Prelude.{◌≡◌, ◌<◌, OnOk};
 ghost use Rattle.std.specs.Str.{bytes_eq};
 ghost use Rattle.fhir_json.specs.Views.{text_seen};
 ghost use Rattle.fhir_overlay.specs.Overlay.{same_severity, same_constraint, with_constraint, with_constraints};
@@ -75,17 +75,16 @@ fn add_constraint(
     Ok(())
 }
 
-/// Those of `old`, and behind them those of `more` of which none is the same.
-pub(crate) fn with_constraints(
+/// Puts those of `more` of which none is the same behind the others.
+pub(crate) fn add_constraints(
     alloc: Global,
-    old: Vec<ConstraintDef>,
+    constraints: &mut Vec<ConstraintDef>,
     more: &[ConstraintDef],
-) -> Result<Vec<ConstraintDef>, AllocError>
-    ensures { IfOk result (λ v. v.items ≡ with_constraints old.items more.now) }
+) -> Result<(), AllocError>
+    ensures { OnOk result (constraints.new.items ≡ with_constraints constraints.old.items more.now) }
 {
-    let mut constraints = old;
     for constraint in more {
-        add_constraint(alloc, &mut constraints, constraint)?;
+        add_constraint(alloc, constraints, constraint)?;
     }
-    Ok(constraints)
+    Ok(())
 }

@@ -50,6 +50,13 @@ pub(crate) fn member_if(name: &'static str, value: Option<Json<'static>>) -> Opt
     }
 }
 
+fn text_json(alloc: Global, text: &str) -> Result<Json<'static>, AllocError>
+    ensures { IfOk result (λ j. tree_of j ≡ string text.now) }
+{
+    let text = String::from_str(alloc, text)?;
+    Ok(Json::Str(CowStr::Owned(text)))
+}
+
 /// The member of a text, if there is one.
 pub(crate) fn text_member(
     alloc: Global,
@@ -59,12 +66,23 @@ pub(crate) fn text_member(
     ensures { IfOk result (λ m. option_map property_of m ≡ text_member name.now (text_seen text.entry)) }
 {
     match text {
-        Some(text) => {
-            let text = String::from_str(alloc, text)?;
-            Ok(Some(member(name, Json::Str(CowStr::Owned(text)))))
-        }
+        Some(text) => Ok(Some(member(name, text_json(alloc, text)?))),
         None => Ok(None),
     }
+}
+
+/// Puts the member of a text behind others, if there is one.
+pub(crate) fn put_text(
+    alloc: Global,
+    members: &mut Vec<Member<'static>>,
+    name: &'static str,
+    text: Option<&str>,
+) -> Result<(), AllocError>
+    ensures { OnOk result (map property_of members.new.items
+        ≡ map property_of members.old.items ++ present (text_member name.now (text_seen text.entry) ∷ [])) }
+{
+    let member = text_member(alloc, name, text)?;
+    put(members, member)
 }
 
 /// The member of an array, unless that is empty.
@@ -84,8 +102,22 @@ pub(crate) fn text_items(alloc: Global, texts: &[String]) -> Result<Vec<Json<'st
 {
     let mut items = Vec::with_capacity(alloc, texts.len())?;
     for text in texts {
-        let text = String::from_str(alloc, text.as_str())?;
-        items.push(Json::Str(CowStr::Owned(text)))?;
+        let item = text_json(alloc, text.as_str())?;
+        items.push(item)?;
     }
     Ok(items)
+}
+
+/// Puts the member of an array of texts behind others, unless that is empty.
+pub(crate) fn put_texts(
+    alloc: Global,
+    members: &mut Vec<Member<'static>>,
+    name: &'static str,
+    texts: &[String],
+) -> Result<(), AllocError>
+    ensures { OnOk result (map property_of members.new.items
+        ≡ map property_of members.old.items ++ present (array_member name.now (map string (map string_bytes texts.now)) ∷ [])) }
+{
+    let items = text_items(alloc, texts)?;
+    put(members, array_member(name, items))
 }

@@ -1,126 +1,110 @@
 //! One element laid over another.
 
 ghost use Rattle.std.specs.Option.{option_map, option_or};
-ghost use Rattle.std.specs.Prelude.{◌≡◌, ◌<◌, IfOk, string_bytes};
+ghost use Rattle.std.specs.Prelude.{◌≡◌, ◌<◌, IfOk, OnOk, string_bytes};
 ghost use Rattle.fhir_json.specs.Views.{property_of, text_seen, property_seen};
 ghost use Rattle.fhir_elements.specs.Views.{fields_seen};
 ghost use Rattle.fhir_overlay.specs.Overlay.{listed_over, laid_over, as_slice, bounds_fit};
 ghost use Rattle.fhir_overlay.specs.Stages.{texts_over, choices_over, numbers_over};
 
-use crate::constraints::with_constraints;
-use crate::copying::{
-    copied_binding_of, copied_member, copied_slicing_of, copied_text, copied_types,
-};
+use crate::constraints::add_constraints;
+use crate::copying::{choices_of, parts_of, texts_of};
 use fhir_elements::{BindingDef, ElementDef, ElementFields, SlicingDef, TypeEntry};
 use fhir_json::{Member, NoMemory};
 use std::alloc::{AllocError, Global};
 
-fn text_over(
-    alloc: Global,
-    over: Option<&str>,
-    under: Option<String>,
-) -> Result<Option<String>, AllocError>
-    ensures { IfOk result (λ t. option_map string_bytes t ≡ option_or (text_seen over.entry) (option_map string_bytes under)) }
+fn lay_text(under: &mut Option<String>, over: Option<String>)
+    ensures { option_map string_bytes under.new ≡ option_or (option_map string_bytes over) (option_map string_bytes under.old) }
 {
-    match over {
-        Some(_) => copied_text(alloc, over),
-        None => Ok(under),
+    if over.is_some() {
+        *under = over;
     }
 }
 
-fn types_over(
-    alloc: Global,
-    over: &[TypeEntry],
-    under: Vec<TypeEntry>,
-) -> Result<Vec<TypeEntry>, AllocError>
-    ensures { IfOk result (λ v. v.items ≡ listed_over over.now under.items) }
+fn lay_types(under: &mut Vec<TypeEntry>, over: Vec<TypeEntry>)
+    ensures { under.new.items ≡ listed_over over.items under.old.items }
 {
-    match over {
-        [] => Ok(under),
-        [_, ..] => copied_types(alloc, over),
+    if !over.is_empty() {
+        *under = over;
     }
 }
 
-fn member_over(
-    alloc: Global,
-    over: Option<&Member<'static>>,
-    under: Option<Member<'static>>,
-) -> Result<Option<Member<'static>>, NoMemory>
-    ensures { IfOk result (λ m. option_map property_of m ≡ option_or (property_seen over.entry) (option_map property_of under.entry)) }
+fn lay_member(under: &mut Option<Member<'static>>, over: Option<Member<'static>>)
+    ensures { option_map property_of under.new ≡ option_or (option_map property_of over.entry) (option_map property_of under.old) }
 {
-    match over {
-        Some(_) => copied_member(alloc, over),
-        None => Ok(under),
+    if over.is_some() {
+        *under = over;
     }
 }
 
-fn binding_over(
-    alloc: Global,
-    over: Option<&BindingDef>,
-    under: Option<BindingDef>,
-) -> Result<Option<BindingDef>, AllocError>
-    ensures { IfOk result (λ b. b ≡ option_or (option_map (λ b. b.now) over.entry) under) }
+fn lay_binding(under: &mut Option<BindingDef>, over: Option<BindingDef>)
+    ensures { under.new ≡ option_or over under.old }
 {
-    match over {
-        Some(_) => copied_binding_of(alloc, over),
-        None => Ok(under),
+    if over.is_some() {
+        *under = over;
     }
 }
 
-fn slicing_over(
-    alloc: Global,
-    over: Option<&SlicingDef>,
-    under: Option<SlicingDef>,
-) -> Result<Option<SlicingDef>, AllocError>
-    ensures { IfOk result (λ s. s ≡ option_or (option_map (λ s. s.now) over.entry) under) }
+fn lay_slicing(under: &mut Option<SlicingDef>, over: Option<SlicingDef>)
+    ensures { under.new ≡ option_or over under.old }
 {
-    match over {
-        Some(_) => copied_slicing_of(alloc, over),
-        None => Ok(under),
+    if over.is_some() {
+        *under = over;
     }
 }
 
-fn texts_over(
-    alloc: Global,
-    over: &ElementDef,
-    under: ElementFields,
-) -> Result<ElementFields, AllocError>
-    ensures { IfOk result (λ f. fields_seen f ≡ texts_over over.now (fields_seen under)) }
+fn lay_texts(alloc: Global, under: &mut ElementFields, over: &ElementDef) -> Result<(), AllocError>
+    ensures { OnOk result (fields_seen under.new ≡ texts_over over.now (fields_seen under.old)) }
 {
-    Ok(ElementFields {
-        id: String::from_str(alloc, over.id())?,
-        path: text_over(alloc, over.path(), under.path)?,
-        slice_name: text_over(alloc, over.slice_name(), under.slice_name)?,
-        content_reference: text_over(alloc, over.content_reference(), under.content_reference)?,
-        ..under
-    })
+    let texts = texts_of(alloc, over)?;
+    under.id = texts.id;
+    lay_text(&mut under.path, texts.path);
+    lay_text(&mut under.slice_name, texts.slice_name);
+    lay_text(&mut under.content_reference, texts.content_reference);
+    Ok(())
 }
 
-fn choices_over(
-    alloc: Global,
-    over: &ElementDef,
-    under: ElementFields,
-) -> Result<ElementFields, NoMemory>
-    ensures { IfOk result (λ f. fields_seen f ≡ choices_over over.now (fields_seen under)) }
+fn lay_choices(alloc: Global, under: &mut ElementFields, over: &ElementDef) -> Result<(), NoMemory>
+    ensures { OnOk result (fields_seen under.new ≡ choices_over over.now (fields_seen under.old)) }
 {
-    Ok(ElementFields {
-        fixed: member_over(alloc, over.fixed(), under.fixed)?,
-        pattern: member_over(alloc, over.pattern(), under.pattern)?,
-        min_value: member_over(alloc, over.min_value(), under.min_value)?,
-        max_value: member_over(alloc, over.max_value(), under.max_value)?,
-        ..under
-    })
+    let choices = choices_of(alloc, over)?;
+    lay_member(&mut under.fixed, choices.fixed);
+    lay_member(&mut under.pattern, choices.pattern);
+    lay_member(&mut under.min_value, choices.min_value);
+    lay_member(&mut under.max_value, choices.max_value);
+    Ok(())
 }
 
-fn numbers_over(over: &ElementDef, under: ElementFields) -> ElementFields
-    ensures { fields_seen result ≡ numbers_over over.now (fields_seen under) }
+fn lay_numbers(under: &mut ElementFields, over: &ElementDef)
+    ensures { fields_seen under.new ≡ numbers_over over.now (fields_seen under.old) }
 {
-    ElementFields {
-        min: over.min().or(under.min),
-        max: over.max().or(under.max),
-        max_length: over.max_length().or(under.max_length),
-        ..under
-    }
+    under.min = over.min().or(under.min);
+    under.max = over.max().or(under.max);
+    under.max_length = over.max_length().or(under.max_length);
+}
+
+fn lay_parts(alloc: Global, under: &mut ElementFields, over: &ElementDef) -> Result<(), AllocError>
+    ensures { OnOk result (fields_seen under.new ≡ record (fields_seen under.old) {
+      types = listed_over over.now.types under.old.types.items;
+      binding = option_or over.now.binding under.old.binding;
+      slicing = option_or over.now.slicing under.old.slicing;
+    }) }
+{
+    let parts = parts_of(alloc, over)?;
+    lay_types(&mut under.types, parts.types);
+    lay_binding(&mut under.binding, parts.binding);
+    lay_slicing(&mut under.slicing, parts.slicing);
+    Ok(())
+}
+
+fn lay_over(alloc: Global, under: &mut ElementFields, over: &ElementDef) -> Result<(), NoMemory>
+    ensures { OnOk result (fields_seen under.new ≡ laid_over over.now (fields_seen under.old)) }
+{
+    lay_texts(alloc, under, over)?;
+    lay_choices(alloc, under, over)?;
+    lay_numbers(under, over);
+    lay_parts(alloc, under, over)?;
+    Ok(add_constraints(alloc, &mut under.constraints, over.constraints())?)
 }
 
 /// The fields of an element laid over others (FHIR R4, Profiling, snapshots): what `over` says, and where it says nothing,
@@ -133,16 +117,9 @@ pub fn laid_over(
 ) -> Result<ElementFields, NoMemory>
     ensures { IfOk result (λ f. fields_seen f ≡ laid_over over.now (fields_seen under)) }
 {
-    let under = texts_over(alloc, over, under)?;
-    let under = choices_over(alloc, over, under)?;
-    let under = numbers_over(over, under);
-    Ok(ElementFields {
-        types: types_over(alloc, over.types(), under.types)?,
-        binding: binding_over(alloc, over.binding(), under.binding)?,
-        constraints: with_constraints(alloc, under.constraints, over.constraints())?,
-        slicing: slicing_over(alloc, over.slicing(), under.slicing)?,
-        ..under
-    })
+    let mut fields = under;
+    lay_over(alloc, &mut fields, over)?;
+    Ok(fields)
 }
 
 /// The fields as a slice inherits them from the element that it is a slice of: there need be none of it, and it isn't

@@ -6,7 +6,7 @@ ghost use Rattle.fhir_json.specs.Tree.{boolean};
 ghost use Rattle.fhir_json.specs.Views.{tree_of, trees_of};
 ghost use Rattle.fhir_overlay.specs.Json.{strength_code, severity_code, discriminator_code, rules_code, type_entry_tree, constraint_tree, binding_tree, discriminator_tree, slicing_tree};
 
-use crate::members::{array_member, member_if, object, put, text_items, text_member};
+use crate::members::{array_member, member_if, object, put, put_text, put_texts};
 use fhir_elements::{
     BindingDef, ConstraintDef, DiscriminatorDef, DiscriminatorType, Severity, SlicingDef,
     SlicingRules, Strength, TypeEntry,
@@ -64,14 +64,9 @@ fn type_entry_json(alloc: Global, entry: &TypeEntry) -> Result<Json<'static>, Al
     ensures { IfOk result (λ j. tree_of j ≡ type_entry_tree entry.now) }
 {
     let mut members = Vec::with_capacity(alloc, 3)?;
-    put(
-        &mut members,
-        text_member(alloc, "code", Some(entry.code()))?,
-    )?;
-    let profiles = text_items(alloc, entry.profiles())?;
-    put(&mut members, array_member("profile", profiles))?;
-    let targets = text_items(alloc, entry.targets())?;
-    put(&mut members, array_member("targetProfile", targets))?;
+    put_text(alloc, &mut members, "code", Some(entry.code()))?;
+    put_texts(alloc, &mut members, "profile", entry.profiles())?;
+    put_texts(alloc, &mut members, "targetProfile", entry.targets())?;
     Ok(object(members))
 }
 
@@ -95,15 +90,9 @@ fn constraint_json(alloc: Global, constraint: &ConstraintDef) -> Result<Json<'st
 {
     let mut members = Vec::with_capacity(alloc, 3)?;
     let severity = severity_code(constraint.severity());
-    put(
-        &mut members,
-        text_member(alloc, "key", Some(constraint.key()))?,
-    )?;
-    put(&mut members, text_member(alloc, "severity", severity)?)?;
-    put(
-        &mut members,
-        text_member(alloc, "expression", constraint.expression())?,
-    )?;
+    put_text(alloc, &mut members, "key", Some(constraint.key()))?;
+    put_text(alloc, &mut members, "severity", severity)?;
+    put_text(alloc, &mut members, "expression", constraint.expression())?;
     Ok(object(members))
 }
 
@@ -127,11 +116,8 @@ fn binding_json(alloc: Global, binding: &BindingDef) -> Result<Json<'static>, Al
 {
     let mut members = Vec::with_capacity(alloc, 2)?;
     let strength = strength_code(binding.strength());
-    put(&mut members, text_member(alloc, "strength", strength)?)?;
-    put(
-        &mut members,
-        text_member(alloc, "valueSet", binding.value_set())?,
-    )?;
+    put_text(alloc, &mut members, "strength", strength)?;
+    put_text(alloc, &mut members, "valueSet", binding.value_set())?;
     Ok(object(members))
 }
 
@@ -156,11 +142,8 @@ fn discriminator_json(
 {
     let mut members = Vec::with_capacity(alloc, 2)?;
     let by = discriminator_code(discriminator.by());
-    put(&mut members, text_member(alloc, "type", by)?)?;
-    put(
-        &mut members,
-        text_member(alloc, "path", discriminator.path())?,
-    )?;
+    put_text(alloc, &mut members, "type", by)?;
+    put_text(alloc, &mut members, "path", discriminator.path())?;
     Ok(object(members))
 }
 
@@ -197,10 +180,8 @@ fn slicing_json(alloc: Global, slicing: &SlicingDef) -> Result<Json<'static>, Al
         &mut members,
         member_if("ordered", flag_json(slicing.ordered())),
     )?;
-    put(
-        &mut members,
-        text_member(alloc, "rules", rules_code(slicing.rules()))?,
-    )?;
+    let rules = rules_code(slicing.rules());
+    put_text(alloc, &mut members, "rules", rules)?;
     Ok(object(members))
 }
 

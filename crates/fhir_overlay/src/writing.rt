@@ -2,13 +2,13 @@
 
 ghost use Rattle.std.specs.Fmt.{decimal, signed_decimal};
 ghost use Rattle.std.specs.Option.{option_map};
-ghost use Rattle.std.specs.Prelude.{◌≡◌, ◌++◌, ◌<◌, map, IfOk, OnOk, codes};
+ghost use Rattle.std.specs.Prelude.{◌≡◌, ◌++◌, ◌∷◌, ◌<◌, [], map, IfOk, OnOk, codes};
 ghost use Rattle.fhir_json.specs.Tree.{number};
 ghost use Rattle.fhir_json.specs.Views.{tree_of, property_of, property_seen};
-ghost use Rattle.fhir_overlay.specs.Json.{max_code, text_member, present, naming_members, counting_members, typing_members, value_members, rule_members, element_tree};
+ghost use Rattle.fhir_overlay.specs.Json.{max_code, text_member, member_if, present, naming_members, counting_members, typing_members, value_members, rule_members, element_tree};
 
 use crate::copying::copied_member;
-use crate::members::{array_member, member_if, object, put, text_member};
+use crate::members::{array_member, member_if, object, put, put_text, text_member};
 use crate::parts::{binding_json_of, constraint_items, slicing_json_of, type_items};
 use fhir_elements::{ElementDef, Max};
 use fhir_json::{Json, Member, NoMemory};
@@ -60,12 +60,9 @@ fn put_naming(
     ensures { OnOk result (map property_of members.new.items
         ≡ map property_of members.old.items ++ present (naming_members element.now)) }
 {
-    put(members, text_member(alloc, "id", Some(element.id()))?)?;
-    put(members, text_member(alloc, "path", element.path())?)?;
-    put(
-        members,
-        text_member(alloc, "sliceName", element.slice_name())?,
-    )?;
+    put_text(alloc, members, "id", Some(element.id()))?;
+    put_text(alloc, members, "path", element.path())?;
+    put_text(alloc, members, "sliceName", element.slice_name())?;
     Ok(())
 }
 
@@ -93,13 +90,39 @@ fn put_typing(
     ensures { OnOk result (map property_of members.new.items
         ≡ map property_of members.old.items ++ present (typing_members element.now)) }
 {
-    put(
+    put_text(
+        alloc,
         members,
-        text_member(alloc, "contentReference", element.content_reference())?,
+        "contentReference",
+        element.content_reference(),
     )?;
     let types = type_items(alloc, element.types())?;
     put(members, array_member("type", types))?;
     Ok(())
+}
+
+fn put_copied(
+    alloc: Global,
+    members: &mut Vec<Member<'static>>,
+    member: Option<&Member<'static>>,
+) -> Result<(), NoMemory>
+    ensures { OnOk result (map property_of members.new.items
+        ≡ map property_of members.old.items ++ present (property_seen member.entry ∷ [])) }
+{
+    let member = copied_member(alloc, member)?;
+    Ok(put(members, member)?)
+}
+
+fn put_max_length(
+    alloc: Global,
+    members: &mut Vec<Member<'static>>,
+    max_length: Option<i32>,
+) -> Result<(), AllocError>
+    ensures { OnOk result (map property_of members.new.items
+        ≡ map property_of members.old.items ++ present (member_if (codes "maxLength") (option_map (λ n. number (signed_decimal n)) max_length) ∷ [])) }
+{
+    let max_length = integer_json(alloc, max_length)?;
+    put(members, member_if("maxLength", max_length))
 }
 
 fn put_values(
@@ -110,13 +133,11 @@ fn put_values(
     ensures { OnOk result (map property_of members.new.items
         ≡ map property_of members.old.items ++ present (value_members element.now)) }
 {
-    put(members, copied_member(alloc, element.fixed())?)?;
-    put(members, copied_member(alloc, element.pattern())?)?;
-    put(members, copied_member(alloc, element.min_value())?)?;
-    put(members, copied_member(alloc, element.max_value())?)?;
-    let max_length = integer_json(alloc, element.max_length())?;
-    put(members, member_if("maxLength", max_length))?;
-    Ok(())
+    put_copied(alloc, members, element.fixed())?;
+    put_copied(alloc, members, element.pattern())?;
+    put_copied(alloc, members, element.min_value())?;
+    put_copied(alloc, members, element.max_value())?;
+    Ok(put_max_length(alloc, members, element.max_length())?)
 }
 
 fn put_rules(
