@@ -26,6 +26,10 @@ named_of = fold-Kid Named Item kid_step typed_step
 abbrev pub named_in : List Kid → List Named
 named_in kids = map named_of kids
 
+-- whether the form as which a child was typed is of an element that may stand several times
+abbrev pub repeats_of : Kid → Bool
+repeats_of = fold-Kid Bool (Unit {0}) (λ k. k.form.now.repeats) (λ t. tt {0})
+
 -- want of memory, which decides nothing
 abbrev pub is_no_memory_kind : MisfitKind → Bool
 is_no_memory_kind UnknownProperty = false

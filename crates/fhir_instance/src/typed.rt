@@ -3,7 +3,7 @@
 ghost use Rattle.std.specs.Prelude.{◌≡◌};
 ghost use Rattle.fhir_json.specs.Views.{tree_seen};
 ghost use Rattle.fhir_instance.specs.Items.{type_of, json_of, kids_of, kids_in};
-ghost use Rattle.fhir_instance.specs.View.{item_of, named_of, named_in};
+ghost use Rattle.fhir_instance.specs.View.{item_of, named_of, named_in, repeats_of};
 
 use fhir_json::Json;
 use fhir_schema::Form;
@@ -57,9 +57,10 @@ impl<'a, 'j> Kid<'a, 'j> {
         self.form.name()
     }
 
-    /// Whether its element may stand several times in its type. This only serves the spelling of places, so no clause says
-    /// more: an item doesn't know it.
-    pub fn repeats(&self) -> bool {
+    /// Whether its element may stand several times in its type. This serves the spelling of places alone: an item doesn't know it.
+    pub fn repeats(&self) -> bool
+        ensures { result ≡ repeats_of self.now }
+    {
         self.form.repeats()
     }
 
