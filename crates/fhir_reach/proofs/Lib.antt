@@ -5,3 +5,4 @@ pub mod Marks
 pub mod Placed
 pub mod Adding
 pub mod Grouped
+pub mod Restricted

@@ -6,10 +6,11 @@ use Rattle.std.specs.Map.{lookup}
 use Rattle.std.specs.Str.{bytes_eq}
 use Rattle.fhir_json.specs.Tree.{Text, Tree}
 use Rattle.fhir_names.specs.Places.{Places, place_of}
-use Rattle.fhir_package.specs.Definitions.{ByUrl}
+use Rattle.fhir_package.specs.declared.kind.Kind.{Kind}
+use Rattle.fhir_package.specs.Definitions.{ByUrl, Definitions, of_kind, with_kind}
 use Rattle.fhir_reach.specs.Keys.{KeyValue, of_url, of_code}
 use Rattle.fhir_reach.specs.Naming.{structure_keys}
-use Rattle.fhir_reach.specs.Reach.{is_type_of}
+use Rattle.fhir_reach.specs.Reach.{is_type_of, is_held}
 
 -- ---- keys
 
@@ -53,3 +54,9 @@ AddsIfType old new t place =
 -- what the definition at a place names
 abbrev pub keys_at_place : ByUrl → ℕ → List KeyValue
 keys_at_place es place = option_map_or (λ e. structure_keys e.1) (slice_get es place) []
+
+-- ---- restrictions
+
+-- an entry of a kind behind the others, if a key stands for it
+abbrev pub with_entry : List KeyValue → Kind → Text × Tree → Definitions → Definitions
+with_entry keys kind e p = if is_held keys kind e.0 e.1 then with_kind kind (of_kind kind p ++ e ∷ []) p else p

@@ -1,9 +1,9 @@
 //! Keys that are found, each once.
 
-ghost use Rattle.std.specs.Prelude.{◌≡◌, [], false, length, OnOk};
+ghost use Rattle.std.specs.Prelude.{◌≡◌, [], false, length, IfOk, OnOk};
 ghost use Rattle.std.specs.List.{slice_get};
 ghost use Rattle.std.specs.Option.{option_map, option_map_or, option_copied};
-ghost use Rattle.fhir_reach.specs.Keys.{of_url, of_code, key_eq, key_seen, keys_seen, has_key, with_key};
+ghost use Rattle.fhir_reach.specs.Keys.{of_url, of_code, key_eq, key_seen, keys_seen, has_key, with_key, with_keys};
 
 use crate::key::Key;
 use fhir_json::NoMemory;
@@ -74,6 +74,15 @@ fn code_stands_at(keys: &[Key], place: usize, code: &str) -> bool
     }
 }
 
+fn add_keys(alloc: Global, found: &mut Found, keys: &[Key]) -> Result<(), NoMemory>
+    ensures { OnOk result (found.new ≡ with_keys found.old (keys_seen keys.now)) }
+{
+    for key in keys {
+        found.add(alloc, key)?;
+    }
+    Ok(())
+}
+
 impl Found {
     /// No keys, which allocates nothing.
     pub(crate) fn new(alloc: Global) -> Found
@@ -84,6 +93,15 @@ impl Found {
             urls: Index::new(alloc),
             codes: Index::new(alloc),
         }
+    }
+
+    /// Some keys, each once.
+    pub(crate) fn of(alloc: Global, keys: &[Key]) -> Result<Found, NoMemory>
+        ensures { IfOk result (λ found. found ≡ with_keys [] (keys_seen keys.now)) }
+    {
+        let mut found = Found::new(alloc);
+        add_keys(alloc, &mut found, keys)?;
+        Ok(found)
     }
 
     /// How many there are.
@@ -108,7 +126,8 @@ impl Found {
         keys
     }
 
-    fn has_url(&self, url: &str) -> bool
+    /// Whether a url is there.
+    pub(crate) fn has_url(&self, url: &str) -> bool
         ensures { result ≡ has_key self.now (of_url url.now) }
     {
         match self.urls.get(url) {
@@ -117,7 +136,8 @@ impl Found {
         }
     }
 
-    fn has_code(&self, code: &str) -> bool
+    /// Whether the code of a type is there.
+    pub(crate) fn has_code(&self, code: &str) -> bool
         ensures { result ≡ has_key self.now (of_code code.now) }
     {
         match self.codes.get(code) {

@@ -1,7 +1,23 @@
 //! What a question reaches in a package: the definitions on which its answer may rest.
 //!
-//! The contract to read first is that of [`reach`]. What a definition names stands in `specs/Naming.antt`, and what keys reach in
-//! `specs/Reach.antt`.
+//! ```
+//! /// The definitions on which the validation of a resource may rest.
+//! pub fn definitions_under(
+//!     alloc: Global,
+//!     package: &Package<'_>,
+//!     profile: &str,
+//!     resource: &Json<'_>,
+//! ) -> Result<Package<'static>, NoMemory>
+//!     ensures { IfOk result (λ p. p ≡ restrict «package».now (reached «package».now (starts_of profile.now (tree_of resource.now)))) }
+//! {
+//!     let start = starts_of(alloc, profile, resource)?;
+//!     let keys = reach(alloc, package, &start)?;
+//!     restrict(alloc, package, &keys)
+//! }
+//! ```
+//!
+//! The contracts to read first are those of [`reach`] and [`restrict`]. What a definition names stands in `specs/Naming.antt`, and what
+//! keys reach and stand for in `specs/Reach.antt`.
 #![tactic(auto)]
 
 mod found;
@@ -10,9 +26,11 @@ mod laws;
 mod naming;
 mod places;
 mod reaching;
+mod restricting;
 mod starting;
 
 pub use key::Key;
 pub use laws::{changes_elsewhere, frame};
 pub use reaching::reach;
+pub use restricting::restrict;
 pub use starting::starts_of;

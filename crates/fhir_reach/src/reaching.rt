@@ -18,15 +18,6 @@ use fhir_json::{Json, NoMemory};
 use fhir_package::{Kind, Package};
 use std::alloc::Global;
 
-fn add_keys(alloc: Global, found: &mut Found, keys: &[Key]) -> Result<(), NoMemory>
-    ensures { OnOk result (found.new ≡ with_keys found.old (keys_seen keys.now)) }
-{
-    for key in keys {
-        found.add(alloc, key)?;
-    }
-    Ok(())
-}
-
 fn visit_structure(
     alloc: Global,
     found: &mut Found,
@@ -160,8 +151,7 @@ fn find(
     requires { HasPlaces types.now «package».now.structure_definitions }
     ensures { IfOk result (λ found. IsFound «package».now (keys_seen start.now) found) }
 {
-    let mut found = Found::new(alloc);
-    add_keys(alloc, &mut found, start)?;
+    let mut found = Found::of(alloc, start)?;
     let mut at = 0;
     while at < found.len() {
         visit_at(alloc, &mut found, package, types, at)?;
