@@ -10,7 +10,6 @@ ghost use Rattle.fhir_json.specs.Views.{tree_of};
 ghost use Rattle.fhir_json.specs.Fields.{text_in};
 ghost use Rattle.fhir_json.specs.Grammar.{Reads};
 ghost use Rattle.fhir_json.specs.Memory.{Gives};
-ghost use Rattle.fhir_json.specs.Compact.{compact};
 ghost use Rattle.std.specs.Bool.{OnFalse};
 ghost use Rattle.fhir_asking.specs.Asking.{NeedsItself};
 ghost use Rattle.fhir_overlay.specs.Overlay.{laid_over};
@@ -51,12 +50,18 @@ ghost use Rattle.fhir_certificate.specs.Judging.{Stands};
 ghost use Rattle.fhir_cert_check.specs.Checking.{SpellsCertificate};
 ghost use Rattle.fhir_findings.specs.Finding.{all_unusable};
 ghost use Rattle.fhir_report.specs.Faultless.{IsRightBy};
-ghost use Rattle.fhir_registry.specs.Outcomes.{IsOutcome, is_explained};
+ghost use Rattle.fhir_commands.specs.Commands.{command_seen, line_command};
+ghost use Rattle.fhir_commands.specs.Replies.{reply_seen};
+ghost use Rattle.fhir_reach.specs.Reach.{restrict};
+ghost use Rattle.fhir_reach.specs.Search.{reached};
+ghost use Rattle.fhir_reach.specs.Starting.{starts_of};
+ghost use Rattle.fhir_registry.specs.Session.{IsReply};
 
 use fhir_asking::{Asks, settle};
 use fhir_cert_check::{Answer, check_bytes};
 use fhir_certificate::CertFault;
 use fhir_codes::expand;
+use fhir_commands::{Command, Reply};
 use fhir_conformance::{KidsByName, asks};
 use fhir_decimal::Decimal;
 use fhir_definition::Definition;
@@ -67,19 +72,20 @@ use fhir_fp_eval::{Env, holds};
 use fhir_fp_syntax::{Expr, Parsed, parse};
 use fhir_inheritance::Sources;
 use fhir_instance::{Misfit, Typed, type_resource};
-use fhir_json::{Json, JsonFault, NoMemory, write};
+use fhir_json::{Json, JsonFault, NoMemory};
 use fhir_matching::{json_eq, matches};
 use fhir_names::{ElementId, front_of};
 use fhir_nodes::{Nodes, Table};
 use fhir_overlay::{copied, laid_over};
 use fhir_package::{Folder, Kind, LoadFault, Package, Survey, load};
 use fhir_prims::{PrimType, lexical};
-use fhir_registry::outcome;
+use fhir_reach::{reach, restrict, starts_of};
+use fhir_registry::Registry;
 use fhir_report::{Format, LackingTable, Subject};
 use fhir_schema::{NodeRef, Schema, Slot};
 use fhir_slicing::belongs;
 use fhir_snapshot::{SnapFault, generate};
-use fhir_validator::{Fault, Verdict, validate};
+use fhir_validator::{Fault, validate};
 use std::alloc::Global;
 
 /// The text of the field `url` of a JSON object, or why the bytes are no text of JSON.
@@ -369,15 +375,38 @@ pub fn is_clean<'s, 'f: 's>(
     Ok(report.is_clean)
 }
 
-/// The outcome of a validation against the profile at a url, as a JSON text.
-pub fn outcome_text(
-    alloc: Global,
-    profile: &str,
-    validated: &Result<Verdict<'_>, Fault>,
-) -> Result<Vec<u8>, NoMemory>
-    ensures { IsTrue (is_explained validated.now)
-        → IfOk result (λ text. (t : Tree) × IsOutcome validated.now t × (text.items ≡ compact t)) }
+/// Whether the bytes of a line are a command.
+pub fn is_command(alloc: Global, line: &[u8]) -> Result<bool, NoMemory>
+    ensures { IfOk result (λ is_one. is_one ≡ is_some (line_command line.now)) }
 {
-    let outcome = outcome(alloc, profile, validated)?;
-    write(alloc, &outcome)
+    let command = Command::of_line(alloc, line)?;
+    Ok(command.is_some())
+}
+
+/// The definitions on which the validation of a resource may rest.
+pub fn definitions_under(
+    alloc: Global,
+    package: &Package<'_>,
+    profile: &str,
+    resource: &Json<'_>,
+) -> Result<Package<'static>, NoMemory>
+    ensures { IfOk result (λ p. p ≡ restrict «package».now (reached «package».now (starts_of profile.now (tree_of resource.now)))) }
+{
+    let start = starts_of(alloc, profile, resource)?;
+    let keys = reach(alloc, package, &start)?;
+    restrict(alloc, package, &keys)
+}
+
+/// The reply to a command about a package.
+pub fn reply_to(
+    alloc: Global,
+    package: Package<'_>,
+    command: Command<'_>,
+) -> Result<Reply, NoMemory>
+    ensures { IfOk result (λ r. IsReply «package».entry (command_seen command.entry) (reply_seen r)) }
+{
+    match Registry::new(alloc, package) {
+        Ok(mut registry) => registry.apply(alloc, command),
+        Err(_) => Err(NoMemory),
+    }
 }

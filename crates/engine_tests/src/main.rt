@@ -18,10 +18,12 @@ ghost use Rattle.fhir_engine.specs.declared.request.WordsFault.{WordsFault};
 ghost use Rattle.fhir_engine.specs.Promising.{Promise};
 ghost use Rattle.fhir_engine.specs.Requests.{InvocationValue};
 
-use fhir_engine::{Opened, Status, invocation_of, open_asked, run};
+use fhir_engine::{
+    Invocation, Opened, Status, Task, WordsFault, open_asked, run, serve_directory, task_of,
+};
 use fhir_package::Silent;
 use std::alloc::{AllocError, Global};
-use std::io::Write;
+use std::io::{Write, empty};
 use std::rt::Files;
 use std::{fs, io};
 
@@ -47,24 +49,37 @@ fn reply_text<R: Files + AllocGlobal + Clone + Drop>(
     let mut full: &mut [u8] = &mut [];
     let words = words_of(alloc, command)?;
     let status = if is_full {
-        status_of(rt, &words, &mut full, &mut err)
+        task_status(rt, &words, &mut full, &mut err)
     } else {
-        status_of(rt, &words, &mut out, &mut err)
+        task_status(rt, &words, &mut out, &mut err)
     };
     Ok(line_of(alloc, status, &out, &err)?)
 }
 
-/// Does what words ask, of which the first is the program's name, and gives the status.
-pub fn status_of<R: Files + AllocGlobal + Clone + Drop, W: Write, E: Write>(
+// Does what words ask, of which the first is the program's name, and gives the status. Where something is served, the input is empty.
+fn task_status<R: Files + AllocGlobal + Clone + Drop, W: Write, E: Write>(
     rt: &R,
     words: &[String],
+    out: &mut W,
+    err: &mut E,
+) -> Status {
+    match task_of(rt.alloc(), words) {
+        Ok(Task::Answer(asked)) => status_of(rt, Ok(asked), out, err),
+        Ok(Task::Serve(folder)) => serve_directory(rt, folder, empty(), &mut Silent, out, err),
+        Err(fault) => status_of(rt, Err(fault), out, err),
+    }
+}
+
+/// Answers what is asked, and gives the status.
+pub fn status_of<R: Files + AllocGlobal + Clone + Drop, W: Write, E: Write>(
+    rt: &R,
+    asked: Result<Invocation<'_>, WordsFault>,
     out: &mut W,
     err: &mut E,
 ) -> Status
     ensures { result ≡ Status.Yes → (asked : Result InvocationValue WordsFault)
         × (files : Files) × (file : Option Text) × Promise asked files file }
 {
-    let asked = invocation_of(rt.alloc(), words);
     let Opened {
         asked,
         folder,

@@ -1,71 +1,33 @@
--- What a reply on a resource says, from what was validated.
-use Rattle.std.proofs.Common.{◌≡◌, ◌<◌, ◌++◌, ◌↔◌, true, false, length, Result, Ok, Err, IfOk, IfErr, IsTrue, codes, refl, ◌∙◌, ap, rules}
-use Rattle.std.proofs.lemmas.Bool.{false≢true}
+-- What a reply on a resource says, from how the resource stands.
+use Rattle.std.proofs.Common.{◌≡◌, ◌++◌, Result, Ok, Err, codes, sym, ap, ◌∙◌}
 use Rattle.fhir_json.specs.Tree.{Text, Tree}
 use Rattle.fhir_json.specs.Compact.{compact}
-use Rattle.fhir_json.specs.Grammar.{Reads}
 use Rattle.fhir_schema.specs.Schemas.{SchemaValue}
-use Rattle.fhir_conformance.specs.Conformance.{Interpretation, Conforms, constant}
+use Rattle.fhir_commands.specs.declared.reply.Standing.{Standing}
 use Rattle.fhir_validator.specs.declared.fault.Fault.{Fault}
-use Rattle.fhir_validator.specs.declared.fault.Fault.TheVariants.{NoMemory}
 use Rattle.fhir_validator.specs.declared.verdict.Verdict.{Verdict}
 use Rattle.fhir_validator.specs.declared.verdict.Verdict.TheVariants as verdicts
-use Rattle.fhir_validator.specs.Needed.{ConstraintsHold}
-use Rattle.fhir_validator.specs.Verdicts.{is_conforming, is_violating, IsExplained, Means}
-use Rattle.fhir_registry.specs.Outcomes.{is_explained}
+use Rattle.fhir_registry.specs.Judging.{standing_of, IsJudged}
+use Rattle.fhir_registry.specs.Standing.{AlwaysConforms, Stands}
 use Rattle.fhir_engine.specs.declared.reply.Status.{Status}
 use Rattle.fhir_engine.specs.Replying.{written}
-use Rattle.fhir_engine.specs.Standing.{AlwaysConforms, Stands}
-use Rattle.fhir_engine.specs.Status.{code_of, verdict_status}
+use Rattle.fhir_engine.specs.Status.{code_of, standing_status}
 
--- what is known of a validation
-pub record IsValidated (s : SchemaValue) (profile bytes : Text) (v : Result Verdict Fault) : Type 0 where
-  pub conforms : (t : Tree) → Reads bytes t → IfOk v (λ v. IsTrue (is_conforming v) ↔ Conforms s (constant false) profile t)
-  pub always : (t : Tree) → Reads bytes t → IfOk v (λ v. IsTrue (is_conforming v) → (meaning : Interpretation) → Conforms s meaning profile t)
-  pub constraints : (t : Tree) → Reads bytes t → IfOk v (λ v. IsTrue (is_conforming v) → ConstraintsHold s profile t)
-  pub violates : (t : Tree) → Reads bytes t → IfOk v (λ v. IsTrue (is_violating v) ↔ (Conforms s (constant true) profile t → ⊥))
-  pub never : (t : Tree) → Reads bytes t → IfOk v (λ v. IsTrue (is_violating v) → (meaning : Interpretation) → Conforms s meaning profile t → ⊥)
-  pub explained : (t : Tree) → Reads bytes t → IfOk v (λ v. IsExplained s profile t v)
-  pub read : IfOk v (λ v. (t : Tree) × Reads bytes t)
-  pub refused : IfErr v (λ fault. Means s profile bytes fault)
-
--- the resource stands as it says
-pub stands : (s : SchemaValue) (profile bytes : Text) (v : Result Verdict Fault) → IsValidated s profile bytes v → (v ≡ Err NoMemory → ⊥)
-    → Stands s profile bytes v
-stands s profile bytes (Ok verdicts.Conforms) known memory =
-    let t = known.read.0 in
-    let reads = known.read.1 in (t, reads, (known.always t reads refl, known.constraints t reads refl), known.explained t reads)
-stands s profile bytes (Ok (verdicts.Violates issues)) known memory =
-    let t = known.read.0 in
-    let reads = known.read.1 in (t, reads, known.never t reads refl, known.explained t reads)
-stands s profile bytes (Ok (verdicts.Open sites)) known memory =
-    let t = known.read.0 in
-    let reads = known.read.1 in (
-      t,
-      reads,
-      ((λ holds. false≢true ((known.conforms t reads).1 holds)), (λ fails. false≢true ((known.violates t reads).1 fails))),
-      known.explained t reads,
-    )
-stands s profile bytes (Err fault) known memory = (known.refused, λ same. memory (ap Err same))
-
--- it lists something, where it lists
-pub is_listed : (s : SchemaValue) (profile bytes : Text) (v : Result Verdict Fault) → IsValidated s profile bytes v → IsTrue (is_explained v)
-is_listed s profile bytes (Ok verdicts.Conforms) known = refl
-is_listed s profile bytes (Ok (verdicts.Violates issues)) known =
-    let some : 0 < length issues.items = (known.explained known.read.0 known.read.1).some in search rules
-is_listed s profile bytes (Ok (verdicts.Open sites)) known =
-    let some : 0 < length sites.items = (known.explained known.read.0 known.read.1).some in search rules
-is_listed s profile bytes (Err fault) known = refl
+conforms_by : (s : SchemaValue) (profile bytes : Text) (v : Result Verdict Fault) → Stands s profile bytes v
+    → code_of (standing_status (standing_of v)) ≡ 0 → AlwaysConforms s profile bytes
+conforms_by s profile bytes (Ok verdicts.Conforms) so zero = (so.0, so.1, so.2.0, so.2.1)
+conforms_by s profile bytes (Ok (verdicts.Violates issues)) so zero = absurd cc
+conforms_by s profile bytes (Ok (verdicts.Open sites)) so zero = absurd cc
+conforms_by s profile bytes (Err fault) so zero = absurd cc
 
 -- where the status of the reply is 0, the resource conforms
-pub always_by : (s : SchemaValue) (profile bytes : Text) (v : Result Verdict Fault) → Stands s profile bytes v → code_of (verdict_status v) ≡ 0
-    → AlwaysConforms s profile bytes
-always_by s profile bytes (Ok verdicts.Conforms) so zero = (so.0, so.1, so.2.0, so.2.1)
-always_by s profile bytes (Ok (verdicts.Violates issues)) so zero = absurd cc
-always_by s profile bytes (Ok (verdicts.Open sites)) so zero = absurd cc
-always_by s profile bytes (Err fault) so zero = absurd cc
+pub always_by : (s : SchemaValue) (profile bytes : Text) (standing : Standing) (outcome : Tree) → IsJudged s profile bytes standing outcome
+    → code_of (standing_status standing) ≡ 0 → AlwaysConforms s profile bytes
+always_by s profile bytes standing outcome judged zero =
+    conforms_by s profile bytes judged.validated judged.stands (ap (λ (it : Standing). code_of (standing_status it)) (sym judged.stands_so) ∙ zero)
 
--- the reply is written with the status of what was validated, and the text of the outcome
-pub written_so : (status : Status) (v : Result Verdict Fault) (out : Text) (outcome : Tree) → status ≡ verdict_status v
-    → out ≡ compact outcome ++ codes "\n" → written (code_of status) out ≡ written (code_of (verdict_status v)) (compact outcome ++ codes "\n")
-written_so status v out outcome is text = ap (λ s. written (code_of s) out) is ∙ ap (λ bytes. written (code_of (verdict_status v)) bytes) text
+-- the reply is written with the status of the resource, and the text of the outcome
+pub written_so : (status : Status) (standing : Standing) (out : Text) (outcome : Tree) → status ≡ standing_status standing
+    → out ≡ compact outcome ++ codes "\n" → written (code_of status) out ≡ written (code_of (standing_status standing)) (compact outcome ++ codes "\n")
+written_so status standing out outcome is text =
+    ap (λ s. written (code_of s) out) is ∙ ap (λ bytes. written (code_of (standing_status standing)) bytes) text

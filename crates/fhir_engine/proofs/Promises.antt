@@ -27,12 +27,12 @@ of_read surveys q files s file of promise =
 -- ---- what was read of a folder is the folder's
 
 -- files that were all given are a folder's JSON files
-abbrev AreOfFolder : Type 0
+abbrev pub AreOfFolder : Type 0
 AreOfFolder =
     (folder : Files) (read : ReadFiles) (files : Files) → keys_of read ≡ json_names (keys_of folder) → All (IsFrom folder) read
     → all_given read ≡ Some files → files ≡ json_files folder
 
-packed : AreOfFolder → (folder : Files) (read : ReadFiles) (p : Definitions) → IsReadOf folder (Ok read) → pack_given read ≡ Some (Ok p)
+pub packed : AreOfFolder → (folder : Files) (read : ReadFiles) (p : Definitions) → IsReadOf folder (Ok read) → pack_given read ≡ Some (Ok p)
     → pack folder ≡ Ok p
 packed law folder read p is_read is = by (all_given read) refl is
   where
@@ -51,3 +51,13 @@ pub of_words : AreOfFolder → (asked : Result InvocationValue WordsFault) (fold
 of_words law (Ok (request q)) folder read file is_read promise = of_request law q folder read file is_read promise
 of_words law (Ok version) folder read file is_read promise = tt
 of_words law (Err fault) folder read file is_read promise = promise
+
+-- ---- what is served
+
+-- Files of which no survey finds a fault are the package that it has.
+pub loaded : (files : ReadFiles) (p : Definitions) → packed_by (survey files) ≡ pack_given files
+    → option_or (find is_unreadable (survey files).faults) (slice_get (survey files).faults 0) ≡ None → p ≡ (survey files).definitions
+    → pack_given files ≡ Some (Ok p)
+loaded files p law none same =
+    sym law ∙ ap (λ (fault : Option FileFault). told_by fault (survey files).definitions) none
+    ∙ ap (λ (d : Definitions). Some (Ok d)) (sym same)

@@ -14,9 +14,8 @@ use Rattle.fhir_snapshot.specs.Faults.{number_text}
 use Rattle.fhir_snapshot.specs.Snapshots.{IsSnapshot}
 use Rattle.fhir_snapshot.specs.Refusing.{Applies}
 use Rattle.fhir_schema.specs.Schemas.{SchemaValue}
-use Rattle.fhir_validator.specs.declared.fault.Fault.{Fault}
-use Rattle.fhir_validator.specs.declared.verdict.Verdict.{Verdict}
-use Rattle.fhir_registry.specs.Outcomes.{IsOutcome}
+use Rattle.fhir_commands.specs.declared.reply.Standing.{Standing}
+use Rattle.fhir_registry.specs.Judging.{IsJudged}
 use Rattle.fhir_report.specs.declared.writing.Format.{Format}
 use Rattle.fhir_report.specs.Faultless.{CertificateValue}
 use Rattle.fhir_engine.specs.declared.request.WordsFault.{WordsFault}
@@ -26,8 +25,7 @@ use Rattle.fhir_engine.specs.Replying.{ReplyValue, written, told, fault_reply, r
 use Rattle.fhir_engine.specs.Reporting.{IsAllRight, IsReportOf}
 use Rattle.fhir_engine.specs.Requests.{RequestValue, certify, validate, snapshot, check, folder_of, InvocationValue, request, version}
 use Rattle.fhir_engine.specs.Session.{SessionValue, IsSessionOf, schema_in}
-use Rattle.fhir_engine.specs.Standing.{Stands}
-use Rattle.fhir_engine.specs.Status.{code_of, verdict_status, report_status, words_status}
+use Rattle.fhir_engine.specs.Status.{code_of, standing_status, report_status, words_status}
 
 -- ---- answers, and the replies that are theirs
 
@@ -39,13 +37,12 @@ pub data AnswerValue : Type 0 where
   listed : Definitions → List ℕ → AnswerValue
   reported : Format → SessionValue → Option CertificateValue → AnswerValue
 
--- The status is that of a verdict or a fault which says how the resource stands, and an outcome is written, with a line feed.
-pub record IsJudged (s : SchemaValue) (profile bytes : Text) (reply : ReplyValue) : Type 0 where
-  pub validated : Result Verdict Fault
-  pub stands : Stands s profile bytes validated
+-- The status says how the resource stands, and an outcome that says so is written, with a line feed.
+pub record IsAnswered (s : SchemaValue) (profile bytes : Text) (reply : ReplyValue) : Type 0 where
+  pub standing : Standing
   pub outcome : Tree
-  pub is_outcome : IsOutcome validated outcome
-  pub is_reply : reply ≡ written (code_of (verdict_status validated)) (compact outcome ++ codes "\n")
+  pub is_judged : IsJudged s profile bytes standing outcome
+  pub is_reply : reply ≡ written (code_of (standing_status standing)) (compact outcome ++ codes "\n")
 
 -- whether the number is that of want of memory
 abbrev pub is_of_memory : SnapNumber → Bool
@@ -70,7 +67,7 @@ pub record IsReported (format : Format) (s : SessionValue) (certificate : Option
 
 abbrev pub IsReply : AnswerValue → ReplyValue → Type 0
 IsReply (stated answer) reply = reply ≡ answer
-IsReply (judged s profile bytes) reply = IsJudged s profile bytes reply
+IsReply (judged s profile bytes) reply = IsAnswered s profile bytes reply
 IsReply (listed p url) reply = IsListed p url reply
 IsReply (reported format s certificate) reply = IsReported format s certificate reply
 

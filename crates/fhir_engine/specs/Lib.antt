@@ -1,4 +1,3 @@
-pub mod Standing
 pub mod Status
 pub mod WrongText
 pub mod Requests
@@ -11,3 +10,4 @@ pub mod Answering
 pub mod Promising
 pub mod Ending
 pub mod Agreeing
+pub mod Serving

@@ -11,12 +11,12 @@ use Rattle.fhir_snapshot.specs.Snapshots.{IsSnapshot}
 use Rattle.fhir_snapshot.specs.Completing.{Completes}
 use Rattle.fhir_schema.specs.Schemas.{SchemaValue, schema_of}
 use Rattle.fhir_findings.specs.Clean.{AreUsable}
+use Rattle.fhir_registry.specs.Standing.{AlwaysConforms}
 use Rattle.fhir_report.specs.Faultless.{CertificateValue, Promises, IsRightIfAny, PromisesIfAny}
 use Rattle.fhir_engine.specs.declared.request.WordsFault.{WordsFault}
 use Rattle.fhir_engine.specs.Reporting.{asked}
 use Rattle.fhir_engine.specs.Requests.{RequestValue, certify, validate, snapshot, check, InvocationValue, request, version}
 use Rattle.fhir_engine.specs.Session.{SessionValue}
-use Rattle.fhir_engine.specs.Standing.{AlwaysConforms}
 
 -- The file was read. Its bytes spell a certificate, and each resource that conforms to its derived profile conforms to its base, as
 -- does each typed item wherever it stands, whatever unread rules mean that is fair.

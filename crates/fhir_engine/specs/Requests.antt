@@ -26,7 +26,12 @@ file_of (validate folder profile file) = Some file
 file_of (snapshot folder url) = None
 file_of (check folder certificate format) = certificate
 
--- what words ask for
+-- what words ask for that is answered once
 pub data InvocationValue : Type 0 where
   request : RequestValue → InvocationValue
   version : InvocationValue
+
+-- what words ask for: an answer, or that the definitions in a folder are served
+pub data TaskValue : Type 0 where
+  answer : InvocationValue → TaskValue
+  serve : List ℕ → TaskValue

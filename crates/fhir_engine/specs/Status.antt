@@ -1,8 +1,7 @@
 -- The numbers of the statuses.
-use Rattle.std.specs.Prelude.{ℕ, Bool, true, false, Result, Ok, Err}
-use Rattle.fhir_validator.specs.declared.fault.Fault.{Fault as NotJudged}
-use Rattle.fhir_validator.specs.declared.verdict.Verdict.{Verdict}
-use Rattle.fhir_validator.specs.declared.verdict.Verdict.TheVariants as verdicts
+use Rattle.std.specs.Prelude.{ℕ, Bool, true, false}
+use Rattle.fhir_commands.specs.declared.reply.Standing.{Standing}
+use Rattle.fhir_commands.specs.declared.reply.Standing.TheVariants as standings
 use Rattle.fhir_engine.specs.declared.reply.Status.{Status}
 use Rattle.fhir_engine.specs.declared.request.WordsFault.{WordsFault}
 use Rattle.fhir_engine.specs.declared.reply.Status.TheVariants.{Yes, No, Open, Fault, Unwritten, Usage, NoMemory}
@@ -21,12 +20,12 @@ abbrev pub words_status : WordsFault → Status
 words_status WordsFault.Usage = Usage
 words_status WordsFault.NoMemory = NoMemory
 
--- the status of a validation
-abbrev pub verdict_status : Result Verdict NotJudged → Status
-verdict_status (Ok verdicts.Conforms) = Yes
-verdict_status (Ok (verdicts.Violates issues)) = No
-verdict_status (Ok (verdicts.Open sites)) = Open
-verdict_status (Err fault) = Fault
+-- the status of a resource that stands so
+abbrev pub standing_status : Standing → Status
+standing_status standings.Conforms = Yes
+standing_status standings.Violates = No
+standing_status standings.Open = Open
+standing_status standings.Fault = Fault
 
 -- the status of a report, by whether nothing is wrong
 abbrev pub report_status : Bool → Status

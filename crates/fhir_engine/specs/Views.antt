@@ -7,8 +7,10 @@ use Rattle.fhir_engine.specs.declared.request.Request.{Request}
 use Rattle.fhir_engine.specs.declared.request.Request.TheVariants.{Certify, Validate, Snapshot, Check}
 use Rattle.fhir_engine.specs.declared.request.Invocation.{Invocation}
 use Rattle.fhir_engine.specs.declared.request.Invocation.TheVariants.{Request as Asked, Version}
+use Rattle.fhir_engine.specs.declared.request.Task.{Task}
+use Rattle.fhir_engine.specs.declared.request.Task.TheVariants.{Answer, Serve}
 use Rattle.fhir_engine.specs.declared.request.WordsFault.{WordsFault}
-use Rattle.fhir_engine.specs.Requests.{RequestValue, certify, validate, snapshot, check, InvocationValue, request, version}
+use Rattle.fhir_engine.specs.Requests.{RequestValue, certify, validate, snapshot, check, InvocationValue, request, version, TaskValue, answer, serve}
 
 -- the bytes of a file, or none where it can't be read; and the name of a file, or none where none is named
 abbrev pub bytes_seen : Option (Bor Text) → Option Text
@@ -23,6 +25,10 @@ request_seen (Check folder certificate format) = check folder.now (bytes_seen ce
 abbrev pub invocation_seen : Invocation → InvocationValue
 invocation_seen (Asked asked) = request (request_seen asked)
 invocation_seen Version = version
+
+abbrev pub task_seen : Task → TaskValue
+task_seen (Answer asked) = answer (invocation_seen asked)
+task_seen (Serve folder) = serve folder.now
 
 abbrev pub asked_seen : Result Invocation WordsFault → Result InvocationValue WordsFault
 asked_seen (Ok asked) = Ok (invocation_seen asked)

@@ -4,7 +4,7 @@ use Rattle.std.specs.List.{starts_with}
 use Rattle.std.specs.Str.{bytes_eq}
 use Rattle.fhir_json.specs.Tree.{Text}
 use Rattle.fhir_report.specs.declared.writing.Format.TheVariants.{Text as AsText}
-use Rattle.fhir_engine.specs.Requests.{RequestValue, certify, validate, snapshot, check, InvocationValue, request}
+use Rattle.fhir_engine.specs.Requests.{RequestValue, certify, validate, snapshot, check, InvocationValue, request, TaskValue, answer, serve}
 
 abbrev pub is_option : Text → Bool
 is_option word = starts_with nat_eq word (codes "-")
@@ -55,3 +55,15 @@ plain_request _ = None
 
 abbrev pub plain_invocation : List Text → Option InvocationValue
 plain_invocation words = option_map request (plain_request words)
+
+-- the folder that is to be served
+abbrev pub folder_to_serve : Text → Text → Option Text
+folder_to_serve command folder = if bytes_eq command (codes "serve") && not (is_option folder) then Some folder else None
+
+-- the same behind the program's name
+abbrev pub served_folder : List Text → Option Text
+served_folder (program ∷ command ∷ folder ∷ []) = folder_to_serve command folder
+served_folder _ = None
+
+abbrev pub plain_task : List Text → Option TaskValue
+plain_task words = first_some (option_map answer (plain_invocation words)) (option_map serve (served_folder words))

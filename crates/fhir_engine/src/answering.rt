@@ -6,25 +6,25 @@ ghost use Rattle.fhir_json.specs.Memory.{Gives};
 ghost use Rattle.fhir_overlay.specs.Completed.{elements_tree};
 ghost use Rattle.fhir_snapshot.specs.Faults.{number_text};
 ghost use Rattle.fhir_report.specs.Faultless.{Promises};
-ghost use Rattle.fhir_engine.specs.Answering.{IsJudged, is_of_memory, IsReply, listed, certify_answer, validate_answer};
+ghost use Rattle.fhir_engine.specs.Answering.{IsAnswered, is_of_memory, IsReply, listed, certify_answer, validate_answer};
 ghost use Rattle.fhir_engine.specs.Promising.{Certified, Validated, Listed};
 ghost use Rattle.fhir_engine.specs.Replying.{written, reply_seen, status_of, fault_reply, certificate_reply};
-ghost use Rattle.fhir_engine.specs.Standing.{AlwaysConforms};
-ghost use Rattle.fhir_engine.specs.Status.{verdict_status};
+ghost use Rattle.fhir_engine.specs.Status.{standing_status};
+ghost use Rattle.fhir_registry.specs.Standing.{AlwaysConforms};
 ghost use Rattle.fhir_engine.specs.Views.{bytes_seen};
 
 use crate::reply::{Reply, Status, fault_reply, unreadable_reply};
 use crate::wrong_reply::wrong_reply;
 use fhir_cert_check::check_bytes;
 use fhir_certificate::CertFault;
+use fhir_commands::Standing;
 use fhir_elements::ElementDef;
 use fhir_json::{NoMemory, write};
 use fhir_overlay::elements_json;
 use fhir_package::Package;
-use fhir_registry::outcome;
+use fhir_registry::judge;
 use fhir_schema::Schema;
 use fhir_snapshot::{SnapNumber, generate};
-use fhir_validator::{Fault, Verdict, validate};
 use std::alloc::Global;
 
 fn certificate_reply(
@@ -43,14 +43,14 @@ fn certificate_reply(
     }
 }
 
-fn status_of(validated: &Result<Verdict<'_>, Fault>) -> Status
-    ensures { result ≡ verdict_status validated.now }
+fn status_of(standing: Standing) -> Status
+    ensures { result ≡ standing_status standing }
 {
-    match validated {
-        Ok(Verdict::Conforms) => Status::Yes,
-        Ok(Verdict::Violates(_)) => Status::No,
-        Ok(Verdict::Open(_)) => Status::Open,
-        Err(_) => Status::Fault,
+    match standing {
+        Standing::Conforms => Status::Yes,
+        Standing::Violates => Status::No,
+        Standing::Open => Status::Open,
+        Standing::Fault => Status::Fault,
     }
 }
 
@@ -60,15 +60,14 @@ fn resource_reply(
     schema: &Schema,
     bytes: &[u8],
 ) -> Result<Reply, NoMemory>
-    ensures told { IfOk result (λ r. IsJudged schema.now profile.now bytes.now (reply_seen r)) }
+    ensures told { IfOk result (λ r. IsAnswered schema.now profile.now bytes.now (reply_seen r)) }
     ensures promised { IfOk result (λ r. status_of (reply_seen r) ≡ 0 → AlwaysConforms schema.now profile.now bytes.now) }
 {
-    let validated = validate(alloc, schema, profile, bytes);
-    let outcome = outcome(alloc, profile, &validated)?;
+    let (standing, outcome) = judge(alloc, schema, profile, bytes)?;
     let mut out = write(alloc, &outcome)?;
     out.push(b'\n')?;
     Ok(Reply::Answer {
-        status: status_of(&validated),
+        status: status_of(standing),
         out,
     })
 }

@@ -1,17 +1,26 @@
 //! Files of a file system.
 
-ghost use Rattle.std.specs.Prelude.{◌≡◌, ◌⊎◌, Err};
+ghost use Rattle.std.specs.Prelude.{◌≡◌, ◌≢◌, ◌⊎◌, None, Some, Ok, Err, IfOk, IfErr, IsErr};
+ghost use Rattle.std.specs.IoError.{error_kind};
+ghost use Rattle.fhir_package.specs.Folder.{Files as FolderFiles};
+ghost use Rattle.fhir_engine.specs.Serving.{IsServed};
 ghost use Rattle.fhir_engine.specs.Views.{asked_seen};
 
+use crate::engine::end_with;
+use crate::reply::Status;
 use crate::request::{Invocation, Request, WordsFault};
+use crate::serving::serve_folder;
 use fhir_json::NoMemory;
 use fhir_package::{FolderFile, MemoryFolder, Progress, Stage, is_json_name};
 use std::alloc::Global;
 use std::collections::BTreeMap;
 use std::fs::DirEntry;
-use std::io::{ErrorKind, Read};
+use std::io::{BufReader, ErrorKind, Read, Write};
 use std::rt::Files;
 use std::{fs, io};
+
+// How many bytes of an input are read at once, at most.
+const INPUT_BUFFER: usize = 65536;
 
 // Puts in the name and the path of an entry of a directory, if its name is UTF-8 and ends in `.json`. An error is of the
 // listing, or of memory.
@@ -57,14 +66,23 @@ fn regular_bytes<R: Files + AllocGlobal>(rt: &R, path: &str) -> io::Result<Vec<u
     Ok(bytes)
 }
 
-/// The bytes of the regular file at a path, or none where there is none or the device doesn't give them. The one refusal is want
-/// of memory.
-pub fn bytes_at<R: Files + AllocGlobal>(rt: &R, path: &str) -> Result<Option<Vec<u8>>, NoMemory> {
-    match regular_bytes(rt, path) {
-        Ok(bytes) => Ok(Some(bytes)),
+// What the device gave, where it did. An error of the device is none of memory.
+fn given<T>(read: io::Result<T>) -> Result<Option<T>, NoMemory>
+    ensures given { IfOk read (λ it. result ≡ Ok (Some it)) }
+    ensures failed { IfErr read (λ e. error_kind e ≢ ErrorKind.OutOfMemory → result ≡ Ok None) }
+    ensures memory { IfErr read (λ e. error_kind e ≡ ErrorKind.OutOfMemory → IsErr result) }
+{
+    match read {
+        Ok(it) => Ok(Some(it)),
         Err(error) if error.kind() == ErrorKind::OutOfMemory => Err(NoMemory),
         Err(_) => Ok(None),
     }
+}
+
+/// The bytes of the regular file at a path, or none where there is none or the device doesn't give them. The one refusal is want
+/// of memory.
+pub fn bytes_at<R: Files + AllocGlobal>(rt: &R, path: &str) -> Result<Option<Vec<u8>>, NoMemory> {
+    given(regular_bytes(rt, path))
 }
 
 // The folder of the files at these paths, each under its name.
@@ -91,10 +109,9 @@ pub fn directory_at<R: Files + AllocGlobal + Clone + Drop, P: Progress>(
     path: &str,
     progress: &mut P,
 ) -> Result<MemoryFolder, NoMemory> {
-    match paths_at(rt, path) {
-        Ok(paths) => folder_of(rt, paths, progress),
-        Err(error) if error.kind() == ErrorKind::OutOfMemory => Err(NoMemory),
-        Err(_) => Ok(MemoryFolder::unlisted(rt.alloc())),
+    match given(paths_at(rt, path))? {
+        Some(paths) => folder_of(rt, paths, progress),
+        None => Ok(MemoryFolder::unlisted(rt.alloc())),
     }
 }
 
@@ -159,5 +176,28 @@ pub fn open_asked<'w, R: Files + AllocGlobal + Clone + Drop, P: Progress>(
             file,
         },
         Err(NoMemory) => nothing_opened(rt.alloc(), Err(WordsFault::NoMemory)),
+    }
+}
+
+/// Serves the definitions in the directory at a path, by the lines of an input that isn't buffered.
+pub fn serve_directory<
+    R: Files + AllocGlobal + Clone + Drop,
+    I: Read + Drop,
+    P: Progress,
+    W: Write,
+    E: Write,
+>(rt: &R, path: &str, input: I, progress: &mut P, out: &mut W, err: &mut E) -> Status
+    ensures { result ≡ Status.Yes → (files : FolderFiles)
+        × IsServed files (I.remaining input) (W.contents out.old) (W.contents out.new) }
+{
+    let Ok(mut input) = BufReader::with_capacity(rt.alloc(), INPUT_BUFFER, input) else {
+        return end_with(err, "no memory\n", Status::NoMemory);
+    };
+    match directory_at(rt, path, progress) {
+        Ok(folder) => serve_folder(rt.alloc(), path, folder, &mut input, progress, out, err),
+        Err(NoMemory) => {
+            progress.end();
+            end_with(err, "no memory\n", Status::NoMemory)
+        }
     }
 }

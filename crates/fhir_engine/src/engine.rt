@@ -27,8 +27,8 @@ fn is_written<W: Write>(end: &mut W, bytes: &[u8]) -> bool
     end.write_all(bytes).is_ok()
 }
 
-// Says something to standard error, which may fail, and ends with that status.
-fn end_with<E: Write>(err: &mut E, text: &str, status: Status) -> Status
+/// Says something to standard error, which may fail, and ends with that status.
+pub(crate) fn end_with<E: Write>(err: &mut E, text: &str, status: Status) -> Status
     ensures { result ≡ status }
 {
     let _ = is_written(err, text.as_bytes());
@@ -46,7 +46,8 @@ fn put<W: Write>(out: &mut W, bytes: &[u8], status: Status) -> Status
     }
 }
 
-fn write_reply<W: Write, E: Write>(reply: &Reply, out: &mut W, err: &mut E) -> Status
+/// Writes a reply to the output that is its own.
+pub(crate) fn write_reply<W: Write, E: Write>(reply: &Reply, out: &mut W, err: &mut E) -> Status
     ensures ended { HasEnded result (W.contents out.old) (W.contents out.new) (reply_seen reply.now) }
     ensures fault { IsTrue (is_told (reply_seen reply.now)) → (result ≡ Status.Fault) × (out.new ≡ out.old) }
     ensures answer { is_told (reply_seen reply.now) ≡ false → err.new ≡ err.old }
@@ -157,8 +158,11 @@ fn answer_words<W: Write, E: Write, P: Progress>(
     }
 }
 
-// The files of a folder, which is dropped then.
-fn files_of<F: Folder + Drop>(alloc: Global, mut folder: F) -> Result<FolderFiles, FolderFault>
+/// The files of a folder, which is dropped then.
+pub(crate) fn files_of<F: Folder + Drop>(
+    alloc: Global,
+    mut folder: F,
+) -> Result<FolderFiles, FolderFault>
     ensures { IsReadOf (F.files folder) result }
 {
     FolderFiles::read(alloc, &mut folder)

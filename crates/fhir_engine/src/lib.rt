@@ -1,17 +1,16 @@
 //! The engine of the program: from words, the files of a folder and the bytes of a file to a status and what is written.
 //!
 //! ```
-//! /// Does what words ask, of which the first is the program's name, and gives the status.
+//! /// Answers what is asked, and gives the status.
 //! pub fn status_of<R: Files + AllocGlobal + Clone + Drop, W: Write, E: Write>(
 //!     rt: &R,
-//!     words: &[String],
+//!     asked: Result<Invocation<'_>, WordsFault>,
 //!     out: &mut W,
 //!     err: &mut E,
 //! ) -> Status
 //!     ensures { result ≡ Status.Yes → (asked : Result InvocationValue WordsFault)
 //!         × (files : Files) × (file : Option Text) × Promise asked files file }
 //! {
-//!     let asked = invocation_of(rt.alloc(), words);
 //!     let Opened {
 //!         asked,
 //!         folder,
@@ -22,8 +21,8 @@
 //! }
 //! ```
 //!
-//! The contract to read first is that of [`run`]. What is answered stands in `specs/Answering.antt` (`RepliesFor`), and what
-//! status 0 promises in `specs/Promising.antt` (`Promise`).
+//! The contracts to read first are those of [`run`] and [`serve_folder`]. What is answered stands in `specs/Answering.antt`
+//! (`RepliesFor`), what status 0 promises in `specs/Promising.antt` (`Promise`), and what serving is in `specs/Serving.antt`.
 #![tactic(auto)]
 
 mod answering;
@@ -33,15 +32,17 @@ mod laws;
 mod meter;
 mod reply;
 mod request;
+mod serving;
 mod session;
 mod version;
 mod wrong_reply;
 
-pub use directory::{Opened, bytes_at, directory_at, open_asked};
+pub use directory::{Opened, bytes_at, directory_at, open_asked, serve_directory};
 pub use engine::run;
 pub use laws::verdicts_agree;
 pub use meter::Meter;
 pub use reply::{Reply, Status};
-pub use request::{Invocation, Request, WordsFault, invocation_of};
+pub use request::{Invocation, Request, Task, WordsFault, task_of};
+pub use serving::serve_folder;
 pub use session::Session;
 pub use version::VERSION;

@@ -4,9 +4,9 @@ ghost use Rattle.std.specs.Prelude.{◌≡◌, ◌↔◌, Some, map, string_byte
 ghost use Rattle.std.specs.Result.{result_ok};
 ghost use Rattle.clap.specs.declared.error.kind.ErrorKind.TheVariants as kind;
 ghost use Rattle.fhir_engine.specs.declared.request.WordsFault.TheVariants as faults;
-ghost use Rattle.fhir_engine.specs.Requests.{InvocationValue, folder_of, file_of};
-ghost use Rattle.fhir_engine.specs.Words.{is_option, are_plain, certify_request, validate_request, snapshot_request, check_request, check_beside, first_some, command_request, plain_request, plain_invocation};
-ghost use Rattle.fhir_engine.specs.Views.{bytes_seen, request_seen, invocation_seen};
+ghost use Rattle.fhir_engine.specs.Requests.{folder_of, file_of, TaskValue, serve};
+ghost use Rattle.fhir_engine.specs.Words.{is_option, are_plain, certify_request, validate_request, snapshot_request, check_request, check_beside, first_some, command_request, plain_request, folder_to_serve, served_folder, plain_task};
+ghost use Rattle.fhir_engine.specs.Views.{bytes_seen, request_seen, task_seen};
 
 use crate::version::VERSION;
 use clap::error::ErrorKind;
@@ -76,13 +76,22 @@ impl<'w> Request<'w> {
     }
 }
 
-/// What the words ask for.
+/// What the words ask for that is answered once.
 #[derive(Clone, Copy, Debug, PartialEq, Eq)]
 pub enum Invocation<'w> {
     /// An answer to a request.
     Request(Request<'w>),
     /// The program's version.
     Version,
+}
+
+/// What the words ask for.
+#[derive(Clone, Copy, Debug, PartialEq, Eq)]
+pub enum Task<'w> {
+    /// An answer.
+    Answer(Invocation<'w>),
+    /// That the definitions in a folder are served.
+    Serve(&'w str),
 }
 
 /// Why the words ask for nothing.
@@ -132,6 +141,10 @@ fn check<'a>(alloc: Global) -> Result<Command<'a>, AllocError> {
         )
 }
 
+fn serve<'a>(alloc: Global) -> Result<Command<'a>, AllocError> {
+    Command::new(alloc, "serve").arg(Arg::new(alloc, "PACKAGE").required(true))
+}
+
 fn program<'a>(alloc: Global) -> Result<Command<'a>, AllocError> {
     Command::new(alloc, "fhirprof")
         .version(VERSION)
@@ -139,7 +152,8 @@ fn program<'a>(alloc: Global) -> Result<Command<'a>, AllocError> {
         .subcommand(certify(alloc)?)?
         .subcommand(validate(alloc)?)?
         .subcommand(snapshot(alloc)?)?
-        .subcommand(check(alloc)?)
+        .subcommand(check(alloc)?)?
+        .subcommand(serve(alloc)?)
 }
 
 // What words ask for that `clap` gives back with an error of a kind.
@@ -280,36 +294,80 @@ fn plain_request(words: &[String]) -> Option<Request<'_>>
     }
 }
 
+fn served_folder(words: &[String]) -> Option<&str>
+    ensures { bytes_seen result ≡ served_folder (map string_bytes words.now) }
+{
+    match words {
+        [_, command, folder] => folder_to_serve(command.as_str(), folder.as_str()),
+        _ => None,
+    }
+}
+
+fn folder_to_serve<'w>(command: &str, folder: &'w str) -> Option<&'w str>
+    ensures { bytes_seen result ≡ folder_to_serve command.now folder.now }
+{
+    if command == "serve" && !is_option(folder) {
+        Some(folder)
+    } else {
+        None
+    }
+}
+
+fn serve_task(words: &[String]) -> Option<Task<'_>>
+    ensures { option_map task_seen result ≡ option_map serve (served_folder (map string_bytes words.now)) }
+{
+    match served_folder(words) {
+        Some(folder) => Some(Task::Serve(folder)),
+        None => None,
+    }
+}
+
+fn plain_task(words: &[String]) -> Option<Task<'_>>
+    ensures { option_map task_seen result ≡ plain_task (map string_bytes words.now) }
+{
+    match plain_request(words) {
+        Some(request) => Some(Task::Answer(Invocation::Request(request))),
+        None => serve_task(words),
+    }
+}
+
 fn word<'a>(matches: &ArgMatches<'a>, id: &str) -> Result<&'a str, WordsFault> {
     matches.get_str(id).ok_or(WordsFault::Usage)
 }
 
 /// What the words ask for, of which the first is the program's name: `certify PACKAGE CERTIFICATE`,
-/// `validate PACKAGE PROFILE RESOURCE`, `snapshot PACKAGE URL`, `check PACKAGE [CERTIFICATE] [--json]` or `--version`. Words without
-/// options are read as they stand, and all others by `clap`.
-pub fn invocation_of<'w>(alloc: Global, words: &'w [String]) -> Result<Invocation<'w>, WordsFault>
-    ensures plain { (asked : InvocationValue) → plain_invocation (map string_bytes words.now) ≡ Some asked
-        → option_map invocation_seen (result_ok result) ≡ Some asked }
+/// `validate PACKAGE PROFILE RESOURCE`, `snapshot PACKAGE URL`, `check PACKAGE [CERTIFICATE] [--json]`, `serve PACKAGE` or `--version`.
+/// Words without options are read as they stand, and all others by `clap`.
+pub fn task_of<'w>(alloc: Global, words: &'w [String]) -> Result<Task<'w>, WordsFault>
+    ensures plain { (task : TaskValue) → plain_task (map string_bytes words.now) ≡ Some task
+        → option_map task_seen (result_ok result) ≡ Some task }
 {
-    match plain_request(words) {
-        Some(request) => Ok(Invocation::Request(request)),
-        None => other_invocation(alloc, words),
+    match plain_task(words) {
+        Some(task) => Ok(task),
+        None => other_task(alloc, words),
     }
 }
 
-fn other_invocation<'w>(alloc: Global, words: &'w [String]) -> Result<Invocation<'w>, WordsFault> {
+fn other_task<'w>(alloc: Global, words: &'w [String]) -> Result<Task<'w>, WordsFault> {
     let matches = match program(alloc)?.try_get_matches_from(words) {
         Ok(matches) => matches,
-        Err(error) => return of_error_kind(error.kind()),
+        Err(error) => return Ok(Task::Answer(of_error_kind(error.kind())?)),
     };
     let Some((name, matches)) = matches.subcommand() else {
         return Err(WordsFault::Usage);
     };
     match name {
-        "certify" => Ok(Invocation::Request(certify_matched(matches)?)),
-        "validate" => Ok(Invocation::Request(validate_matched(matches)?)),
-        "snapshot" => Ok(Invocation::Request(snapshot_matched(matches)?)),
-        "check" => Ok(Invocation::Request(check_matched(matches)?)),
+        "serve" => Ok(Task::Serve(word(matches, "PACKAGE")?)),
+        _ => Ok(Task::Answer(Invocation::Request(matched(name, matches)?))),
+    }
+}
+
+fn matched<'w>(name: &str, matches: &ArgMatches<'w>) -> Result<Request<'w>, WordsFault> {
+    match name {
+        "certify" => certify_matched(matches),
+        "validate" => validate_matched(matches),
+        "snapshot" => snapshot_matched(matches),
+        "check" => check_matched(matches),
         _ => Err(WordsFault::Usage),
     }
 }

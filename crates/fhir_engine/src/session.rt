@@ -51,8 +51,8 @@ impl<'f> Model for Session<'f> {
     ghost invariant = { λ s. s.schema ≡ schema_of s.survey.definitions };
 }
 
-// What is answered where files are no package, by the fault for which they are none.
-fn refused_reply(alloc: Global, fault: &FileFault<'_>) -> Result<Reply, AllocError>
+/// What is answered where files are no package, by the fault for which they are none.
+pub(crate) fn refused_reply(alloc: Global, fault: &FileFault<'_>) -> Result<Reply, AllocError>
     ensures { IfOk result (λ r. reply_seen r ≡ refused_reply (fault_seen fault.now)) }
 {
     fault_reply(alloc, fault.number(), fault.subject())

@@ -1,1 +1,5 @@
 pub mod Outcomes
+pub mod Standing
+pub mod Judging
+pub mod Session
+pub mod Lines

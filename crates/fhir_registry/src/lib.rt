@@ -1,23 +1,32 @@
-//! What is said of definitions and resources in FHIR's own terms: the OperationOutcome of a validation.
+//! Definitions that commands change and ask about, and what is said of resources in FHIR's own terms: the OperationOutcome of a validation.
 //!
 //! ```
-//! /// The outcome of a validation against the profile at a url, as a JSON text.
-//! pub fn outcome_text(
+//! /// The reply to a command about a package.
+//! pub fn reply_to(
 //!     alloc: Global,
-//!     profile: &str,
-//!     validated: &Result<Verdict<'_>, Fault>,
-//! ) -> Result<Vec<u8>, NoMemory>
-//!     ensures { IsTrue (is_explained validated.now)
-//!         → IfOk result (λ text. (t : Tree) × IsOutcome validated.now t × (text.items ≡ compact t)) }
+//!     package: Package<'_>,
+//!     command: Command<'_>,
+//! ) -> Result<Reply, NoMemory>
+//!     ensures { IfOk result (λ r. IsReply «package».entry (command_seen command.entry) (reply_seen r)) }
 //! {
-//!     let outcome = outcome(alloc, profile, validated)?;
-//!     write(alloc, &outcome)
+//!     match Registry::new(alloc, package) {
+//!         Ok(mut registry) => registry.apply(alloc, command),
+//!         Err(_) => Err(NoMemory),
+//!     }
 //! }
 //! ```
 //!
-//! The contract to read first is that of [`outcome`]. What an outcome is stands in `specs/Outcomes.antt`.
+//! The contract to read first is that of [`Registry::apply`]. What commands leave and what replies are right stands in
+//! `specs/Session.antt`, and what an outcome is in `specs/Outcomes.antt`.
 #![tactic(auto)]
 
+mod answering;
+mod judging;
+mod laws;
 mod outcomes;
+mod registry;
 
+pub use judging::judge;
+pub use laws::same_replies;
 pub use outcomes::outcome;
+pub use registry::Registry;

@@ -10,12 +10,14 @@ ghost use Rattle.fhir_engine.specs.Replying.{ReplyValue, status_of};
 ghost use Rattle.fhir_engine.specs.Session.{IsReadOf};
 ghost use Rattle.fhir_engine.specs.Views.{bytes_seen, asked_seen};
 
-use fhir_engine::{Invocation, Meter, Opened, WordsFault, invocation_of, open_asked, run};
+use fhir_engine::{
+    Invocation, Meter, Opened, Task, WordsFault, open_asked, run, serve_directory, task_of,
+};
 use fhir_package::{Folder, FolderFault, Progress};
 use std::alloc::Global;
 use std::io::{ErrorKind, IsTerminal, Write};
 use std::process::ExitCode;
-use std::rt::Env;
+use std::rt::{Env, Files};
 use std::{env, io};
 
 fn main(rt: HostRuntime) -> ExitCode {
@@ -25,25 +27,35 @@ fn main(rt: HostRuntime) -> ExitCode {
     let is_terminal = terminal.is_terminal();
     let mut meter = Meter::new(&rt, &mut terminal, is_terminal);
     let words = words_of(&rt);
-    let asked = match &words {
-        Ok(words) => invocation_of(rt.alloc(), words),
+    let task = match &words {
+        Ok(words) => task_of(rt.alloc(), words),
         Err(fault) => Err(*fault),
     };
+    match task {
+        Ok(Task::Answer(asked)) => answer(&rt, Ok(asked), &mut meter, &mut out, &mut err),
+        Ok(Task::Serve(folder)) => {
+            let input = rt.stdin();
+            ExitCode::from(serve_directory(&rt, folder, input, &mut meter, &mut out, &mut err))
+        }
+        Err(fault) => answer(&rt, Err(fault), &mut meter, &mut out, &mut err),
+    }
+}
+
+// Answers what is asked.
+fn answer<R: Files + AllocGlobal + Clone + Drop, P: Progress, W: Write, E: Write>(
+    rt: &R,
+    asked: Result<Invocation<'_>, WordsFault>,
+    progress: &mut P,
+    out: &mut W,
+    err: &mut E,
+) -> ExitCode {
     let Opened {
         asked,
         folder,
         file,
-    } = open_asked(&rt, asked, &mut meter);
+    } = open_asked(rt, asked, progress);
     let bytes = file.as_deref();
-    code_of(
-        rt.alloc(),
-        &asked,
-        folder,
-        bytes,
-        &mut meter,
-        &mut out,
-        &mut err,
-    )
+    code_of(rt.alloc(), &asked, folder, bytes, progress, out, err)
 }
 
 // The words. One that isn't UTF-8 asks for nothing.

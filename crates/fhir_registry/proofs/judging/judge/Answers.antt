@@ -1,0 +1,25 @@
+use Rattle.fhir_json.specs.Views.{tree_of}
+use Rattle.fhir_registry.proofs.Standings.{IsValidated, is_listed, stands}
+use Rattle.fhir_registry.proofs.judging.judge.Goals as goal
+
+pub returns : goal.returns
+returns c =
+    let v = c.validate-validated.result in
+    let said = c.validate-validated.ensures in
+    let known : IsValidated c.args.schema.now c.args.profile.now c.args.bytes.now v =
+    record {
+      conforms = said.conforms;
+      always = said.always;
+      constraints = said.constraints;
+      violates = said.violates;
+      never = said.never;
+      explained = said.explained;
+      read = said.read;
+      refused = said.refused;
+    } in
+    record {
+      validated = v;
+      stands = stands c.args.schema.now c.args.profile.now c.args.bytes.now v known c.in_ok-outcome.ensures.memory;
+      stands_so = c.standing_of.ensures;
+      is_outcome = c.in_ok-outcome.ensures.outcome (is_listed c.args.schema.now c.args.profile.now c.args.bytes.now v known);
+    }

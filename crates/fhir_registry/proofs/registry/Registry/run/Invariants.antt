@@ -1,0 +1,9 @@
+use Rattle.std.proofs.Common.{map}
+use Rattle.fhir_commands.specs.Commands.{command_seen}
+use Rattle.fhir_commands.specs.Replies.{reply_seen}
+use Rattle.fhir_registry.proofs.Replied.{Runs}
+use Rattle.fhir_registry.proofs.registry.Registry.run.Given as goal
+
+abbrev pub invariant-loop-command : goal.invariant-loop-command
+invariant-loop-command l =
+    Runs l.fn.self (map command_seen l.fn.commands.items) (map reply_seen l.replies.items) l.self (map command_seen l.command-iterator.rest.items)

@@ -1,0 +1,86 @@
+-- A session from scratch: what a command leaves of the definitions that a registry holds, and what is a reply to it.
+use Rattle.std.specs.Prelude.{◌≡◌, List, [], ◌∷◌, Option, None, Some, if◌then◌else◌}
+use Rattle.std.specs.Option.{option_map, option_map_or, option_and_then}
+use Rattle.std.specs.Result.{result_ok}
+use Rattle.fhir_json.specs.Tree.{Text, Tree}
+use Rattle.fhir_json.specs.Reading.{reading}
+use Rattle.fhir_package.specs.Definitions.{Definitions}
+use Rattle.fhir_package.specs.Packing.{Definition}
+use Rattle.fhir_package.specs.Changing.{sound_definition, has_twice, put_each, without, has_url}
+use Rattle.fhir_reach.specs.Keys.{KeyValue, of_url}
+use Rattle.fhir_reach.specs.Reach.{restrict}
+use Rattle.fhir_reach.specs.Search.{reached}
+use Rattle.fhir_reach.specs.Starting.{starts_of}
+use Rattle.fhir_snapshot.specs.Completing.{Completes}
+use Rattle.fhir_schema.specs.Schemas.{schema_of}
+use Rattle.fhir_commands.specs.Commands.{CommandValue, put, remove, validate}
+use Rattle.fhir_commands.specs.Replies.{ReplyValue}
+use Rattle.fhir_commands.specs.Replies as replies
+use Rattle.fhir_commands.specs.declared.reply.PutAnswer.{PutAnswer}
+use Rattle.fhir_commands.specs.declared.reply.PutAnswer.TheVariants as puts
+use Rattle.fhir_commands.specs.declared.reply.RemoveAnswer.{RemoveAnswer}
+use Rattle.fhir_commands.specs.declared.reply.RemoveAnswer.TheVariants as removes
+use Rattle.fhir_commands.specs.declared.reply.Standing.{Standing}
+use Rattle.fhir_registry.specs.Judging.{IsJudged}
+
+-- ---- definitions that are to be put in
+
+-- the definitions that trees are, where each is a sound one
+abbrev pub definitions_of : List Tree → Option (List Definition)
+definitions_of [] = Some []
+definitions_of (t ∷ ts) = option_and_then (λ d. option_map (λ ds. d ∷ ds) (definitions_of ts)) (sound_definition t)
+
+-- one that is none comes before one that is there twice
+abbrev pub put_answer : Option (List Definition) → PutAnswer
+put_answer None = puts.NoDefinition
+put_answer (Some ds) = if has_twice ds then puts.Twice else puts.Done
+
+-- all are put in, or none
+abbrev pub put_after : Option (List Definition) → Definitions → Definitions
+put_after None p = p
+put_after (Some ds) p = if has_twice ds then p else put_each ds p
+
+-- ---- what a command leaves
+
+abbrev pub after : CommandValue → Definitions → Definitions
+after (put ts) p = put_after (definitions_of ts) p
+after (remove url) p = without url p
+after (validate profile bytes) p = p
+
+-- ---- replies
+
+abbrev pub remove_answer : Text → Definitions → RemoveAnswer
+remove_answer url p = if has_url url p then removes.Done else removes.Absent
+
+-- the keys with which a validation begins: those of the resource that the bytes are; of bytes that are none, the profile
+abbrev pub starts : Text → Text → List KeyValue
+starts profile bytes = option_map_or (starts_of profile) (result_ok (reading bytes)) (of_url profile ∷ [])
+
+-- the definitions that it reaches, on which its reply rests
+abbrev pub reached_by : Definitions → Text → Text → Definitions
+reached_by p profile bytes = restrict p (reached p (starts profile bytes))
+
+-- The resource that the bytes are is judged by the definitions that are reached, completed.
+pub record IsJudgement (p : Definitions) (profile bytes : Text) (reply : ReplyValue) : Type 0 where
+  pub completed : Definitions
+  pub completes : Completes (reached_by p profile bytes) completed
+  pub standing : Standing
+  pub outcome : Tree
+  pub judged : IsJudged (schema_of completed) profile bytes standing outcome
+  pub is_reply : reply ≡ replies.validate standing outcome
+
+abbrev pub IsReply : Definitions → CommandValue → ReplyValue → Type 0
+IsReply p (put ts) reply = reply ≡ replies.put (put_answer (definitions_of ts))
+IsReply p (remove url) reply = reply ≡ replies.remove (remove_answer url p)
+IsReply p (validate profile bytes) reply = IsJudgement p profile bytes reply
+
+-- ---- lists of commands, from the left
+
+abbrev pub after_all : List CommandValue → Definitions → Definitions
+after_all [] p = p
+after_all (c ∷ cs) p = after_all cs (after c p)
+
+-- each reply is one to its command, by the definitions that those before it leave
+abbrev pub AreReplies : Definitions → List CommandValue → List ReplyValue → Type 0
+AreReplies p [] rs = rs ≡ []
+AreReplies p (c ∷ cs) rs = (r : ReplyValue) × (others : List ReplyValue) × (rs ≡ r ∷ others) × IsReply p c r × AreReplies (after c p) cs others

@@ -1,0 +1,43 @@
+//! Lines that a registry answers.
+
+ghost use Rattle.std.specs.Prelude.{◌≡◌, IfOk, OnErr};
+ghost use Rattle.fhir_commands.specs.Commands.{line_command};
+ghost use Rattle.fhir_commands.specs.Replies.{line_seen};
+ghost use Rattle.fhir_registry.specs.Lines.{AnswersCommand};
+
+use crate::registry::Registry;
+use fhir_commands::{Command, LINE_FAULT, Line, MEMORY_FAULT, fixed_lines};
+use fhir_json::NoMemory;
+use fhir_serve::Service;
+use std::alloc::Global;
+
+// The answer to a line, unless memory runs out.
+fn answer_line(registry: &mut Registry, alloc: Global, line: &[u8]) -> Result<Line, NoMemory>
+    ensures told { IfOk result (λ written. AnswersCommand registry.old (line_command line.now) registry.new (line_seen written)) }
+    ensures unchanged { OnErr result (registry.new ≡ registry.old) }
+{
+    fixed_lines();
+    match Command::of_line(alloc, line)? {
+        Some(command) => registry.apply(alloc, command)?.into_line(alloc),
+        None => Ok(Line::Fixed(LINE_FAULT)),
+    }
+}
+
+impl Service for Registry {
+    ghost use Rattle.fhir_registry.specs.Lines.{AnswersLine};
+
+    ghost answers = { λ p line q written. AnswersLine p line q written };
+
+    fn answer(&mut self, alloc: Global, line: &[u8]) -> Line {
+        fixed_lines();
+        match answer_line(self, alloc, line) {
+            Ok(line) => line,
+            Err(NoMemory) => Line::Fixed(MEMORY_FAULT),
+        }
+    }
+
+    fn unheld(&self) -> Line {
+        fixed_lines();
+        Line::Fixed(MEMORY_FAULT)
+    }
+}

@@ -1,0 +1,186 @@
+//! Definitions that commands change and ask about.
+
+ghost use Rattle.std.specs.Prelude.{◌≡◌, ◌++◌, List, IfOk, IfErr, OnOk, OnErr, map};
+ghost use Rattle.fhir_schema.specs.Schemas.{schema_of};
+ghost use Rattle.std.specs.Option.{option_map};
+ghost use Rattle.fhir_json.specs.Views.{trees_of};
+ghost use Rattle.fhir_package.specs.Definitions.{Definitions};
+ghost use Rattle.fhir_package.specs.Changing.{without};
+ghost use Rattle.fhir_reach.specs.Keys.{keys_seen};
+ghost use Rattle.fhir_snapshot.specs.Completing.{Completes};
+ghost use Rattle.fhir_commands.specs.Commands.{CommandValue, command_seen};
+ghost use Rattle.fhir_commands.specs.Replies.{reply_seen};
+ghost use Rattle.fhir_registry.specs.Session.{definitions_of, put_answer, put_after, remove_answer, starts, reached_by, IsJudgement, after, IsReply, after_all, AreReplies};
+
+use crate::judging::judge;
+use fhir_commands::{Command, PutAnswer, RemoveAnswer, Reply};
+use fhir_json::{Json, JsonFault, NoMemory, read};
+use fhir_package::{Definition, Package, has_twice};
+use fhir_reach::{Key, reach, restrict, starts_of};
+use fhir_schema::Schema;
+use fhir_snapshot::complete;
+use std::alloc::Global;
+use std::marker::Model;
+
+/// The definitions of a package, which commands change and ask about. Each reply is the one that the definitions give as they stand.
+#[derive(Drop)]
+pub struct Registry {
+    definitions: Package<'static>,
+}
+
+impl Model for Registry {
+    ghost use Rattle.fhir_package.specs.Definitions.{Definitions};
+
+    ghost Value = { Definitions };
+
+    ghost use Rattle.fhir_json.specs.Coding.{tree_code};
+    ghost use Rattle.std.specs.Coded.{codes};
+
+    ghost coded = { Prim.hlevel (codes, tree_code) };
+
+    ghost view = { λ r. r.definitions };
+}
+
+// The sound definitions that trees are, in memory of their own, where each is one.
+fn definitions_of(
+    alloc: Global,
+    trees: &[Json<'_>],
+) -> Result<Option<Vec<Definition<'static>>>, NoMemory>
+    ensures { IfOk result (λ ds. option_map (λ v. v.items) ds ≡ definitions_of (trees_of trees.now)) }
+{
+    let mut all = Vec::new(alloc);
+    for tree in trees {
+        let Some(definition) = Definition::of(alloc, tree.detach(alloc)?)? else {
+            return Ok(None);
+        };
+        all.push(definition)?;
+    }
+    Ok(Some(all))
+}
+
+// The keys with which the validation of the resource that bytes are begins.
+fn starts(alloc: Global, profile: &str, bytes: &[u8]) -> Result<Vec<Key>, NoMemory>
+    ensures { IfOk result (λ keys. keys_seen keys.items ≡ starts profile.now bytes.now) }
+{
+    match read(alloc, bytes) {
+        Ok(resource) => starts_of(alloc, profile, &resource),
+        Err(JsonFault::NoMemory) => Err(NoMemory),
+        Err(_) => starts_of(alloc, profile, &Json::Null),
+    }
+}
+
+// The definitions that the validation reaches.
+fn reached_by(
+    alloc: Global,
+    definitions: &Package<'_>,
+    profile: &str,
+    bytes: &[u8],
+) -> Result<Package<'static>, NoMemory>
+    ensures { IfOk result (λ p. p ≡ reached_by definitions.now profile.now bytes.now) }
+{
+    let starts = starts(alloc, profile, bytes)?;
+    let keys = reach(alloc, definitions, &starts)?;
+    restrict(alloc, definitions, &keys)
+}
+
+// The schema of definitions, completed.
+fn completed_schema(alloc: Global, definitions: Package<'static>) -> Result<Schema, NoMemory>
+    ensures { IfOk result (λ s. (p : Definitions) × Completes definitions.entry p × (s ≡ schema_of p)) }
+{
+    let mut definitions = definitions;
+    complete(alloc, &mut definitions)?;
+    Schema::build(alloc, &definitions)
+}
+
+// The reply on the resource that bytes are and the profile at a url.
+fn judgement(
+    alloc: Global,
+    definitions: &Package<'_>,
+    profile: &str,
+    bytes: &[u8],
+) -> Result<Reply, NoMemory>
+    ensures { IfOk result (λ r. IsJudgement definitions.now profile.now bytes.now (reply_seen r)) }
+{
+    let reached = reached_by(alloc, definitions, profile, bytes)?;
+    let schema = completed_schema(alloc, reached)?;
+    let (standing, outcome) = judge(alloc, &schema, profile, bytes)?;
+    Ok(Reply::Validate(standing, outcome))
+}
+
+impl Registry {
+    /// That of a package, in memory of its own. Where memory is refused the package comes back.
+    pub fn new<'a>(alloc: Global, package: Package<'a>) -> Result<Registry, Package<'a>>
+        ensures kept { IfOk result (λ r. r ≡ «package».entry) }
+        ensures given_back { IfErr result (λ p. p ≡ «package».entry) }
+    {
+        match package.detach(alloc) {
+            Ok(definitions) => Ok(Registry { definitions }),
+            Err(NoMemory) => Err(package),
+        }
+    }
+
+    /// The definitions as they stand.
+    pub fn definitions(&self) -> &Package<'static>
+        ensures { result.now ≡ self.now }
+    {
+        &self.definitions
+    }
+
+    fn put(&mut self, alloc: Global, trees: &[Json<'_>]) -> Result<PutAnswer, NoMemory>
+        ensures told { IfOk result (λ answer. answer ≡ put_answer (definitions_of (trees_of trees.now))) }
+        ensures after { OnOk result (self.new ≡ put_after (definitions_of (trees_of trees.now)) self.old) }
+        ensures unchanged { OnErr result (self.new ≡ self.old) }
+    {
+        let Some(definitions) = definitions_of(alloc, trees)? else {
+            return Ok(PutAnswer::NoDefinition);
+        };
+        if has_twice(alloc, &definitions)? {
+            return Ok(PutAnswer::Twice);
+        }
+        self.definitions.put_all(alloc, definitions)?;
+        Ok(PutAnswer::Done)
+    }
+
+    fn remove(&mut self, url: &str) -> RemoveAnswer
+        ensures told { result ≡ remove_answer url.now self.old }
+        ensures after { self.new ≡ without url.now self.old }
+    {
+        if self.definitions.remove(url) {
+            RemoveAnswer::Done
+        } else {
+            RemoveAnswer::Absent
+        }
+    }
+
+    /// Does what a command asks, and replies. A resource is judged by the definitions that it reaches, as they stand, completed. The one
+    /// refusal is want of memory, which changes nothing.
+    pub fn apply(&mut self, alloc: Global, command: Command<'_>) -> Result<Reply, NoMemory>
+        ensures told { IfOk result (λ r. IsReply self.old (command_seen command.entry) (reply_seen r)) }
+        ensures after { OnOk result (self.new ≡ after (command_seen command.entry) self.old) }
+        ensures unchanged { OnErr result (self.new ≡ self.old) }
+    {
+        match command {
+            Command::Put(trees) => Ok(Reply::Put(self.put(alloc, &trees)?)),
+            Command::Remove(url) => Ok(Reply::Remove(self.remove(url.as_str()))),
+            Command::Validate { profile, resource } => {
+                judgement(alloc, &self.definitions, profile.as_str(), &resource)
+            }
+        }
+    }
+
+    /// Does what commands ask, one after the other, and gives the replies. The one refusal is want of memory: then the registry holds what
+    /// some of the first commands leave.
+    pub fn run(&mut self, alloc: Global, commands: Vec<Command<'_>>) -> Result<Vec<Reply>, NoMemory>
+        ensures told { IfOk result (λ replies. AreReplies self.old (map command_seen commands.entry.items) (map reply_seen replies.items)) }
+        ensures after { OnOk result (self.new ≡ after_all (map command_seen commands.entry.items) self.old) }
+        ensures partly { OnErr result ((first others : List CommandValue)
+            × (map command_seen commands.entry.items ≡ first ++ others) × (self.new ≡ after_all first self.old)) }
+    {
+        let mut replies = Vec::new(alloc);
+        for command in commands {
+            let reply = self.apply(alloc, command)?;
+            replies.push(reply)?;
+        }
+        Ok(replies)
+    }
+}
