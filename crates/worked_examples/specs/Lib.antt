@@ -8,6 +8,7 @@ pub mod Packages
 pub mod Pairs
 pub mod Positions
 pub mod Schemas
+pub mod Sessions
 pub mod Reaching
 pub mod Roots
 pub mod Sliced

@@ -16,6 +16,7 @@ mod pairs;
 mod positions;
 mod reaching;
 mod schemas;
+mod sessions;
 mod slicings;
 
 pub use code_systems::{code_system_contents, code_system_versions, codes_from_elsewhere};
@@ -34,4 +35,5 @@ pub use pairs::{
 pub use positions::{positions_example, stops_example};
 pub use reaching::{changed_keys, followed_keys, named_keys, standing_keys, starting_keys};
 pub use schemas::{covering_example, reasons_example};
+pub use sessions::{lists_put_in, lists_refused, starts_example, urls_removed};
 pub use slicings::{discriminators_example, orders_of_slices};
