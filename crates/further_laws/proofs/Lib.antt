@@ -5,3 +5,4 @@ mod Places
 mod Sliced
 mod Some
 mod Typed
+mod Listed
