@@ -1,12 +1,13 @@
 -- Where each constraint of the base is answered, and those of the derived node hold, so do the base's.
 use Rattle.std.proofs.Common.{◌≡◌, ℕ, zero, suc, ◌+◌, zero-add, add-zero, arith, Bool, true, false, List, [], ◌∷◌, map, Option, Some, None, refl, sym, ap, subst, ◌∙◌, ◌&&◌, ◌||◌, IsTrue, not, length, is_none}
-use Rattle.std.specs.Prelude.{if◌then◌else◌}
+use Rattle.std.specs.Prelude.{if◌then◌else◌, ◌++◌, All, cond}
 use Rattle.std.specs.List.{list_all, list_any, range_with_len, slice_get}
-use Rattle.std.specs.Option.{option_map_or, option_and_then}
+use Rattle.std.specs.Option.{option_map_or, option_and_then, option_to_list}
 use Rattle.std.specs.Str.{bytes_eq}
 use Rattle.std.specs.Cmp.Lexicographic.{bytes_decides}
 use Rattle.std.proofs.lemmas.Bool.{and_parts, false≢true}
 use Rattle.std.proofs.lemmas.List.Folds.{list_all-append}
+use Rattle.std.proofs.lemmas.List.Elements.{All-nil, All-cons}
 use Rattle.fhir_json.specs.Tree.{Text}
 use Rattle.fhir_elements.specs.Constraint.{Constraint, must_hold}
 use Rattle.fhir_elements.specs.Element.{Element}
@@ -14,12 +15,17 @@ use Rattle.fhir_elements.specs.Tests.{all_hold}
 use Rattle.fhir_nodes.specs.declared.node.NodeRef.{NodeRef}
 use Rattle.fhir_schema.specs.Schemas.{SchemaValue, element_at, target}
 use Rattle.fhir_schema.specs.Expressions.{constraint_at}
+use Rattle.fhir_nodes.specs.Expressions.{expression_of}
+use Rattle.fhir_fp_syntax.specs.Expression.{Expression}
+use Rattle.fhir_fp_eval.specs.Values.{World}
+use Rattle.fhir_fp_eval.specs.Meaning.{is_true}
+use Rattle.fhir_entail.specs.Entailment.{entails}
 use Rattle.fhir_instance.specs.Items.{Item}
-use Rattle.fhir_facets.specs.Unread.{Meaning}
+use Rattle.fhir_facets.specs.Unread.{Meaning, unread_constraint}
 use Rattle.fhir_conformance.specs.Asks.{Ask, constraint_ask, own_constraint_asks, constraint_asks}
 use Rattle.fhir_conformance.specs.Conformance.{constraint_holds, constraint_passes}
 use Rattle.fhir_cert_check.specs.Rule.{constraint}
-use Rattle.fhir_cert_check.specs.Rules.{says_same, constraint_answers, constraint_rule, own_constraints, constraints_at, constraint_rules}
+use Rattle.fhir_cert_check.specs.Rules.{held_expression, held_expressions, says_same, repeats, constraint_answered, constraint_rule, own_constraints, constraints_at, constraint_rules}
 use Rattle.fhir_cert_check.proofs.Answered.{any_with_all, all_map, all_given}
 
 -- of each position in turn what the element there gives
@@ -38,12 +44,20 @@ unless : (b h : Bool) → IsTrue b → IsTrue (not b || h) → IsTrue h
 unless true h is passes = passes
 unless false h is passes = absurd (false≢true is)
 
-module _ (s : SchemaValue) (m : Meaning) (resource x : Item) where
+-- where all of some expressions are true of an item, so is what they entail
+abbrev pub EntailedHold : Type 0
+EntailedHold = (w : World) (x : Item) (known : List Expression) (e : Expression)
+    → All (λ k. IsTrue (is_true w k x)) known → IsTrue (entails known e) → IsTrue (is_true w e x)
+
+module _ (s : SchemaValue) (m : Meaning) (resource x : Item) (entailed_is : EntailedHold) where
   abbrev holds : Constraint → Bool
   holds c = constraint_holds s m resource x c
 
   abbrev passes : Constraint → Bool
   passes c = constraint_passes s m resource x c
+
+  abbrev world : World
+  world = record { schema = s; resource = resource; context = x }
 
   -- ---- what is said alone decides
 
@@ -62,24 +76,55 @@ module _ (s : SchemaValue) (m : Meaning) (resource x : Item) where
   pub same_truth : (own base : Constraint) → IsTrue (says_same own base) → holds own ≡ holds base
   same_truth own base same = same_said own.expression base.expression own.key base.key same
 
-  -- ---- one constraint of the base
-
-  answered_holds : (own : List Constraint) (base : Constraint) → IsTrue (list_any (λ c. constraint_answers c base) own) → IsTrue (list_all passes own)
+  repeated_holds : (own : List Constraint) (base : Constraint) → IsTrue (list_any (λ c. repeats c base) own) → IsTrue (list_all passes own)
       → IsTrue (holds base)
-  answered_holds own base some each =
-      any_with_all (λ c. constraint_answers c base) passes (IsTrue (holds base))
+  repeated_holds own base some each =
+      any_with_all (λ c. repeats c base) passes (IsTrue (holds base))
       (λ c answers passing.
       let parts = and_parts (must_hold c) (says_same c base) answers in
       subst (λ b. IsTrue b) (same_truth c base parts.1) (unless (must_hold c) (holds c) parts.0 passing))
       own some each
 
+  -- ---- what is entailed
+
+  -- each expression that is held is true
+  held_true : (c : Constraint) → IsTrue (passes c) → (others : List Expression) → All (λ e. IsTrue (is_true world e x)) others
+      → All (λ e. IsTrue (is_true world e x)) (held_expression c ++ others)
+  held_true c passing others each = go (must_hold c) (expression_of c) passing
+    where
+      go : (b : Bool) (o : Option Expression) → IsTrue (not b || option_map_or (λ e. is_true world e x) o (m (unread_constraint c)))
+          → All (λ e. IsTrue (is_true world e x)) (cond b (option_to_list o) [] ++ others)
+      go false o h = each
+      go true None h = each
+      go true (Some e) h = All-cons (λ e. IsTrue (is_true world e x)) e others h each
+
+  all_true : (own : List Constraint) → IsTrue (list_all passes own) → All (λ e. IsTrue (is_true world e x)) (held_expressions own)
+  all_true [] each = All-nil (λ e. IsTrue (is_true world e x))
+  all_true (c ∷ own) each =
+      let parts = and_parts (passes c) (list_all passes own) each in
+      held_true c parts.0 (held_expressions own) (all_true own parts.1)
+
+  -- ---- one constraint of the base
+
+  answered_holds : (own : List Constraint) (base : Constraint) → IsTrue (constraint_answered own base) → IsTrue (list_all passes own)
+      → IsTrue (holds base)
+  answered_holds own base answer each = go (expression_of base) refl answer
+    where
+      go : (o : Option Expression) → expression_of base ≡ o
+          → IsTrue (option_map_or (entails (held_expressions own)) o (list_any (λ c. repeats c base) own))
+          → IsTrue (holds base)
+      go None is some = repeated_holds own base some each
+      go (Some e) is entailed =
+          (λ i. option_map_or (λ e. is_true world e x) (is i) (m (unread_constraint base)))
+          ∙ entailed_is world x (held_expressions own) e (all_true own each) entailed
+
   answered_passes : (own : List Constraint) (base : Constraint) → IsTrue (all_hold (constraint_rule own base)) → IsTrue (list_all passes own) → IsTrue (passes base)
   answered_passes own base rule each = go (must_hold base) rule
     where
-      go : (b : Bool) → IsTrue (all_hold (if b then (list_any (λ c. constraint_answers c base) own, constraint base.key) ∷ [] else []))
+      go : (b : Bool) → IsTrue (all_hold (if b then (constraint_answered own base, constraint base.key) ∷ [] else []))
           → IsTrue (not b || holds base)
       go false rule = refl
-      go true rule = answered_holds own base (and_parts (list_any (λ c. constraint_answers c base) own) true rule).0 each
+      go true rule = answered_holds own base (and_parts (constraint_answered own base) true rule).0 each
 
   -- ---- all constraints of a node
 

@@ -44,7 +44,7 @@ use Rattle.fhir_cert_check.proofs.Answered.{any_with_all, all_map, all_append, a
 use Rattle.fhir_cert_check.proofs.Within.{given_all}
 use Rattle.fhir_cert_check.proofs.Sliced.{same_text, CountsHold, BelongAlike, ChildrenKeep, named_step}
 use Rattle.fhir_cert_check.proofs.Typed.{CoversOn, TargetsHold, ProfilesKeep, types_step}
-use Rattle.fhir_cert_check.proofs.Constrained.{constraints_step}
+use Rattle.fhir_cert_check.proofs.Constrained.{EntailedHold, constraints_step}
 
 -- ---- the one of two that is asked
 
@@ -78,6 +78,7 @@ pub record AreNarrow (s : SchemaValue) : Type 0 where
   pub count_is : CountsHold
   pub targets_are : TargetsHold s
   pub covers_on : CoversOn s
+  pub entailed_is : EntailedHold
 
 -- a code that isn't of resources covers itself alone
 abbrev pub CoversAlone : SchemaValue → Type 0
@@ -235,7 +236,7 @@ module _ (s : SchemaValue) (narrow : AreNarrow s) (alone : CoversAlone s) (asks_
 
         constrained_step : (n k : NodeRef) → IsTrue (all_hold (constraint_rules s n k)) → IsTrue (list_all holds (constraint_asks s n))
             → IsTrue (list_all holds (constraint_asks s k))
-        constrained_step n k = constraints_step s m resource x holds (λ n k. refl) n k
+        constrained_step n k = constraints_step s m resource x narrow.entailed_is holds (λ n k. refl) n k
 
         -- the facets, and what follows them
         facets_step : (n k : NodeRef) (after more : List Ask) → IsTrue (all_hold (facet_rules s n k)) → (IsTrue (list_all holds after) → IsTrue (list_all holds more))

@@ -12,3 +12,4 @@ pub mod Spelled
 pub mod Distinct
 pub mod Looking
 pub mod OfNodes
+pub mod Entailed

@@ -1,5 +1,5 @@
 -- The order of pairs, by which a set finds them, answers `Equal` exactly on equal pairs.
-use Rattle.std.proofs.Common.{◌≡◌, ℕ, Bool, true, false, List, [], ◌∷◌, ◌++◌, refl, sym, ap, cond, ◌&&◌, ◌||◌, ◌∙◌, nat_eq, arith, IsTrue}
+use Rattle.std.proofs.Common.{◌≡◌, ℕ, Bool, true, false, List, [], ◌∷◌, ◌++◌, refl, sym, ap, cond, not, ◌&&◌, ◌||◌, ◌∙◌, nat_eq, arith, IsTrue}
 use Rattle.std.specs.List.{list_any}
 use Rattle.std.specs.BTreeMap.{is_at}
 use Rattle.std.specs.Cmp.{both_tied, unsigned_tied}
@@ -52,13 +52,28 @@ pub same_nodes-refl : (p : NodePair) → IsTrue (same_nodes p p)
 same_nodes-refl p =
     and_from (same_node p.derived p.derived) (same_node p.base p.base) (same_node-refl p.derived) (same_node-refl p.base)
 
+-- where a pair is put in, or taken out, the others stay
+pub with_pair : (old new : List NodePair) (p : NodePair) (here : Bool)
+    → ((q : NodePair) → list_any (is_at (cmp-value.it q)) new ≡ cond (is_at (cmp-value.it p) q) here (list_any (is_at (cmp-value.it q)) old))
+    → (q : NodePair) → list_any (same_nodes q) new ≡ cond (same_nodes q p) here (list_any (same_nodes q) old)
+with_pair old new p here updates q =
+    sym (any_at_pair q new) ∙ updates q ∙ (λ j. cond ((is_at_pair p q ∙ same_nodes_back p q) j) here (any_at_pair q old j))
+
+pub put_or : (a b : Bool) → cond a true b ≡ (a || b)
+put_or true b = refl
+put_or false b = refl
+
+pub taken_and : (a b : Bool) → cond a false b ≡ (not a && b)
+taken_and true b = refl
+taken_and false b = refl
+
 -- one pair more in the set, and one more of the list
 pub one_more : (old new ps : List NodePair) (p : NodePair)
     → ((q : NodePair) → list_any (is_at (cmp-value.it q)) new ≡ cond (is_at (cmp-value.it p) q) true (list_any (is_at (cmp-value.it q)) old)) → AreSame old ps
     → AreSame new (ps ++ p ∷ [])
 one_more old new ps p updates same q =
-    sym (any_at_pair q new) ∙ updates q
-    ∙ (λ j. cond ((is_at_pair p q ∙ same_nodes_back p q) j) true ((any_at_pair q old ∙ same q) j))
+    with_pair old new p true updates q
+    ∙ (λ j. cond (same_nodes q p) true (same q j))
     ∙ either (same_nodes q p) (list_any (same_nodes q) ps)
     ∙ sym (list_any-append (same_nodes q) ps (p ∷ []))
   where

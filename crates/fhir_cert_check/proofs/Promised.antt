@@ -1,6 +1,8 @@
 -- What an answer says, and what a right certificate promises of its two profiles.
 use Rattle.std.proofs.Common.{◌≡◌, Bool, Option, Some, None, refl, sym, ap, subst, ◌∙◌, IsTrue}
-use Rattle.std.specs.Prelude.{◌↔◌}
+use Rattle.std.specs.Prelude.{◌↔◌, Result, Ok, Err, IfOk}
+use Rattle.fhir_json.specs.declared.memory.NoMemory.{NoMemory}
+use Rattle.fhir_json.specs.Memory.{Gives}
 use Rattle.std.specs.Option.{option_map, option_and_then}
 use Rattle.std.proofs.lemmas.Bool.{false≢true}
 use Rattle.std.proofs.lemmas.Option.{none-some, same_Some}
@@ -12,12 +14,11 @@ use Rattle.fhir_certificate.specs.declared.pair.Pair.{Pair}
 use Rattle.fhir_certificate.specs.Certificate.{CertificateValue}
 use Rattle.fhir_cert_check.specs.declared.answer.Answer.{Answer}
 use Rattle.fhir_cert_check.specs.declared.answer.Answer.TheVariants.{Yes, No}
-use Rattle.fhir_cert_check.specs.declared.pair_set.PairSet.{PairSet}
 use Rattle.fhir_cert_check.specs.Rules.{has_item_pair}
 use Rattle.fhir_cert_check.specs.Checking.{is_among, roots_of, IsRight, IsCertificate, pairs_of, first_wrong, wrong_with}
 use Rattle.fhir_cert_check.specs.Inclusion.{IncludesItems, Includes}
 use Rattle.fhir_cert_check.specs.Views.{is_yes, wrong_in, rule_name}
-use Rattle.fhir_cert_check.specs.PairSet.{has_in}
+use Rattle.fhir_cert_check.specs.PairSet.{PairLists, has_pair}
 use Rattle.fhir_cert_check.proofs.Certified.{wrong_or_not}
 
 yes_none : (a : Answer) → IsTrue (is_yes a) → wrong_in a ≡ None
@@ -29,12 +30,17 @@ none_yes Yes e = refl
 none_yes (No pair rule) e = absurd (none-some (pair, rule_name rule) (sym e))
 
 -- the set answers as the certificate
-pub same_set : (v : PairSet) (c : CertificateValue) → ((p : Pair) → has_in v p ≡ is_among c p) → has_in v ≡ is_among c
+pub same_set : (v : PairLists) (c : CertificateValue) → ((p : Pair) → has_pair v p ≡ is_among c p) → has_pair v ≡ is_among c
 same_set v c same = λ j p. same p j
 
-pub wrong_as_certificate : (s : SchemaValue) (v : PairSet) (c : CertificateValue) (roots : NodePair) (a : Answer) → ((p : Pair) → has_in v p ≡ is_among c p)
-    → wrong_in a ≡ first_wrong s (has_in v) roots (pairs_of c) → wrong_in a ≡ wrong_with s c roots
-wrong_as_certificate s v c roots a same e = e ∙ ap (λ pairs. first_wrong s pairs roots (pairs_of c)) (same_set v c same)
+-- what holds of each answer that is given holds of the one that is
+pub on_given : {A X : Type 0} (view : A → X) (r : Result A NoMemory) (x : X) (P : A → Type 0) → ((a : A) → view a ≡ x → P a) → Gives view r x → IfOk r P
+on_given view (Ok a) x P f e = f a e
+on_given view (Err e) x P f h = tt
+
+pub given_by_certificate : (s : SchemaValue) (v : PairLists) (c : CertificateValue) (roots : NodePair) (r : Result Answer NoMemory) → ((p : Pair) → has_pair v p ≡ is_among c p)
+    → Gives wrong_in r (first_wrong s (has_pair v) roots (pairs_of c)) → Gives wrong_in r (wrong_with s c roots)
+given_by_certificate s v c roots r same = subst (λ pairs. Gives wrong_in r (first_wrong s pairs roots (pairs_of c))) (same_set v c same)
 
 pub yes_exactly : (s : SchemaValue) (c : CertificateValue) (roots : NodePair) (a : Answer) → roots_of s c ≡ Some roots → wrong_in a ≡ wrong_with s c roots
     → IsTrue (is_yes a) ↔ IsCertificate s c

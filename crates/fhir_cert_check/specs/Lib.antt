@@ -5,5 +5,6 @@ pub mod Facets
 pub mod Asked
 pub mod Checking
 pub mod PairSet
+pub mod Held
 pub mod Views
 pub mod Inclusion

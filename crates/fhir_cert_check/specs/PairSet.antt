@@ -1,17 +1,28 @@
--- The pairs of a certificate as the checker keeps them (used by private contracts alone).
-use Rattle.std.specs.Prelude.{◌≡◌, Bool, List, map, Option}
+-- Sets of pairs, as the checker keeps them.
+use Rattle.std.specs.Prelude.{◌≡◌, Bool, false, List, map, Option}
 use Rattle.std.specs.List.{list_any}
 use Rattle.fhir_certificate.specs.declared.pair.NodePair.{NodePair}
 use Rattle.fhir_certificate.specs.declared.pair.Pair.{Pair}
 use Rattle.fhir_certificate.specs.declared.pair.Pair.TheVariants.{Item, Kids}
 use Rattle.fhir_certificate.specs.Certificate.{CertificateValue}
-use Rattle.fhir_cert_check.specs.declared.pair_set.PairSet.{PairSet}
 use Rattle.fhir_cert_check.specs.Rule.{RuleName}
 use Rattle.fhir_cert_check.specs.Checking.{same_nodes, first_in}
 
-abbrev pub has_in : PairSet → Pair → Bool
-has_in v (Item p) = list_any (same_nodes p) v.items.set.keys
-has_in v (Kids p) = list_any (same_nodes p) v.kids.set.keys
+abbrev pub same_pair : Pair → Pair → Bool
+same_pair (Item p) (Item q) = same_nodes p q
+same_pair (Kids p) (Kids q) = same_nodes p q
+same_pair _ _ = false
+
+-- the pairs of items, and those of children
+pub record PairLists : Type 0 where
+  pub items : List NodePair
+  pub kids : List NodePair
+
+abbrev pub has_pair : PairLists → Pair → Bool
+has_pair v (Item p) = list_any (same_nodes p) v.items
+has_pair v (Kids p) = list_any (same_nodes p) v.kids
+
+-- ---- the pairs of a certificate (used by private contracts alone)
 
 -- the two lists have the same pairs
 abbrev pub AreSame : List NodePair → List NodePair → Type 0
@@ -27,7 +38,7 @@ pub record AreDistinct (set order pairs : List NodePair) : Type 0 where
   pub same : AreSame set pairs
   pub alike : FailAlike order pairs
 
--- the first pair that fails is found in the orders of the set
-pub record OrdersFirsts (v : PairSet) (c : CertificateValue) : Type 0 where
-  pub items : FailAlike v.items.order.items c.items
-  pub kids : FailAlike v.kids.order.items c.kids
+-- the first pair that fails is found in these lists
+pub record OrdersFirsts (items kids : List NodePair) (c : CertificateValue) : Type 0 where
+  pub items_alike : FailAlike items c.items
+  pub kids_alike : FailAlike kids c.kids

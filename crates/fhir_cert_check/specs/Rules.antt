@@ -2,7 +2,7 @@
 -- item which conforms to its derived node conforms to its base node, and a pair of children the same of an item's
 -- children; no item occurs in the rules.
 use Rattle.std.specs.Prelude.{List, [], ◌∷◌, ◌++◌, map, Bool, true, false, not, ◌&&◌, ◌||◌, Option, None, Some, is_none, if◌then◌else◌}
-use Rattle.std.specs.Option.{option_map_or}
+use Rattle.std.specs.Option.{option_map_or, option_to_list}
 use Rattle.std.specs.List.{list_all, list_any, flat_map}
 use Rattle.std.specs.Str.{bytes_eq}
 use Rattle.fhir_json.specs.Tree.{Text}
@@ -12,6 +12,9 @@ use Rattle.fhir_elements.specs.Element.{Element, required_value_set}
 use Rattle.fhir_elements.specs.Tests.{first_of, all_hold}
 use Rattle.fhir_nodes.specs.declared.node.NodeRef.{NodeRef}
 use Rattle.fhir_nodes.specs.Slots.{Slot}
+use Rattle.fhir_nodes.specs.Expressions.{expression_of}
+use Rattle.fhir_fp_syntax.specs.Expression.{Expression}
+use Rattle.fhir_entail.specs.Entailment.{entails}
 use Rattle.fhir_schema.specs.Schemas.{SchemaValue, element_at, target, entry_of, is_root_node, slots, slot_named, slices, slice_named, is_closed, holder, child_holder, types, type_root, loaded}
 use Rattle.fhir_nodes.specs.Types.{names_resource}
 use Rattle.fhir_schema.specs.Covers.{covers, type_at}
@@ -59,21 +62,32 @@ elements_answer answers s n m = is_answered answers (element_at s n) (element_at
 abbrev pub is_forbidden_at : SchemaValue → NodeRef → Bool
 is_forbidden_at s n = option_map_or is_forbidden (element_at s n) false
 
--- ---- constraints: each of the base's that must hold is answered by one of the derived's that must
+-- ---- constraints: each of the base's that must hold is entailed by the derived's that must
 
--- the same expression; or, where neither has one, the same key
+-- the expressions of those that must hold, as far as they are read
+abbrev pub held_expression : Constraint → List Expression
+held_expression c = if must_hold c then option_to_list (expression_of c) else []
+
+abbrev pub held_expressions : List Constraint → List Expression
+held_expressions own = flat_map held_expression own
+
+-- the same text: of the expression; or, where neither has one, of the key
 abbrev pub says_same : Constraint → Constraint → Bool
 says_same own base =
     option_map_or (λ asked. option_map_or (bytes_eq asked) own.expression false) base.expression
     (is_none own.expression && bytes_eq base.key own.key)
 
-abbrev pub constraint_answers : Constraint → Constraint → Bool
-constraint_answers own base = must_hold own && says_same own base
+abbrev pub repeats : Constraint → Constraint → Bool
+repeats own base = must_hold own && says_same own base
+
+-- An expression that is read is entailed by those of all that must hold. One that isn't stands among them as it is.
+abbrev pub constraint_answered : List Constraint → Constraint → Bool
+constraint_answered own base =
+    option_map_or (entails (held_expressions own)) (expression_of base) (list_any (λ c. repeats c base) own)
 
 -- what the base's constraint asks of the derived element's constraints
 abbrev pub constraint_rule : List Constraint → Constraint → List (Bool × RuleName)
-constraint_rule own base =
-    if must_hold base then (list_any (λ c. constraint_answers c base) own, constraint base.key) ∷ [] else []
+constraint_rule own base = if must_hold base then (constraint_answered own base, constraint base.key) ∷ [] else []
 
 abbrev pub own_constraints : SchemaValue → NodeRef → List Constraint
 own_constraints s n = option_map_or (λ e. e.constraints) (element_at s n) []

@@ -14,79 +14,101 @@ ghost use Rattle.fhir_cert_check.specs.Rules.{failing_rule, is_local};
 ghost use Rattle.fhir_cert_check.specs.Checking.{is_among, roots_of, IsCertificate, pairs_of, first_in, first_wrong, wrong_with, answer_of, SpellsCertificate};
 ghost use Rattle.fhir_cert_check.specs.Inclusion.{IncludesItems, Includes};
 ghost use Rattle.fhir_cert_check.specs.Views.{failing_seen, rule_seen, is_yes, wrong_in};
-ghost use Rattle.fhir_cert_check.specs.PairSet.{has_in, OrdersFirsts};
+ghost use Rattle.fhir_cert_check.specs.PairSet.{has_pair, OrdersFirsts};
 
 use crate::answer::Answer;
 use crate::items::item_failing;
 use crate::kids::kids_failing;
 use crate::laws::inclusion;
-use crate::pair_set::PairSet;
+use crate::pair_set::{CertificatePairs, PairSet};
 use crate::rule::Rule;
 use fhir_certificate::{CertFault, Certificate, NodePair, Pair, format_agrees, read};
 use fhir_json::NoMemory;
 use fhir_schema::Schema;
 use std::alloc::Global;
 
-fn failing_rule<'s>(schema: &'s Schema, pairs: &PairSet, pair: Pair) -> Option<Rule<'s>>
-    ensures { rule_seen result ≡ failing_rule (has_in pairs.now) schema.now pair }
+/// The first rule that a pair fails, where the pairs of a set count. The one refusal is want of memory.
+pub fn failing<'s>(
+    alloc: Global,
+    schema: &'s Schema,
+    pairs: &PairSet,
+    pair: Pair,
+) -> Result<Option<Rule<'s>>, NoMemory>
+    ensures { Gives rule_seen result (failing_rule (has_pair pairs.now) schema.now pair) }
 {
     match pair {
-        Pair::Item(nodes) => item_failing(schema, pairs, nodes.derived, nodes.base),
-        Pair::Kids(nodes) => kids_failing(schema, pairs, nodes.derived, nodes.base),
+        Pair::Item(nodes) => item_failing(alloc, schema, pairs, nodes.derived, nodes.base),
+        Pair::Kids(nodes) => Ok(kids_failing(schema, pairs, nodes.derived, nodes.base)),
     }
 }
 
 // A pair that fails a rule, with that rule.
-type Wrong<'s> = Option<(Pair, Rule<'s>)>;
+type Wrong<'s> = Result<Option<(Pair, Rule<'s>)>, NoMemory>;
 
-fn first_item<'s>(schema: &'s Schema, pairs: &PairSet, nodes: &[NodePair]) -> Wrong<'s>
-    ensures { failing_seen result ≡ first_in (failing_rule (has_in pairs.now) schema.now) (map variants.Item nodes.now) }
+fn first_item<'s>(
+    alloc: Global,
+    schema: &'s Schema,
+    pairs: &PairSet,
+    nodes: &[NodePair],
+) -> Wrong<'s>
+    ensures { Gives failing_seen result (first_in (failing_rule (has_pair pairs.now) schema.now) (map variants.Item nodes.now)) }
 {
     for pair in nodes {
-        if let Some(rule) = failing_rule(schema, pairs, Pair::Item(*pair)) {
-            return Some((Pair::Item(*pair), rule));
+        if let Some(rule) = failing(alloc, schema, pairs, Pair::Item(*pair))? {
+            return Ok(Some((Pair::Item(*pair), rule)));
         }
     }
-    None
+    Ok(None)
 }
 
-fn first_kids<'s>(schema: &'s Schema, pairs: &PairSet, nodes: &[NodePair]) -> Wrong<'s>
-    ensures { failing_seen result ≡ first_in (failing_rule (has_in pairs.now) schema.now) (map variants.Kids nodes.now) }
+fn first_kids<'s>(
+    alloc: Global,
+    schema: &'s Schema,
+    pairs: &PairSet,
+    nodes: &[NodePair],
+) -> Wrong<'s>
+    ensures { Gives failing_seen result (first_in (failing_rule (has_pair pairs.now) schema.now) (map variants.Kids nodes.now)) }
 {
     for pair in nodes {
-        if let Some(rule) = failing_rule(schema, pairs, Pair::Kids(*pair)) {
-            return Some((Pair::Kids(*pair), rule));
+        if let Some(rule) = failing(alloc, schema, pairs, Pair::Kids(*pair))? {
+            return Ok(Some((Pair::Kids(*pair), rule)));
         }
     }
-    None
+    Ok(None)
 }
 
 // The first pair that fails a rule: each is judged once, however often it stands in the certificate.
-fn first_wrong<'s>(schema: &'s Schema, pairs: &PairSet, certificate: &Certificate) -> Wrong<'s>
-    requires { OrdersFirsts pairs.now certificate.now }
-    ensures { failing_seen result ≡ first_in (failing_rule (has_in pairs.now) schema.now) (pairs_of certificate.now) }
+fn first_wrong<'s>(
+    alloc: Global,
+    schema: &'s Schema,
+    pairs: &CertificatePairs,
+    certificate: &Certificate,
+) -> Wrong<'s>
+    requires { OrdersFirsts pairs.now.items.items pairs.now.kids.items certificate.now }
+    ensures { Gives failing_seen result (first_in (failing_rule (has_pair pairs.now.set) schema.now) (pairs_of certificate.now)) }
 {
-    match first_item(schema, pairs, pairs.items()) {
-        Some(wrong) => Some(wrong),
-        None => first_kids(schema, pairs, pairs.kids()),
+    match first_item(alloc, schema, &pairs.set, &pairs.items)? {
+        Some(wrong) => Ok(Some(wrong)),
+        None => first_kids(alloc, schema, &pairs.set, &pairs.kids),
     }
 }
 
 fn judge<'s>(
+    alloc: Global,
     schema: &'s Schema,
-    pairs: &PairSet,
+    pairs: &CertificatePairs,
     roots: NodePair,
     certificate: &Certificate,
-) -> Answer<'s>
-    requires { OrdersFirsts pairs.now certificate.now }
-    ensures { wrong_in result ≡ first_wrong schema.now (has_in pairs.now) roots (pairs_of certificate.now) }
+) -> Result<Answer<'s>, NoMemory>
+    requires { OrdersFirsts pairs.now.items.items pairs.now.kids.items certificate.now }
+    ensures { Gives wrong_in result (first_wrong schema.now (has_pair pairs.now.set) roots (pairs_of certificate.now)) }
 {
-    if !pairs.has(Pair::Item(roots)) {
-        return Answer::No(Pair::Item(roots), Rule::Root);
+    if !pairs.set.has(Pair::Item(roots)) {
+        return Ok(Answer::No(Pair::Item(roots), Rule::Root));
     }
-    match first_wrong(schema, pairs, certificate) {
-        Some((pair, rule)) => Answer::No(pair, rule),
-        None => Answer::Yes,
+    match first_wrong(alloc, schema, pairs, certificate)? {
+        Some((pair, rule)) => Ok(Answer::No(pair, rule)),
+        None => Ok(Answer::Yes),
     }
 }
 
@@ -117,11 +139,11 @@ pub fn check<'s>(
         → IncludesItems schema.now n m) }
 {
     inclusion();
-    let pairs = PairSet::of(alloc, certificate)?;
+    let pairs = CertificatePairs::of(alloc, certificate)?;
     let Some(roots) = roots_of(schema, certificate) else {
         unreachable!()
     };
-    Ok(judge(schema, &pairs, roots, certificate))
+    judge(alloc, schema, &pairs, roots, certificate)
 }
 
 /// The first rule that a pair fails, where the certificate's pairs count. The one refusal is want of memory.
@@ -135,8 +157,8 @@ pub fn first_failing<'s>(
     ensures right { IfOk result (λ rule. (rule_seen rule ≡ None)
         ↔ IsTrue (is_local (is_among certificate.now) schema.now pair)) }
 {
-    let pairs = PairSet::of(alloc, certificate)?;
-    Ok(failing_rule(schema, &pairs, pair))
+    let pairs = CertificatePairs::of(alloc, certificate)?;
+    failing(alloc, schema, &pairs.set, pair)
 }
 
 /// Whether bytes are a right certificate, or else its first pair that fails a rule, with that rule. The refusals are

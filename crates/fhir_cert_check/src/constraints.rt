@@ -1,100 +1,29 @@
 //! The rule on constraints, of a pair of items.
 
-ghost use Rattle.std.specs.Prelude.{◌≡◌, ◌++◌, [], false, option_map};
-ghost use Rattle.std.specs.List.{list_any, flat_map, slice_get};
+ghost use Rattle.std.specs.Prelude.{◌≡◌, ◌++◌, [], ◌||◌, not, false, List, None, IfOk, option_map};
+ghost use Rattle.std.specs.Bool.{OnTrue};
+ghost use Rattle.std.specs.List.{flat_map, slice_get};
 ghost use Rattle.std.specs.Option.{option_map_or};
 ghost use Rattle.std.specs.Str.{bytes_eq};
+ghost use Rattle.fhir_json.specs.Memory.{Gives};
 ghost use Rattle.fhir_json.specs.Views.{text_seen};
+ghost use Rattle.fhir_elements.specs.Constraint.{Constraint, must_hold};
 ghost use Rattle.fhir_elements.specs.Tests.{first_of};
+ghost use Rattle.fhir_nodes.specs.Expressions.{expression_of};
+ghost use Rattle.fhir_fp_syntax.specs.Expression.{expression_of as tree_of};
 ghost use Rattle.fhir_schema.specs.Schemas.{target};
-ghost use Rattle.fhir_cert_check.specs.Rules.{says_same, constraint_answers, constraint_rule, own_constraints, constraints_at, constraint_rules};
+ghost use Rattle.fhir_cert_check.specs.Held.{Holds, rule_by};
+ghost use Rattle.fhir_cert_check.specs.Rules.{says_same, repeats, constraint_rule, own_constraints, constraints_at, constraint_rules};
 ghost use Rattle.fhir_cert_check.specs.Views.{rule_name};
 
+use crate::held::Held;
 use crate::rule::Rule;
 use fhir_elements::ConstraintDef;
+use fhir_entail::{listed_is_entailed, same_is_equal};
+use fhir_fp_syntax::Expr;
+use fhir_json::NoMemory;
 use fhir_schema::{NodeRef, Schema};
-
-fn is_text(own: Option<&str>, base: &str) -> bool
-    ensures { result ≡ option_map_or (bytes_eq base.now) (text_seen own.entry) false }
-{
-    match own {
-        Some(own) => base == own,
-        None => false,
-    }
-}
-
-fn says_same(own: &ConstraintDef, base: &ConstraintDef) -> bool
-    ensures { result ≡ says_same own.now base.now }
-{
-    match base.expression() {
-        Some(expression) => is_text(own.expression(), expression),
-        None => own.expression().is_none() && base.key() == own.key(),
-    }
-}
-
-fn constraint_answers(own: &ConstraintDef, base: &ConstraintDef) -> bool
-    ensures { result ≡ constraint_answers own.now base.now }
-{
-    own.must_hold() && says_same(own, base)
-}
-
-fn answers_at(own: &[ConstraintDef], position: usize, base: &ConstraintDef) -> bool
-    ensures { result ≡ option_map_or (λ c. constraint_answers c base.now) (slice_get own.now position) false }
-{
-    match own.get(position) {
-        Some(own) => constraint_answers(own, base),
-        None => false,
-    }
-}
-
-fn answers_anywhere(own: &[ConstraintDef], base: &ConstraintDef) -> bool
-    ensures { result ≡ list_any (λ c. constraint_answers c base.now) own.now }
-{
-    own.iter().any(|own| constraint_answers(own, base))
-}
-
-// Constraints are mostly inherited in their order, and so the one at the same position is tried first.
-fn is_answered_by(own: &[ConstraintDef], position: usize, base: &ConstraintDef) -> bool
-    ensures { result ≡ list_any (λ c. constraint_answers c base.now) own.now }
-{
-    answers_at(own, position, base) || answers_anywhere(own, base)
-}
-
-// The constraints of a node: its own, and those of the node that it refers to for its content.
-#[derive(Clone, Copy)]
-struct Constraints<'s> {
-    own: &'s [ConstraintDef],
-    taken_over: &'s [ConstraintDef],
-}
-
-fn is_answered(by: Constraints<'_>, position: usize, base: &ConstraintDef) -> bool
-    ensures { result ≡ list_any (λ c. constraint_answers c base.now) (by.entry.own.now ++ by.entry.taken_over.now) }
-{
-    is_answered_by(by.own, position, base) || is_answered_by(by.taken_over, position, base)
-}
-
-fn failing_at<'s>(by: Constraints<'_>, position: usize, base: &'s ConstraintDef) -> Option<Rule<'s>>
-    ensures { option_map rule_name result ≡ first_of (constraint_rule (by.entry.own.now ++ by.entry.taken_over.now) base.now) }
-{
-    if !base.must_hold() || is_answered(by, position, base) {
-        None
-    } else {
-        Some(Rule::Constraint(base.key()))
-    }
-}
-
-fn failing_among<'s>(by: Constraints<'_>, bases: &'s [ConstraintDef]) -> Option<Rule<'s>>
-    ensures { option_map rule_name result
-        ≡ first_of (flat_map (constraint_rule (by.entry.own.now ++ by.entry.taken_over.now)) bases.now) }
-{
-    for (position, base) in bases.iter().enumerate() {
-        let rule = failing_at(by, position, base);
-        if rule.is_some() {
-            return rule;
-        }
-    }
-    None
-}
+use std::alloc::Global;
 
 fn own_constraints(schema: &Schema, node: NodeRef) -> &[ConstraintDef]
     ensures { result.now ≡ own_constraints schema.now node }
@@ -114,25 +43,154 @@ fn taken_over(schema: &Schema, node: NodeRef) -> &[ConstraintDef]
     }
 }
 
-fn constraints_at(schema: &Schema, node: NodeRef) -> Constraints<'_>
-    ensures { (result.own.now ++ result.taken_over.now) ≡ constraints_at schema.now node }
+// ---- constraints that are inherited as they are
+
+fn is_text(own: Option<&str>, base: &str) -> bool
+    ensures { result ≡ option_map_or (bytes_eq base.now) (text_seen own.entry) false }
 {
-    Constraints {
-        own: own_constraints(schema, node),
-        taken_over: taken_over(schema, node),
+    match own {
+        Some(own) => base == own,
+        None => false,
     }
 }
 
-/// The first constraint of the base node that the derived node fails to answer.
-pub(crate) fn constraint_failing<'s>(schema: &'s Schema, n: NodeRef, m: NodeRef) -> Option<Rule<'s>>
-    ensures { option_map rule_name result ≡ first_of (constraint_rules schema.now n m) }
+fn says_same(own: &ConstraintDef, base: &ConstraintDef) -> bool
+    ensures { result ≡ says_same own.now base.now }
 {
-    let by = constraints_at(schema, n);
-    let bases = constraints_at(schema, m);
-    let rule = failing_among(by, bases.own);
-    if rule.is_some() {
-        rule
-    } else {
-        failing_among(by, bases.taken_over)
+    match base.expression() {
+        Some(expression) => is_text(own.expression(), expression),
+        None => own.expression().is_none() && base.key() == own.key(),
     }
+}
+
+fn repeats(own: &ConstraintDef, base: &ConstraintDef) -> bool
+    ensures { result ≡ repeats own.now base.now }
+{
+    own.must_hold() && says_same(own, base)
+}
+
+fn repeats_at(own: &[ConstraintDef], position: usize, base: &ConstraintDef) -> bool
+    ensures { result ≡ option_map_or (λ c. repeats c base.now) (slice_get own.now position) false }
+{
+    match own.get(position) {
+        Some(own) => repeats(own, base),
+        None => false,
+    }
+}
+
+// Whether one needn't hold, or is repeated at that position.
+fn is_repeated(own: &[ConstraintDef], position: usize, base: &ConstraintDef) -> bool
+    ensures { result ≡ (not (must_hold base.now) || option_map_or (λ c. repeats c base.now) (slice_get own.now position) false) }
+{
+    !base.must_hold() || repeats_at(own, position, base)
+}
+
+// Whether each is so at its own position, as constraints that are inherited mostly are.
+fn are_repeated(own: &[ConstraintDef], bases: &[ConstraintDef]) -> bool
+    ensures { OnTrue result ((before after : List Constraint)
+        → first_of (flat_map (constraint_rule (before ++ own.now ++ after)) bases.now) ≡ None) }
+{
+    listed_is_entailed();
+    same_is_equal();
+    for (position, base) in bases.iter().enumerate() {
+        if !is_repeated(own, position, base) {
+            return false;
+        }
+    }
+    true
+}
+
+// ---- others
+
+fn hold_own<'s>(
+    alloc: Global,
+    schema: &'s Schema,
+    node: NodeRef,
+    held: Held<'s>,
+) -> Result<Held<'s>, NoMemory>
+    ensures { IfOk result (λ more. (own : List Constraint) → Holds held.entry own → Holds more (own ++ own_constraints schema.now node)) }
+{
+    let mut held = held;
+    for (position, constraint) in own_constraints(schema, node).iter().enumerate() {
+        held.put(alloc, constraint, schema.expression(node, position))?;
+    }
+    Ok(held)
+}
+
+fn held_at(alloc: Global, schema: &Schema, node: NodeRef) -> Result<Held<'_>, NoMemory>
+    ensures { IfOk result (λ held. Holds held (constraints_at schema.now node)) }
+{
+    let held = hold_own(alloc, schema, node, Held::new(alloc))?;
+    match schema.target(node) {
+        Some(target) => hold_own(alloc, schema, target, held),
+        None => Ok(held),
+    }
+}
+
+fn failing_by<'s>(
+    held: &Held<'_>,
+    base: &'s ConstraintDef,
+    expression: Option<&Expr>,
+) -> Option<Rule<'s>>
+    requires { option_map (λ e. tree_of e.now) expression ≡ expression_of base.now }
+    ensures { option_map rule_name result ≡ first_of (rule_by held.now base.now) }
+{
+    if !base.must_hold() || held.answers(base, expression) {
+        None
+    } else {
+        Some(Rule::Constraint(base.key()))
+    }
+}
+
+fn unanswered<'s>(schema: &'s Schema, node: NodeRef, held: &Held<'_>) -> Option<Rule<'s>>
+    ensures { option_map rule_name result ≡ first_of (flat_map (rule_by held.now) (own_constraints schema.now node)) }
+{
+    let bases = own_constraints(schema, node);
+    for (position, base) in bases.iter().enumerate() {
+        let rule = failing_by(held, base, schema.expression(node, position));
+        if rule.is_some() {
+            return rule;
+        }
+    }
+    None
+}
+
+fn first_unanswered<'s>(schema: &'s Schema, node: NodeRef, held: &Held<'_>) -> Option<Rule<'s>>
+    ensures { option_map rule_name result ≡ first_of (flat_map (rule_by held.now) (constraints_at schema.now node)) }
+{
+    let rule = unanswered(schema, node, held);
+    if rule.is_some() {
+        return rule;
+    }
+    match schema.target(node) {
+        Some(target) => unanswered(schema, target, held),
+        None => None,
+    }
+}
+
+// Whether each constraint that must hold of the base node is repeated at its place.
+fn inherits(schema: &Schema, n: NodeRef, m: NodeRef) -> bool
+    ensures { OnTrue result (first_of (constraint_rules schema.now n m) ≡ None) }
+{
+    let own = are_repeated(own_constraints(schema, n), own_constraints(schema, m));
+    let over = are_repeated(taken_over(schema, n), taken_over(schema, m));
+    own && over
+}
+
+/// The first constraint of the base node that must hold and that those of the derived node don't entail. The one refusal is want of memory.
+pub(crate) fn constraint_failing<'s>(
+    alloc: Global,
+    schema: &'s Schema,
+    n: NodeRef,
+    m: NodeRef,
+) -> Result<Option<Rule<'s>>, NoMemory>
+    ensures { Gives (option_map rule_name) result (first_of (constraint_rules schema.now n m)) }
+{
+    listed_is_entailed();
+    same_is_equal();
+    if inherits(schema, n, m) {
+        return Ok(None);
+    }
+    let held = held_at(alloc, schema, n)?;
+    Ok(first_unanswered(schema, m, &held))
 }

@@ -3,6 +3,7 @@
 ghost use Rattle.std.specs.Prelude.{◌≡◌, ◌&&◌, false, map, option_map, string_bytes};
 ghost use Rattle.std.specs.List.{list_all, list_any};
 ghost use Rattle.std.specs.Option.{option_map_or};
+ghost use Rattle.fhir_json.specs.Memory.{Gives};
 ghost use Rattle.fhir_elements.specs.Tests.{first_of};
 ghost use Rattle.fhir_schema.specs.Covers.{covers};
 ghost use Rattle.fhir_schema.specs.Schemas.{loaded};
@@ -15,7 +16,7 @@ ghost use Rattle.fhir_cert_check.specs.Rules.{has_kids_pair, code_children_answe
 ghost use Rattle.fhir_cert_check.specs.Rules.{is_answered, fixed_answers, pattern_answers, range_answers, length_answers, binding_answers};
 ghost use Rattle.fhir_cert_check.specs.Facets.{element_rules, facet_rules};
 ghost use Rattle.fhir_cert_check.specs.Views.{rule_name};
-ghost use Rattle.fhir_cert_check.specs.PairSet.{has_in};
+ghost use Rattle.fhir_cert_check.specs.PairSet.{has_pair};
 
 use crate::constraints::constraint_failing;
 use crate::pair_set::PairSet;
@@ -23,7 +24,9 @@ use crate::rule::Rule;
 use fhir_certificate::{NodePair, Pair};
 use fhir_elements::{ElementDef, TypeEntry};
 use fhir_facets::{Binding, Facet, Fixed, Length, Pattern, Range, Targets, fixed_fits};
+use fhir_json::NoMemory;
 use fhir_schema::{NodeRef, Schema};
+use std::alloc::Global;
 
 fn targets_answer(schema: &Schema, entry: &TypeEntry, base: &TypeEntry) -> bool
     ensures { result ≡ targets_narrower schema.now entry.now base.now }
@@ -36,7 +39,7 @@ fn targets_answer(schema: &Schema, entry: &TypeEntry, base: &TypeEntry) -> bool
 }
 
 fn are_paired(schema: &Schema, pairs: &PairSet, own: &str, base: &str) -> bool
-    ensures { result ≡ option_map_or (λ n. option_map_or (has_item_pair (has_in pairs.now) n) (loaded schema.now base.now) false)
+    ensures { result ≡ option_map_or (λ n. option_map_or (has_item_pair (has_pair pairs.now) n) (loaded schema.now base.now) false)
         (loaded schema.now own.now) false }
 {
     match (schema.loaded(own), schema.loaded(base)) {
@@ -46,13 +49,13 @@ fn are_paired(schema: &Schema, pairs: &PairSet, own: &str, base: &str) -> bool
 }
 
 fn profile_answers(schema: &Schema, pairs: &PairSet, own: &str, base: &str) -> bool
-    ensures { result ≡ profile_answers (has_in pairs.now) schema.now own.now base.now }
+    ensures { result ≡ profile_answers (has_pair pairs.now) schema.now own.now base.now }
 {
     own == base || are_paired(schema, pairs, own, base)
 }
 
 fn answers_one_profile(schema: &Schema, pairs: &PairSet, own: &str, bases: &[String]) -> bool
-    ensures { result ≡ list_any (λ base. profile_answers (has_in pairs.now) schema.now own.now base)
+    ensures { result ≡ list_any (λ base. profile_answers (has_pair pairs.now) schema.now own.now base)
         (map string_bytes bases.now) }
 {
     for base in bases {
@@ -64,7 +67,7 @@ fn answers_one_profile(schema: &Schema, pairs: &PairSet, own: &str, bases: &[Str
 }
 
 fn each_profile_answers(schema: &Schema, pairs: &PairSet, owns: &[String], bases: &[String]) -> bool
-    ensures { result ≡ each_answers (profile_answers (has_in pairs.now) schema.now) (map string_bytes owns.now)
+    ensures { result ≡ each_answers (profile_answers (has_pair pairs.now) schema.now) (map string_bytes owns.now)
         (map string_bytes bases.now) }
 {
     for own in owns {
@@ -76,7 +79,7 @@ fn each_profile_answers(schema: &Schema, pairs: &PairSet, owns: &[String], bases
 }
 
 fn profiles_answer(schema: &Schema, pairs: &PairSet, own: &[String], bases: &[String]) -> bool
-    ensures { result ≡ profiles_answer (has_in pairs.now) schema.now (map string_bytes own.now) (map string_bytes bases.now) }
+    ensures { result ≡ profiles_answer (has_pair pairs.now) schema.now (map string_bytes own.now) (map string_bytes bases.now) }
 {
     bases.is_empty() || (!own.is_empty() && each_profile_answers(schema, pairs, own, bases))
 }
@@ -89,14 +92,14 @@ pub(crate) fn code_answers(schema: &Schema, entry: &TypeEntry, base: &TypeEntry)
 }
 
 fn entry_answers(schema: &Schema, pairs: &PairSet, entry: &TypeEntry, base: &TypeEntry) -> bool
-    ensures { result ≡ entry_answers (has_in pairs.now) schema.now entry.now base.now }
+    ensures { result ≡ entry_answers (has_pair pairs.now) schema.now entry.now base.now }
 {
     code_answers(schema, entry, base)
         && profiles_answer(schema, pairs, entry.profiles(), base.profiles())
 }
 
 fn answers_one(schema: &Schema, pairs: &PairSet, entry: &TypeEntry, bases: &[TypeEntry]) -> bool
-    ensures { result ≡ list_any (λ base. entry_answers (has_in pairs.now) schema.now entry.now base) bases.now }
+    ensures { result ≡ list_any (λ base. entry_answers (has_pair pairs.now) schema.now entry.now base) bases.now }
 {
     bases
         .iter()
@@ -104,7 +107,7 @@ fn answers_one(schema: &Schema, pairs: &PairSet, entry: &TypeEntry, bases: &[Typ
 }
 
 fn each_answers(schema: &Schema, pairs: &PairSet, owns: &[TypeEntry], bases: &[TypeEntry]) -> bool
-    ensures { result ≡ each_answers (entry_answers (has_in pairs.now) schema.now) owns.now bases.now }
+    ensures { result ≡ each_answers (entry_answers (has_pair pairs.now) schema.now) owns.now bases.now }
 {
     owns.iter()
         .all(|entry| answers_one(schema, pairs, entry, bases))
@@ -117,7 +120,7 @@ fn is_untyped(schema: &Schema, node: NodeRef) -> bool
 }
 
 fn types_answer(schema: &Schema, pairs: &PairSet, n: NodeRef, m: NodeRef) -> bool
-    ensures { result ≡ types_answer (has_in pairs.now) schema.now n m }
+    ensures { result ≡ types_answer (has_pair pairs.now) schema.now n m }
 {
     is_untyped(schema, m)
         || (!is_untyped(schema, n) && each_answers(schema, pairs, schema.types(n), schema.types(m)))
@@ -130,7 +133,7 @@ fn roots_answer(schema: &Schema, n: NodeRef, m: NodeRef) -> bool
 }
 
 fn type_answers(schema: &Schema, pairs: &PairSet, n: NodeRef, m: NodeRef) -> bool
-    ensures { result ≡ type_answers (has_in pairs.now) schema.now n m }
+    ensures { result ≡ type_answers (has_pair pairs.now) schema.now n m }
 {
     if schema.is_root(n) {
         roots_answer(schema, n, m)
@@ -234,7 +237,7 @@ fn facet_failing<'s>(schema: &Schema, n: NodeRef, m: NodeRef) -> Option<Rule<'s>
 }
 
 fn has_kids_pair(pairs: &PairSet, derived: Option<NodeRef>, base: NodeRef) -> bool
-    ensures { result ≡ option_map_or (λ derived. has_kids_pair (has_in pairs.now) derived base) derived false }
+    ensures { result ≡ option_map_or (λ derived. has_kids_pair (has_pair pairs.now) derived base) derived false }
 {
     match derived {
         Some(derived) => pairs.has(Pair::Kids(NodePair { derived, base })),
@@ -243,14 +246,14 @@ fn has_kids_pair(pairs: &PairSet, derived: Option<NodeRef>, base: NodeRef) -> bo
 }
 
 fn code_children_answer(schema: &Schema, pairs: &PairSet, base: NodeRef, entry: &TypeEntry) -> bool
-    ensures { result ≡ code_children_answer (has_in pairs.now) schema.now base entry.now }
+    ensures { result ≡ code_children_answer (has_pair pairs.now) schema.now base entry.now }
 {
     !schema.is_resource(entry.code()) && has_kids_pair(pairs, schema.type_root(entry.code()), base)
 }
 
 fn have_kids_pairs(schema: &Schema, pairs: &PairSet, base: NodeRef, profiles: &[String]) -> bool
     ensures { result ≡ list_all
-        (λ p. option_map_or (λ root. has_kids_pair (has_in pairs.now) root base) (loaded schema.now p) false)
+        (λ p. option_map_or (λ root. has_kids_pair (has_pair pairs.now) root base) (loaded schema.now p) false)
         (map string_bytes profiles.now) }
 {
     for profile in profiles {
@@ -267,33 +270,33 @@ fn profiles_children_answer(
     base: NodeRef,
     entry: &TypeEntry,
 ) -> bool
-    ensures { result ≡ profiles_children_answer (has_in pairs.now) schema.now base entry.now }
+    ensures { result ≡ profiles_children_answer (has_pair pairs.now) schema.now base entry.now }
 {
     !entry.profiles().is_empty() && have_kids_pairs(schema, pairs, base, entry.profiles())
 }
 
 fn entry_children_answer(schema: &Schema, pairs: &PairSet, base: NodeRef, entry: &TypeEntry) -> bool
-    ensures { result ≡ entry_children_answer (has_in pairs.now) schema.now base entry.now }
+    ensures { result ≡ entry_children_answer (has_pair pairs.now) schema.now base entry.now }
 {
     profiles_children_answer(schema, pairs, base, entry)
         || code_children_answer(schema, pairs, base, entry)
 }
 
 fn entries_answer(schema: &Schema, pairs: &PairSet, base: NodeRef, owns: &[TypeEntry]) -> bool
-    ensures { result ≡ list_all (entry_children_answer (has_in pairs.now) schema.now base) owns.now }
+    ensures { result ≡ list_all (entry_children_answer (has_pair pairs.now) schema.now base) owns.now }
 {
     owns.iter()
         .all(|entry| entry_children_answer(schema, pairs, base, entry))
 }
 
 fn type_children_answer(schema: &Schema, pairs: &PairSet, n: NodeRef, base: NodeRef) -> bool
-    ensures { result ≡ type_children_answer (has_in pairs.now) schema.now n base }
+    ensures { result ≡ type_children_answer (has_pair pairs.now) schema.now n base }
 {
     !is_untyped(schema, n) && entries_answer(schema, pairs, base, schema.types(n))
 }
 
 fn children_answer(schema: &Schema, pairs: &PairSet, n: NodeRef, m: NodeRef) -> bool
-    ensures { result ≡ children_answer (has_in pairs.now) schema.now n m }
+    ensures { result ≡ children_answer (has_pair pairs.now) schema.now n m }
 {
     match schema.child_holder(m) {
         Some(base) => {
@@ -306,24 +309,25 @@ fn children_answer(schema: &Schema, pairs: &PairSet, n: NodeRef, m: NodeRef) -> 
 
 /// The first rule that a pair of items fails.
 pub(crate) fn item_failing<'s>(
+    alloc: Global,
     schema: &'s Schema,
     pairs: &PairSet,
     n: NodeRef,
     m: NodeRef,
-) -> Option<Rule<'s>>
-    ensures { option_map rule_name result ≡ first_of (item_rules (has_in pairs.now) schema.now n m) }
+) -> Result<Option<Rule<'s>>, NoMemory>
+    ensures { Gives (option_map rule_name) result (first_of (item_rules (has_pair pairs.now) schema.now n m)) }
 {
     if !type_answers(schema, pairs, n, m) {
-        return Some(Rule::TypeCode);
+        return Ok(Some(Rule::TypeCode));
     }
     if let Some(rule) = facet_failing(schema, n, m) {
-        return Some(rule);
+        return Ok(Some(rule));
     }
-    if let Some(rule) = constraint_failing(schema, n, m) {
-        return Some(rule);
+    if let Some(rule) = constraint_failing(alloc, schema, n, m)? {
+        return Ok(Some(rule));
     }
     if !children_answer(schema, pairs, n, m) {
-        return Some(Rule::Children);
+        return Ok(Some(Rule::Children));
     }
-    None
+    Ok(None)
 }

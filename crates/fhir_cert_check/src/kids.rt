@@ -6,7 +6,7 @@ ghost use Rattle.std.specs.List.{flat_map};
 ghost use Rattle.fhir_elements.specs.Tests.{first_of};
 ghost use Rattle.fhir_cert_check.specs.Rules.{own_slot_rules, slot_rules, kids_rules};
 ghost use Rattle.fhir_cert_check.specs.Views.{rule_name};
-ghost use Rattle.fhir_cert_check.specs.PairSet.{has_in};
+ghost use Rattle.fhir_cert_check.specs.PairSet.{has_pair};
 
 use crate::nodes::{cardinality_answers, entry_of};
 use crate::pair_set::PairSet;
@@ -23,7 +23,7 @@ fn own_slot_failing<'s>(
     own: &Slot,
 ) -> Option<Rule<'s>>
     ensures { option_map rule_name result ≡ first_of
-        (own_slot_rules (has_in pairs.now) schema.now n m slot.now (Some own.now)) }
+        (own_slot_rules (has_pair pairs.now) schema.now n m slot.now (Some own.now)) }
 {
     let derived = entry_of(n, own);
     let base = entry_of(m, slot);
@@ -40,7 +40,7 @@ fn slot_failing<'s>(
     m: NodeRef,
     slot: &'s Slot,
 ) -> Option<Rule<'s>>
-    ensures { option_map rule_name result ≡ first_of (slot_rules (has_in pairs.now) schema.now n m slot.now) }
+    ensures { option_map rule_name result ≡ first_of (slot_rules (has_pair pairs.now) schema.now n m slot.now) }
 {
     match schema.slot(n, slot.name()) {
         Some(own) => own_slot_failing(schema, pairs, n, m, slot, own),
@@ -55,7 +55,7 @@ pub(crate) fn kids_failing<'s>(
     n: NodeRef,
     m: NodeRef,
 ) -> Option<Rule<'s>>
-    ensures { option_map rule_name result ≡ first_of (kids_rules (has_in pairs.now) schema.now n m) }
+    ensures { option_map rule_name result ≡ first_of (kids_rules (has_pair pairs.now) schema.now n m) }
 {
     for slot in schema.slots(m) {
         let rule = slot_failing(schema, pairs, n, m, slot);

@@ -13,6 +13,7 @@ ghost use Rattle.fhir_cert_check.specs.Asked.{asked_for, is_of_nodes};
 ghost use Rattle.fhir_cert_check.specs.Inclusion.{IncludesItems, Includes};
 
 use fhir_conformance::roots_ask_no_root;
+use fhir_entail::entailed_is_true;
 use fhir_facets::narrower_holds;
 use fhir_schema::{covering_codes, least_closed, roots_are_roots};
 use fhir_slicing::equal_criteria;
@@ -24,6 +25,7 @@ pub fn inclusion()
         → (n m : NodeRef) → IsTrue (has_item_pair pairs n m) → IncludesItems s n m }
 {
     covering_codes();
+    entailed_is_true();
     narrower_holds();
     roots_are_roots();
     roots_ask_no_root();

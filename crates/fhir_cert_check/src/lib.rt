@@ -20,6 +20,7 @@ mod answer;
 mod asked;
 mod checking;
 mod constraints;
+mod held;
 mod items;
 mod kids;
 mod laws;
@@ -30,6 +31,7 @@ mod slices;
 
 pub use answer::Answer;
 pub use asked::asked_for;
-pub use checking::{check, check_bytes, first_failing};
+pub use checking::{check, check_bytes, failing, first_failing};
 pub use laws::{asked_are_nodes, certificates_include, inclusion, more_pairs, rules_look_at_asked};
+pub use pair_set::{PairSet, same_pairs};
 pub use rule::Rule;

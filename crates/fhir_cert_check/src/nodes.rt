@@ -5,7 +5,7 @@ ghost use Rattle.std.specs.Option.{option_copied};
 ghost use Rattle.fhir_schema.specs.Schemas.{entry_of};
 ghost use Rattle.fhir_facets.specs.Cardinality.{cardinality_narrower};
 ghost use Rattle.fhir_cert_check.specs.Rules.{elements_answer, is_forbidden_at, has_item_pair};
-ghost use Rattle.fhir_cert_check.specs.PairSet.{has_in};
+ghost use Rattle.fhir_cert_check.specs.PairSet.{has_pair};
 
 use crate::pair_set::PairSet;
 use fhir_certificate::{NodePair, Pair};
@@ -35,7 +35,7 @@ pub(crate) fn is_forbidden_at(schema: &Schema, node: NodeRef) -> bool
 
 /// Whether the pair of items of two nodes is there.
 pub(crate) fn has_item_pair(pairs: &PairSet, derived: NodeRef, base: NodeRef) -> bool
-    ensures { result ≡ has_item_pair (has_in pairs.now) derived base }
+    ensures { result ≡ has_item_pair (has_pair pairs.now) derived base }
 {
     pairs.has(Pair::Item(NodePair { derived, base }))
 }

@@ -1,35 +1,108 @@
-//! The pairs of a certificate, found fast, and each once.
+//! Sets of pairs, found fast.
 
-ghost use Rattle.std.specs.Prelude.{◌≡◌, ◌∷◌, ◌++◌, [], List, IfOk, OnOk};
+ghost use Rattle.std.specs.Prelude.{◌≡◌, ◌∷◌, ◌++◌, [], ◌&&◌, ◌||◌, ◌↔◌, not, false, List, IfOk, OnOk, IsTrue};
 ghost use Rattle.std.specs.List.{list_any};
 ghost use Rattle.fhir_certificate.specs.declared.pair.NodePair.{NodePair};
 ghost use Rattle.fhir_certificate.specs.declared.pair.Pair.{Pair};
 ghost use Rattle.fhir_cert_check.specs.Checking.{same_nodes, is_among};
-ghost use Rattle.fhir_cert_check.specs.PairSet.{has_in, AreDistinct, OrdersFirsts};
+ghost use Rattle.fhir_cert_check.specs.PairSet.{has_pair, same_pair, AreDistinct, OrdersFirsts};
 
 use fhir_certificate::{Certificate, NodePair, Pair};
+use fhir_json::NoMemory;
 use std::alloc::{AllocError, Global};
 use std::collections::BTreeSet;
+use std::marker::Model;
 
-/// Pairs, each once: a tree that finds each in logarithmic time, whatever the pairs are, and the order in which they
-/// first stand.
+/// Pairs, kept in trees that find each in logarithmic time, whatever the pairs are.
 #[derive(Drop)]
-pub(crate) struct DistinctPairs {
-    set: BTreeSet<NodePair>,
-    order: Vec<NodePair>,
+pub struct PairSet {
+    items: BTreeSet<NodePair>,
+    kids: BTreeSet<NodePair>,
 }
 
-/// The pairs of a certificate.
-#[derive(Drop)]
-pub(crate) struct PairSet {
-    items: DistinctPairs,
-    kids: DistinctPairs,
+impl Model for PairSet {
+    ghost use Rattle.fhir_cert_check.specs.PairSet.{PairLists};
+
+    ghost Value = { PairLists };
+
+    ghost view = { λ s. record { items = s.items.keys; kids = s.kids.keys } };
 }
 
 fn has(set: &BTreeSet<NodePair>, pair: NodePair) -> bool
     ensures { result ≡ list_any (same_nodes pair) set.now.keys }
 {
     set.contains(&pair)
+}
+
+fn insert(set: &mut BTreeSet<NodePair>, pair: NodePair) -> Result<bool, NoMemory>
+    ensures new { IfOk result (λ is_new. is_new ≡ not (list_any (same_nodes pair) set.old.keys)) }
+    ensures pairs { OnOk result ((p : NodePair) → list_any (same_nodes p) set.new.keys
+        ≡ (same_nodes p pair || list_any (same_nodes p) set.old.keys)) }
+{
+    Ok(set.insert(pair)?)
+}
+
+fn remove(set: &mut BTreeSet<NodePair>, pair: NodePair)
+    ensures { (p : NodePair) → list_any (same_nodes p) set.new.keys ≡ (not (same_nodes p pair) && list_any (same_nodes p) set.old.keys) }
+{
+    let _removed = set.remove(&pair);
+}
+
+impl PairSet {
+    /// No pairs, which takes no memory.
+    pub fn new(alloc: Global) -> PairSet
+        ensures { (p : Pair) → has_pair result p ≡ false }
+    {
+        PairSet {
+            items: BTreeSet::new(alloc),
+            kids: BTreeSet::new(alloc),
+        }
+    }
+
+    /// Whether it has a pair.
+    pub fn has(&self, pair: Pair) -> bool
+        ensures { result ≡ has_pair self.now pair }
+    {
+        match pair {
+            Pair::Item(pair) => has(&self.items, pair),
+            Pair::Kids(pair) => has(&self.kids, pair),
+        }
+    }
+
+    /// Puts in a pair, and says whether it wasn't there. The one refusal is want of memory.
+    pub fn insert(&mut self, pair: Pair) -> Result<bool, NoMemory>
+        ensures new { IfOk result (λ is_new. is_new ≡ not (has_pair self.old pair)) }
+        ensures pairs { OnOk result ((p : Pair) → has_pair self.new p ≡ (same_pair p pair || has_pair self.old p)) }
+    {
+        match pair {
+            Pair::Item(pair) => insert(&mut self.items, pair),
+            Pair::Kids(pair) => insert(&mut self.kids, pair),
+        }
+    }
+
+    /// Takes out a pair, if it is there. It takes no memory.
+    pub fn remove(&mut self, pair: Pair)
+        ensures { (p : Pair) → has_pair self.new p ≡ (not (same_pair p pair) && has_pair self.old p) }
+    {
+        match pair {
+            Pair::Item(pair) => remove(&mut self.items, pair),
+            Pair::Kids(pair) => remove(&mut self.kids, pair),
+        }
+    }
+}
+
+/// Pairs are told to be the same exactly where they are equal.
+pub fn same_pairs()
+    ensures { (p q : Pair) → IsTrue (same_pair p q) ↔ (p ≡ q) }
+{}
+
+// ---- the pairs of a certificate
+
+// Pairs, each once: those that are known, and the order in which they first stand.
+#[derive(Drop)]
+struct DistinctPairs {
+    set: BTreeSet<NodePair>,
+    order: Vec<NodePair>,
 }
 
 // Puts a pair behind the others, unless it is there.
@@ -58,38 +131,35 @@ fn distinct(alloc: Global, pairs: &[NodePair]) -> Result<DistinctPairs, AllocErr
     Ok(DistinctPairs { set, order })
 }
 
-impl PairSet {
-    /// The pairs of a certificate.
-    pub(crate) fn of(alloc: Global, certificate: &Certificate) -> Result<PairSet, AllocError>
-        ensures same { IfOk result (λ set. (p : Pair) → has_in set p ≡ is_among certificate.now p) }
-        ensures first { IfOk result (λ set. OrdersFirsts set certificate.now) }
+/// The pairs of a certificate: the set of them, and each once in the certificate's order.
+#[derive(Drop)]
+pub(crate) struct CertificatePairs {
+    /// All of them.
+    pub(crate) set: PairSet,
+    /// Those of items.
+    pub(crate) items: Vec<NodePair>,
+    /// Those of children.
+    pub(crate) kids: Vec<NodePair>,
+}
+
+impl CertificatePairs {
+    /// Those of a certificate.
+    pub(crate) fn of(
+        alloc: Global,
+        certificate: &Certificate,
+    ) -> Result<CertificatePairs, AllocError>
+        ensures same { IfOk result (λ c. (p : Pair) → has_pair c.set p ≡ is_among certificate.now p) }
+        ensures first { IfOk result (λ c. OrdersFirsts c.items.items c.kids.items certificate.now) }
     {
         let items = distinct(alloc, &certificate.items)?;
         let kids = distinct(alloc, &certificate.kids)?;
-        Ok(PairSet { items, kids })
-    }
-
-    /// Whether it has a pair.
-    pub(crate) fn has(&self, pair: Pair) -> bool
-        ensures { result ≡ has_in self.now pair }
-    {
-        match pair {
-            Pair::Item(pair) => has(&self.items.set, pair),
-            Pair::Kids(pair) => has(&self.kids.set, pair),
-        }
-    }
-
-    /// The pairs of items, each once, in the certificate's order.
-    pub(crate) fn items(&self) -> &[NodePair]
-        ensures { result.now ≡ self.now.items.order.items }
-    {
-        &self.items.order
-    }
-
-    /// The pairs of children, each once, in the certificate's order.
-    pub(crate) fn kids(&self) -> &[NodePair]
-        ensures { result.now ≡ self.now.kids.order.items }
-    {
-        &self.kids.order
+        Ok(CertificatePairs {
+            set: PairSet {
+                items: items.set,
+                kids: kids.set,
+            },
+            items: items.order,
+            kids: kids.order,
+        })
     }
 }

@@ -12,7 +12,7 @@ ghost use Rattle.fhir_cert_check.specs.Rule.{entry, closed, slice, criteria, bou
 ghost use Rattle.fhir_cert_check.specs.Rules.{elements_answer, is_forbidden_at, has_item_pair, is_paired, slice_rules, entry_rules};
 ghost use Rattle.fhir_cert_check.specs.Rules.{is_shared, slices_shared, closed_answers, empty_slice_rule};
 ghost use Rattle.fhir_cert_check.specs.Views.{rule_name};
-ghost use Rattle.fhir_cert_check.specs.PairSet.{has_in};
+ghost use Rattle.fhir_cert_check.specs.PairSet.{has_pair};
 
 use crate::nodes::{cardinality_answers, entry_of, has_item_pair, is_forbidden_at};
 use crate::pair_set::PairSet;
@@ -24,7 +24,7 @@ use fhir_slicing::same_criteria;
 // ---- slices of the base's element
 
 fn is_paired(schema: &Schema, pairs: &PairSet, n: NodeRef, m: NodeRef) -> bool
-    ensures { result ≡ is_paired (has_in pairs.now) schema.now n m }
+    ensures { result ≡ is_paired (has_pair pairs.now) schema.now n m }
 {
     is_forbidden_at(schema, n) || has_item_pair(pairs, n, m)
 }
@@ -40,7 +40,7 @@ fn own_slice_failing<'s>(
     ensures { option_map rule_name result ≡ first_of
         ((same_criteria schema.now n m, criteria name.now own.now)
         ∷ (elements_answer cardinality_narrower schema.now n m, bounds name.now own.now)
-        ∷ (is_paired (has_in pairs.now) schema.now n m, slice name.now own.now) ∷ []) }
+        ∷ (is_paired (has_pair pairs.now) schema.now n m, slice name.now own.now) ∷ []) }
 {
     if !same_criteria(schema, n, m) {
         return Some(Rule::Criteria { name, slice: own });
@@ -62,7 +62,7 @@ fn slice_failing<'s>(
     m: NodeRef,
     base: &'s Slot,
 ) -> Option<Rule<'s>>
-    ensures { option_map rule_name result ≡ first_of (slice_rules (has_in pairs.now) schema.now name.now n m base.now) }
+    ensures { option_map rule_name result ≡ first_of (slice_rules (has_pair pairs.now) schema.now name.now n m base.now) }
 {
     let slice = base.name();
     let m = entry_of(m, base);
@@ -80,7 +80,7 @@ fn slices_failing<'s>(
     m: NodeRef,
 ) -> Option<Rule<'s>>
     ensures { option_map rule_name result ≡ first_of
-        (flat_map (slice_rules (has_in pairs.now) schema.now name.now n m) (slices schema.now m)) }
+        (flat_map (slice_rules (has_pair pairs.now) schema.now name.now n m) (slices schema.now m)) }
 {
     for base in schema.slices(m) {
         let rule = slice_failing(schema, pairs, name, n, m, base);
@@ -178,8 +178,8 @@ fn allowed_failing<'s>(
     m: NodeRef,
 ) -> Option<Rule<'s>>
     ensures { option_map rule_name result ≡ first_of
-        ((has_item_pair (has_in pairs.now) n m, entry name.now)
-        ∷ flat_map (slice_rules (has_in pairs.now) schema.now name.now n m) (slices schema.now m)
+        ((has_item_pair (has_pair pairs.now) n m, entry name.now)
+        ∷ flat_map (slice_rules (has_pair pairs.now) schema.now name.now n m) (slices schema.now m)
         ++ (closed_answers schema.now n m, closed name.now) ∷ []) }
 {
     if !has_item_pair(pairs, n, m) {
@@ -202,7 +202,7 @@ pub(crate) fn entry_failing<'s>(
     n: NodeRef,
     m: NodeRef,
 ) -> Option<Rule<'s>>
-    ensures { option_map rule_name result ≡ first_of (entry_rules (has_in pairs.now) schema.now name.now n m) }
+    ensures { option_map rule_name result ≡ first_of (entry_rules (has_pair pairs.now) schema.now name.now n m) }
 {
     if is_forbidden_at(schema, n) {
         empty_slices_failing(schema, name, m)

@@ -3,6 +3,7 @@ pub mod Contents
 pub mod Drafts
 pub mod Definitions
 pub mod Elements
+pub mod Entailing
 pub mod Folders
 pub mod Packages
 pub mod Pairs

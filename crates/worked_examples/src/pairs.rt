@@ -1,23 +1,26 @@
 //! Rules of pairs at work: whether a derived element answers what its base asks for.
 
-ghost use Rattle.std.specs.Prelude.{◌≡◌, [], true, false, None, Some, pos, codes};
+ghost use Rattle.std.specs.Prelude.{◌≡◌, [], ◌∷◌, true, false, None, Some, pos, codes};
 ghost use Rattle.fhir_json.specs.Tree.{no_items};
 ghost use Rattle.fhir_elements.specs.declared.constraint.Severity.TheVariants.{Error, Warning};
 ghost use Rattle.fhir_cert_check.specs.Rule.{fixed, length_limit, slot, cardinality, entry, slice, criteria, bounds, closed};
-ghost use Rattle.fhir_cert_check.specs.Rules.{constraint_answers, constraint_rule, fixed_answers, pattern_answers, length_answers};
+ghost use Rattle.fhir_cert_check.specs.Rules.{repeats, constraint_answered, constraint_rule, fixed_answers, pattern_answers, length_answers};
 ghost use Rattle.worked_examples.specs.Roots.{root_answers, failing_at, child, failing_child, all_pairs, no_pairs};
 ghost use Rattle.worked_examples.specs.Sliced.{sliced, slice_of, slice_x, slice_y, failing_slice};
 ghost use Rattle.worked_examples.specs.Pairs.{asks, says, bare, fixed_to, like, up_to};
 
-/// A constraint is answered by one that must hold and has the same expression, whatever its key (`other_key`); where neither has an
-/// expression, by the same key (`same_key`). A warning answers nothing (`warning`), and nothing is asked for one (`of_warning`).
+/// A constraint is repeated by one that must hold and has the same expression, whatever its key (`other_key`); where neither has an
+/// expression, by the same key (`same_key`). A warning answers nothing (`warning`), and nothing is asked for one (`of_warning`). An expression that
+/// isn't read is answered where it is repeated alone (`unread`, `unread_other`).
 pub fn constraints_of_pairs()
-    ensures other_key { constraint_answers (asks (codes "k-1") Error (codes "a")) (asks (codes "k-2") Error (codes "a")) ≡ true }
-    ensures other_expression { constraint_answers (asks (codes "k-1") Error (codes "a")) (asks (codes "k-1") Error (codes "b")) ≡ false }
-    ensures warning { constraint_answers (asks (codes "k-1") Warning (codes "a")) (asks (codes "k-1") Error (codes "a")) ≡ false }
-    ensures same_key { constraint_answers (says (codes "k-1")) (says (codes "k-1")) ≡ true }
-    ensures key_alone { constraint_answers (says (codes "k-1")) (says (codes "k-2")) ≡ false }
-    ensures no_expression { constraint_answers (says (codes "k-1")) (asks (codes "k-1") Error (codes "a")) ≡ false }
+    ensures other_key { repeats (asks (codes "k-1") Error (codes "a")) (asks (codes "k-2") Error (codes "a")) ≡ true }
+    ensures other_expression { repeats (asks (codes "k-1") Error (codes "a")) (asks (codes "k-1") Error (codes "b")) ≡ false }
+    ensures warning { repeats (asks (codes "k-1") Warning (codes "a")) (asks (codes "k-1") Error (codes "a")) ≡ false }
+    ensures same_key { repeats (says (codes "k-1")) (says (codes "k-1")) ≡ true }
+    ensures key_alone { repeats (says (codes "k-1")) (says (codes "k-2")) ≡ false }
+    ensures no_expression { repeats (says (codes "k-1")) (asks (codes "k-1") Error (codes "a")) ≡ false }
+    ensures unread { constraint_answered (asks (codes "k-1") Error (codes "a +") ∷ []) (asks (codes "k-2") Error (codes "a +")) ≡ true }
+    ensures unread_other { constraint_answered (asks (codes "k-1") Error (codes "a and b +") ∷ []) (asks (codes "k-1") Error (codes "b +")) ≡ false }
     ensures of_warning { constraint_rule [] (asks (codes "k-1") Warning (codes "a")) ≡ [] }
 {}
 

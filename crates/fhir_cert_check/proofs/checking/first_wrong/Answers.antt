@@ -1,28 +1,32 @@
-use Rattle.std.proofs.Common.{◌≡◌, Some, None, arith, sym, ap, ◌∙◌, map}
+use Rattle.std.proofs.Common.{◌≡◌, None, sym, ap, subst, ◌∙◌, map}
 use Rattle.std.specs.Option.{option_or}
+use Rattle.fhir_json.specs.Memory.{Gives}
 use Rattle.fhir_certificate.specs.declared.pair.Pair.TheVariants.{Item, Kids}
 use Rattle.fhir_cert_check.specs.Rules.{failing_rule}
 use Rattle.fhir_cert_check.specs.Checking.{first_in}
-use Rattle.fhir_cert_check.specs.Views.{rule_name}
-use Rattle.fhir_cert_check.specs.PairSet.{has_in}
+use Rattle.fhir_cert_check.specs.Views.{failing_seen}
+use Rattle.fhir_cert_check.specs.PairSet.{has_pair}
 use Rattle.fhir_cert_check.proofs.Certified.{first_in-append}
 use Rattle.fhir_cert_check.proofs.checking.first_wrong.Goals as goal
 
 pub returns-in-Some : goal.returns-in-Some
 returns-in-Some c =
-    let f = failing_rule (has_in c.args.pairs.now) c.args.schema.now in
+    let f = failing_rule (has_pair c.args.pairs.now.set) c.args.schema.now in
     let items = map Item c.args.certificate.now.items in
     let kids = map Kids c.args.certificate.now.kids in
-    let wrong : first_in f (map Item c.items.result.now) ≡ Some (c.in-Some.wrong.0, rule_name c.in-Some.wrong.1) = grind arith in
-    let e = sym (c.requires.items Item f) ∙ ap (λ ps. first_in f (map Item ps)) (sym c.items.ensures) ∙ wrong in
+    let wrong = sym c.in_ok-wrong.ensures ∙ ap failing_seen c.in-Some.is in
+    let e = sym (c.requires.items_alike Item f) ∙ ap (λ ps. first_in f (map Item ps)) (sym c.deref.ensures.value) ∙ wrong in
     sym (first_in-append f items kids ∙ ap (λ o. option_or o (first_in f kids)) e)
 
 pub returns-in-None : goal.returns-in-None
 returns-in-None c =
-    let f = failing_rule (has_in c.args.pairs.now) c.args.schema.now in
+    let f = failing_rule (has_pair c.args.pairs.now.set) c.args.schema.now in
     let items = map Item c.args.certificate.now.items in
     let kids = map Kids c.args.certificate.now.kids in
-    let wrong : first_in f (map Item c.items.result.now) ≡ None = grind arith in
-    let e = sym (c.requires.items Item f) ∙ ap (λ ps. first_in f (map Item ps)) (sym c.items.ensures) ∙ wrong in
-    let d = c.first_kids.ensures ∙ ap (λ ps. first_in f (map Kids ps)) c.kids.ensures ∙ c.requires.kids Kids f in
-    d ∙ sym (first_in-append f items kids ∙ ap (λ o. option_or o (first_in f kids)) e)
+    let right = sym c.in_ok-wrong.ensures ∙ ap failing_seen c.in-None.is in
+    let e = sym (c.requires.items_alike Item f) ∙ ap (λ ps. first_in f (map Item ps)) (sym c.deref.ensures.value) ∙ right in
+    subst (λ x. Gives failing_seen c.first_kids.result x)
+    (ap (λ ps. first_in f (map Kids ps)) c.deref-in-None.ensures.value
+    ∙ c.requires.kids_alike Kids f
+    ∙ sym (first_in-append f items kids ∙ ap (λ o. option_or o (first_in f kids)) e))
+    c.first_kids.ensures

@@ -6,6 +6,7 @@ returns c s pairs right n m pair =
     let narrow = c.narrower_holds.ensures in
     includes s (record {
       covers_on = c.covering_codes.ensures.transitive s;
+      entailed_is = c.entailed_is_true.ensures;
       fixed_is = narrow.fixed;
       pattern_is = narrow.pattern;
       fits_is = narrow.fitted;

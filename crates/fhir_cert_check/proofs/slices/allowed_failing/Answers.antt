@@ -4,7 +4,7 @@ use Rattle.fhir_schema.specs.Schemas.{slices}
 use Rattle.fhir_cert_check.specs.Rule.{RuleName, entry, closed}
 use Rattle.fhir_cert_check.specs.Rules.{has_item_pair, slice_rules, closed_answers}
 use Rattle.fhir_cert_check.specs.Views.{rule_name}
-use Rattle.fhir_cert_check.specs.PairSet.{has_in}
+use Rattle.fhir_cert_check.specs.PairSet.{has_pair}
 use Rattle.fhir_cert_check.proofs.First.{first_holds, first_before, first_behind, first_fails}
 use Rattle.fhir_cert_check.proofs.slices.allowed_failing.Goals as goal
 
@@ -13,7 +13,7 @@ returns-in-Some c =
     let s = c.args.schema.now in
     let n = c.args.n in
     let m = c.args.m in
-    let has = has_in c.args.pairs.now in
+    let has = has_pair c.args.pairs.now in
     let of_slices = flat_map (slice_rules has s c.args.name.now n m) (slices s m) in
     let below : List (Bool × RuleName) = (closed_answers s n m, closed c.args.name.now) ∷ [] in
     sym (first_holds (has_item_pair has n m) (entry c.args.name.now) (of_slices ++ below) (sym c.has_item_pair.ensures ∙ c.if-not-has_item_pair.false)
@@ -24,7 +24,7 @@ returns-then-not-closed_answers c =
     let s = c.args.schema.now in
     let n = c.args.n in
     let m = c.args.m in
-    let has = has_in c.args.pairs.now in
+    let has = has_pair c.args.pairs.now in
     let of_slices = flat_map (slice_rules has s c.args.name.now n m) (slices s m) in
     let below : List (Bool × RuleName) = (closed_answers s n m, closed c.args.name.now) ∷ [] in
     let none : c.slices_failing.result ≡ None = grind arith in
@@ -37,7 +37,7 @@ returns c =
     let s = c.args.schema.now in
     let n = c.args.n in
     let m = c.args.m in
-    let has = has_in c.args.pairs.now in
+    let has = has_pair c.args.pairs.now in
     let of_slices = flat_map (slice_rules has s c.args.name.now n m) (slices s m) in
     let below : List (Bool × RuleName) = (closed_answers s n m, closed c.args.name.now) ∷ [] in
     let none : c.slices_failing.result ≡ None = grind arith in

@@ -1,0 +1,4 @@
+pub mod Total
+pub mod Same
+pub mod Entailment
+pub mod Truths
