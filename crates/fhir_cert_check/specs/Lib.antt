@@ -8,3 +8,4 @@ pub mod PairSet
 pub mod Held
 pub mod Views
 pub mod Inclusion
+pub mod Texts

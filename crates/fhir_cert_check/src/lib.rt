@@ -28,6 +28,7 @@ mod nodes;
 mod pair_set;
 mod rule;
 mod slices;
+mod texts;
 
 pub use answer::Answer;
 pub use asked::asked_for;
@@ -35,3 +36,4 @@ pub use checking::{check, check_bytes, failing, first_failing};
 pub use laws::{asked_are_nodes, certificates_include, inclusion, more_pairs, rules_look_at_asked};
 pub use pair_set::{PairSet, same_pairs};
 pub use rule::Rule;
+pub use texts::{pair_text, rule_text};

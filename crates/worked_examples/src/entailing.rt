@@ -43,7 +43,7 @@ pub fn totality_example()
     ensures filtered_by_fault { is_total (filtered Where a large) ≡ false }
     ensures of_type { is_total (typed OfType a (codes "string")) ≡ true }
     ensures is { is_total_truth (typed Is a (codes "string")) ≡ false }
-    ensures as { is_total (typed As a (codes "string")) ≡ false }
+    ensures cast { is_total (typed As a (codes "string")) ≡ false }
     ensures at { is_total (binary Index a b) ≡ false }
     ensures tested { is_total_truth (call HasValue a) ≡ true }
     ensures equal { is_total_truth (binary Equal a b) ≡ true }
