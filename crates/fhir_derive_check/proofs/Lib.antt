@@ -1,0 +1,4 @@
+pub mod Same
+pub mod Found
+mod One
+mod Greatest

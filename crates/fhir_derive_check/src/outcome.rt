@@ -1,0 +1,14 @@
+//! What is derived.
+
+use fhir_cert_check::Rule;
+use fhir_certificate::{Certificate, Pair};
+
+/// What is derived of two profiles.
+#[derive(Drop)]
+pub enum Outcome<'s> {
+    /// A right certificate: what conforms to the derived profile conforms to the base.
+    Derives(Certificate),
+    /// There is none. Where all pairs that are found count, that pair is the first that fails a rule, and that is the rule. It doesn't say that
+    /// the derived profile allows more than its base.
+    NoCertificate(Pair, Rule<'s>),
+}
