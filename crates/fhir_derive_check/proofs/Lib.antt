@@ -2,3 +2,5 @@ pub mod Same
 pub mod Found
 mod One
 mod Greatest
+mod Asking
+mod Pruned

@@ -22,7 +22,7 @@ same_node-true n m h =
     let e = eqb-true n.element m.element p.1 in
     λ i. record { definition = d i; element = e i }
 
-same_nodes-true : (p q : NodePair) → IsTrue (same_nodes p q) → p ≡ q
+pub same_nodes-true : (p q : NodePair) → IsTrue (same_nodes p q) → p ≡ q
 same_nodes-true p q h =
     let k = and_parts (same_node p.derived q.derived) (same_node p.base q.base) h in
     let d = same_node-true p.derived q.derived k.0 in
@@ -34,7 +34,7 @@ same_node-refl n =
     and_from (nat_eq n.definition n.definition) (nat_eq n.element n.element)
     (eq-eqb n.definition n.definition refl) (eq-eqb n.element n.element refl)
 
-same_nodes-refl : (p : NodePair) → IsTrue (same_nodes p p)
+pub same_nodes-refl : (p : NodePair) → IsTrue (same_nodes p p)
 same_nodes-refl p =
     and_from (same_node p.derived p.derived) (same_node p.base p.base) (same_node-refl p.derived) (same_node-refl p.base)
 

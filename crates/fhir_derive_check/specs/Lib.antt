@@ -5,3 +5,4 @@ pub mod Faults
 pub mod Views
 pub mod Outcomes
 pub mod Discovering
+pub mod Pruning
