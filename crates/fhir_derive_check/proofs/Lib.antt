@@ -4,3 +4,5 @@ mod One
 mod Greatest
 mod Asking
 mod Pruned
+mod Rooted
+mod Certified

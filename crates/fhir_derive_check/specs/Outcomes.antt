@@ -1,11 +1,11 @@
 -- What is found out between two roots (used by private contracts alone).
-use Rattle.std.specs.Prelude.{◌≡◌, ◌↔◌, List, Bool, Some, IsTrue, filter}
-use Rattle.std.specs.List.{Contains}
+use Rattle.std.specs.Prelude.{◌≡◌, ◌↔◌, List, Bool, Option, None, Some, IsTrue, filter}
+use Rattle.std.specs.List.{Contains, filter_map}
 use Rattle.fhir_json.specs.Tree.{Text}
 use Rattle.fhir_schema.specs.Schemas.{SchemaValue}
 use Rattle.fhir_certificate.specs.declared.pair.NodePair.{NodePair}
 use Rattle.fhir_certificate.specs.declared.pair.Pair.{Pair}
-use Rattle.fhir_certificate.specs.declared.pair.Pair.TheVariants.{Item}
+use Rattle.fhir_certificate.specs.declared.pair.Pair.TheVariants.{Item, Kids}
 use Rattle.fhir_certificate.specs.Certificate.{CertificateValue}
 use Rattle.fhir_cert_check.specs.Rule.{RuleName}
 use Rattle.fhir_cert_check.specs.Rules.{failing_rule, is_local}
@@ -39,6 +39,21 @@ pub record IsClosedAmong (s : SchemaValue) (live : Pair → Bool) (first : Pair)
 pub record IsMet (s : SchemaValue) (live : Pair → Bool) (first : Pair) (met : Pair → Bool) : Type 0 where
   pub closed : IsClosedAmong s live first met
   pub least : (p : Pair) → IsTrue (met p) → (set : Pair → Bool) → IsClosedAmong s live first set → IsTrue (set p)
+
+abbrev pub item_of : Pair → Option NodePair
+item_of (Item nodes) = Some nodes
+item_of (Kids nodes) = None
+
+abbrev pub kids_of : Pair → Option NodePair
+kids_of (Item nodes) = None
+kids_of (Kids nodes) = Some nodes
+
+-- the certificate has the pairs of the list
+pub record IsListed (derived base : Text) (pairs : List Pair) (c : CertificateValue) : Type 0 where
+  pub derived_is : c.derived ≡ derived
+  pub base_is : c.base ≡ base
+  pub items : c.items ≡ filter_map item_of pairs
+  pub kids : c.kids ≡ filter_map kids_of pairs
 
 -- a certificate between two roots, with what it was found by
 pub record IsDerivation (s : SchemaValue) (derived base : Text) (roots : NodePair) (c : CertificateValue) : Type 0 where

@@ -21,14 +21,15 @@
 //! `specs/Reaching.antt`, and what is answered in `specs/Deriving.antt`.
 #![tactic(auto)]
 
-mod deriving;
+mod derivation;
 mod discovery;
 mod fault;
 mod laws;
 mod outcome;
 mod pruning;
+mod refusing;
 
-pub use deriving::derive;
+pub use derivation::derive;
 pub use fault::{DeriveFault, Side};
 pub use laws::one_discovery;
 pub use outcome::Outcome;
