@@ -1,5 +1,5 @@
 -- Those that ask for a pair, listed with it in a map.
-use Rattle.std.proofs.Common.{◌≡◌, ℕ, Bool, true, false, cond, List, [], ◌∷◌, ◌++◌, refl, sym, ap, subst, ◌∙◌, ◌⊎◌, inl, inr, IsTrue, ◌||◌, ◌&&◌, nat_eq}
+use Rattle.std.proofs.Common.{◌≡◌, true, false, cond, [], ◌∷◌, ◌++◌, sym, ap, subst, ◌∙◌, inl, inr, IsTrue}
 use Rattle.std.specs.Prelude.{if◌then◌else◌, Option, None, Some, Vec}
 use Rattle.std.specs.declared.alloc.Global.{Global}
 use Rattle.std.specs.Option.{option_map_or}
@@ -35,9 +35,9 @@ asker-put old found nodes other asker more update items =
           ∙ sym (ap (λ b. if b then askers_at old other ++ asker ∷ [] else askers_at old other) same)
       | inr apart ↦
           let gone : is_at (cmp-value.it nodes) other ≡ false = elim (cases_Bool (same_nodes nodes other)) [
-              | inl same ↦ absurd (false≢true (sym apart ∙ subst (λ n. IsTrue (same_nodes n nodes)) (same_nodes-true nodes other same) (same_nodes-refl nodes)))
-              | inr other_apart ↦ is_at_pair nodes other ∙ other_apart
-            ]
+            | inl same ↦ absurd (false≢true (sym apart ∙ subst (λ n. IsTrue (same_nodes n nodes)) (same_nodes-true nodes other same) (same_nodes-refl nodes)))
+            | inr other_apart ↦ is_at_pair nodes other ∙ other_apart
+          ]
           in
           ap (λ o. option_map_or (λ ps. ps.items) o []) (update ∙ ap (λ b. cond b (Some more) (get_by (cmp-value.it other) old)) gone)
           ∙ sym (ap (λ b. if b then askers_at old other ++ asker ∷ [] else askers_at old other) apart)

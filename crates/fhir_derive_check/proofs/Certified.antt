@@ -1,9 +1,9 @@
 -- What is derived of what is reached.
-use Rattle.std.proofs.Common.{◌≡◌, ◌<◌, ℕ, arith, Bool, true, false, cond, List, [], ◌∷◌, ◌++◌, refl, sym, ap, subst, ◌∙◌, ◌⊎◌, inl, inr, IsTrue, ◌||◌, ◌&&◌, not, filter, length, get_or, map}
+use Rattle.std.proofs.Common.{◌≡◌, ◌<◌, ℕ, arith, Bool, true, false, List, [], ◌∷◌, ◌++◌, refl, sym, ap, subst, ◌∙◌, ◌⊎◌, inl, inr, IsTrue, ◌||◌, ◌&&◌, not, filter, length, get_or, map}
 use Rattle.std.specs.Prelude.{◌↔◌, Option, None, Some, is_some, is_none, IfSome, if◌then◌else◌}
-use Rattle.std.specs.List.{Contains, filter_map, cons_option, list_any, list_all}
+use Rattle.std.specs.List.{Contains, filter_map, list_any, list_all}
 use Rattle.std.specs.Option.{option_map, option_and_then}
-use Rattle.std.proofs.lemmas.Bool.{and_parts, and_from, or_cases, or_left, or_right, false≢true, cases_Bool}
+use Rattle.std.proofs.lemmas.Bool.{and_parts, and_from, or_cases, or_right, false≢true, cases_Bool}
 use Rattle.std.proofs.lemmas.Option.{none-some, same_Some}
 use Rattle.fhir_json.specs.Tree.{Text}
 use Rattle.fhir_nodes.specs.declared.node.NodeRef.{NodeRef}
@@ -16,14 +16,13 @@ use Rattle.fhir_certificate.specs.declared.pair.Pair.TheVariants.{Item, Kids}
 use Rattle.fhir_certificate.specs.Certificate.{CertificateValue, are_nodes, fits}
 use Rattle.fhir_cert_check.specs.Rule.{RuleName}
 use Rattle.fhir_cert_check.specs.Rules.{failing_rule}
-use Rattle.fhir_cert_check.specs.Views.{rule_name}
 use Rattle.fhir_cert_check.specs.declared.rule.Rule.{Rule}
-use Rattle.fhir_cert_check.specs.Checking.{same_nodes, is_among, roots_of, IsRight, IsCertificate, pairs_of, first_in}
+use Rattle.fhir_cert_check.specs.Checking.{same_nodes, is_among, IsRight, IsCertificate, pairs_of, first_in}
 use Rattle.fhir_cert_check.specs.Asked.{asked_for, is_of_nodes}
 use Rattle.fhir_cert_check.specs.PairSet.{PairLists, same_pair, has_pair}
 use Rattle.fhir_cert_check.specs.Inclusion.{Includes}
-use Rattle.fhir_derive_check.specs.Finding.{is_in, IsClosed, IsDiscovery}
-use Rattle.fhir_derive_check.specs.Reaching.{IsTenable, IsReached, roots_between, HasCertificate}
+use Rattle.fhir_derive_check.specs.Finding.{is_in, IsDiscovery}
+use Rattle.fhir_derive_check.specs.Reaching.{IsTenable, roots_between, HasCertificate}
 use Rattle.fhir_derive_check.specs.Deriving.{items_in, kids_in, none_twice, IsDerived, IsFirstFailing}
 use Rattle.fhir_derive_check.specs.Views.{certificate_of, failing_of}
 use Rattle.fhir_derive_check.specs.Faults.{derive_refusal}
@@ -34,7 +33,7 @@ use Rattle.fhir_derive_check.specs.Outcomes.{MorePairs, IsSettled, IsMet, IsList
 use Rattle.fhir_derive_check.specs.Pruning.{wrong_seen, all_failing}
 use Rattle.fhir_derive_check.specs.declared.outcome.Outcome.{Outcome}
 use Rattle.fhir_derive_check.specs.declared.outcome.Outcome.TheVariants.{Derives, NoCertificate}
-use Rattle.fhir_derive_check.proofs.Same.{same-true, same-of, in-append, in-left, in-right, in-here, kept-in, contained, in-contained}
+use Rattle.fhir_derive_check.proofs.Same.{same-true, same-of, in-append, in-left, in-right, in-here, kept-in}
 use Rattle.fhir_derive_check.proofs.Found.{root-found, filter-all, none_twice-filter, found-once, is-found}
 use Rattle.fhir_derive_check.proofs.Greatest.{exactly, met-rooted, met-right, all-met, discovery-met, met-alike}
 use Rattle.fhir_derive_check.proofs.Pruned.{first-fails, all-settled}
@@ -306,7 +305,7 @@ module _ (s : SchemaValue) (derived base : Text) (roots : NodePair) (are_roots :
       let reached = filter o.reached o.found in
       let first : IsTrue (is_of_nodes s (Item roots)) = and_from (has s roots.derived) (has s roots.base) (root-known s derived roots.derived known.0) (root-known s base roots.base known.1) in
       let each : (p : Pair) → IsTrue (is_in reached p) → IsTrue (is_of_nodes s p) = λ p h.
-          is-found (asked_for s) (Item roots) o.found o.discovery p (kept-in o.reached o.found p h).1 (is_of_nodes s) (record { rooted = first; closed = asked })
+      is-found (asked_for s) (Item roots) o.found o.discovery p (kept-in o.reached o.found p h).1 (is_of_nodes s) (record { rooted = first; closed = asked })
       in
       let of_derived : is_some (root s c.derived) ≡ true = ap (λ url. is_some (root s url)) o.derived_is ∙ ap is_some known.0 in
       let of_base : is_some (root s c.base) ≡ true = ap (λ url. is_some (root s url)) o.base_is ∙ ap is_some known.1 in

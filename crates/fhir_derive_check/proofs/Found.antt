@@ -1,18 +1,18 @@
 -- What a discovery finds: with each pair all that it asks for, each pair once.
-use Rattle.std.proofs.Common.{◌≡◌, ◌<◌, ◌≤◌, ◌+◌, ℕ, zero, suc, arith, Bool, true, false, List, [], ◌∷◌, ◌++◌, refl, sym, ap, subst, ◌∙◌, ◌⊎◌, inl, inr, IsTrue, ◌||◌, ◌&&◌, not, cond, filter, length, take, append_assoc, length-append, add-one, get_or}
-use Rattle.std.specs.Prelude.{if◌then◌else◌, Option, None, Some, slice_get}
+use Rattle.std.proofs.Common.{◌≡◌, ◌<◌, ◌≤◌, ◌+◌, ℕ, arith, Bool, true, false, List, [], ◌∷◌, ◌++◌, refl, sym, ap, subst, ◌∙◌, ◌⊎◌, inl, inr, IsTrue, ◌||◌, not, cond, filter, length, take, append_assoc, length-append, add-one, get_or}
+use Rattle.std.specs.Prelude.{if◌then◌else◌, None, Some, slice_get}
 use Rattle.std.proofs.Math.Seq.{take-suc}
 use Rattle.std.proofs.lemmas.Grind.{flat_map-append}
 use Rattle.std.proofs.lemmas.List.{take_all, take-append-le}
-use Rattle.std.proofs.lemmas.Option.{same_Some, none-some, slice_get_within, slice_get-get_or}
-use Rattle.std.specs.List.{Contains, flat_map}
+use Rattle.std.proofs.lemmas.Option.{same_Some, slice_get_within, slice_get-get_or}
+use Rattle.std.specs.List.{flat_map}
 use Rattle.std.proofs.lemmas.Bool.{and_parts, and_from, or_cases, or_left, or_right, false≢true, cases_Bool}
 use Rattle.fhir_certificate.specs.declared.pair.Pair.{Pair}
 use Rattle.fhir_cert_check.specs.PairSet.{same_pair}
-use Rattle.fhir_derive_check.specs.Finding.{is_in, added, all_added, firsts, IsClosed, IsFound, IsDiscovery}
+use Rattle.fhir_derive_check.specs.Finding.{is_in, added, all_added, firsts, IsFound, IsDiscovery}
 use Rattle.fhir_derive_check.specs.Deriving.{none_twice}
 use Rattle.fhir_derive_check.specs.Discovering.{counts}
-use Rattle.fhir_derive_check.proofs.Same.{kept-in, in-place, same-true, same-refl, same-of, in-append, in-left, in-right, in-cases, in-one, in-here, contained, in-contained, in-flat}
+use Rattle.fhir_derive_check.proofs.Same.{kept-in, in-place, same-true, same-of, in-append, in-left, in-right, in-cases, in-one, in-here, contained, in-contained, in-flat}
 
 pub append_nil : {A : Type 0} (xs : List A) → xs ++ [] ≡ xs
 append_nil [] = refl
@@ -92,9 +92,9 @@ none_twice-one (x ∷ xs) p gone once =
     let parts = and_parts (not (is_in xs x)) (none_twice xs) once in
     let apart = neither (same_pair p x) (is_in xs p) gone in
     let apart' : same_pair x p ≡ false = elim (cases_Bool (same_pair x p)) [
-        | inl same ↦ absurd (false≢true (sym apart.0 ∙ same-of p x (sym (same-true x p same))))
-        | inr other ↦ other
-      ]
+      | inl same ↦ absurd (false≢true (sym apart.0 ∙ same-of p x (sym (same-true x p same))))
+      | inr other ↦ other
+    ]
     in
     and_from (not (is_in (xs ++ p ∷ []) x)) _
     (ap not (in-append xs (p ∷ []) x ∙ (λ j. is_in xs x || (apart' j || false)) ∙ or_false (is_in xs x)) ∙ parts.0)
@@ -189,8 +189,8 @@ module _ (asks : Pair → List Pair) (root : Pair) where
       let below = slice_get_within order at p here in
       let more = all_added-more (asks p) order in
       let front : take (at + 1) (all_added order (asks p)) ≡ take at order ++ p ∷ [] =
-          ap (take (at + 1)) more.1 ∙ take-append-le (at + 1) order more.0 (omega (arith, below)) ∙ ap (λ k. take k order) (add-one at) ∙ take-suc order at p below
-          ∙ ap (λ x. take at order ++ x ∷ []) (same_Some _ p (sym (slice_get-get_or order at p below) ∙ here))
+      ap (take (at + 1)) more.1 ∙ take-append-le (at + 1) order more.0 (omega (arith, below)) ∙ ap (λ k. take k order) (add-one at) ∙ take-suc order at p below
+      ∙ ap (λ x. take at order ++ x ∷ []) (same_Some _ p (sym (slice_get-get_or order at p below) ∙ here))
       in
       record {
         in_turn =

@@ -1,5 +1,5 @@
 -- The tenable pairs that are found are those left when no more fall; and those met among them are the ones reached.
-use Rattle.std.proofs.Common.{◌≡◌, Bool, true, false, List, refl, sym, ap, subst, ◌∙◌, IsTrue, ◌&&◌, filter}
+use Rattle.std.proofs.Common.{◌≡◌, Bool, List, subst, IsTrue, ◌&&◌, filter}
 use Rattle.std.specs.Prelude.{◌↔◌}
 use Rattle.std.specs.List.{Contains}
 use Rattle.std.proofs.lemmas.Bool.{and_parts, and_from}
@@ -9,7 +9,7 @@ use Rattle.fhir_cert_check.specs.Rules.{is_local}
 use Rattle.fhir_cert_check.specs.Checking.{IsRight}
 use Rattle.fhir_cert_check.specs.Asked.{asked_for}
 use Rattle.fhir_derive_check.specs.Finding.{is_in, IsClosed, IsDiscovery}
-use Rattle.fhir_derive_check.specs.Reaching.{IsTenable, IsClosedWithin, IsReached}
+use Rattle.fhir_derive_check.specs.Reaching.{IsTenable, IsReached}
 use Rattle.fhir_derive_check.specs.Outcomes.{MorePairs, IsSettled, IsClosedAmong, IsMet}
 use Rattle.fhir_derive_check.proofs.Same.{in-kept, kept-in, contained, in-contained}
 use Rattle.fhir_derive_check.proofs.Found.{root-found, closed, is-found}

@@ -1,12 +1,12 @@
 -- From one pair, one list is found.
-use Rattle.std.proofs.Common.{◌≡◌, ◌<◌, ◌≤◌, ◌+◌, ℕ, zero, suc, arith, Bool, true, false, List, [], ◌∷◌, ◌++◌, refl, sym, ap, subst, ◌∙◌, ◌⊎◌, inl, inr, IsTrue, length, append_assoc, length-append}
+use Rattle.std.proofs.Common.{◌≡◌, ◌≤◌, ◌+◌, ℕ, zero, suc, arith, List, [], ◌∷◌, ◌++◌, refl, sym, ap, subst, ◌∙◌, ◌⊎◌, inl, inr, IsTrue, length, length-append}
 use Rattle.std.specs.List.{flat_map}
 use Rattle.std.proofs.lemmas.Grind.{flat_map-append}
-use Rattle.std.proofs.lemmas.Bool.{false≢true, cases_lt}
+use Rattle.std.proofs.lemmas.Bool.{cases_lt}
 use Rattle.fhir_certificate.specs.declared.pair.Pair.{Pair}
-use Rattle.fhir_derive_check.specs.Finding.{is_in, all_added, firsts, IsClosed, IsFound, IsDiscovery}
+use Rattle.fhir_derive_check.specs.Finding.{is_in, all_added, IsClosed, IsDiscovery}
 use Rattle.fhir_derive_check.specs.Deriving.{none_twice}
-use Rattle.fhir_derive_check.proofs.Same.{in-left, in-right, in-here, contained, in-contained}
+use Rattle.fhir_derive_check.proofs.Same.{in-left, in-right, in-here, in-contained}
 use Rattle.fhir_derive_check.proofs.Found.{append_nil, all_added-more, all_added-append, none_twice-apart, reach, root-reached, asked-reached, found-once, is-found}
 
 -- of two fronts of a list, the shorter is a front of the other
@@ -31,10 +31,11 @@ module _ (asks : Pair → List Pair) (root : Pair) where
 
   begins : (found front rest : List Pair) → IsDiscovery asks root found → found ≡ front ++ rest → (more : List Pair) × (found ≡ reach asks root front ++ more)
   begins found front rest discovery is =
-      let more = all_added-more (flat_map asks rest) (reach asks root front) in
-      (more.0,
-      discovery.in_turn ∙ ap (reach asks root) is ∙ ap (all_added (root ∷ [])) (flat_map-append asks front rest)
-      ∙ all_added-append (flat_map asks front) (flat_map asks rest) (root ∷ []) ∙ more.1)
+      let more = all_added-more (flat_map asks rest) (reach asks root front) in (
+        more.0,
+        discovery.in_turn ∙ ap (reach asks root) is ∙ ap (all_added (root ∷ [])) (flat_map-append asks front rest)
+            ∙ all_added-append (flat_map asks front) (flat_map asks rest) (root ∷ []) ∙ more.1,
+      )
 
   -- where the front has what it asks for, it is all
   all-of-it : (found front rest : List Pair) → IsDiscovery asks root found → found ≡ front ++ rest → ((q : Pair) → IsTrue (is_in (reach asks root front) q) → IsTrue (is_in front q)) → found ≡ front
@@ -42,9 +43,9 @@ module _ (asks : Pair → List Pair) (root : Pair) where
   all-of-it found front (p ∷ rest) discovery is has =
       let here : IsTrue (is_in found p) = subst (λ l. IsTrue (is_in l p)) (sym is) (in-right front (p ∷ rest) p (in-here p rest)) in
       let is_closed : IsClosed asks root (is_in front) = record {
-          rooted = has root (root-reached asks root front);
-          closed = λ x y h asked. has y (asked-reached asks root front x y h (in-contained (asks x) y asked));
-        }
+        rooted = has root (root-reached asks root front);
+        closed = λ x y h asked. has y (asked-reached asks root front x y h (in-contained (asks x) y asked));
+      }
       in
       absurd (none_twice-apart front (p ∷ rest) p (ap none_twice (sym is) ∙ found-once asks root found discovery)
       (is-found asks root found discovery p here (is_in front) is_closed) (in-here p rest))

@@ -1,12 +1,11 @@
 -- What falls, and what is left.
-use Rattle.std.proofs.Common.{◌≡◌, ◌<◌, ◌≤◌, ◌+◌, ℕ, suc, arith, Bool, true, false, cond, List, [], ◌∷◌, ◌++◌, refl, sym, ap, subst, ◌∙◌, ◌⊎◌, inl, inr, IsTrue, ◌||◌, ◌&&◌, not, filter, length, take, take-suc, add-one, get_or, map, ◌*◌, ◌^◌, vec_len, length-append}
+use Rattle.std.proofs.Common.{◌≡◌, ◌<◌, ◌≤◌, ◌+◌, ℕ, arith, Bool, true, false, cond, List, [], ◌∷◌, ◌++◌, refl, sym, ap, subst, ◌∙◌, ◌⊎◌, inl, inr, IsTrue, ◌&&◌, not, filter, length, take, take-suc, add-one, get_or, map, ◌*◌, ◌^◌, vec_len, length-append}
 use Rattle.std.specs.Prelude.{if◌then◌else◌, Option, None, Some, is_none, option_map, Vec}
 use Rattle.std.specs.declared.alloc.Global.{Global}
-use Rattle.std.specs.List.{Contains, filter_map, cons_option, list_all}
+use Rattle.std.specs.List.{Contains, cons_option}
 use Rattle.std.specs.Option.{option_map_or, option_to_list}
-use Rattle.std.proofs.lemmas.Bool.{and_parts, and_from, or_cases, or_left, or_right, false≢true, true≢false, cases_Bool}
+use Rattle.std.proofs.lemmas.Bool.{and_parts, and_from, or_cases, or_left, or_right, false≢true, cases_Bool}
 use Rattle.std.proofs.lemmas.List.Elements.{filter_map-append}
-use Rattle.std.proofs.lemmas.Option.{none-some}
 use Rattle.fhir_elements.specs.Tests.{first_of, all_hold}
 use Rattle.fhir_schema.specs.Schemas.{SchemaValue}
 use Rattle.fhir_certificate.specs.declared.pair.Pair.{Pair}
@@ -20,7 +19,7 @@ use Rattle.fhir_cert_check.specs.PairSet.{PairLists, same_pair, has_pair}
 use Rattle.fhir_derive_check.specs.Finding.{is_in, IsDiscovery}
 use Rattle.fhir_derive_check.specs.Reaching.{IsTenable}
 use Rattle.fhir_derive_check.specs.Outcomes.{MorePairs, IsSettled}
-use Rattle.fhir_derive_check.specs.Pruning.{all_failing, ListsAskers, IsWithin, IsKept, HasFallen, IsRevised, IsPruning, wrong_seen}
+use Rattle.fhir_derive_check.specs.Pruning.{all_failing, ListsAskers, IsWithin, HasFallen, IsRevised, IsPruning, wrong_seen}
 use Rattle.fhir_derive_check.proofs.Same.{same-true, same-refl, in-left, in-right, in-cases, in-one, in-here, contained, in-contained}
 use Rattle.fhir_derive_check.proofs.Greatest.{tenable-right}
 
@@ -60,9 +59,9 @@ module _ (failing : Pair → Option RuleName) where
           → (all_failing failing xs ≡ [] → (p : Pair) → IsTrue (is_in xs p) → failing p ≡ None) → failing p ≡ None
       go (Some rule) is e rest = absurd (let no : ⊥ = cc in no)
       go None is e rest = elim (or_cases (same_pair p x) (is_in xs p) h) [
-          | inl here ↦ ap failing (same-true p x here) ∙ is
-          | inr there ↦ rest e p there
-        ]
+        | inl here ↦ ap failing (same-true p x here) ∙ is
+        | inr there ↦ rest e p there
+      ]
 
   -- the first of those that fail is the first that fails
   pub first-fails : (ps : List Pair) (wrong : Pair × RuleName) (wrongs : List (Pair × RuleName)) → all_failing failing ps ≡ wrong ∷ wrongs → first_in failing ps ≡ Some wrong
@@ -168,12 +167,12 @@ module _ (s : SchemaValue) (askers : Pair → List Pair) (p : Pair) (live now : 
       where
         apart : not (same_pair q p) ≡ true
         apart = elim (cases_Bool (same_pair q p)) [
-            | inr other ↦ ap not other
-            | inl same ↦
-                let e = same-true q p same in
-                let right = tenable-right s root found discovery law (has_pair live) keeps q here tenable in
-                absurd (false≢true (sym fallen.wrong ∙ subst (λ x. IsTrue (is_local (has_pair live) s x)) e right))
-          ]
+          | inr other ↦ ap not other
+          | inl same ↦
+              let e = same-true q p same in
+              let right = tenable-right s root found discovery law (has_pair live) keeps q here tenable in
+              absurd (false≢true (sym fallen.wrong ∙ subst (λ x. IsTrue (is_local (has_pair live) s x)) e right))
+        ]
 
     right-fallen : HasFallen s (askers p) p live now list more → (q : Pair) → IsTrue (has_pair now q) → IsTrue (is_in (list ++ p ∷ []) q) ⊎ IsTrue (is_local (has_pair live) s q) → IsTrue (is_in more q) ⊎ IsTrue (is_local (has_pair now) s q)
     right-fallen fallen q h (inl listed) =
@@ -185,7 +184,7 @@ module _ (s : SchemaValue) (askers : Pair → List Pair) (p : Pair) (live now : 
         elim (cases_Bool (is_in (asked_for s q) p)) [
           | inl asks ↦ inl (subst (λ l. IsTrue (is_in l q)) (sym fallen.listed) (in-right list (askers p) q (lists p q (within q (less fallen q h)) (contained (asked_for s q) p asks))))
           | inr never ↦ inr (law s (has_pair live) (has_pair now) q
-            (λ r asked counted. fallen.without r ∙ and_from (not (same_pair r p)) (has_pair live r) (apart never r asked (cases_Bool (same_pair r p))) counted) local)
+              (λ r asked counted. fallen.without r ∙ and_from (not (same_pair r p)) (has_pair live r) (apart never r asked (cases_Bool (same_pair r p))) counted) local)
         ]
       where
         apart : is_in (asked_for s q) p ≡ false → (r : Pair) → Contains (asked_for s q) r → (same_pair r p ≡ true) ⊎ (same_pair r p ≡ false) → not (same_pair r p) ≡ true

@@ -1,11 +1,10 @@
 -- The test of pairs answers `true` exactly on equal pairs; what is in a list, and what a list contains.
-use Rattle.std.proofs.Common.{◌≡◌, ◌<◌, ℕ, zero, suc, arith, Bool, true, false, List, [], ◌∷◌, ◌++◌, refl, sym, ap, subst, ◌∙◌, ◌⊎◌, inl, inr, IsTrue, ◌||◌, ◌&&◌, cond, filter, nat_eq, length}
-use Rattle.std.specs.List.{list_any, Contains, flat_map, slice_index_or}
+use Rattle.std.proofs.Common.{◌≡◌, ◌<◌, ℕ, zero, suc, arith, Bool, true, false, List, [], ◌∷◌, ◌++◌, refl, sym, ap, subst, ◌∙◌, ◌⊎◌, inl, inr, IsTrue, ◌||◌, cond, filter, nat_eq, length}
+use Rattle.std.specs.List.{Contains, flat_map, slice_index_or}
 use Rattle.std.specs.Prelude.{slice_get, Some}
 use Rattle.std.proofs.lemmas.Option.{none-some, same_Some}
 use Rattle.std.proofs.lemmas.Bool.{and_parts, and_from, or_cases, or_left, or_right, false≢true, eqb-true, eq-eqb}
 use Rattle.std.proofs.lemmas.List.Folds.{list_any-append}
-use Rattle.std.proofs.lemmas.List.Elements.{Contains-append_left, Contains-append_right}
 use Rattle.std.proofs.lemmas.Map.Views.{Contains-from_any}
 use Rattle.fhir_nodes.specs.declared.node.NodeRef.{NodeRef}
 use Rattle.fhir_certificate.specs.declared.pair.NodePair.{NodePair}

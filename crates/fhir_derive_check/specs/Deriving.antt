@@ -1,5 +1,5 @@
 -- What is derived of two profiles: the certificate of the pairs that are reached, or why there is none.
-use Rattle.std.specs.Prelude.{◌≡◌, ◌↔◌, List, [], ◌∷◌, Bool, true, not, ◌&&◌, filter, Option, None, Some, IsTrue}
+use Rattle.std.specs.Prelude.{◌≡◌, ◌↔◌, List, [], ◌∷◌, Bool, true, not, ◌&&◌, filter, Some, IsTrue}
 use Rattle.fhir_json.specs.Tree.{Text}
 use Rattle.fhir_schema.specs.Schemas.{SchemaValue}
 use Rattle.fhir_certificate.specs.declared.pair.NodePair.{NodePair}

@@ -1,5 +1,5 @@
 -- How pairs fall that aren't right (used by private contracts alone).
-use Rattle.std.specs.Prelude.{◌≡◌, ◌⊎◌, ◌++◌, List, [], Bool, true, false, not, ◌&&◌, Option, None, Some, option_map, IsTrue, Vec}
+use Rattle.std.specs.Prelude.{◌≡◌, ◌⊎◌, ◌++◌, List, [], Bool, false, not, ◌&&◌, Option, option_map, IsTrue, Vec}
 use Rattle.std.specs.declared.alloc.Global.{Global}
 use Rattle.std.specs.List.{Contains, filter_map}
 use Rattle.std.specs.Option.{option_map_or}

@@ -1,5 +1,5 @@
 -- The greatest certificate: the pairs that are right by one another, as far as they are reached from the roots.
-use Rattle.std.specs.Prelude.{◌≡◌, List, Bool, Option, Some, IsTrue}
+use Rattle.std.specs.Prelude.{◌≡◌, Bool, Option, Some, IsTrue}
 use Rattle.std.specs.List.{Contains}
 use Rattle.std.specs.Option.{option_map, option_and_then}
 use Rattle.fhir_json.specs.Tree.{Text}

@@ -1,5 +1,5 @@
 -- Outcomes as contracts see them.
-use Rattle.std.specs.Prelude.{Bool, Option, None, Some, is_some}
+use Rattle.std.specs.Prelude.{Option, None, Some}
 use Rattle.fhir_certificate.specs.declared.pair.Pair.{Pair}
 use Rattle.fhir_certificate.specs.Certificate.{CertificateValue}
 use Rattle.fhir_cert_check.specs.Rule.{RuleName}

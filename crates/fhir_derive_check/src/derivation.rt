@@ -47,24 +47,28 @@ fn kids_of(pair: Pair) -> Option<NodePair>
 fn items_in(alloc: Global, pairs: &[Pair], set: &PairSet) -> Result<Vec<NodePair>, NoMemory>
     ensures { IfOk result (λ items. items.items ≡ filter_map item_of (filter (has_pair set.now) pairs.now)) }
 {
-    Ok(pairs
-        .iter()
-        .copied()
-        .filter(|pair| set.has(*pair))
-        .filter_map(item_of)
-        .collect(alloc)?)
+    Ok(
+        pairs
+            .iter()
+            .copied()
+            .filter(|pair| set.has(*pair))
+            .filter_map(item_of)
+            .collect(alloc)?,
+    )
 }
 
 // The pairs of children of a list that a set has.
 fn kids_in(alloc: Global, pairs: &[Pair], set: &PairSet) -> Result<Vec<NodePair>, NoMemory>
     ensures { IfOk result (λ kids. kids.items ≡ filter_map kids_of (filter (has_pair set.now) pairs.now)) }
 {
-    Ok(pairs
-        .iter()
-        .copied()
-        .filter(|pair| set.has(*pair))
-        .filter_map(kids_of)
-        .collect(alloc)?)
+    Ok(
+        pairs
+            .iter()
+            .copied()
+            .filter(|pair| set.has(*pair))
+            .filter_map(kids_of)
+            .collect(alloc)?,
+    )
 }
 
 // A certificate of the pairs of a list that a set has.

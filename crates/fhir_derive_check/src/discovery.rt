@@ -38,11 +38,13 @@ fn put(found: &mut Found, pair: Pair) -> Done
 fn live_among(alloc: Global, live: &PairSet, pairs: &[Pair]) -> Result<Vec<Pair>, NoMemory>
     ensures { IfOk result (λ among. among.items ≡ filter (has_pair live.now) pairs.now) }
 {
-    Ok(pairs
-        .iter()
-        .copied()
-        .filter(|pair| live.has(*pair))
-        .collect(alloc)?)
+    Ok(
+        pairs
+            .iter()
+            .copied()
+            .filter(|pair| live.has(*pair))
+            .collect(alloc)?,
+    )
 }
 
 // What a pair asks for, of those that count: of a set, or all.

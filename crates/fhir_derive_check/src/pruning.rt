@@ -1,6 +1,6 @@
 //! Pruning: the pairs fall that aren't right by those left, until each that is left is right.
 
-ghost use Rattle.std.specs.Prelude.{◌≡◌, ◌++◌, ◌∷◌, [], List, map, IfOk, OnOk, IsTrue, if◌then◌else◌};
+ghost use Rattle.std.specs.Prelude.{◌≡◌, ◌++◌, ◌∷◌, [], map, IfOk, OnOk, IsTrue, if◌then◌else◌};
 ghost use Rattle.std.specs.List.{Contains};
 ghost use Rattle.fhir_certificate.specs.declared.pair.NodePair.{NodePair};
 ghost use Rattle.fhir_certificate.specs.declared.pair.Pair.{Pair};
@@ -11,7 +11,7 @@ ghost use Rattle.fhir_cert_check.specs.PairSet.{has_pair, same_pair};
 ghost use Rattle.fhir_cert_check.specs.Views.{rule_seen};
 ghost use Rattle.std.specs.Option.{option_map, option_to_list};
 ghost use Rattle.fhir_derive_check.specs.Finding.{is_in, IsDiscovery};
-ghost use Rattle.fhir_derive_check.specs.Outcomes.{MorePairs, IsSettled};
+ghost use Rattle.fhir_derive_check.specs.Outcomes.{IsSettled};
 ghost use Rattle.fhir_derive_check.specs.Discovering.{HasAll};
 ghost use Rattle.fhir_derive_check.specs.Pruning.{wrong_seen, all_failing, askers_at, askers_of, ListsAskers, IsRevised, IsPruning, IsWithin};
 
@@ -72,10 +72,7 @@ fn put_asker(
     ensures { OnOk result ((other : NodePair) → askers_at askers.new other
         ≡ (if same_nodes other nodes then askers_at askers.old other ++ asker ∷ [] else askers_at askers.old other)) }
 {
-    askers
-        .entry(nodes)?
-        .or_insert(Vec::new(alloc))
-        .push(asker)?;
+    askers.entry(nodes)?.or_insert(Vec::new(alloc)).push(asker)?;
     Ok(())
 }
 
@@ -134,12 +131,7 @@ fn askers_among(alloc: Global, schema: &Schema, pairs: &[Pair]) -> Result<Askers
     Ok(askers)
 }
 
-fn is_right(
-    alloc: Global,
-    schema: &Schema,
-    live: &PairSet,
-    pair: Pair,
-) -> Result<bool, NoMemory>
+fn is_right(alloc: Global, schema: &Schema, live: &PairSet, pair: Pair) -> Result<bool, NoMemory>
     ensures { IfOk result (λ right. right ≡ is_local (has_pair live.now) schema.now pair) }
 {
     let rule = failing(alloc, schema, live, pair)?;

@@ -1,8 +1,5 @@
-use Rattle.std.proofs.Common.{◌≡◌, sym, ◌∙◌, arith}
-use Rattle.std.specs.Prelude.{None, Some}
-use Rattle.fhir_derive_check.specs.Reaching.{roots_between}
-use Rattle.fhir_derive_check.specs.Faults.{derive_refusal}
-use Rattle.fhir_derive_check.proofs.Certified.{derives, reached, once, right, includes, fit, refused, no-roots}
+use Rattle.std.proofs.Common.{sym}
+use Rattle.fhir_derive_check.proofs.Certified.{derives, reached, once, right, includes, fit, refused}
 use Rattle.fhir_derive_check.proofs.derivation.derive.Goals as goal
 
 pub returns-clause-derives : goal.returns-clause-derives

@@ -1,8 +1,8 @@
-use Rattle.std.proofs.Common.{◌≡◌, ◌<◌, ◌≤◌, sym, ap, ◌∙◌, length, arith}
+use Rattle.std.proofs.Common.{◌<◌, ◌≤◌, sym, ap, ◌∙◌, length, arith}
 use Rattle.std.specs.Prelude.{Some}
 use Rattle.std.proofs.lemmas.Option.{slice_get-get_or}
 use Rattle.fhir_derive_check.specs.Discovering.{asked_within}
-use Rattle.fhir_derive_check.proofs.Found.{IsSearch, search-step, search-end}
+use Rattle.fhir_derive_check.proofs.Found.{search-step, search-end}
 use Rattle.fhir_derive_check.proofs.discovery.discover.Goals as goal
 
 pub loop-at-preserved : goal.loop-at-preserved

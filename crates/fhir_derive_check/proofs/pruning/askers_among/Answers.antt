@@ -1,6 +1,5 @@
-use Rattle.std.proofs.Common.{sym, subst, inl, inr, get_or, IsTrue}
+use Rattle.std.proofs.Common.{sym, subst, inl, inr, IsTrue}
 use Rattle.std.specs.List.{Contains}
-use Rattle.fhir_certificate.specs.declared.pair.Pair.{Pair}
 use Rattle.fhir_cert_check.specs.Asked.{asked_for}
 use Rattle.fhir_derive_check.specs.Finding.{is_in}
 use Rattle.fhir_derive_check.specs.Pruning.{askers_of}

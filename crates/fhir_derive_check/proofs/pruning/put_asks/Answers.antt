@@ -1,8 +1,7 @@
-use Rattle.std.proofs.Common.{◌≡◌, ap, sym, subst, ◌∙◌, inl, inr, length, take, get_or, IsTrue, List}
-use Rattle.fhir_certificate.specs.declared.pair.Pair.{Pair}
+use Rattle.std.proofs.Common.{inl, inr, get_or}
 use Rattle.fhir_cert_check.specs.PairSet.{same_pair}
 use Rattle.fhir_derive_check.specs.Pruning.{askers_of}
-use Rattle.fhir_derive_check.proofs.Same.{no_pair, in-contained}
+use Rattle.fhir_derive_check.proofs.Same.{no_pair}
 use Rattle.fhir_derive_check.proofs.Pruned.{put-kept, put-there, in-next}
 use Rattle.fhir_derive_check.proofs.pruning.put_asks.Goals as goal
 

@@ -1,4 +1,4 @@
-use Rattle.std.proofs.Common.{◌≡◌, IsTrue, take}
+use Rattle.std.proofs.Common.{IsTrue, take}
 use Rattle.fhir_certificate.specs.declared.pair.Pair.{Pair}
 use Rattle.fhir_derive_check.specs.Finding.{is_in}
 use Rattle.fhir_derive_check.specs.Pruning.{askers_of}
