@@ -9,18 +9,21 @@ use Rattle.fhir_json.specs.Views.{trees_of}
 use Rattle.fhir_json.specs.Compact.{compact}
 use Rattle.fhir_json.specs.Reading.{reading}
 use Rattle.fhir_commands.specs.declared.command.Command.{Command}
-use Rattle.fhir_commands.specs.declared.command.Command.TheVariants.{Put, Remove, Validate}
+use Rattle.fhir_commands.specs.declared.command.Command.TheVariants.{Put, Remove, Validate, Derive}
 
 pub data CommandValue : Type 0 where
   put : List Tree → CommandValue
   remove : Text → CommandValue
   -- the url of a profile, and the bytes of a resource
   validate : Text → List ℕ → CommandValue
+  -- the urls of a derived profile and of its base
+  derive : (derived base : List ℕ) → CommandValue
 
 abbrev pub command_seen : Command → CommandValue
 command_seen (Put trees) = put (trees_of trees.items)
 command_seen (Remove url) = remove (string_bytes url)
 command_seen (Validate profile resource) = validate (string_bytes profile) resource.items
+command_seen (Derive derived base) = derive (string_bytes derived) (string_bytes base)
 
 -- ---- how one is written
 
@@ -42,11 +45,17 @@ abbrev pub validate_in : List Tree → Option CommandValue
 validate_in (profile ∷ resource ∷ []) = option_map (λ url. validate url (compact resource)) (as_text profile)
 validate_in _ = None
 
+-- the urls of a derived profile and of its base
+abbrev pub derive_in : List Tree → Option CommandValue
+derive_in (derived ∷ base ∷ []) = option_and_then (λ first. option_map (λ second. derive first second) (as_text base)) (as_text derived)
+derive_in _ = None
+
 abbrev pub command_of_member : Property → Option CommandValue
 command_of_member m =
     if bytes_eq m.0 (codes "put") then put_in m.1
     else (if bytes_eq m.0 (codes "remove") then option_map remove (as_text m.1)
-    else (if bytes_eq m.0 (codes "validate") then validate_in (list_of (as_items m.1)) else None))
+    else (if bytes_eq m.0 (codes "validate") then validate_in (list_of (as_items m.1))
+    else (if bytes_eq m.0 (codes "derive") then derive_in (list_of (as_items m.1)) else None)))
 
 abbrev pub command_of : Tree → Option CommandValue
 command_of t = option_and_then command_of_member (only_member t)

@@ -1,12 +1,12 @@
 //! Commands, and the lines on which they are written.
 
-ghost use Rattle.std.specs.Prelude.{◌≡◌, IfOk, map, option_map};
+ghost use Rattle.std.specs.Prelude.{◌≡◌, ◌∷◌, [], Some, IfOk, map, option_map};
 ghost use Rattle.std.specs.Option.{option_and_then};
 ghost use Rattle.fhir_json.specs.Fields.{as_text, as_items};
 ghost use Rattle.fhir_json.specs.Compact.{compact};
 ghost use Rattle.fhir_json.specs.Tree.{list_of};
 ghost use Rattle.fhir_json.specs.Views.{tree_of, trees_of, property_of};
-ghost use Rattle.fhir_commands.specs.Commands.{remove, validate, command_seen, only_of, only_member, put_in, validate_in, command_of_member, command_of, line_command};
+ghost use Rattle.fhir_commands.specs.Commands.{remove, validate, derive, command_seen, only_of, only_member, put_in, validate_in, derive_in, command_of_member, command_of, line_command};
 
 use fhir_json::{Json, JsonFault, Member, NoMemory, lists, read, write};
 use std::alloc::Global;
@@ -24,6 +24,13 @@ pub enum Command<'a> {
         profile: String,
         /// The bytes.
         resource: Vec<u8>,
+    },
+    /// The certificate that a profile narrows its base is derived.
+    Derive {
+        /// The url of the derived profile.
+        derived: String,
+        /// The url of the base.
+        base: String,
     },
 }
 
@@ -99,6 +106,49 @@ fn validate_of<'o>(alloc: Global, value: &Json<'_>) -> Result<Option<Command<'o>
     }
 }
 
+fn derive_with<'o>(
+    alloc: Global,
+    derived: &str,
+    base: &str,
+) -> Result<Option<Command<'o>>, NoMemory>
+    ensures { IfOk result (λ c. option_map command_seen c ≡ Some (derive derived.now base.now)) }
+{
+    let derived = String::from_str(alloc, derived)?;
+    let base = String::from_str(alloc, base)?;
+    Ok(Some(Command::Derive { derived, base }))
+}
+
+fn derive_between<'o>(
+    alloc: Global,
+    derived: &Json<'_>,
+    base: &Json<'_>,
+) -> Result<Option<Command<'o>>, NoMemory>
+    ensures { IfOk result (λ c. option_map command_seen c ≡ derive_in (tree_of derived.now ∷ tree_of base.now ∷ [])) }
+{
+    match (derived.as_text(), base.as_text()) {
+        (Some(derived), Some(base)) => derive_with(alloc, derived, base),
+        _ => Ok(None),
+    }
+}
+
+fn derive_in<'o>(alloc: Global, items: &[Json<'_>]) -> Result<Option<Command<'o>>, NoMemory>
+    ensures { IfOk result (λ c. option_map command_seen c ≡ derive_in (trees_of items.now)) }
+{
+    match items {
+        [derived, base] => derive_between(alloc, derived, base),
+        _ => Ok(None),
+    }
+}
+
+fn derive_of<'o>(alloc: Global, value: &Json<'_>) -> Result<Option<Command<'o>>, NoMemory>
+    ensures { IfOk result (λ c. option_map command_seen c ≡ derive_in (list_of (as_items (tree_of value.now)))) }
+{
+    match value {
+        Json::Arr(items) => derive_in(alloc, items),
+        _ => Ok(None),
+    }
+}
+
 fn command_of_member<'a>(alloc: Global, member: Member<'a>) -> Result<Option<Command<'a>>, NoMemory>
     ensures { IfOk result (λ c. option_map command_seen c ≡ command_of_member (property_of member.entry)) }
 {
@@ -106,6 +156,7 @@ fn command_of_member<'a>(alloc: Global, member: Member<'a>) -> Result<Option<Com
         "put" => Ok(put_in(member.value)),
         "remove" => remove_in(alloc, &member.value),
         "validate" => validate_of(alloc, &member.value),
+        "derive" => derive_of(alloc, &member.value),
         _ => Ok(None),
     }
 }

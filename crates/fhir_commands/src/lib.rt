@@ -20,4 +20,4 @@ mod reply;
 
 pub use command::Command;
 pub use line::{LINE_FAULT, Line, MEMORY_FAULT, fixed_lines};
-pub use reply::{PutAnswer, RemoveAnswer, Reply, Standing};
+pub use reply::{DeriveAnswer, PutAnswer, RemoveAnswer, Reply, Standing};

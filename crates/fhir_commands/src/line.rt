@@ -3,7 +3,7 @@
 ghost use Rattle.std.specs.Prelude.{◌≡◌, codes};
 ghost use Rattle.fhir_commands.specs.declared.reply.PutAnswer.TheVariants as puts;
 ghost use Rattle.fhir_commands.specs.declared.reply.RemoveAnswer.TheVariants as removes;
-ghost use Rattle.fhir_commands.specs.Replies.{put, remove, reply_tree, fault_tree, line_of, line_seen};
+ghost use Rattle.fhir_commands.specs.Replies.{put, remove, derive, missing, unusable, reply_tree, fault_tree, line_of, line_seen};
 
 /// A line that is written, with its line feed.
 #[derive(Debug, Drop)]
@@ -42,8 +42,12 @@ pub(crate) const REMOVE_DONE: &str = "{\"remove\":\"done\"}\n";
 
 pub(crate) const REMOVE_ABSENT: &str = "{\"remove\":\"absent\"}\n";
 
+pub(crate) const DERIVE_MISSING: &str = "{\"derive\":\"D1\"}\n";
+
+pub(crate) const DERIVE_UNUSABLE: &str = "{\"derive\":\"D2\"}\n";
+
 /// The lines that are always the same: those that answer what is no command (`line`) and a command for which memory ran out (`memory`),
-/// and the replies to commands that change definitions.
+/// the replies to commands that change definitions, and the refusals of those that derive.
 pub fn fixed_lines()
     ensures line { LINE_FAULT.now ≡ line_of (fault_tree (codes "line")) }
     ensures memory { MEMORY_FAULT.now ≡ line_of (fault_tree (codes "memory")) }
@@ -52,4 +56,6 @@ pub fn fixed_lines()
     ensures put_twice { PUT_TWICE.now ≡ line_of (reply_tree (put puts.Twice)) }
     ensures remove_done { REMOVE_DONE.now ≡ line_of (reply_tree (remove removes.Done)) }
     ensures remove_absent { REMOVE_ABSENT.now ≡ line_of (reply_tree (remove removes.Absent)) }
+    ensures derive_missing { DERIVE_MISSING.now ≡ line_of (reply_tree (derive missing)) }
+    ensures derive_unusable { DERIVE_UNUSABLE.now ≡ line_of (reply_tree (derive unusable)) }
 {}

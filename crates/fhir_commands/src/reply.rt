@@ -1,16 +1,18 @@
 //! Replies, and the lines on which they are written.
 
-ghost use Rattle.std.specs.Prelude.{◌≡◌, ◌∷◌, [], true, IfOk, IsOk, codes};
-ghost use Rattle.fhir_json.specs.Tree.{string};
+ghost use Rattle.std.specs.Prelude.{◌≡◌, ◌∷◌, [], true, IfOk, IsOk, codes, string_bytes};
+ghost use Rattle.std.specs.Fmt.{decimal};
+ghost use Rattle.fhir_json.specs.Tree.{number, string};
 ghost use Rattle.fhir_json.specs.Views.{tree_of, property_of};
 ghost use Rattle.fhir_json.specs.Memory.{Gives};
-ghost use Rattle.fhir_commands.specs.Replies.{put, remove, validate, put_text, remove_text, standing_text, reply_seen, reply_tree, line_of, line_seen, is_short, fields};
+ghost use Rattle.fhir_commands.specs.Replies.{put, remove, validate, derive, refuted, put_text, remove_text, standing_text, derive_text, derive_seen, reply_seen, reply_tree, line_of, line_seen, is_refusal, is_short, fields};
 
 use crate::line::{
-    Line, PUT_DONE, PUT_NO_DEFINITION, PUT_TWICE, REMOVE_ABSENT, REMOVE_DONE, fixed_lines,
+    DERIVE_MISSING, DERIVE_UNUSABLE, Line, PUT_DONE, PUT_NO_DEFINITION, PUT_TWICE, REMOVE_ABSENT,
+    REMOVE_DONE, fixed_lines,
 };
 use fhir_json::{Json, Member, NoMemory, write};
-use std::alloc::Global;
+use std::alloc::{AllocError, Global};
 use std::borrow::CowStr;
 
 /// What comes of definitions that are to be put in.
@@ -46,6 +48,29 @@ pub enum Standing {
     Fault,
 }
 
+/// What comes of two profiles of which a certificate is to be derived.
+#[derive(Debug, Drop)]
+pub enum DeriveAnswer {
+    /// There is a certificate.
+    Derived {
+        /// Its bytes.
+        certificate: Vec<u8>,
+        /// How many pairs it has.
+        pairs: usize,
+    },
+    /// There is none. It doesn't say that the derived profile allows more than its base.
+    Refuted {
+        /// A pair that fails a rule.
+        at: String,
+        /// That rule.
+        rule: String,
+    },
+    /// `D1`: no definition of one of the urls is there.
+    Missing,
+    /// `D2`: the definition of one of the urls can't be used.
+    Unusable,
+}
+
 /// What comes of a command, unless memory runs out.
 #[derive(Debug, Drop)]
 pub enum Reply {
@@ -55,6 +80,8 @@ pub enum Reply {
     Remove(RemoveAnswer),
     /// How a resource stands, and the outcome of its validation.
     Validate(Standing, Json<'static>),
+    /// Of two profiles.
+    Derive(DeriveAnswer),
 }
 
 impl PutAnswer {
@@ -117,12 +144,12 @@ impl Standing {
     }
 }
 
-fn standing_member(standing: Standing) -> Member<'static>
-    ensures { property_of result ≡ (codes "validate", string (standing_text standing)) }
+fn word_member(name: &'static str, word: &'static str) -> Member<'static>
+    ensures { property_of result ≡ (name.now, string word.now) }
 {
     Member {
-        name: CowStr::Borrowed("validate"),
-        value: Json::Str(CowStr::Borrowed(standing.text())),
+        name: CowStr::Borrowed(name),
+        value: Json::Str(CowStr::Borrowed(word)),
     }
 }
 
@@ -143,7 +170,10 @@ fn judgement_tree(
     ensures { IfOk result (λ json. tree_of json
         ≡ fields ((codes "validate", string (standing_text standing)) ∷ (codes "outcome", tree_of outcome.entry) ∷ [])) }
 {
-    let members = vec![in alloc; standing_member(standing), outcome_member(outcome)]?;
+    let members = vec![in alloc;
+        word_member("validate", standing.text()),
+        outcome_member(outcome),
+    ]?;
     Ok(Json::Obj(members))
 }
 
@@ -166,9 +196,94 @@ fn judgement_line(
     Ok(Line::Made(line_of(alloc, &json)?))
 }
 
+impl DeriveAnswer {
+    /// `yes` or `no`, or the number of the refusal.
+    pub fn text(&self) -> &'static str
+        ensures { result.now ≡ derive_text (derive_seen self.now) }
+    {
+        match self {
+            DeriveAnswer::Derived { .. } => "yes",
+            DeriveAnswer::Refuted { .. } => "no",
+            DeriveAnswer::Missing => "D1",
+            DeriveAnswer::Unusable => "D2",
+        }
+    }
+
+    fn into_line(self, alloc: Global) -> Result<Line, NoMemory>
+        ensures line { Gives line_seen result (line_of (reply_tree (derive (derive_seen self)))) }
+        ensures always { is_refusal (derive_seen self) ≡ true → IsOk result }
+    {
+        fixed_lines();
+        match self {
+            DeriveAnswer::Derived { pairs, .. } => derived_line(alloc, pairs),
+            DeriveAnswer::Refuted { at, rule } => refuted_line(alloc, at, rule),
+            DeriveAnswer::Missing => Ok(Line::Fixed(DERIVE_MISSING)),
+            DeriveAnswer::Unusable => Ok(Line::Fixed(DERIVE_UNUSABLE)),
+        }
+    }
+}
+
+fn text_member(name: &'static str, text: String) -> Member<'static>
+    ensures { property_of result ≡ (name.now, string (string_bytes text)) }
+{
+    Member {
+        name: CowStr::Borrowed(name),
+        value: Json::Str(CowStr::Owned(text)),
+    }
+}
+
+fn count_member(
+    alloc: Global,
+    name: &'static str,
+    count: usize,
+) -> Result<Member<'static>, AllocError>
+    ensures { IfOk result (λ m. property_of m ≡ (name.now, number (decimal count))) }
+{
+    Ok(Member {
+        name: CowStr::Borrowed(name),
+        value: Json::Num(CowStr::Owned(format!(in alloc; "{count}")?)),
+    })
+}
+
+fn derived_tree(alloc: Global, pairs: usize) -> Result<Json<'static>, NoMemory>
+    ensures { IfOk result (λ json. tree_of json
+        ≡ fields ((codes "derive", string (codes "yes")) ∷ (codes "pairs", number (decimal pairs)) ∷ [])) }
+{
+    let count = count_member(alloc, "pairs", pairs)?;
+    let members = vec![in alloc; word_member("derive", "yes"), count]?;
+    Ok(Json::Obj(members))
+}
+
+fn derived_line(alloc: Global, pairs: usize) -> Result<Line, NoMemory>
+    ensures { Gives line_seen result
+        (line_of (fields ((codes "derive", string (codes "yes")) ∷ (codes "pairs", number (decimal pairs)) ∷ []))) }
+{
+    let json = derived_tree(alloc, pairs)?;
+    Ok(Line::Made(line_of(alloc, &json)?))
+}
+
+fn refuted_tree(alloc: Global, at: String, rule: String) -> Result<Json<'static>, NoMemory>
+    ensures { IfOk result (λ json. tree_of json ≡ fields ((codes "derive", string (codes "no"))
+        ∷ (codes "at", string (string_bytes at)) ∷ (codes "rule", string (string_bytes rule)) ∷ [])) }
+{
+    let members = vec![in alloc;
+        word_member("derive", "no"),
+        text_member("at", at),
+        text_member("rule", rule),
+    ]?;
+    Ok(Json::Obj(members))
+}
+
+fn refuted_line(alloc: Global, at: String, rule: String) -> Result<Line, NoMemory>
+    ensures { Gives line_seen result (line_of (reply_tree (derive (refuted (string_bytes at) (string_bytes rule))))) }
+{
+    let json = refuted_tree(alloc, at, rule)?;
+    Ok(Line::Made(line_of(alloc, &json)?))
+}
+
 impl Reply {
     /// The line on which the reply is written. Where definitions were to be changed it takes no memory, so that what was done is always
-    /// told; else want of memory is the one refusal.
+    /// told, nor does a refusal to derive; else want of memory is the one refusal.
     pub fn into_line(self, alloc: Global) -> Result<Line, NoMemory>
         ensures line { Gives line_seen result (line_of (reply_tree (reply_seen self))) }
         ensures always { is_short (reply_seen self) ≡ true → IsOk result }
@@ -177,6 +292,7 @@ impl Reply {
             Reply::Put(answer) => Ok(Line::Fixed(answer.line())),
             Reply::Remove(answer) => Ok(Line::Fixed(answer.line())),
             Reply::Validate(standing, outcome) => judgement_line(alloc, standing, outcome),
+            Reply::Derive(answer) => answer.into_line(alloc),
         }
     }
 }

@@ -29,3 +29,11 @@ returns-clause-remove_done c = refl
 pub returns-clause-remove_absent : goal.returns-clause-remove_absent
 unfolding escape_text
 returns-clause-remove_absent c = refl
+
+pub returns-clause-derive_missing : goal.returns-clause-derive_missing
+unfolding escape_text
+returns-clause-derive_missing c = refl
+
+pub returns-clause-derive_unusable : goal.returns-clause-derive_unusable
+unfolding escape_text
+returns-clause-derive_unusable c = refl
