@@ -2,7 +2,7 @@
 //! against each other. That of `fhir_engine` stands in `engine_tests`, which stands on it in any case.
 #![tactic(auto)]
 
-ghost use Rattle.std.specs.Prelude.{◌≡◌, ◌↔◌, ◌||◌, [], length, get_or, false, None, Ok, is_ok, is_some, List, Option, Result, if◌then◌else◌, IsTrue, IfOk, codes, string_bytes, option_map};
+ghost use Rattle.std.specs.Prelude.{◌≡◌, ◌∷◌, ◌↔◌, ◌||◌, [], length, get_or, false, None, Ok, is_ok, is_some, List, Option, Result, if◌then◌else◌, IsTrue, IfOk, codes, string_bytes, option_map};
 ghost use Rattle.std.specs.FinSet as set;
 ghost use Rattle.std.specs.Option.{option_map_or};
 ghost use Rattle.fhir_json.specs.Tree.{Text, Tree};
@@ -48,6 +48,8 @@ ghost use Rattle.fhir_conformance.specs.Conformance.{Interpretation, Conforms};
 ghost use Rattle.fhir_certificate.specs.Certificate.{CertificateValue};
 ghost use Rattle.fhir_certificate.specs.Judging.{Stands};
 ghost use Rattle.fhir_cert_check.specs.Checking.{SpellsCertificate};
+ghost use Rattle.fhir_entail.specs.Entailment.{entails};
+ghost use Rattle.fhir_derive_check.specs.Reaching.{HasCertificate};
 ghost use Rattle.fhir_findings.specs.Finding.{all_unusable};
 ghost use Rattle.fhir_report.specs.Faultless.{IsRightBy};
 ghost use Rattle.fhir_commands.specs.Commands.{command_seen, line_command};
@@ -65,7 +67,9 @@ use fhir_commands::{Command, Reply};
 use fhir_conformance::{KidsByName, asks};
 use fhir_decimal::Decimal;
 use fhir_definition::Definition;
+use fhir_derive_check::{DeriveFault, Outcome, derive};
 use fhir_elements::{ElementDef, ElementFault};
+use fhir_entail::entails;
 use fhir_facets::{Facet, Pattern, narrower_holds};
 use fhir_forms::NodeForms;
 use fhir_fp_eval::{Env, holds};
@@ -338,6 +342,28 @@ pub fn is_right(alloc: Global, schema: &Schema, bytes: &[u8]) -> Result<bool, Ce
     match check_bytes(alloc, schema, bytes)? {
         Answer::Yes => Ok(true),
         Answer::No(_, _) => Ok(false),
+    }
+}
+
+/// Whether one expression that is true makes another true.
+pub fn one_entails(known: &Expr, expression: &Expr) -> bool
+    ensures { result ≡ entails (expression_of known.now ∷ []) (expression_of expression.now) }
+{
+    entails(&[known], expression)
+}
+
+/// Whether there is a certificate for two profiles.
+pub fn has_certificate(
+    alloc: Global,
+    schema: &Schema,
+    derived: &str,
+    base: &str,
+) -> Result<bool, DeriveFault>
+    ensures { IfOk result (λ yes. IsTrue yes ↔ HasCertificate schema.now derived.now base.now) }
+{
+    match derive(alloc, schema, derived, base)? {
+        Outcome::Derives(_) => Ok(true),
+        Outcome::NoCertificate(_, _) => Ok(false),
     }
 }
 

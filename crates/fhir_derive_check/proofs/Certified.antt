@@ -1,6 +1,6 @@
 -- What is derived of what is reached.
 use Rattle.std.proofs.Common.{◌≡◌, ◌<◌, ℕ, arith, Bool, true, false, List, [], ◌∷◌, ◌++◌, refl, sym, ap, subst, ◌∙◌, ◌⊎◌, inl, inr, IsTrue, ◌||◌, ◌&&◌, not, filter, length, get_or, map}
-use Rattle.std.specs.Prelude.{◌↔◌, Option, None, Some, is_some, is_none, IfSome, if◌then◌else◌}
+use Rattle.std.specs.Prelude.{◌↔◌, Option, None, Some, is_some, IfSome}
 use Rattle.std.specs.List.{Contains, filter_map, list_any, list_all}
 use Rattle.std.specs.Option.{option_map, option_and_then}
 use Rattle.std.proofs.lemmas.Bool.{and_parts, and_from, or_cases, or_right, false≢true, cases_Bool}
@@ -8,8 +8,7 @@ use Rattle.std.proofs.lemmas.Option.{none-some, same_Some}
 use Rattle.fhir_json.specs.Tree.{Text}
 use Rattle.fhir_nodes.specs.declared.node.NodeRef.{NodeRef}
 use Rattle.fhir_package.specs.Definitions.{Definitions}
-use Rattle.fhir_elements.specs.declared.reason.Reason.{Reason}
-use Rattle.fhir_schema.specs.Schemas.{SchemaValue, schema_of, has, root, unusable}
+use Rattle.fhir_schema.specs.Schemas.{SchemaValue, schema_of, has, root}
 use Rattle.fhir_certificate.specs.declared.pair.NodePair.{NodePair}
 use Rattle.fhir_certificate.specs.declared.pair.Pair.{Pair}
 use Rattle.fhir_certificate.specs.declared.pair.Pair.TheVariants.{Item, Kids}
@@ -25,9 +24,6 @@ use Rattle.fhir_derive_check.specs.Finding.{is_in, IsDiscovery}
 use Rattle.fhir_derive_check.specs.Reaching.{IsTenable, roots_between, HasCertificate}
 use Rattle.fhir_derive_check.specs.Deriving.{items_in, kids_in, none_twice, IsDerived, IsFirstFailing}
 use Rattle.fhir_derive_check.specs.Views.{certificate_of, failing_of}
-use Rattle.fhir_derive_check.specs.Faults.{derive_refusal}
-use Rattle.fhir_derive_check.specs.Faults.{refusal as fault_of}
-use Rattle.fhir_derive_check.specs.declared.fault.Side.TheVariants.{Derived, Base}
 use Rattle.fhir_derive_check.specs.Discovering.{asked_within, HasAll}
 use Rattle.fhir_derive_check.specs.Outcomes.{MorePairs, IsSettled, IsMet, IsListed, IsDerivation, IsRefusal, IsOutcome, item_of, kids_of}
 use Rattle.fhir_derive_check.specs.Pruning.{wrong_seen, all_failing}
@@ -216,25 +212,6 @@ both-roots (Some n) (Some m) roots e =
     let made : NodePair = record { derived = n; base = m } in
     let same : made ≡ roots = same_Some made roots e in
     (ap (λ r. Some r.derived) same, ap (λ r. Some r.base) same)
-
-abbrev pair_of : NodeRef → NodeRef → NodePair
-pair_of n m = record { derived = n; base = m }
-
--- where nothing is refused, both definitions have a root
-pub no-roots : (s : SchemaValue) (derived base : Text) → derive_refusal s derived base ≡ None → roots_between s derived base ≡ None → ⊥
-no-roots s derived base e r = go (root s derived) (root s base) (unusable s derived) (unusable s base) e r
-  where
-    go : (n m : Option NodeRef) (u v : Option Reason)
-        → fault_of (if is_none n && is_none u then Some Derived else (if is_none m && is_none v then Some Base else None)) (if is_some u then Some Derived else (if is_some v then Some Base else None)) ≡ None
-        → option_and_then (λ n. option_map (λ m. pair_of n m) m) n ≡ None → ⊥
-    go None m None v e r = none-some _ (sym e)
-    go None None (Some u) None e r = none-some _ (sym e)
-    go None None (Some u) (Some v) e r = none-some _ (sym e)
-    go None (Some m) (Some u) v e r = none-some _ (sym e)
-    go (Some n) None u None e r = none-some _ (sym e)
-    go (Some n) None None (Some v) e r = none-some _ (sym e)
-    go (Some n) None (Some u) (Some v) e r = none-some _ (sym e)
-    go (Some n) (Some m) u v e r = none-some _ (sym r)
 
 -- the law of nodes
 abbrev pub AskedAreNodes : Type 0

@@ -263,3 +263,7 @@ measure-falls s askers p live now list rest more found revised within popped =
           let b = ap length same.1 in
           omega (arith, a, b, long)
     ]
+
+pub none-listed : (list : List Pair) → length list ≡ 0 → list ≡ []
+none-listed [] e = refl
+none-listed (p ∷ ps) e = absurd (omega (arith, e))

@@ -1,3 +1,4 @@
+pub mod Derived
 pub mod Ends
 pub mod Judging
 pub mod Promises

@@ -16,25 +16,27 @@ use Rattle.fhir_snapshot.specs.Refusing.{Applies}
 use Rattle.fhir_schema.specs.Schemas.{SchemaValue}
 use Rattle.fhir_commands.specs.declared.reply.Standing.{Standing}
 use Rattle.fhir_registry.specs.Judging.{IsJudged}
+use Rattle.fhir_registry.specs.Deriving.{Derivation, IsDerivationOf}
 use Rattle.fhir_report.specs.declared.writing.Format.{Format}
 use Rattle.fhir_report.specs.Faultless.{CertificateValue}
 use Rattle.fhir_engine.specs.declared.request.WordsFault.{WordsFault}
 use Rattle.fhir_engine.specs.declared.request.WordsFault.TheVariants.{Usage, NoMemory}
 use Rattle.fhir_engine.specs.declared.version.TheConstants.{VERSION}
-use Rattle.fhir_engine.specs.Replying.{ReplyValue, written, told, fault_reply, refused_reply, unreadable_reply, certificate_reply}
+use Rattle.fhir_engine.specs.Replying.{ReplyValue, written, told, fault_reply, refused_reply, unreadable_reply, certificate_reply, derivation_reply}
 use Rattle.fhir_engine.specs.Reporting.{IsAllRight, IsReportOf}
-use Rattle.fhir_engine.specs.Requests.{RequestValue, certify, validate, snapshot, check, folder_of, InvocationValue, request, version}
+use Rattle.fhir_engine.specs.Requests.{RequestValue, certify, validate, snapshot, derive, check, folder_of, InvocationValue, request, version}
 use Rattle.fhir_engine.specs.Session.{SessionValue, IsSessionOf, schema_in}
 use Rattle.fhir_engine.specs.Status.{code_of, standing_status, report_status, words_status}
 
 -- ---- answers, and the replies that are theirs
 
--- a reply that is stated; one on the bytes of a resource and a profile; one on the definition at a url; or a report on a session and
--- a certificate
+-- a reply that is stated; one on the bytes of a resource and a profile; one on the definition at a url; one on a derived profile and its
+-- base; or a report on a session and a certificate
 pub data AnswerValue : Type 0 where
   stated : ReplyValue → AnswerValue
   judged : SchemaValue → (profile bytes : List ℕ) → AnswerValue
   listed : Definitions → List ℕ → AnswerValue
+  between : SchemaValue → (derived base : List ℕ) → AnswerValue
   reported : Format → SessionValue → Option CertificateValue → AnswerValue
 
 -- The status says how the resource stands, and an outcome that says so is written, with a line feed.
@@ -57,6 +59,12 @@ IsListed p url (written status out) =
 IsListed p url (told status err) =
     (number : SnapNumber) × Applies p url number × (told status err ≡ fault_reply (number_text number) url)
 
+-- What comes of the two profiles is told.
+pub record IsDerivationReply (s : SchemaValue) (derived base : Text) (reply : ReplyValue) : Type 0 where
+  pub derivation : Derivation
+  pub is_derivation : IsDerivationOf s derived base derivation
+  pub is_reply : reply ≡ derivation_reply s derived base derivation
+
 -- The status says whether all is right, and a report is written.
 pub record IsReported (format : Format) (s : SessionValue) (certificate : Option CertificateValue) (reply : ReplyValue) : Type 0 where
   pub is_clean : Bool
@@ -69,6 +77,7 @@ abbrev pub IsReply : AnswerValue → ReplyValue → Type 0
 IsReply (stated answer) reply = reply ≡ answer
 IsReply (judged s profile bytes) reply = IsAnswered s profile bytes reply
 IsReply (listed p url) reply = IsListed p url reply
+IsReply (between s derived base) reply = IsDerivationReply s derived base reply
 IsReply (reported format s certificate) reply = IsReported format s certificate reply
 
 -- ---- the answer to a request
@@ -98,6 +107,7 @@ abbrev pub answer_by : RequestValue → SessionValue → Option Text → AnswerV
 answer_by (certify folder name) s file = package_answer (refusal s.survey) (certify_answer (schema_in s) name file)
 answer_by (validate folder profile name) s file = package_answer (refusal s.survey) (validate_answer (schema_in s) profile name file)
 answer_by (snapshot folder url) s file = package_answer (refusal s.survey) (listed s.survey.definitions url)
+answer_by (derive folder derived base) s file = package_answer (refusal s.survey) (between (schema_in s) derived base)
 answer_by (check folder certificate format) s file = check_answer format s certificate file
 
 -- A reply to a request, of the files that were read of a folder, or of a folder that wasn't listed.

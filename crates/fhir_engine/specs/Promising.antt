@@ -10,12 +10,16 @@ use Rattle.fhir_elements.specs.Element.{Element}
 use Rattle.fhir_snapshot.specs.Snapshots.{IsSnapshot}
 use Rattle.fhir_snapshot.specs.Completing.{Completes}
 use Rattle.fhir_schema.specs.Schemas.{SchemaValue, schema_of}
+use Rattle.fhir_certificate.specs.Certificate.{CertificateValue as DerivedValue}
+use Rattle.fhir_cert_check.specs.Checking.{IsCertificate}
+use Rattle.fhir_cert_check.specs.Inclusion.{Includes}
+use Rattle.fhir_derive_check.specs.Deriving.{IsDerived}
 use Rattle.fhir_findings.specs.Clean.{AreUsable}
 use Rattle.fhir_registry.specs.Standing.{AlwaysConforms}
 use Rattle.fhir_report.specs.Faultless.{CertificateValue, Promises, IsRightIfAny, PromisesIfAny}
 use Rattle.fhir_engine.specs.declared.request.WordsFault.{WordsFault}
 use Rattle.fhir_engine.specs.Reporting.{asked}
-use Rattle.fhir_engine.specs.Requests.{RequestValue, certify, validate, snapshot, check, InvocationValue, request, version}
+use Rattle.fhir_engine.specs.Requests.{RequestValue, certify, validate, snapshot, derive, check, InvocationValue, request, version}
 use Rattle.fhir_engine.specs.Session.{SessionValue}
 
 -- The file was read. Its bytes spell a certificate, and each resource that conforms to its derived profile conforms to its base, as
@@ -39,11 +43,17 @@ Checked s name file = (certificate : Option CertificateValue) × (asked name fil
 abbrev pub Listed : Definitions → Text → Type 0
 Listed p url = (es : List Element) × IsSnapshot p url es
 
+-- The certificate of the pairs that are reached between two profiles is right, and each resource that conforms to the derived one conforms to
+-- its base, whatever unread rules mean that is fair.
+abbrev pub Derived : SchemaValue → (derived base : Text) → Type 0
+Derived s derived base = (c : DerivedValue) × IsDerived s derived base c × IsCertificate s c × Includes s derived base
+
 -- of a package that is completed
 abbrev pub Promised : RequestValue → Definitions → Option Text → Type 0
 Promised (certify folder name) p file = Certified (schema_of p) file
 Promised (validate folder profile name) p file = Validated (schema_of p) profile file
 Promised (snapshot folder url) p file = Listed p url
+Promised (derive folder derived base) p file = Derived (schema_of p) derived base
 Promised (check folder certificate format) p file = Checked (schema_of p) certificate file
 
 -- of a session: nothing is wrong with any file, and the same of its package

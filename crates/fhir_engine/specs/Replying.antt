@@ -7,9 +7,14 @@ use Rattle.fhir_schema.specs.Schemas.{SchemaValue}
 use Rattle.fhir_certificate.specs.declared.fault.CertFault.{CertFault}
 use Rattle.fhir_certificate.specs.declared.pair.Pair.{Pair}
 use Rattle.fhir_certificate.specs.Faults.{cert_number}
+use Rattle.fhir_certificate.specs.Format.{text_of}
 use Rattle.fhir_certificate.specs.Reading.{reading}
+use Rattle.fhir_certificate.specs.Writing.{written_by}
 use Rattle.fhir_cert_check.specs.Rule.{RuleName}
 use Rattle.fhir_cert_check.specs.Checking.{answer_of}
+use Rattle.fhir_derive_check.specs.declared.fault.Side.{Side}
+use Rattle.fhir_derive_check.specs.declared.fault.Side.TheVariants.{Derived, Base}
+use Rattle.fhir_registry.specs.Deriving.{Derivation, derives, fails, missing, unusable}
 use Rattle.fhir_engine.specs.declared.reply.Reply.{Reply}
 use Rattle.fhir_engine.specs.declared.reply.Reply.TheVariants.{Answer, Fault}
 use Rattle.fhir_engine.specs.Status.{code_of}
@@ -58,6 +63,19 @@ wrong_reply s (Some wrong) = written 1 (wrong_text s wrong.0 wrong.1)
 abbrev pub checked_reply : Text → SchemaValue → Result (Option (Pair × RuleName)) CertFault → ReplyValue
 checked_reply name s (Ok wrong) = wrong_reply s wrong
 checked_reply name s (Err fault) = fault_reply (cert_number fault) name
+
+-- the one of two urls that is on a side
+abbrev pub on_side : Side → (derived base : Text) → Text
+on_side Derived derived base = derived
+on_side Base derived base = base
+
+-- what comes of two profiles of which a certificate is to be derived: its text; or the pair that fails a rule; or the profile that isn't there,
+-- or can't be used
+abbrev pub derivation_reply : SchemaValue → (derived base : Text) → Derivation → ReplyValue
+derivation_reply s derived base (derives c) = written 0 (text_of (written_by s c))
+derivation_reply s derived base (fails pair rule) = written 1 (wrong_text s pair rule)
+derivation_reply s derived base (missing side) = fault_reply (codes "D1") (on_side side derived base)
+derivation_reply s derived base (unusable side) = fault_reply (codes "D2") (on_side side derived base)
 
 -- of a certificate's bytes, whose file has that name
 abbrev pub certificate_reply : Text → SchemaValue → Text → ReplyValue

@@ -10,6 +10,8 @@ pub data RequestValue : Type 0 where
   validate : (folder profile file : List ℕ) → RequestValue
   -- the snapshot of the definition at a url, among those in a folder
   snapshot : (folder url : List ℕ) → RequestValue
+  -- the certificate that the profile at a url narrows that at another, over the definitions in a folder
+  derive : (folder derived base : List ℕ) → RequestValue
   -- what is wrong with the files of a folder, and with the certificate in a file, if there is one
   check : List ℕ → Option (List ℕ) → Format → RequestValue
 
@@ -17,6 +19,7 @@ abbrev pub folder_of : RequestValue → Text
 folder_of (certify folder file) = folder
 folder_of (validate folder profile file) = folder
 folder_of (snapshot folder url) = folder
+folder_of (derive folder derived base) = folder
 folder_of (check folder certificate format) = folder
 
 -- the file that is asked about
@@ -24,6 +27,7 @@ abbrev pub file_of : RequestValue → Option Text
 file_of (certify folder file) = Some file
 file_of (validate folder profile file) = Some file
 file_of (snapshot folder url) = None
+file_of (derive folder derived base) = None
 file_of (check folder certificate format) = certificate
 
 -- what words ask for that is answered once

@@ -4,7 +4,7 @@ use Rattle.std.specs.List.{starts_with}
 use Rattle.std.specs.Str.{bytes_eq}
 use Rattle.fhir_json.specs.Tree.{Text}
 use Rattle.fhir_report.specs.declared.writing.Format.TheVariants.{Text as AsText}
-use Rattle.fhir_engine.specs.Requests.{RequestValue, certify, validate, snapshot, check, InvocationValue, request, TaskValue, answer, serve}
+use Rattle.fhir_engine.specs.Requests.{RequestValue, certify, validate, snapshot, derive, check, InvocationValue, request, TaskValue, answer, serve}
 
 abbrev pub is_option : Text → Bool
 is_option word = starts_with nat_eq word (codes "-")
@@ -27,6 +27,11 @@ abbrev pub snapshot_request : Text → Text → Text → Option RequestValue
 snapshot_request command first second =
     if bytes_eq command (codes "snapshot") && are_plain first second then Some (snapshot first second) else None
 
+abbrev pub derive_request : Text → Text → Text → Text → Option RequestValue
+derive_request command first second third =
+    if bytes_eq command (codes "derive") && not (is_option first) && are_plain second third
+    then Some (derive first second third) else None
+
 -- the check of a folder, and the same with a certificate
 abbrev pub check_request : Text → Text → Option RequestValue
 check_request command folder =
@@ -45,7 +50,8 @@ command_request command (first ∷ []) = check_request command first
 command_request command (first ∷ second ∷ []) =
     first_some (certify_request command first second)
     (first_some (snapshot_request command first second) (check_beside command first second))
-command_request command (first ∷ second ∷ third ∷ []) = validate_request command first second third
+command_request command (first ∷ second ∷ third ∷ []) =
+    first_some (validate_request command first second third) (derive_request command first second third)
 command_request command _ = None
 
 -- the same behind the program's name

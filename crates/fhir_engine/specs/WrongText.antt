@@ -4,7 +4,7 @@ use Rattle.fhir_json.specs.Tree.{Text}
 use Rattle.fhir_schema.specs.Schemas.{SchemaValue}
 use Rattle.fhir_certificate.specs.declared.pair.Pair.{Pair}
 use Rattle.fhir_cert_check.specs.Rule.{RuleName, rule_text}
-use Rattle.fhir_report.specs.Report.{pair_text}
+use Rattle.fhir_cert_check.specs.Texts.{pair_text}
 
 -- the pair that fails, and its rule
 abbrev pub wrong_text : SchemaValue → Pair → RuleName → Text

@@ -26,6 +26,7 @@
 #![tactic(auto)]
 
 mod answering;
+mod derive_reply;
 mod directory;
 mod engine;
 mod laws;

@@ -5,7 +5,7 @@ ghost use Rattle.std.specs.Result.{result_ok};
 ghost use Rattle.clap.specs.declared.error.kind.ErrorKind.TheVariants as kind;
 ghost use Rattle.fhir_engine.specs.declared.request.WordsFault.TheVariants as faults;
 ghost use Rattle.fhir_engine.specs.Requests.{folder_of, file_of, TaskValue, serve};
-ghost use Rattle.fhir_engine.specs.Words.{is_option, are_plain, certify_request, validate_request, snapshot_request, check_request, check_beside, first_some, command_request, plain_request, folder_to_serve, served_folder, plain_task};
+ghost use Rattle.fhir_engine.specs.Words.{is_option, are_plain, certify_request, validate_request, snapshot_request, derive_request, check_request, check_beside, first_some, command_request, plain_request, folder_to_serve, served_folder, plain_task};
 ghost use Rattle.fhir_engine.specs.Views.{bytes_seen, request_seen, task_seen};
 
 use crate::version::VERSION;
@@ -40,6 +40,15 @@ pub enum Request<'w> {
         /// The url.
         url: &'w str,
     },
+    /// The certificate that the profile at a url narrows that at another, over the definitions in a folder.
+    Derive {
+        /// The folder.
+        folder: &'w str,
+        /// The url of the derived profile.
+        derived: &'w str,
+        /// The url of the base.
+        base: &'w str,
+    },
     /// What is wrong with the files of a folder.
     Check {
         /// The folder.
@@ -60,6 +69,7 @@ impl<'w> Request<'w> {
             Request::Certify { folder, .. }
             | Request::Validate { folder, .. }
             | Request::Snapshot { folder, .. }
+            | Request::Derive { folder, .. }
             | Request::Check { folder, .. } => *folder,
         }
     }
@@ -70,7 +80,7 @@ impl<'w> Request<'w> {
     {
         match self {
             Request::Certify { file, .. } | Request::Validate { file, .. } => Some(*file),
-            Request::Snapshot { .. } => None,
+            Request::Snapshot { .. } | Request::Derive { .. } => None,
             Request::Check { certificate, .. } => *certificate,
         }
     }
@@ -130,6 +140,13 @@ fn snapshot<'a>(alloc: Global) -> Result<Command<'a>, AllocError> {
         .arg(Arg::new(alloc, "URL").required(true))
 }
 
+fn derive<'a>(alloc: Global) -> Result<Command<'a>, AllocError> {
+    Command::new(alloc, "derive")
+        .arg(Arg::new(alloc, "PACKAGE").required(true))?
+        .arg(Arg::new(alloc, "DERIVED").required(true))?
+        .arg(Arg::new(alloc, "BASE").required(true))
+}
+
 fn check<'a>(alloc: Global) -> Result<Command<'a>, AllocError> {
     Command::new(alloc, "check")
         .arg(Arg::new(alloc, "PACKAGE").required(true))?
@@ -152,6 +169,7 @@ fn program<'a>(alloc: Global) -> Result<Command<'a>, AllocError> {
         .subcommand(certify(alloc)?)?
         .subcommand(validate(alloc)?)?
         .subcommand(snapshot(alloc)?)?
+        .subcommand(derive(alloc)?)?
         .subcommand(check(alloc)?)?
         .subcommand(serve(alloc)?)
 }
@@ -224,6 +242,25 @@ fn snapshot_request<'w>(command: &str, first: &'w str, second: &'w str) -> Optio
     }
 }
 
+fn derive_request<'w>(
+    command: &str,
+    first: &'w str,
+    second: &'w str,
+    third: &'w str,
+) -> Option<Request<'w>>
+    ensures { option_map request_seen result ≡ derive_request command.now first.now second.now third.now }
+{
+    if command == "derive" && !is_option(first) && are_plain(second, third) {
+        Some(Request::Derive {
+            folder: first,
+            derived: second,
+            base: third,
+        })
+    } else {
+        None
+    }
+}
+
 fn check_request<'w>(command: &str, folder: &'w str) -> Option<Request<'w>>
     ensures { option_map request_seen result ≡ check_request command.now folder.now }
 {
@@ -272,6 +309,21 @@ fn request_of_two<'w>(command: &str, first: &'w str, second: &'w str) -> Option<
     }
 }
 
+fn request_of_three<'w>(
+    command: &str,
+    first: &'w str,
+    second: &'w str,
+    third: &'w str,
+) -> Option<Request<'w>>
+    ensures { option_map request_seen result ≡ first_some (validate_request command.now first.now second.now third.now)
+        (derive_request command.now first.now second.now third.now) }
+{
+    match validate_request(command, first, second, third) {
+        Some(request) => Some(request),
+        None => derive_request(command, first, second, third),
+    }
+}
+
 fn command_request<'w>(command: &str, words: &'w [String]) -> Option<Request<'w>>
     ensures { option_map request_seen result ≡ command_request command.now (map string_bytes words.now) }
 {
@@ -279,7 +331,7 @@ fn command_request<'w>(command: &str, words: &'w [String]) -> Option<Request<'w>
         [first] => check_request(command, first.as_str()),
         [first, second] => request_of_two(command, first.as_str(), second.as_str()),
         [first, second, third] => {
-            validate_request(command, first.as_str(), second.as_str(), third.as_str())
+            request_of_three(command, first.as_str(), second.as_str(), third.as_str())
         }
         _ => None,
     }
@@ -336,8 +388,8 @@ fn word<'a>(matches: &ArgMatches<'a>, id: &str) -> Result<&'a str, WordsFault> {
 }
 
 /// What the words ask for, of which the first is the program's name: `certify PACKAGE CERTIFICATE`,
-/// `validate PACKAGE PROFILE RESOURCE`, `snapshot PACKAGE URL`, `check PACKAGE [CERTIFICATE] [--json]`, `serve PACKAGE` or `--version`.
-/// Words without options are read as they stand, and all others by `clap`.
+/// `validate PACKAGE PROFILE RESOURCE`, `snapshot PACKAGE URL`, `derive PACKAGE DERIVED BASE`, `check PACKAGE [CERTIFICATE] [--json]`,
+/// `serve PACKAGE` or `--version`. Words without options are read as they stand, and all others by `clap`.
 pub fn task_of<'w>(alloc: Global, words: &'w [String]) -> Result<Task<'w>, WordsFault>
     ensures plain { (task : TaskValue) → plain_task (map string_bytes words.now) ≡ Some task
         → option_map task_seen (result_ok result) ≡ Some task }
@@ -367,6 +419,7 @@ fn matched<'w>(name: &str, matches: &ArgMatches<'w>) -> Result<Request<'w>, Word
         "certify" => certify_matched(matches),
         "validate" => validate_matched(matches),
         "snapshot" => snapshot_matched(matches),
+        "derive" => derive_matched(matches),
         "check" => check_matched(matches),
         _ => Err(WordsFault::Usage),
     }
@@ -391,6 +444,14 @@ fn snapshot_matched<'w>(matches: &ArgMatches<'w>) -> Result<Request<'w>, WordsFa
     Ok(Request::Snapshot {
         folder: word(matches, "PACKAGE")?,
         url: word(matches, "URL")?,
+    })
+}
+
+fn derive_matched<'w>(matches: &ArgMatches<'w>) -> Result<Request<'w>, WordsFault> {
+    Ok(Request::Derive {
+        folder: word(matches, "PACKAGE")?,
+        derived: word(matches, "DERIVED")?,
+        base: word(matches, "BASE")?,
     })
 }
 

@@ -4,14 +4,15 @@ ghost use Rattle.std.specs.Prelude.{◌≡◌, [], None, Some, IfOk, IfErr};
 ghost use Rattle.fhir_package.specs.Surveying.{refusal};
 ghost use Rattle.fhir_package.specs.SurveyView.{fault_seen};
 ghost use Rattle.fhir_report.specs.Faultless.{certificate_seen};
-ghost use Rattle.fhir_engine.specs.Answering.{IsReported, IsReply, listed, package_answer, certify_answer, validate_answer, check_answer, answer_by};
-ghost use Rattle.fhir_engine.specs.Promising.{Certified, Validated, Listed, AreRight, Checked, SessionPromise};
+ghost use Rattle.fhir_engine.specs.Answering.{IsReported, IsReply, listed, between, package_answer, certify_answer, validate_answer, check_answer, answer_by};
+ghost use Rattle.fhir_engine.specs.Promising.{Certified, Validated, Listed, Derived, AreRight, Checked, SessionPromise};
 ghost use Rattle.fhir_engine.specs.Replying.{reply_seen, status_of, refused_reply};
 ghost use Rattle.fhir_engine.specs.Session.{IsCompleted, IsSessionOf, schema_in};
 ghost use Rattle.fhir_engine.specs.Status.{report_status};
 ghost use Rattle.fhir_engine.specs.Views.{bytes_seen, request_seen};
 
 use crate::answering::{certify, list_snapshot, validate_file};
+use crate::derive_reply::derive_between;
 use crate::reply::{Reply, Status, fault_reply, unreadable_reply};
 use crate::request::Request;
 use fhir_findings::all_usable;
@@ -138,6 +139,7 @@ impl<'f> Session<'f> {
                 ..
             } => self.validate(alloc, profile, name, file),
             Request::Snapshot { url, .. } => self.snapshot(alloc, url),
+            Request::Derive { derived, base, .. } => self.derive(alloc, derived, base),
             Request::Check {
                 certificate,
                 format,
@@ -185,6 +187,18 @@ impl<'f> Session<'f> {
         match self.survey.refusal() {
             Some(fault) => Ok(refused_reply(alloc, fault)?),
             None => list_snapshot(alloc, self.survey.package(), url),
+        }
+    }
+
+    fn derive(&self, alloc: Global, derived: &str, base: &str) -> Result<Reply, NoMemory>
+        ensures told { IfOk result (λ r. IsReply
+            (package_answer (refusal self.now.survey) (between (schema_in self.now) derived.now base.now)) (reply_seen r)) }
+        ensures promised { IfOk result (λ r. status_of (reply_seen r) ≡ 0
+            → (self.now.survey.faults ≡ []) × Derived (schema_in self.now) derived.now base.now) }
+    {
+        match self.package() {
+            Ok(schema) => derive_between(alloc, schema, derived, base),
+            Err(fault) => Ok(refused_reply(alloc, fault)?),
         }
     }
 

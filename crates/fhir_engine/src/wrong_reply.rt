@@ -6,13 +6,14 @@ ghost use Rattle.fhir_engine.specs.WrongText.{wrong_text};
 ghost use Rattle.fhir_engine.specs.Replying.{reply_seen, wrong_reply};
 
 use crate::reply::{Reply, Status};
-use fhir_cert_check::{Answer, Rule};
+use fhir_cert_check::{Answer, Rule, rule_text};
 use fhir_certificate::Pair;
-use fhir_report::{no_text, rule_text};
+use fhir_report::no_text;
 use fhir_schema::Schema;
 use std::alloc::{AllocError, Global};
 
-fn wrong_text(
+/// What is printed of a pair that fails a rule.
+pub(crate) fn wrong_text(
     alloc: Global,
     schema: &Schema,
     pair: Pair,

@@ -1,7 +1,7 @@
 -- Commands whose replies may want memory to be written change nothing.
 use Rattle.std.proofs.Common.{◌≡◌, true, refl, ap}
 use Rattle.fhir_package.specs.Definitions.{Definitions}
-use Rattle.fhir_commands.specs.Commands.{CommandValue, put, remove, validate}
+use Rattle.fhir_commands.specs.Commands.{CommandValue, put, remove, validate, derive}
 use Rattle.fhir_commands.specs.Replies.{ReplyValue, is_short}
 use Rattle.fhir_registry.specs.Session.{after, IsReply}
 
@@ -9,3 +9,4 @@ pub unchanged : (p : Definitions) (c : CommandValue) (r : ReplyValue) → IsRepl
 unchanged p (put ts) r is long = absurd (long (ap is_short is))
 unchanged p (remove url) r is long = absurd (long (ap is_short is))
 unchanged p (validate profile bytes) r is long = refl
+unchanged p (derive derived base) r is long = refl

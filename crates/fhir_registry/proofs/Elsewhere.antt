@@ -7,7 +7,7 @@ use Rattle.fhir_reach.specs.Reach.{restrict}
 use Rattle.fhir_reach.specs.Search.{reached}
 use Rattle.fhir_snapshot.specs.Completing.{Completes}
 use Rattle.fhir_commands.specs.Replies.{ReplyValue}
-use Rattle.fhir_registry.specs.Session.{starts, reached_by, IsJudgement}
+use Rattle.fhir_registry.specs.Session.{starts, reached_by, ends, reached_between, IsJudgement, IsDerivation}
 
 same_judgement : (p other : Definitions) (profile bytes : Text) (reply : ReplyValue) → reached_by p profile bytes ≡ reached_by other profile bytes
     → IsJudgement p profile bytes reply → IsJudgement other profile bytes reply
@@ -27,3 +27,22 @@ pub by_reach : (p other : Definitions) (profile bytes : Text) (reply : ReplyValu
     → IsJudgement p profile bytes reply → IsJudgement other profile bytes reply
 by_reach p other profile bytes reply same reach =
     same_judgement p other profile bytes reply (same ∙ ap (λ (keys : List KeyValue). restrict other keys) (sym reach))
+
+-- ---- the same of derivations
+
+same_derivation : (p other : Definitions) (derived base : Text) (reply : ReplyValue) → reached_between p derived base ≡ reached_between other derived base
+    → IsDerivation p derived base reply → IsDerivation other derived base reply
+same_derivation p other derived base reply same d = record {
+  completed = d.completed;
+  completes = subst (λ (q : Definitions). Completes q d.completed) same d.completes;
+  answer = d.answer;
+  told = d.told;
+  is_reply = d.is_reply;
+}
+
+pub by_ends : (p other : Definitions) (derived base : Text) (reply : ReplyValue)
+    → restrict p (reached p (ends derived base)) ≡ restrict other (reached p (ends derived base))
+    → reached other (ends derived base) ≡ reached p (ends derived base)
+    → IsDerivation p derived base reply → IsDerivation other derived base reply
+by_ends p other derived base reply same reach =
+    same_derivation p other derived base reply (same ∙ ap (λ (keys : List KeyValue). restrict other keys) (sym reach))

@@ -13,8 +13,8 @@ use Rattle.fhir_reach.specs.Search.{reached}
 use Rattle.fhir_reach.specs.Starting.{starts_of}
 use Rattle.fhir_snapshot.specs.Completing.{Completes}
 use Rattle.fhir_schema.specs.Schemas.{schema_of}
-use Rattle.fhir_commands.specs.Commands.{CommandValue, put, remove, validate}
-use Rattle.fhir_commands.specs.Replies.{ReplyValue}
+use Rattle.fhir_commands.specs.Commands.{CommandValue, put, remove, validate, derive}
+use Rattle.fhir_commands.specs.Replies.{DeriveValue, ReplyValue}
 use Rattle.fhir_commands.specs.Replies as replies
 use Rattle.fhir_commands.specs.declared.reply.PutAnswer.{PutAnswer}
 use Rattle.fhir_commands.specs.declared.reply.PutAnswer.TheVariants as puts
@@ -22,6 +22,7 @@ use Rattle.fhir_commands.specs.declared.reply.RemoveAnswer.{RemoveAnswer}
 use Rattle.fhir_commands.specs.declared.reply.RemoveAnswer.TheVariants as removes
 use Rattle.fhir_commands.specs.declared.reply.Standing.{Standing}
 use Rattle.fhir_registry.specs.Judging.{IsJudged}
+use Rattle.fhir_registry.specs.Deriving.{IsDeriveAnswer}
 
 -- ---- definitions that are to be put in
 
@@ -46,6 +47,7 @@ abbrev pub after : CommandValue → Definitions → Definitions
 after (put ts) p = put_after (definitions_of ts) p
 after (remove url) p = without url p
 after (validate profile bytes) p = p
+after (derive derived base) p = p
 
 -- ---- replies
 
@@ -69,10 +71,27 @@ pub record IsJudgement (p : Definitions) (profile bytes : Text) (reply : ReplyVa
   pub judged : IsJudged (schema_of completed) profile bytes standing outcome
   pub is_reply : reply ≡ replies.validate standing outcome
 
+-- the keys with which a derivation begins: the two profiles
+abbrev pub ends : (derived base : Text) → List KeyValue
+ends derived base = of_url derived ∷ of_url base ∷ []
+
+-- the definitions that they reach, on which its reply rests
+abbrev pub reached_between : Definitions → (derived base : Text) → Definitions
+reached_between p derived base = restrict p (reached p (ends derived base))
+
+-- What comes of two profiles is told by the definitions that are reached, completed.
+pub record IsDerivation (p : Definitions) (derived base : Text) (reply : ReplyValue) : Type 0 where
+  pub completed : Definitions
+  pub completes : Completes (reached_between p derived base) completed
+  pub answer : DeriveValue
+  pub told : IsDeriveAnswer (schema_of completed) derived base answer
+  pub is_reply : reply ≡ replies.derive answer
+
 abbrev pub IsReply : Definitions → CommandValue → ReplyValue → Type 0
 IsReply p (put ts) reply = reply ≡ replies.put (put_answer (definitions_of ts))
 IsReply p (remove url) reply = reply ≡ replies.remove (remove_answer url p)
 IsReply p (validate profile bytes) reply = IsJudgement p profile bytes reply
+IsReply p (derive derived base) reply = IsDerivation p derived base reply
 
 -- ---- lists of commands, from the left
 

@@ -17,15 +17,17 @@
 //! ```
 //!
 //! The contract to read first is that of [`Registry::apply`]. What commands leave and what replies are right stands in
-//! `specs/Session.antt`, and what an outcome is in `specs/Outcomes.antt`.
+//! `specs/Session.antt`, what an outcome is in `specs/Outcomes.antt`, and what is told of two profiles in `specs/Deriving.antt`.
 #![tactic(auto)]
 
 mod answering;
+mod certifying;
 mod judging;
 mod laws;
 mod outcomes;
 mod registry;
 
+pub use certifying::derive_answer;
 pub use judging::judge;
 pub use laws::same_replies;
 pub use outcomes::outcome;

@@ -10,8 +10,9 @@ ghost use Rattle.fhir_reach.specs.Keys.{keys_seen};
 ghost use Rattle.fhir_snapshot.specs.Completing.{Completes};
 ghost use Rattle.fhir_commands.specs.Commands.{CommandValue, command_seen};
 ghost use Rattle.fhir_commands.specs.Replies.{reply_seen};
-ghost use Rattle.fhir_registry.specs.Session.{definitions_of, put_answer, put_after, remove_answer, starts, reached_by, IsJudgement, after, IsReply, after_all, AreReplies};
+ghost use Rattle.fhir_registry.specs.Session.{definitions_of, put_answer, put_after, remove_answer, starts, reached_by, ends, reached_between, IsJudgement, IsDerivation, after, IsReply, after_all, AreReplies};
 
+use crate::certifying::derive_answer;
 use crate::judging::judge;
 use fhir_commands::{Command, PutAnswer, RemoveAnswer, Reply};
 use fhir_json::{Json, JsonFault, NoMemory, read};
@@ -69,6 +70,15 @@ fn starts(alloc: Global, profile: &str, bytes: &[u8]) -> Result<Vec<Key>, NoMemo
     }
 }
 
+// The keys with which the derivation between two profiles begins.
+fn ends(alloc: Global, derived: &str, base: &str) -> Result<Vec<Key>, NoMemory>
+    ensures { IfOk result (λ keys. keys_seen keys.items ≡ ends derived.now base.now) }
+{
+    let derived = String::from_str(alloc, derived)?;
+    let base = String::from_str(alloc, base)?;
+    Ok(vec![in alloc; Key::Url(derived), Key::Url(base)]?)
+}
+
 // The definitions that the validation reaches.
 fn reached_by(
     alloc: Global,
@@ -105,6 +115,34 @@ fn judgement(
     let schema = completed_schema(alloc, reached)?;
     let (standing, outcome) = judge(alloc, &schema, profile, bytes)?;
     Ok(Reply::Validate(standing, outcome))
+}
+
+// The definitions that two profiles reach.
+fn reached_between(
+    alloc: Global,
+    definitions: &Package<'_>,
+    derived: &str,
+    base: &str,
+) -> Result<Package<'static>, NoMemory>
+    ensures { IfOk result (λ p. p ≡ reached_between definitions.now derived.now base.now) }
+{
+    let ends = ends(alloc, derived, base)?;
+    let keys = reach(alloc, definitions, &ends)?;
+    restrict(alloc, definitions, &keys)
+}
+
+// The reply on two profiles of which a certificate is to be derived.
+fn derivation(
+    alloc: Global,
+    definitions: &Package<'_>,
+    derived: &str,
+    base: &str,
+) -> Result<Reply, NoMemory>
+    ensures { IfOk result (λ r. IsDerivation definitions.now derived.now base.now (reply_seen r)) }
+{
+    let reached = reached_between(alloc, definitions, derived, base)?;
+    let schema = completed_schema(alloc, reached)?;
+    Ok(Reply::Derive(derive_answer(alloc, &schema, derived, base)?))
 }
 
 impl Registry {
@@ -152,8 +190,8 @@ impl Registry {
         }
     }
 
-    /// Does what a command asks, and replies. A resource is judged by the definitions that it reaches, as they stand, completed. The one
-    /// refusal is want of memory, which changes nothing.
+    /// Does what a command asks, and replies. A resource is judged by the definitions that it reaches, as they stand, completed, and a
+    /// certificate is derived by those that its two profiles reach. The one refusal is want of memory, which changes nothing.
     pub fn apply(&mut self, alloc: Global, command: Command<'_>) -> Result<Reply, NoMemory>
         ensures told { IfOk result (λ r. IsReply self.old (command_seen command.entry) (reply_seen r)) }
         ensures after { OnOk result (self.new ≡ after (command_seen command.entry) self.old) }
@@ -164,6 +202,9 @@ impl Registry {
             Command::Remove(url) => Ok(Reply::Remove(self.remove(url.as_str()))),
             Command::Validate { profile, resource } => {
                 judgement(alloc, &self.definitions, profile.as_str(), &resource)
+            }
+            Command::Derive { derived, base } => {
+                derivation(alloc, &self.definitions, derived.as_str(), base.as_str())
             }
         }
     }

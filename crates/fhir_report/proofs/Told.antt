@@ -5,6 +5,7 @@ use Rattle.std.proofs.lemmas.List.Elements.{All-push}
 use Rattle.std.proofs.lemmas.List.{map-append, take_more, take_all}
 use Rattle.fhir_findings.specs.declared.finding.Finding.{Finding}
 use Rattle.fhir_findings.specs.Finding.{fault_told, faults_told, unusable_told, all_told as unusable_each}
+use Rattle.fhir_cert_check.specs.Texts.{pair_text}
 use Rattle.fhir_report.specs.declared.line.Line.{Line}
 use Rattle.fhir_report.specs.declared.line.FaultNumber.{FaultNumber}
 use Rattle.fhir_report.specs.Lines.{LineValue, file_line, line_seen, lines_seen, row, rows}
@@ -14,7 +15,7 @@ use Rattle.fhir_schema.specs.Schemas.{SchemaValue}
 use Rattle.fhir_certificate.specs.declared.fault.CertFault.{CertFault}
 use Rattle.fhir_certificate.specs.declared.pair.Pair.{Pair}
 use Rattle.fhir_cert_check.specs.Rule.{RuleName}
-use Rattle.fhir_report.specs.Report.{Head, head, fault_head, unusable_head, is_of_file, is_unusable, kept, all_told, IsOfCertificate, TellsAnswer, pair_text}
+use Rattle.fhir_report.specs.Report.{Head, head, fault_head, unusable_head, is_of_file, is_unusable, kept, all_told, IsOfCertificate, TellsAnswer}
 use Rattle.fhir_report.specs.Growing.{Grows}
 use Rattle.fhir_report.specs.Lacking.{Lacking}
 

@@ -6,14 +6,13 @@ use Rattle.std.specs.Str.{bytes_eq}
 use Rattle.fhir_json.specs.Tree.{Text}
 use Rattle.fhir_json.specs.Refusals.{fault_of}
 use Rattle.fhir_package.specs.Surveying.{FileFault, unreadable, not_json, clash, Surveyed}
-use Rattle.fhir_nodes.specs.declared.node.NodeRef.{NodeRef}
-use Rattle.fhir_schema.specs.Schemas.{SchemaValue, url_at, id_of_node}
+use Rattle.fhir_schema.specs.Schemas.{SchemaValue}
 use Rattle.fhir_certificate.specs.declared.fault.CertFault.{CertFault}
 use Rattle.fhir_certificate.specs.declared.pair.Pair.{Pair}
-use Rattle.fhir_certificate.specs.declared.pair.Pair.TheVariants.{Item, Kids}
 use Rattle.fhir_certificate.specs.Reading.{reading}
 use Rattle.fhir_cert_check.specs.Checking.{answer_of}
 use Rattle.fhir_cert_check.specs.Rule.{RuleName}
+use Rattle.fhir_cert_check.specs.Texts.{pair_text}
 use Rattle.fhir_package.specs.SurveyView.{fault_seen}
 use Rattle.fhir_findings.specs.declared.finding.Finding.{Finding}
 use Rattle.fhir_findings.specs.declared.finding.Finding.TheVariants.{File as FileOne, Unusable as UnusableOne, Unread as UnreadOne}
@@ -92,25 +91,6 @@ TellsFinding lacking (UnreadOne u) l =
     (head l ≡ record { file = Some u.file.now; line = None; column = None; number = None; url = Some u.url.now }) × (l.id ≡ Some u.id.now)
 
 -- ---- what is told of a certificate
-
--- a node is its definition's url, and its id
-abbrev pub node_text : SchemaValue → NodeRef → Text
-node_text s n = url_at s n.definition ++ codes "#" ++ id_of_node s n
-
-abbrev pub pair_word : Pair → Text
-pair_word (Item p) = codes "item "
-pair_word (Kids p) = codes "kids "
-
-abbrev pub derived_of : Pair → NodeRef
-derived_of (Item p) = p.derived
-derived_of (Kids p) = p.derived
-
-abbrev pub base_of : Pair → NodeRef
-base_of (Item p) = p.base
-base_of (Kids p) = p.base
-
-abbrev pub pair_text : SchemaValue → Pair → Text
-pair_text s pair = pair_word pair ++ node_text s (derived_of pair) ++ codes " " ++ node_text s (base_of pair)
 
 -- a line of a file with one of these numbers
 abbrev pub IsOfCertificate : Text → LineValue → Type 0

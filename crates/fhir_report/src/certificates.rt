@@ -1,9 +1,10 @@
 //! What is told of a certificate.
 
-ghost use Rattle.std.specs.Prelude.{◌≡◌, ◌++◌, IfOk, None, codes, string_bytes};
+ghost use Rattle.std.specs.Prelude.{◌≡◌, ◌++◌, IfOk, None, codes};
 ghost use Rattle.fhir_json.specs.Tree.{Text};
 ghost use Rattle.fhir_report.specs.Lines.{file_line, line_seen};
-ghost use Rattle.fhir_report.specs.Report.{node_text, pair_word, derived_of, base_of, pair_text, IsOfCertificate};
+ghost use Rattle.fhir_cert_check.specs.Texts.{pair_text};
+ghost use Rattle.fhir_report.specs.Report.{IsOfCertificate};
 
 use crate::failing::no_text;
 use crate::line::{FaultNumber, Line};
@@ -11,7 +12,7 @@ use crate::narrowing::rule_words;
 use fhir_cert_check::Rule;
 use fhir_certificate::{CertFault, Flaw, FlawKind, LinePart, Pair};
 use fhir_json::NoMemory;
-use fhir_schema::{NodeRef, Schema};
+use fhir_schema::Schema;
 use std::alloc::{AllocError, Global};
 
 fn part_words(part: LinePart) -> &'static str {
@@ -65,57 +66,6 @@ pub fn flaw_line<'r>(alloc: Global, file: &'r str, flaw: &Flaw<'r>) -> Result<Li
         id,
         ..Line::of_file(file, Some(number), text)
     })
-}
-
-fn node_text(alloc: Global, schema: &Schema, node: NodeRef) -> Result<String, AllocError>
-    ensures { IfOk result (λ text. string_bytes text ≡ node_text schema.now node) }
-{
-    let (url, id) = schema.name(node);
-    let mut text = String::new(alloc);
-    text.push_str(url)?;
-    text.push_str("#")?;
-    text.push_str(id)?;
-    Ok(text)
-}
-
-fn pair_word(pair: Pair) -> &'static str
-    ensures { result.now ≡ pair_word pair }
-{
-    match pair {
-        Pair::Item(_) => "item ",
-        Pair::Kids(_) => "kids ",
-    }
-}
-
-fn derived_of(pair: Pair) -> NodeRef
-    ensures { result ≡ derived_of pair }
-{
-    match pair {
-        Pair::Item(nodes) => nodes.derived,
-        Pair::Kids(nodes) => nodes.derived,
-    }
-}
-
-fn base_of(pair: Pair) -> NodeRef
-    ensures { result ≡ base_of pair }
-{
-    match pair {
-        Pair::Item(nodes) => nodes.base,
-        Pair::Kids(nodes) => nodes.base,
-    }
-}
-
-/// A pair as a text: `item` or `kids`, and its two elements, each as URL`#`ID.
-pub fn pair_text(alloc: Global, schema: &Schema, pair: Pair) -> Result<String, AllocError>
-    ensures { IfOk result (λ text. string_bytes text ≡ pair_text schema.now pair) }
-{
-    let derived = node_text(alloc, schema, derived_of(pair))?;
-    let base = node_text(alloc, schema, base_of(pair))?;
-    let mut text = String::from_str(alloc, pair_word(pair))?;
-    text.push_str(derived.as_str())?;
-    text.push_str(" ")?;
-    text.push_str(base.as_str())?;
-    Ok(text)
 }
 
 /// The line on a certificate in a file of which that pair fails that rule.

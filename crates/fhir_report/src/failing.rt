@@ -1,22 +1,12 @@
 //! What is printed of a pair that fails a rule.
 
 ghost use Rattle.std.specs.Prelude.{◌≡◌, ◌++◌, IfOk, codes, string_bytes};
-ghost use Rattle.fhir_cert_check.specs.Views.{rule_name};
-ghost use Rattle.fhir_cert_check.specs.Rule.{rule_text};
-ghost use Rattle.fhir_report.specs.Report.{pair_text};
+ghost use Rattle.fhir_cert_check.specs.Texts.{pair_text};
 
-use crate::certificates::pair_text;
-use fhir_cert_check::Rule;
+use fhir_cert_check::pair_text;
 use fhir_certificate::Pair;
 use fhir_schema::Schema;
 use std::alloc::{AllocError, Global};
-
-/// A rule as its `Display` prints it: its word, and behind a blank what it is about, if anything.
-pub fn rule_text(alloc: Global, rule: Rule<'_>) -> Result<String, AllocError>
-    ensures { IfOk result (λ text. string_bytes text ≡ rule_text (rule_name rule.entry)) }
-{
-    format!(in alloc; "{rule}")
-}
 
 /// A pair that fails, with words on the rule.
 pub fn no_text(

@@ -39,8 +39,8 @@ mod reporting;
 mod wording;
 mod writing;
 
-pub use certificates::{flaw_line, no_line, pair_text};
-pub use failing::{no_text, rule_text};
+pub use certificates::{flaw_line, no_line};
+pub use failing::no_text;
 pub use finding_lines::finding_line;
 pub use lacking::LackingTable;
 pub use laws::{reports, rows_are_lines};
