@@ -1,5 +1,6 @@
 -- What is answered of two profiles, from what is derived, and what status 0 says then.
-use Rattle.std.proofs.Common.{◌≡◌, ◌↔◌, true, false, is_some, Some, IfSome, IsTrue, codes, refl, sym, ap, subst, ◌∙◌}
+use Rattle.std.proofs.Common.{◌≡◌, ◌↔◌, true, false, is_some, Some, IfSome, IsTrue, codes, nat_eq, sym, ap, subst, ◌∙◌}
+use Rattle.std.proofs.lemmas.Bool.{false≢true}
 use Rattle.fhir_json.specs.Tree.{Text}
 use Rattle.fhir_schema.specs.Schemas.{SchemaValue}
 use Rattle.fhir_certificate.specs.declared.pair.Pair.{Pair}
@@ -47,9 +48,6 @@ promised_so s derived base o c is reached right includes = (
   includes (ap (λ (x : Outcome). is_some (certificate_of x)) is),
 )
 
-no_both : false ≡ true → ⊥
-no_both e = absurd cc
-
 pub fails_so : (s : SchemaValue) (derived base : Text) (o : Outcome) (pair : Pair) (rule : Rule) (reply : ReplyValue) → o ≡ NoCertificate pair rule
     → ((is_some (certificate_of o) ≡ true) ↔ HasCertificate s derived base)
     → IfSome (failing_of o) (λ f. IsFirstFailing s derived base f.0 f.1)
@@ -58,16 +56,13 @@ fails_so s derived base o pair rule reply is only failing told = record {
   derivation = fails pair (rule_name rule);
   is_derivation = (
     subst (λ (x : Outcome). IfSome (failing_of x) (λ f. IsFirstFailing s derived base f.0 f.1)) is failing,
-    (λ has. no_both (sym (ap (λ (x : Outcome). is_some (certificate_of x)) is) ∙ only.1 has)),
+    (λ has. false≢true (sym (ap (λ (x : Outcome). is_some (certificate_of x)) is) ∙ only.1 has)),
   );
   is_reply = told;
 }
 
 pub not_zero : (reply : ReplyValue) (text : Text) (A : Type 0) → reply ≡ written 1 text → status_of reply ≡ 0 → A
-not_zero reply text A told zero = let one : 1 ≡ 0 = sym (ap status_of told) ∙ zero in absurd (one_zero one)
-  where
-    one_zero : 1 ≡ 0 → ⊥
-    one_zero e = absurd cc
+not_zero reply text A told zero = let one : 1 ≡ 0 = sym (ap status_of told) ∙ zero in absurd (false≢true (ap (λ n. nat_eq n 0) one))
 
 pub missing_so : (s : SchemaValue) (derived base : Text) (f : DeriveFault) (side : Side) (reply : ReplyValue) → f ≡ Missing side
     → (is_no_memory f ≡ false → derive_refusal s derived base ≡ Some f)
@@ -88,7 +83,4 @@ unusable_so s derived base f side reply is applies told = record {
 }
 
 pub told_not_zero : (reply : ReplyValue) (number subject : Text) (A : Type 0) → reply ≡ fault_reply number subject → status_of reply ≡ 0 → A
-told_not_zero reply number subject A told zero = let three : 3 ≡ 0 = sym (ap status_of told) ∙ zero in absurd (three_zero three)
-  where
-    three_zero : 3 ≡ 0 → ⊥
-    three_zero e = absurd cc
+told_not_zero reply number subject A told zero = let three : 3 ≡ 0 = sym (ap status_of told) ∙ zero in absurd (false≢true (ap (λ n. nat_eq n 0) three))

@@ -1,8 +1,8 @@
-use Rattle.std.proofs.Common.{rules, ◌≡◌}
+use Rattle.std.proofs.Common.{rules, ◌≡◌, codes}
 use Rattle.std.proofs.lemmas.Result.{IfOk-weaker}
 use Rattle.fhir_derive_check.specs.declared.fault.DeriveFault.TheVariants.{Missing, Unusable}
 use Rattle.fhir_derive_check.specs.declared.outcome.Outcome.TheVariants.{Derives, NoCertificate}
-use Rattle.fhir_engine.specs.Replying.{reply_seen}
+use Rattle.fhir_engine.specs.Replying.{reply_seen, on_side}
 use Rattle.fhir_engine.proofs.Derived.{derives_so, promised_so, fails_so, not_zero, missing_so, unusable_so, told_not_zero}
 use Rattle.fhir_engine.proofs.derive_reply.derive_between.Goals as goal
 
@@ -47,16 +47,16 @@ returns-in-Err-Missing-clause-told c =
 
 pub returns-in-Err-Missing-clause-promised : goal.returns-in-Err-Missing-clause-promised
 returns-in-Err-Missing-clause-promised c =
-    IfOk-weaker c.side_reply.result _ _ (λ r told zero. told_not_zero (reply_seen r) _ _ _ told zero) c.side_reply.ensures
+    IfOk-weaker c.side_reply.result _ _ (λ r told zero. told_not_zero (reply_seen r) (codes "D1") (on_side c.in-Err-Missing.side c.args.derived.now c.args.base.now) _ told zero) c.side_reply.ensures
 
 pub returns-in-Err-Unusable-clause-told : goal.returns-in-Err-Unusable-clause-told
 returns-in-Err-Unusable-clause-told c =
     let found = c.in-Err-Unusable in
     let is : found.field-0 ≡ Unusable found.side = search rules in
-    IfOk-weaker c.side_reply-in-Unusable.result _ _
+    IfOk-weaker c.side_reply-in-Err-Unusable.result _ _
     (λ r told. unusable_so c.args.schema.now c.args.derived.now c.args.base.now found.field-0 found.side (reply_seen r) is found.ensures.fault told)
-    c.side_reply-in-Unusable.ensures
+    c.side_reply-in-Err-Unusable.ensures
 
 pub returns-in-Err-Unusable-clause-promised : goal.returns-in-Err-Unusable-clause-promised
 returns-in-Err-Unusable-clause-promised c =
-    IfOk-weaker c.side_reply-in-Unusable.result _ _ (λ r told zero. told_not_zero (reply_seen r) _ _ _ told zero) c.side_reply-in-Unusable.ensures
+    IfOk-weaker c.side_reply-in-Err-Unusable.result _ _ (λ r told zero. told_not_zero (reply_seen r) (codes "D2") (on_side c.in-Err-Unusable.side c.args.derived.now c.args.base.now) _ told zero) c.side_reply-in-Err-Unusable.ensures
