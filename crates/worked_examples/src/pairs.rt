@@ -10,8 +10,8 @@ ghost use Rattle.worked_examples.specs.Sliced.{sliced, slice_of, slice_x, slice_
 ghost use Rattle.worked_examples.specs.Pairs.{asks, says, bare, fixed_to, like, up_to};
 
 /// A constraint is repeated by one that must hold and has the same expression, whatever its key (`other_key`); where neither has an
-/// expression, by the same key (`same_key`). A warning answers nothing (`warning`), and nothing is asked for one (`of_warning`). An expression that
-/// isn't read is answered where it is repeated alone (`unread`, `unread_other`).
+/// expression, by the same key (`same_key`). A warning answers nothing (`warning`), and nothing is asked for one (`of_warning`). One without an
+/// expression is answered where it is repeated alone (`unread`, `unread_other`).
 pub fn constraints_of_pairs()
     ensures other_key { repeats (asks (codes "k-1") Error (codes "a")) (asks (codes "k-2") Error (codes "a")) ≡ true }
     ensures other_expression { repeats (asks (codes "k-1") Error (codes "a")) (asks (codes "k-1") Error (codes "b")) ≡ false }
@@ -19,8 +19,8 @@ pub fn constraints_of_pairs()
     ensures same_key { repeats (says (codes "k-1")) (says (codes "k-1")) ≡ true }
     ensures key_alone { repeats (says (codes "k-1")) (says (codes "k-2")) ≡ false }
     ensures no_expression { repeats (says (codes "k-1")) (asks (codes "k-1") Error (codes "a")) ≡ false }
-    ensures unread { constraint_answered (asks (codes "k-1") Error (codes "a +") ∷ []) (asks (codes "k-2") Error (codes "a +")) ≡ true }
-    ensures unread_other { constraint_answered (asks (codes "k-1") Error (codes "a and b +") ∷ []) (asks (codes "k-1") Error (codes "b +")) ≡ false }
+    ensures unread { constraint_answered (says (codes "k-1") ∷ []) (says (codes "k-1")) ≡ true }
+    ensures unread_other { constraint_answered (says (codes "k-1") ∷ []) (says (codes "k-2")) ≡ false }
     ensures of_warning { constraint_rule [] (asks (codes "k-1") Warning (codes "a")) ≡ [] }
 {}
 
