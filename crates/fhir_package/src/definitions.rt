@@ -61,6 +61,13 @@ impl<'a> Definition<'a> {
     {
         self.url.as_str()
     }
+
+    /// The definition itself.
+    pub fn tree(&self) -> &Json<'a>
+        ensures { tree_of result.now ≡ self.now.tree }
+    {
+        &self.tree
+    }
 }
 
 fn kind_named(name: &str) -> Option<Kind>
@@ -176,11 +183,9 @@ fn push_entry<'a>(
     }
 }
 
-/// The definitions that a tree holds, in order.
-pub(crate) fn definitions_in<'a>(
-    alloc: Global,
-    json: Json<'a>,
-) -> Result<Vec<Definition<'a>>, NoMemory>
+/// The definitions that a tree holds, in order: of a Bundle those in the `resource` of each `entry`, of any other tree the one that
+/// it is, if it is one. The one refusal is want of memory.
+pub fn definitions_in<'a>(alloc: Global, json: Json<'a>) -> Result<Vec<Definition<'a>>, NoMemory>
     ensures { IfOk result (λ v. v.items ≡ definitions_in (tree_of json.entry)) }
 {
     let mut all = Vec::new(alloc);

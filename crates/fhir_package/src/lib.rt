@@ -32,7 +32,7 @@ mod twice;
 mod url_map;
 
 pub use canonical::has_version;
-pub use definitions::Definition;
+pub use definitions::{Definition, definitions_in};
 pub use fault::LoadFault;
 pub use folder::{Folder, FolderFault};
 pub use folder_files::{FolderFile, FolderFiles, is_json_name};
