@@ -2,8 +2,8 @@
 use Rattle.std.proofs.Common.{◌≡◌, ℕ, List, [], Option, None, Some, refl, sym, subst, append-nil}
 use Rattle.std.specs.Io.KnownBytes.{Appends}
 use Rattle.fhir_engine.specs.declared.reply.Status.{Status}
-use Rattle.fhir_engine.specs.declared.request.WordsFault.{WordsFault}
-use Rattle.fhir_engine.specs.declared.request.WordsFault.TheVariants.{Usage, NoMemory}
+use Rattle.fhir_words.specs.declared.request.WordsFault.{WordsFault}
+use Rattle.fhir_words.specs.declared.request.WordsFault.TheVariants.{Usage, NoMemory}
 use Rattle.fhir_engine.specs.Answering.{words_text}
 use Rattle.fhir_engine.specs.Ending.{HasEnded}
 use Rattle.fhir_engine.specs.Replying.{told}

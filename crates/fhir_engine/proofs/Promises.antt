@@ -11,9 +11,9 @@ use Rattle.fhir_package.specs.Packing.{Refusal, json_names, json_files, pack_fil
 use Rattle.fhir_package.specs.ReadFiles.{ReadFiles, IsFrom, all_given, pack_given}
 use Rattle.fhir_package.specs.Surveying.{FileFault, Surveyed, survey, is_unreadable, told_by, packed_by}
 use Rattle.fhir_report.specs.Lacking.{numbers}
-use Rattle.fhir_engine.specs.declared.request.WordsFault.{WordsFault}
+use Rattle.fhir_words.specs.declared.request.WordsFault.{WordsFault}
 use Rattle.fhir_engine.specs.Promising.{SessionPromise, ReadPromise, WordsPromise, FolderPromise, Promise}
-use Rattle.fhir_engine.specs.Requests.{RequestValue, InvocationValue, request, version}
+use Rattle.fhir_words.specs.Requests.{RequestValue, InvocationValue, request, version}
 use Rattle.fhir_engine.specs.Session.{SessionValue, IsReadOf, IsSessionOf}
 
 pub of_read : ((files : ReadFiles) → packed_by (survey files) ≡ pack_given files) → (q : RequestValue) (files : ReadFiles) (s : SessionValue) (file : Option Text)

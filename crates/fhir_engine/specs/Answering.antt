@@ -17,14 +17,14 @@ use Rattle.fhir_schema.specs.Schemas.{SchemaValue}
 use Rattle.fhir_commands.specs.declared.reply.Standing.{Standing}
 use Rattle.fhir_registry.specs.Judging.{IsJudged}
 use Rattle.fhir_registry.specs.Deriving.{Derivation, IsDerivationOf}
-use Rattle.fhir_report.specs.declared.writing.Format.{Format}
+use Rattle.fhir_words.specs.declared.request.Format.{Format}
 use Rattle.fhir_report.specs.Faultless.{CertificateValue}
-use Rattle.fhir_engine.specs.declared.request.WordsFault.{WordsFault}
-use Rattle.fhir_engine.specs.declared.request.WordsFault.TheVariants.{Usage, NoMemory}
-use Rattle.fhir_engine.specs.declared.version.TheConstants.{VERSION}
+use Rattle.fhir_words.specs.declared.request.WordsFault.{WordsFault}
+use Rattle.fhir_words.specs.declared.request.WordsFault.TheVariants.{Usage, NoMemory}
+use Rattle.fhir_words.specs.declared.version.TheConstants.{VERSION}
 use Rattle.fhir_engine.specs.Replying.{ReplyValue, written, told, fault_reply, refused_reply, unreadable_reply, certificate_reply, derivation_reply}
 use Rattle.fhir_engine.specs.Reporting.{IsAllRight, IsReportOf}
-use Rattle.fhir_engine.specs.Requests.{RequestValue, certify, validate, snapshot, derive, check, folder_of, InvocationValue, request, version}
+use Rattle.fhir_words.specs.Requests.{RequestValue, certify, validate, snapshot, derive, check, folder_of, InvocationValue, request, version}
 use Rattle.fhir_engine.specs.Session.{SessionValue, IsSessionOf, schema_in}
 use Rattle.fhir_engine.specs.Status.{code_of, standing_status, report_status, words_status}
 

@@ -3,9 +3,9 @@ use Rattle.std.specs.Prelude.{◌≡◌, ℕ, List, false, Option, Result, Ok, E
 use Rattle.std.specs.Io.KnownBytes.{Appends}
 use Rattle.fhir_engine.specs.declared.reply.Status.{Status}
 use Rattle.fhir_engine.specs.declared.reply.Status.TheVariants.{Yes, No, Open, Fault, Unwritten, Usage, NoMemory}
-use Rattle.fhir_engine.specs.declared.request.WordsFault.{WordsFault}
+use Rattle.fhir_words.specs.declared.request.WordsFault.{WordsFault}
 use Rattle.fhir_engine.specs.Replying.{ReplyValue, status_of, out_of, is_told}
-use Rattle.fhir_engine.specs.Requests.{InvocationValue}
+use Rattle.fhir_words.specs.Requests.{InvocationValue}
 use Rattle.fhir_engine.specs.Status.{words_status}
 
 -- The status is the reply's, and standard output, whose bytes before and after are these, holds what is to be written;

@@ -1,7 +1,5 @@
 pub mod Status
 pub mod WrongText
-pub mod Requests
-pub mod Words
 pub mod Views
 pub mod Session
 pub mod Reporting

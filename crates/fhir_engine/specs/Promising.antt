@@ -17,9 +17,9 @@ use Rattle.fhir_derive_check.specs.Deriving.{IsDerived}
 use Rattle.fhir_findings.specs.Clean.{AreUsable}
 use Rattle.fhir_registry.specs.Standing.{AlwaysConforms}
 use Rattle.fhir_report.specs.Faultless.{CertificateValue, Promises, IsRightIfAny, PromisesIfAny}
-use Rattle.fhir_engine.specs.declared.request.WordsFault.{WordsFault}
+use Rattle.fhir_words.specs.declared.request.WordsFault.{WordsFault}
 use Rattle.fhir_engine.specs.Reporting.{asked}
-use Rattle.fhir_engine.specs.Requests.{RequestValue, certify, validate, snapshot, derive, check, InvocationValue, request, version}
+use Rattle.fhir_words.specs.Requests.{RequestValue, certify, validate, snapshot, derive, check, InvocationValue, request, version}
 use Rattle.fhir_engine.specs.Session.{SessionValue}
 
 -- The file was read. Its bytes spell a certificate, and each resource that conforms to its derived profile conforms to its base, as

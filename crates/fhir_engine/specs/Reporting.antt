@@ -1,7 +1,7 @@
 -- What is reported of a folder and a certificate.
 use Rattle.std.specs.Prelude.{Option, None, Some}
 use Rattle.fhir_json.specs.Tree.{Text}
-use Rattle.fhir_report.specs.declared.writing.Format.{Format}
+use Rattle.fhir_words.specs.declared.request.Format.{Format}
 use Rattle.fhir_report.specs.Faultless.{CertificateValue, IsRightBy}
 use Rattle.fhir_report.specs.Report.{IsReport}
 use Rattle.fhir_engine.specs.Session.{SessionValue, schema_in}

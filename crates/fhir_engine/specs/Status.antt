@@ -3,7 +3,7 @@ use Rattle.std.specs.Prelude.{ℕ, Bool, true, false}
 use Rattle.fhir_commands.specs.declared.reply.Standing.{Standing}
 use Rattle.fhir_commands.specs.declared.reply.Standing.TheVariants as standings
 use Rattle.fhir_engine.specs.declared.reply.Status.{Status}
-use Rattle.fhir_engine.specs.declared.request.WordsFault.{WordsFault}
+use Rattle.fhir_words.specs.declared.request.WordsFault.{WordsFault}
 use Rattle.fhir_engine.specs.declared.reply.Status.TheVariants.{Yes, No, Open, Fault, Unwritten, Usage, NoMemory}
 
 abbrev pub code_of : Status → ℕ

@@ -4,14 +4,14 @@ ghost use Rattle.std.specs.Prelude.{◌≡◌, ◌≢◌, ◌⊎◌, None, Some,
 ghost use Rattle.std.specs.IoError.{error_kind};
 ghost use Rattle.fhir_package.specs.Folder.{Files as FolderFiles};
 ghost use Rattle.fhir_engine.specs.Serving.{IsServed};
-ghost use Rattle.fhir_engine.specs.Views.{asked_seen};
+ghost use Rattle.fhir_words.specs.Views.{asked_seen};
 
 use crate::engine::end_with;
 use crate::reply::Status;
-use crate::request::{Invocation, Request, WordsFault};
 use crate::serving::serve_folder;
 use fhir_json::NoMemory;
 use fhir_package::{FolderFile, MemoryFolder, Progress, Stage, is_json_name};
+use fhir_words::{Invocation, Request, WordsFault};
 use std::alloc::Global;
 use std::collections::BTreeMap;
 use std::fs::DirEntry;
@@ -147,14 +147,15 @@ fn open_request<R: Files + AllocGlobal + Clone + Drop, P: Progress>(
     Ok((folder, file))
 }
 
-// Those where nothing is opened.
-fn nothing_opened<'w>(alloc: Global, asked: Result<Invocation<'w>, WordsFault>) -> Opened<'w>
-    ensures { asked_seen result.asked ≡ asked_seen asked.entry }
-{
-    Opened {
-        asked,
-        folder: MemoryFolder::unlisted(alloc),
-        file: None,
+// What is named by what is asked, if something is.
+fn open_named<R: Files + AllocGlobal + Clone + Drop, P: Progress>(
+    rt: &R,
+    asked: &Result<Invocation<'_>, WordsFault>,
+    progress: &mut P,
+) -> Result<(MemoryFolder, Option<Vec<u8>>), NoMemory> {
+    match asked {
+        Ok(Invocation::Request(request)) => open_request(rt, request, progress),
+        Ok(Invocation::Version) | Err(_) => Ok((MemoryFolder::unlisted(rt.alloc()), None)),
     }
 }
 
@@ -166,16 +167,17 @@ pub fn open_asked<'w, R: Files + AllocGlobal + Clone + Drop, P: Progress>(
 ) -> Opened<'w>
     ensures { (asked_seen result.asked ≡ asked_seen asked.entry) ⊎ (asked_seen result.asked ≡ Err WordsFault.NoMemory) }
 {
-    let Ok(Invocation::Request(request)) = asked else {
-        return nothing_opened(rt.alloc(), asked);
-    };
-    match open_request(rt, &request, progress) {
+    match open_named(rt, &asked, progress) {
         Ok((folder, file)) => Opened {
             asked,
             folder,
             file,
         },
-        Err(NoMemory) => nothing_opened(rt.alloc(), Err(WordsFault::NoMemory)),
+        Err(NoMemory) => Opened {
+            asked: Err(WordsFault::NoMemory),
+            folder: MemoryFolder::unlisted(rt.alloc()),
+            file: None,
+        },
     }
 }
 

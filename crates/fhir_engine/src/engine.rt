@@ -10,14 +10,14 @@ ghost use Rattle.fhir_engine.specs.Promising.{ReadPromise, WordsPromise, Promise
 ghost use Rattle.fhir_engine.specs.Replying.{ReplyValue, written, reply_seen, status_of, is_told};
 ghost use Rattle.fhir_engine.specs.Session.{IsReadOf};
 ghost use Rattle.fhir_engine.specs.Status.{code_of, words_status};
-ghost use Rattle.fhir_engine.specs.Views.{bytes_seen, request_seen, asked_seen};
+ghost use Rattle.fhir_engine.specs.Views.{bytes_seen};
+ghost use Rattle.fhir_words.specs.Views.{request_seen, asked_seen};
 
 use crate::reply::{Reply, Status, fault_reply};
-use crate::request::{Invocation, Request, WordsFault};
 use crate::session::Session;
-use crate::version::VERSION;
 use fhir_json::NoMemory;
 use fhir_package::{Folder, FolderFault, FolderFiles, Progress, given_files, surveys};
+use fhir_words::{Invocation, Request, VERSION, WordsFault};
 use std::alloc::Global;
 use std::io::Write;
 
@@ -61,14 +61,14 @@ pub(crate) fn write_reply<W: Write, E: Write>(reply: &Reply, out: &mut W, err: &
 // The answer to a request.
 fn answer<P: Progress>(
     alloc: Global,
-    request: Request<'_>,
+    request: &Request<'_>,
     read: &Result<FolderFiles, FolderFault>,
     file: Option<&[u8]>,
     progress: &mut P,
 ) -> Result<Reply, NoMemory>
-    ensures told { IfOk result (λ r. RepliesTo (request_seen request.entry) read.now (bytes_seen file.entry) (reply_seen r)) }
+    ensures told { IfOk result (λ r. RepliesTo (request_seen request.now) read.now (bytes_seen file.entry) (reply_seen r)) }
     ensures promised { IfOk result (λ r. status_of (reply_seen r) ≡ 0
-        → ReadPromise (request_seen request.entry) read.now (bytes_seen file.entry)) }
+        → ReadPromise (request_seen request.now) read.now (bytes_seen file.entry)) }
 {
     match read {
         Ok(files) => answer_read(alloc, request, files, file, progress),
@@ -80,14 +80,14 @@ fn answer<P: Progress>(
 // The same of the files that were read.
 fn answer_read<P: Progress>(
     alloc: Global,
-    request: Request<'_>,
+    request: &Request<'_>,
     files: &FolderFiles,
     file: Option<&[u8]>,
     progress: &mut P,
 ) -> Result<Reply, NoMemory>
-    ensures told { IfOk result (λ r. RepliesTo (request_seen request.entry) (Ok files.now) (bytes_seen file.entry) (reply_seen r)) }
+    ensures told { IfOk result (λ r. RepliesTo (request_seen request.now) (Ok files.now) (bytes_seen file.entry) (reply_seen r)) }
     ensures promised { IfOk result (λ r. status_of (reply_seen r) ≡ 0
-        → ReadPromise (request_seen request.entry) (Ok files.now) (bytes_seen file.entry)) }
+        → ReadPromise (request_seen request.now) (Ok files.now) (bytes_seen file.entry)) }
 {
     surveys();
     let session = Session::of(alloc, files, progress)?;
@@ -97,7 +97,7 @@ fn answer_read<P: Progress>(
 // Answers a request.
 fn respond<W: Write, E: Write, P: Progress>(
     alloc: Global,
-    request: Request<'_>,
+    request: &Request<'_>,
     read: &Result<FolderFiles, FolderFault>,
     file: Option<&[u8]>,
     progress: &mut P,
@@ -105,10 +105,10 @@ fn respond<W: Write, E: Write, P: Progress>(
     err: &mut E,
 ) -> Status
     ensures told { (result ≡ Status.NoMemory → ⊥) → (reply : ReplyValue)
-        × RepliesTo (request_seen request.entry) read.now (bytes_seen file.entry) reply
+        × RepliesTo (request_seen request.now) read.now (bytes_seen file.entry) reply
         × HasEnded result (W.contents out.old) (W.contents out.new) reply
         × (IsTrue (is_told reply) → (result ≡ Status.Fault) × (out.new ≡ out.old)) × (is_told reply ≡ false → err.new ≡ err.old) }
-    ensures promised { result ≡ Status.Yes → ReadPromise (request_seen request.entry) read.now (bytes_seen file.entry) }
+    ensures promised { result ≡ Status.Yes → ReadPromise (request_seen request.now) read.now (bytes_seen file.entry) }
 {
     let reply = answer(alloc, request, read, file, progress);
     progress.end();
@@ -148,7 +148,7 @@ fn answer_words<W: Write, E: Write, P: Progress>(
 {
     match asked {
         Ok(Invocation::Request(request)) => {
-            respond(alloc, *request, read, file, progress, out, err)
+            respond(alloc, request, read, file, progress, out, err)
         }
         Ok(Invocation::Version) => put(out, VERSION.as_bytes(), Status::Yes),
         Err(fault) => {

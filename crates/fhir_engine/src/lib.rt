@@ -32,10 +32,8 @@ mod engine;
 mod laws;
 mod meter;
 mod reply;
-mod request;
 mod serving;
 mod session;
-mod version;
 mod wrong_reply;
 
 pub use directory::{Opened, bytes_at, directory_at, open_asked, serve_directory};
@@ -43,7 +41,5 @@ pub use engine::run;
 pub use laws::verdicts_agree;
 pub use meter::Meter;
 pub use reply::{Reply, Status};
-pub use request::{Invocation, Request, Task, WordsFault, task_of};
 pub use serving::serve_folder;
 pub use session::Session;
-pub use version::VERSION;

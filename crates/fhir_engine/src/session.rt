@@ -9,18 +9,19 @@ ghost use Rattle.fhir_engine.specs.Promising.{Certified, Validated, Listed, Deri
 ghost use Rattle.fhir_engine.specs.Replying.{reply_seen, status_of, refused_reply};
 ghost use Rattle.fhir_engine.specs.Session.{IsCompleted, IsSessionOf, schema_in};
 ghost use Rattle.fhir_engine.specs.Status.{report_status};
-ghost use Rattle.fhir_engine.specs.Views.{bytes_seen, request_seen};
+ghost use Rattle.fhir_engine.specs.Views.{bytes_seen};
+ghost use Rattle.fhir_words.specs.Views.{request_seen};
 
 use crate::answering::{certify, list_snapshot, validate_file};
 use crate::derive_reply::derive_between;
 use crate::reply::{Reply, Status, fault_reply, unreadable_reply};
-use crate::request::Request;
 use fhir_findings::all_usable;
 use fhir_json::NoMemory;
 use fhir_package::{FileFault, FolderFiles, Package, Progress, Stage, Survey};
-use fhir_report::{CertificateFile, Format, LackingTable, Subject, report_on};
+use fhir_report::{CertificateFile, LackingTable, Subject, report_on};
 use fhir_schema::Schema;
 use fhir_snapshot::complete;
+use fhir_words::{Format, Request};
 use std::alloc::{AllocError, Global};
 use std::marker::Model;
 

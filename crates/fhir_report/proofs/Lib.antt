@@ -1,5 +1,4 @@
 -- Lemmas on reports.
 pub mod Placing
 pub mod Saying
-pub mod Shown
 pub mod Told

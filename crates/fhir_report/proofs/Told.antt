@@ -6,10 +6,10 @@ use Rattle.std.proofs.lemmas.List.{map-append, take_more, take_all}
 use Rattle.fhir_findings.specs.declared.finding.Finding.{Finding}
 use Rattle.fhir_findings.specs.Finding.{fault_told, faults_told, unusable_told, all_told as unusable_each}
 use Rattle.fhir_cert_check.specs.Texts.{pair_text}
-use Rattle.fhir_report.specs.declared.line.Line.{Line}
-use Rattle.fhir_report.specs.declared.line.FaultNumber.{FaultNumber}
-use Rattle.fhir_report.specs.Lines.{LineValue, file_line, line_seen, lines_seen, row, rows}
-use Rattle.fhir_report.specs.declared.writing.Format.{Format}
+use Rattle.fhir_lines.specs.declared.line.Line.{Line}
+use Rattle.fhir_lines.specs.declared.line.FaultNumber.{FaultNumber}
+use Rattle.fhir_lines.specs.Lines.{LineValue, file_line, line_seen, lines_seen, row, rows}
+use Rattle.fhir_words.specs.declared.request.Format.{Format}
 use Rattle.fhir_json.specs.Tree.{Text}
 use Rattle.fhir_schema.specs.Schemas.{SchemaValue}
 use Rattle.fhir_certificate.specs.declared.fault.CertFault.{CertFault}

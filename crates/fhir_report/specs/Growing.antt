@@ -1,7 +1,7 @@
 -- Lines that are put in.
 use Rattle.std.specs.Prelude.{◌≡◌, List, ◌++◌}
-use Rattle.fhir_report.specs.declared.line.Line.{Line}
-use Rattle.fhir_report.specs.Lines.{lines_seen}
+use Rattle.fhir_lines.specs.declared.line.Line.{Line}
+use Rattle.fhir_lines.specs.Lines.{lines_seen}
 use Rattle.fhir_report.specs.Report.{Head, is_of_file, is_unusable, all_told}
 
 -- the new lines are the old ones and others, that tell these faults and definitions

@@ -18,13 +18,13 @@ use Rattle.fhir_findings.specs.declared.finding.Finding.{Finding}
 use Rattle.fhir_findings.specs.declared.finding.Finding.TheVariants.{File as FileOne, Unusable as UnusableOne, Unread as UnreadOne}
 use Rattle.fhir_findings.specs.Counting.{counts, counts_text}
 use Rattle.fhir_findings.specs.Finding.{UnusableValue, all_unusable}
-use Rattle.fhir_report.specs.declared.line.FaultNumber.{FaultNumber}
+use Rattle.fhir_lines.specs.declared.line.FaultNumber.{FaultNumber}
 use Rattle.fhir_snapshot.specs.Faults.{number_of}
-use Rattle.fhir_report.specs.declared.line.FaultNumber.TheVariants.{Unreadable, Clash, Json, Unusable, Snapshot, Certificate}
-use Rattle.fhir_report.specs.declared.writing.Format.{Format}
+use Rattle.fhir_lines.specs.declared.line.FaultNumber.TheVariants.{Unreadable, Clash, Json, Unusable, Snapshot, Certificate}
+use Rattle.fhir_words.specs.declared.request.Format.{Format}
 use Rattle.fhir_report.specs.Faultless.{CertificateValue}
 use Rattle.fhir_report.specs.Lacking.{Lacking}
-use Rattle.fhir_report.specs.Lines.{LineValue, text_line, file_line, rows}
+use Rattle.fhir_lines.specs.Lines.{LineValue, text_line, file_line, rows}
 
 -- ---- what was found
 

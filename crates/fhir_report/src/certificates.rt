@@ -2,16 +2,16 @@
 
 ghost use Rattle.std.specs.Prelude.{◌≡◌, ◌++◌, IfOk, None, codes};
 ghost use Rattle.fhir_json.specs.Tree.{Text};
-ghost use Rattle.fhir_report.specs.Lines.{file_line, line_seen};
+ghost use Rattle.fhir_lines.specs.Lines.{file_line, line_seen};
 ghost use Rattle.fhir_cert_check.specs.Texts.{pair_text};
 ghost use Rattle.fhir_report.specs.Report.{IsOfCertificate};
 
 use crate::failing::no_text;
-use crate::line::{FaultNumber, Line};
 use crate::narrowing::rule_words;
 use fhir_cert_check::Rule;
 use fhir_certificate::{CertFault, Flaw, FlawKind, LinePart, Pair};
 use fhir_json::NoMemory;
+use fhir_lines::{FaultNumber, Line};
 use fhir_schema::Schema;
 use std::alloc::{AllocError, Global};
 

@@ -1,16 +1,10 @@
-//! Laws: what a report says of files, and how its text is read.
+//! Laws: what a report says of files.
 
-ghost use Rattle.std.specs.Prelude.{◌≡◌, ◌↔◌, List, Option, length, filter, replicate, All, IsUtf8};
-ghost use Rattle.std.specs.Char.{is_control};
-ghost use Rattle.std.specs.Str.{chars};
-ghost use Rattle.fhir_json.specs.Bytes.{line_feed};
-ghost use Rattle.fhir_json.specs.Tree.{Text};
+ghost use Rattle.std.specs.Prelude.{◌↔◌, Option};
 ghost use Rattle.fhir_package.specs.ReadFiles.{ReadFiles};
 ghost use Rattle.fhir_package.specs.Surveying.{Surveyed};
 ghost use Rattle.fhir_schema.specs.Schemas.{SchemaValue};
 ghost use Rattle.fhir_report.specs.Faultless.{CertificateValue, PromisesIfAny, IsRightBy, AreOf, IsFaultless, IsPromised};
-ghost use Rattle.fhir_report.specs.Lines.{LineValue, row_text, rows};
-ghost use Rattle.fhir_report.specs.declared.writing.Format.{Format};
 
 use fhir_findings::all_usable;
 use fhir_package::surveys;
@@ -28,10 +22,3 @@ pub fn reports()
     all_usable();
     one_completion();
 }
-
-/// Of the control characters the rows of lines have one line feed for each, and no other, where the lines are texts of UTF-8.
-#[tactic(auto, using(crate::proofs::Shown::rows_clean))]
-pub fn rows_are_lines()
-    ensures { (format : Format) (ls : List LineValue) → All (λ l. IsUtf8 (row_text format l)) ls
-        → filter is_control (chars (rows format ls)) ≡ replicate (length ls) line_feed }
-{}

@@ -6,21 +6,21 @@ ghost use Rattle.fhir_cert_check.specs.Checking.{answer_of};
 ghost use Rattle.fhir_findings.specs.Counting.{counts_text};
 ghost use Rattle.fhir_findings.specs.Finding.{fault_told, faults_told, unusable_told, all_told};
 ghost use Rattle.fhir_report.specs.Faultless.{IsRight, Promises, IsRightIfAny, PromisesIfAny, IsRightBy, certificate_seen};
-ghost use Rattle.fhir_report.specs.Lines.{text_line, rows, line_seen, lines_seen};
+ghost use Rattle.fhir_lines.specs.Lines.{text_line, rows, line_seen, lines_seen};
 ghost use Rattle.fhir_report.specs.Report.{fault_head, unusable_head, IsOfCertificate, TellsAnswer, TellsCertificate, IsReport};
 ghost use Rattle.fhir_report.specs.Growing.{Grows};
 
 use crate::certificates::{flaw_line, no_line};
 use crate::finding_lines::finding_line;
 use crate::lacking::LackingTable;
-use crate::line::{FaultNumber, Line};
-use crate::writing::{Format, push_row, push_rows};
 use fhir_cert_check::{Answer, check_bytes};
 use fhir_certificate::{CertFault, Flaw, flaws};
 use fhir_findings::{Counts, Finding, counts_of, findings, has_faults};
 use fhir_json::NoMemory;
+use fhir_lines::{FaultNumber, Line, push_row, push_rows};
 use fhir_package::Survey;
 use fhir_schema::Schema;
+use fhir_words::{Detail, Format};
 use std::alloc::{AllocError, Global};
 
 /// A certificate that is reported on.

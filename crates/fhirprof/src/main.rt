@@ -8,7 +8,8 @@ ghost use Rattle.fhir_engine.specs.Answering.{RepliesFor};
 ghost use Rattle.fhir_engine.specs.Promising.{Promise};
 ghost use Rattle.fhir_engine.specs.Replying.{ReplyValue, status_of};
 ghost use Rattle.fhir_engine.specs.Session.{IsReadOf};
-ghost use Rattle.fhir_engine.specs.Views.{bytes_seen, asked_seen};
+ghost use Rattle.fhir_engine.specs.Views.{bytes_seen};
+ghost use Rattle.fhir_words.specs.Views.{asked_seen};
 
 use fhir_engine::{
     Invocation, Meter, Opened, Task, WordsFault, open_asked, run, serve_directory, task_of,

@@ -1,5 +1,6 @@
 use Rattle.std.proofs.lemmas.Result.{IfOk-weaker}
-use Rattle.fhir_engine.specs.Views.{bytes_seen, request_seen}
+use Rattle.fhir_engine.specs.Views.{bytes_seen}
+use Rattle.fhir_words.specs.Views.{request_seen}
 use Rattle.fhir_engine.proofs.Promises.{of_read}
 use Rattle.fhir_engine.proofs.engine.answer_read.Goals as goal
 

@@ -1,12 +1,13 @@
 use Rattle.std.proofs.Common.{◌≡◌, Result, Ok, Err, refl, sym, ap, subst, ◌∙◌}
-use Rattle.fhir_engine.specs.declared.request.Invocation.TheVariants.{Request as Asking}
-use Rattle.fhir_engine.specs.declared.request.WordsFault.{WordsFault}
+use Rattle.fhir_words.specs.declared.request.Invocation.TheVariants.{Request as Asking}
+use Rattle.fhir_words.specs.declared.request.WordsFault.{WordsFault}
 use Rattle.fhir_engine.specs.Answering.{RepliesFor, words_text}
 use Rattle.fhir_engine.specs.Ending.{told_status}
 use Rattle.fhir_engine.specs.Replying.{told}
-use Rattle.fhir_engine.specs.Requests.{InvocationValue, request}
+use Rattle.fhir_words.specs.Requests.{InvocationValue, request}
 use Rattle.fhir_engine.specs.Status.{code_of, words_status}
-use Rattle.fhir_engine.specs.Views.{bytes_seen, request_seen, asked_seen}
+use Rattle.fhir_engine.specs.Views.{bytes_seen}
+use Rattle.fhir_words.specs.Views.{request_seen, asked_seen}
 use Rattle.fhir_engine.proofs.Ends.{refused}
 use Rattle.fhir_engine.proofs.engine.answer_words.Goals as goal
 

@@ -1,4 +1,5 @@
-use Rattle.fhir_engine.specs.Views.{asked_seen, bytes_seen}
+use Rattle.fhir_engine.specs.Views.{bytes_seen}
+use Rattle.fhir_words.specs.Views.{asked_seen}
 use Rattle.fhir_engine.proofs.Promises.{of_words}
 use Rattle.fhir_engine.proofs.engine.run.Goals as goal
 

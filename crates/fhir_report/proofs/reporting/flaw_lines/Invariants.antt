@@ -1,5 +1,5 @@
 use Rattle.std.proofs.Common.{All}
-use Rattle.fhir_report.specs.Lines.{lines_seen}
+use Rattle.fhir_lines.specs.Lines.{lines_seen}
 use Rattle.fhir_report.specs.Report.{IsOfCertificate}
 use Rattle.fhir_report.proofs.reporting.flaw_lines.Given as goal
 

@@ -3,7 +3,7 @@ use Rattle.std.proofs.lemmas.Result.{IfOk-weaker}
 use Rattle.fhir_certificate.specs.Reading.{reading}
 use Rattle.fhir_cert_check.specs.Checking.{answer_of}
 use Rattle.fhir_cert_check.specs.Views.{rule_name, wrong_in}
-use Rattle.fhir_report.specs.Lines.{line_seen, lines_seen}
+use Rattle.fhir_lines.specs.Lines.{line_seen, lines_seen}
 use Rattle.fhir_report.proofs.Told.{no_told}
 use Rattle.fhir_report.proofs.reporting.judge.Goals as goal
 

@@ -1,6 +1,6 @@
 use Rattle.std.proofs.Common.{◌≡◌, ◌++◌, string_bytes, rules}
 use Rattle.fhir_findings.specs.Counting.{counts_text}
-use Rattle.fhir_report.specs.Lines.{text_line, row, rows, lines_seen}
+use Rattle.fhir_lines.specs.Lines.{text_line, row, rows, lines_seen}
 use Rattle.fhir_report.proofs.Told.{three_rows}
 use Rattle.fhir_report.proofs.reporting.text_of.Goals as goal
 

@@ -1,7 +1,8 @@
 use Rattle.std.proofs.Common.{◌≡◌, IfOk, sym, subst}
 use Rattle.fhir_engine.specs.Promising.{SessionPromise}
 use Rattle.fhir_engine.specs.Replying.{reply_seen, status_of}
-use Rattle.fhir_engine.specs.Views.{request_seen, bytes_seen}
+use Rattle.fhir_engine.specs.Views.{bytes_seen}
+use Rattle.fhir_words.specs.Views.{request_seen}
 use Rattle.fhir_engine.proofs.session.Session.answer.Goals as goal
 
 pub returns-in-Validate-clause-promised : goal.returns-in-Validate-clause-promised

@@ -1,0 +1,90 @@
+//! How the lines of a report are written.
+
+ghost use Rattle.std.specs.Prelude.{◌≡◌, ◌<◌, ◌++◌, [], IfOk, OnOk, IsTrue, string_bytes};
+ghost use Rattle.std.specs.Char.{is_control, digit_char};
+ghost use Rattle.fhir_json.specs.Memory.{Gives};
+ghost use Rattle.fhir_lines.specs.Lines.{escaped_character, escaped, row_text, row, rows, line_seen, lines_seen};
+
+use crate::line::Line;
+use fhir_json::{NoMemory, write};
+use fhir_words::Format;
+use std::alloc::{AllocError, Global};
+
+// A line without its line feed, as it is, with the control characters of texts from files.
+fn row_text(alloc: Global, format: Format, line: &Line<'_>) -> Result<String, NoMemory>
+    ensures { Gives string_bytes result (row_text format (line_seen line.now)) }
+{
+    match format {
+        Format::Text => line.to_text(alloc),
+        Format::Json => {
+            let bytes = write(alloc, &line.to_json(alloc)?)?;
+            Ok(String::from_utf8_lossy(alloc, &bytes)?)
+        }
+    }
+}
+
+fn hex_digit(value: u32) -> char
+    requires { value < 16 }
+    ensures { result ≡ digit_char value }
+{
+    char::from_digit(value, 16).unwrap_or('0')
+}
+
+fn push_escape(character: char, into: &mut String) -> Result<(), AllocError>
+    requires { IsTrue (is_control character) }
+    ensures { OnOk result (string_bytes into.new ≡ string_bytes into.old ++ escaped_character character) }
+{
+    let code = u32::from(character);
+    into.push_str("\\u00")?;
+    into.push(hex_digit(code / 16))?;
+    into.push(hex_digit(code % 16))
+}
+
+fn push_character(character: char, into: &mut String) -> Result<(), AllocError>
+    ensures { OnOk result (string_bytes into.new ≡ string_bytes into.old ++ escaped_character character) }
+{
+    if character.is_control() {
+        push_escape(character, into)
+    } else {
+        into.push(character)
+    }
+}
+
+// Puts in a text with its control characters escaped, as JSON may write them.
+fn push_escaped(text: &str, into: &mut String) -> Result<(), AllocError>
+    ensures { OnOk result (string_bytes into.new ≡ string_bytes into.old ++ escaped text.now) }
+{
+    for character in text.chars() {
+        push_character(character, into)?;
+    }
+    Ok(())
+}
+
+/// Puts in a line: escaped, and with a line feed behind it. The one refusal is want of memory.
+pub fn push_row(
+    alloc: Global,
+    format: Format,
+    line: &Line<'_>,
+    into: &mut String,
+) -> Result<(), NoMemory>
+    ensures { OnOk result (string_bytes into.new ≡ string_bytes into.old ++ row format (line_seen line.now)) }
+{
+    let text = row_text(alloc, format, line)?;
+    push_escaped(text.as_str(), into)?;
+    Ok(into.push('\n')?)
+}
+
+/// Puts in a row for each line. The one refusal is want of memory.
+pub fn push_rows(
+    alloc: Global,
+    format: Format,
+    lines: &[Line<'_>],
+    into: &mut String,
+) -> Result<(), NoMemory>
+    ensures { OnOk result (string_bytes into.new ≡ string_bytes into.old ++ rows format (lines_seen lines.now)) }
+{
+    for line in lines {
+        push_row(alloc, format, line, into)?;
+    }
+    Ok(())
+}

@@ -1,0 +1,2 @@
+-- Lemmas on words.
+pub mod Among

@@ -1,0 +1,3 @@
+pub mod Requests
+pub mod Words
+pub mod Views

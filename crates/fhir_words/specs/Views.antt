@@ -1,0 +1,36 @@
+-- What contracts see of what is asked.
+use Rattle.std.specs.Prelude.{List, map, Result, Ok, Err, string_bytes}
+use Rattle.std.specs.Borrow.{Bor}
+use Rattle.fhir_json.specs.Tree.{Text}
+use Rattle.fhir_json.specs.Views.{text_seen}
+use Rattle.fhir_words.specs.declared.request.Request.{Request}
+use Rattle.fhir_words.specs.declared.request.Request.TheVariants.{Certify, Validate, Snapshot, Derive, Check}
+use Rattle.fhir_words.specs.declared.request.Invocation.{Invocation}
+use Rattle.fhir_words.specs.declared.request.Invocation.TheVariants.{Request as Asked, Version}
+use Rattle.fhir_words.specs.declared.request.Task.{Task}
+use Rattle.fhir_words.specs.declared.request.Task.TheVariants.{Answer, Serve, Gather}
+use Rattle.fhir_words.specs.declared.request.WordsFault.{WordsFault}
+use Rattle.fhir_words.specs.Requests.{RequestValue, certify, validate, snapshot, derive, check, InvocationValue, request, version, TaskValue, answer, serve, gather}
+
+abbrev pub texts_seen : List (Bor Text) → List Text
+texts_seen texts = map (λ t. t.now) texts
+
+abbrev pub request_seen : Request → RequestValue
+request_seen (Certify folder file) = certify folder.now file.now
+request_seen (Validate folder profile file) = validate folder.now profile.now file.now
+request_seen (Snapshot folder url) = snapshot folder.now url.now
+request_seen (Derive folder derived base) = derive folder.now derived.now base.now
+request_seen (Check folder certificate prefixes format detail) = check folder.now (text_seen certificate) (map string_bytes prefixes.items) format detail
+
+abbrev pub invocation_seen : Invocation → InvocationValue
+invocation_seen (Asked asked) = request (request_seen asked)
+invocation_seen Version = version
+
+abbrev pub task_seen : Task → TaskValue
+task_seen (Answer asked) = answer (invocation_seen asked)
+task_seen (Serve folder) = serve folder.now
+task_seen (Gather out folders detail) = gather out.now (texts_seen folders.items) detail
+
+abbrev pub asked_seen : Result Invocation WordsFault → Result InvocationValue WordsFault
+asked_seen (Ok asked) = Ok (invocation_seen asked)
+asked_seen (Err fault) = Err fault

@@ -1,0 +1,205 @@
+//! Words with options, which `clap` reads.
+
+ghost use Rattle.std.specs.Prelude.{◌≡◌, ◌↔◌, IfErr};
+ghost use Rattle.clap.specs.declared.error.kind.ErrorKind.TheVariants as kind;
+
+use crate::request::{Detail, Format, Invocation, Request, Task, WordsFault};
+use crate::version::VERSION;
+use clap::error::ErrorKind;
+use clap::{Arg, ArgAction, ArgMatches, Command};
+use std::alloc::{AllocError, Global};
+
+fn certify<'a>(alloc: Global) -> Result<Command<'a>, AllocError> {
+    Command::new(alloc, "certify")
+        .arg(Arg::new(alloc, "PACKAGE").required(true))?
+        .arg(Arg::new(alloc, "CERTIFICATE").required(true))
+}
+
+fn validate<'a>(alloc: Global) -> Result<Command<'a>, AllocError> {
+    Command::new(alloc, "validate")
+        .arg(Arg::new(alloc, "PACKAGE").required(true))?
+        .arg(Arg::new(alloc, "PROFILE").required(true))?
+        .arg(Arg::new(alloc, "RESOURCE").required(true))
+}
+
+fn snapshot<'a>(alloc: Global) -> Result<Command<'a>, AllocError> {
+    Command::new(alloc, "snapshot")
+        .arg(Arg::new(alloc, "PACKAGE").required(true))?
+        .arg(Arg::new(alloc, "URL").required(true))
+}
+
+fn derive<'a>(alloc: Global) -> Result<Command<'a>, AllocError> {
+    Command::new(alloc, "derive")
+        .arg(Arg::new(alloc, "PACKAGE").required(true))?
+        .arg(Arg::new(alloc, "DERIVED").required(true))?
+        .arg(Arg::new(alloc, "BASE").required(true))
+}
+
+fn flag<'a>(alloc: Global, name: &'static str) -> Arg<'a> {
+    Arg::new(alloc, name).long(name).action(ArgAction::SetTrue)
+}
+
+fn check<'a>(alloc: Global) -> Result<Command<'a>, AllocError> {
+    let only = Arg::new(alloc, "only")
+        .long("only")
+        .action(ArgAction::Append);
+    Command::new(alloc, "check")
+        .arg(Arg::new(alloc, "PACKAGE").required(true))?
+        .arg(Arg::new(alloc, "CERTIFICATE"))?
+        .arg(only)?
+        .arg(flag(alloc, "each"))?
+        .arg(flag(alloc, "json"))
+}
+
+fn gather<'a>(alloc: Global) -> Result<Command<'a>, AllocError> {
+    let folders = Arg::new(alloc, "FOLDER").required(true).num_args(1..);
+    Command::new(alloc, "gather")
+        .arg(Arg::new(alloc, "OUT").required(true))?
+        .arg(folders)?
+        .arg(flag(alloc, "each"))
+}
+
+fn serve<'a>(alloc: Global) -> Result<Command<'a>, AllocError> {
+    Command::new(alloc, "serve").arg(Arg::new(alloc, "PACKAGE").required(true))
+}
+
+fn program<'a>(alloc: Global) -> Result<Command<'a>, AllocError> {
+    Command::new(alloc, "fhirprof")
+        .version(VERSION)
+        .subcommand_required(true)
+        .subcommand(certify(alloc)?)?
+        .subcommand(validate(alloc)?)?
+        .subcommand(snapshot(alloc)?)?
+        .subcommand(derive(alloc)?)?
+        .subcommand(check(alloc)?)?
+        .subcommand(serve(alloc)?)?
+        .subcommand(gather(alloc)?)
+}
+
+// What words ask for that `clap` gives back with an error of a kind.
+fn of_error_kind<'w>(kind: ErrorKind) -> Result<Invocation<'w>, WordsFault>
+    ensures { IfErr result (λ fault. (fault ≡ WordsFault.NoMemory) ↔ (kind ≡ ErrorKind.OutOfMemory)) }
+{
+    match kind {
+        ErrorKind::DisplayVersion => Ok(Invocation::Version),
+        ErrorKind::OutOfMemory => Err(WordsFault::NoMemory),
+        _ => Err(WordsFault::Usage),
+    }
+}
+
+fn word<'a>(matches: &ArgMatches<'a>, id: &str) -> Result<&'a str, WordsFault> {
+    matches.get_str(id).ok_or(WordsFault::Usage)
+}
+
+/// What words ask for, as `clap` reads them.
+pub(crate) fn other_task<'w>(alloc: Global, words: &'w [String]) -> Result<Task<'w>, WordsFault> {
+    let matches = match program(alloc)?.try_get_matches_from(words) {
+        Ok(matches) => matches,
+        Err(error) => return Ok(Task::Answer(of_error_kind(error.kind())?)),
+    };
+    let Some((name, matches)) = matches.subcommand() else {
+        return Err(WordsFault::Usage);
+    };
+    match name {
+        "serve" => Ok(Task::Serve(word(matches, "PACKAGE")?)),
+        "gather" => gather_matched(alloc, matches),
+        _ => Ok(Task::Answer(Invocation::Request(matched(alloc, name, matches)?))),
+    }
+}
+
+fn matched<'w>(
+    alloc: Global,
+    name: &str,
+    matches: &ArgMatches<'w>,
+) -> Result<Request<'w>, WordsFault> {
+    match name {
+        "certify" => certify_matched(matches),
+        "validate" => validate_matched(matches),
+        "snapshot" => snapshot_matched(matches),
+        "derive" => derive_matched(matches),
+        "check" => check_matched(alloc, matches),
+        _ => Err(WordsFault::Usage),
+    }
+}
+
+fn certify_matched<'w>(matches: &ArgMatches<'w>) -> Result<Request<'w>, WordsFault> {
+    Ok(Request::Certify {
+        folder: word(matches, "PACKAGE")?,
+        file: word(matches, "CERTIFICATE")?,
+    })
+}
+
+fn validate_matched<'w>(matches: &ArgMatches<'w>) -> Result<Request<'w>, WordsFault> {
+    Ok(Request::Validate {
+        folder: word(matches, "PACKAGE")?,
+        profile: word(matches, "PROFILE")?,
+        file: word(matches, "RESOURCE")?,
+    })
+}
+
+fn snapshot_matched<'w>(matches: &ArgMatches<'w>) -> Result<Request<'w>, WordsFault> {
+    Ok(Request::Snapshot {
+        folder: word(matches, "PACKAGE")?,
+        url: word(matches, "URL")?,
+    })
+}
+
+fn derive_matched<'w>(matches: &ArgMatches<'w>) -> Result<Request<'w>, WordsFault> {
+    Ok(Request::Derive {
+        folder: word(matches, "PACKAGE")?,
+        derived: word(matches, "DERIVED")?,
+        base: word(matches, "BASE")?,
+    })
+}
+
+// The words of an argument that may stand several times.
+fn words_at<'w>(
+    alloc: Global,
+    matches: &ArgMatches<'w>,
+    id: &str,
+) -> Result<Vec<&'w str>, AllocError> {
+    let mut words = Vec::new(alloc);
+    if let Some(given) = matches.get_strs(id) {
+        words.extend_from_slice(given)?;
+    }
+    Ok(words)
+}
+
+// The same in memory of their own.
+fn owned_at(alloc: Global, matches: &ArgMatches<'_>, id: &str) -> Result<Vec<String>, AllocError> {
+    let mut words = Vec::new(alloc);
+    for word in words_at(alloc, matches, id)? {
+        words.push(String::from_str(alloc, word)?)?;
+    }
+    Ok(words)
+}
+
+fn detail_matched(matches: &ArgMatches<'_>) -> Detail {
+    if matches.get_flag("each") {
+        Detail::Each
+    } else {
+        Detail::Once
+    }
+}
+
+fn check_matched<'w>(alloc: Global, matches: &ArgMatches<'w>) -> Result<Request<'w>, WordsFault> {
+    Ok(Request::Check {
+        folder: word(matches, "PACKAGE")?,
+        certificate: matches.get_str("CERTIFICATE"),
+        prefixes: owned_at(alloc, matches, "only")?,
+        format: if matches.get_flag("json") {
+            Format::Json
+        } else {
+            Format::Text
+        },
+        detail: detail_matched(matches),
+    })
+}
+
+fn gather_matched<'w>(alloc: Global, matches: &ArgMatches<'w>) -> Result<Task<'w>, WordsFault> {
+    Ok(Task::Gather {
+        out: word(matches, "OUT")?,
+        folders: words_at(alloc, matches, "FOLDER")?,
+        detail: detail_matched(matches),
+    })
+}

@@ -1,0 +1,319 @@
+//! Words without options, which are read as they stand.
+
+ghost use Rattle.std.specs.Prelude.{◌≡◌, ◌∷◌, ◌++◌, [], not, map, string_bytes, option_map, IfOk, OnOk};
+ghost use Rattle.std.specs.List.{list_any};
+ghost use Rattle.fhir_words.specs.Requests.{check, answer, serve, gather};
+ghost use Rattle.fhir_words.specs.Words.{is_option, are_plain, certify_request, validate_request, snapshot_request, derive_request, check_request, check_beside, first_some, command_request, plain_request, plain_invocation, folder_to_serve, served_folder, gather_task, plain_gathering, plain_task};
+ghost use Rattle.fhir_json.specs.Views.{text_seen};
+ghost use Rattle.fhir_words.specs.Views.{texts_seen, request_seen, task_seen};
+
+use crate::request::{Detail, Format, Invocation, Request, Task};
+use std::alloc::{AllocError, Global};
+
+fn is_option(word: &str) -> bool
+    ensures { result ≡ is_option word.now }
+{
+    word.as_bytes().starts_with(b"-")
+}
+
+fn are_plain(first: &str, second: &str) -> bool
+    ensures { result ≡ are_plain first.now second.now }
+{
+    !is_option(first) && !is_option(second)
+}
+
+fn certify_request<'w>(command: &str, first: &'w str, second: &'w str) -> Option<Request<'w>>
+    ensures { option_map request_seen result ≡ certify_request command.now first.now second.now }
+{
+    if command == "certify" && are_plain(first, second) {
+        Some(Request::Certify {
+            folder: first,
+            file: second,
+        })
+    } else {
+        None
+    }
+}
+
+fn validate_request<'w>(
+    command: &str,
+    first: &'w str,
+    second: &'w str,
+    third: &'w str,
+) -> Option<Request<'w>>
+    ensures { option_map request_seen result ≡ validate_request command.now first.now second.now third.now }
+{
+    if command == "validate" && !is_option(first) && are_plain(second, third) {
+        Some(Request::Validate {
+            folder: first,
+            profile: second,
+            file: third,
+        })
+    } else {
+        None
+    }
+}
+
+fn snapshot_request<'w>(command: &str, first: &'w str, second: &'w str) -> Option<Request<'w>>
+    ensures { option_map request_seen result ≡ snapshot_request command.now first.now second.now }
+{
+    if command == "snapshot" && are_plain(first, second) {
+        Some(Request::Snapshot {
+            folder: first,
+            url: second,
+        })
+    } else {
+        None
+    }
+}
+
+fn derive_request<'w>(
+    command: &str,
+    first: &'w str,
+    second: &'w str,
+    third: &'w str,
+) -> Option<Request<'w>>
+    ensures { option_map request_seen result ≡ derive_request command.now first.now second.now third.now }
+{
+    if command == "derive" && !is_option(first) && are_plain(second, third) {
+        Some(Request::Derive {
+            folder: first,
+            derived: second,
+            base: third,
+        })
+    } else {
+        None
+    }
+}
+
+// The check of a folder, and of a certificate beside it, if there is one.
+fn check_of<'w>(alloc: Global, folder: &'w str, certificate: Option<&'w str>) -> Request<'w>
+    ensures { request_seen result ≡ check folder.now (text_seen certificate.entry) [] Format.Text Detail.Once }
+{
+    Request::Check {
+        folder,
+        certificate,
+        prefixes: Vec::new(alloc),
+        format: Format::Text,
+        detail: Detail::Once,
+    }
+}
+
+fn check_request<'w>(alloc: Global, command: &str, folder: &'w str) -> Option<Request<'w>>
+    ensures { option_map request_seen result ≡ check_request command.now folder.now }
+{
+    if command == "check" && !is_option(folder) {
+        Some(check_of(alloc, folder, None))
+    } else {
+        None
+    }
+}
+
+fn check_beside<'w>(
+    alloc: Global,
+    command: &str,
+    folder: &'w str,
+    certificate: &'w str,
+) -> Option<Request<'w>>
+    ensures { option_map request_seen result ≡ check_beside command.now folder.now certificate.now }
+{
+    if command == "check" && are_plain(folder, certificate) {
+        Some(check_of(alloc, folder, Some(certificate)))
+    } else {
+        None
+    }
+}
+
+fn snapshot_or_check<'w>(
+    alloc: Global,
+    command: &str,
+    first: &'w str,
+    second: &'w str,
+) -> Option<Request<'w>>
+    ensures { option_map request_seen result
+        ≡ first_some (snapshot_request command.now first.now second.now) (check_beside command.now first.now second.now) }
+{
+    match snapshot_request(command, first, second) {
+        Some(request) => Some(request),
+        None => check_beside(alloc, command, first, second),
+    }
+}
+
+fn request_of_two<'w>(
+    alloc: Global,
+    command: &str,
+    first: &'w str,
+    second: &'w str,
+) -> Option<Request<'w>>
+    ensures { option_map request_seen result ≡ first_some (certify_request command.now first.now second.now)
+        (first_some (snapshot_request command.now first.now second.now) (check_beside command.now first.now second.now)) }
+{
+    match certify_request(command, first, second) {
+        Some(request) => Some(request),
+        None => snapshot_or_check(alloc, command, first, second),
+    }
+}
+
+fn request_of_three<'w>(
+    command: &str,
+    first: &'w str,
+    second: &'w str,
+    third: &'w str,
+) -> Option<Request<'w>>
+    ensures { option_map request_seen result ≡ first_some (validate_request command.now first.now second.now third.now)
+        (derive_request command.now first.now second.now third.now) }
+{
+    match validate_request(command, first, second, third) {
+        Some(request) => Some(request),
+        None => derive_request(command, first, second, third),
+    }
+}
+
+fn command_request<'w>(alloc: Global, command: &str, words: &'w [String]) -> Option<Request<'w>>
+    ensures { option_map request_seen result ≡ command_request command.now (map string_bytes words.now) }
+{
+    match words {
+        [first] => check_request(alloc, command, first.as_str()),
+        [first, second] => request_of_two(alloc, command, first.as_str(), second.as_str()),
+        [first, second, third] => {
+            request_of_three(command, first.as_str(), second.as_str(), third.as_str())
+        }
+        _ => None,
+    }
+}
+
+fn plain_request(alloc: Global, words: &[String]) -> Option<Request<'_>>
+    ensures { option_map request_seen result ≡ plain_request (map string_bytes words.now) }
+{
+    match words {
+        [_, command, others @ ..] => command_request(alloc, command.as_str(), others),
+        _ => None,
+    }
+}
+
+fn folder_to_serve<'w>(command: &str, folder: &'w str) -> Option<&'w str>
+    ensures { text_seen result ≡ folder_to_serve command.now folder.now }
+{
+    if command == "serve" && !is_option(folder) {
+        Some(folder)
+    } else {
+        None
+    }
+}
+
+fn served_folder(words: &[String]) -> Option<&str>
+    ensures { text_seen result ≡ served_folder (map string_bytes words.now) }
+{
+    match words {
+        [_, command, folder] => folder_to_serve(command.as_str(), folder.as_str()),
+        _ => None,
+    }
+}
+
+fn serve_task(words: &[String]) -> Option<Task<'_>>
+    ensures { option_map task_seen result ≡ option_map serve (served_folder (map string_bytes words.now)) }
+{
+    match served_folder(words) {
+        Some(folder) => Some(Task::Serve(folder)),
+        None => None,
+    }
+}
+
+fn request_task(alloc: Global, words: &[String]) -> Option<Task<'_>>
+    ensures { option_map task_seen result
+        ≡ first_some (option_map answer (plain_invocation (map string_bytes words.now))) (option_map serve (served_folder (map string_bytes words.now))) }
+{
+    match plain_request(alloc, words) {
+        Some(request) => Some(Task::Answer(Invocation::Request(request))),
+        None => serve_task(words),
+    }
+}
+
+fn any_option(words: &[String]) -> bool
+    ensures { result ≡ list_any (λ w. is_option (string_bytes w)) words.now }
+{
+    words.iter().any(|word| is_option(word.as_str()))
+}
+
+fn has_option(words: &[String]) -> bool
+    ensures { result ≡ list_any is_option (map string_bytes words.now) }
+{
+    any_option(words)
+}
+
+fn push_texts<'w>(words: &'w [String], texts: &mut Vec<&'w str>) -> Result<(), AllocError>
+    ensures { OnOk result (texts_seen texts.new.items ≡ texts_seen texts.old.items ++ map string_bytes words.now) }
+{
+    for word in words {
+        texts.push(word.as_str())?;
+    }
+    Ok(())
+}
+
+fn gathering<'w>(
+    alloc: Global,
+    out: &'w str,
+    first: &'w str,
+    others: &'w [String],
+) -> Result<Task<'w>, AllocError>
+    ensures { IfOk result (λ task. task_seen task ≡ gather out.now (first.now ∷ map string_bytes others.now) Detail.Once) }
+{
+    let mut folders = vec![in alloc; first]?;
+    push_texts(others, &mut folders)?;
+    Ok(Task::Gather {
+        out,
+        folders,
+        detail: Detail::Once,
+    })
+}
+
+fn are_folders(out: &str, first: &str, others: &[String]) -> bool
+    ensures { result ≡ not (list_any is_option (out.now ∷ first.now ∷ map string_bytes others.now)) }
+{
+    are_plain(out, first) && !has_option(others)
+}
+
+fn gather_task<'w>(
+    alloc: Global,
+    command: &str,
+    out: &'w str,
+    first: &'w str,
+    others: &'w [String],
+) -> Result<Option<Task<'w>>, AllocError>
+    ensures { IfOk result (λ task. option_map task_seen task
+        ≡ gather_task command.now out.now first.now (map string_bytes others.now)) }
+{
+    if command == "gather" && are_folders(out, first, others) {
+        Ok(Some(gathering(alloc, out, first, others)?))
+    } else {
+        Ok(None)
+    }
+}
+
+fn plain_gathering<'w>(alloc: Global, words: &'w [String]) -> Result<Option<Task<'w>>, AllocError>
+    ensures { IfOk result (λ task. option_map task_seen task ≡ plain_gathering (map string_bytes words.now)) }
+{
+    match words {
+        [_, command, out, first, others @ ..] => gather_task(
+            alloc,
+            command.as_str(),
+            out.as_str(),
+            first.as_str(),
+            others,
+        ),
+        _ => Ok(None),
+    }
+}
+
+/// What words without options ask for.
+pub(crate) fn plain_task<'w>(
+    alloc: Global,
+    words: &'w [String],
+) -> Result<Option<Task<'w>>, AllocError>
+    ensures { IfOk result (λ task. option_map task_seen task ≡ plain_task (map string_bytes words.now)) }
+{
+    match plain_gathering(alloc, words)? {
+        Some(task) => Ok(Some(task)),
+        None => Ok(request_task(alloc, words)),
+    }
+}
