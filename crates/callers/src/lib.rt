@@ -2,11 +2,11 @@
 //! against each other. That of `fhir_engine` stands in `engine_tests`, which stands on it in any case.
 #![tactic(auto)]
 
-ghost use Rattle.std.specs.Prelude.{◌≡◌, ◌∷◌, ◌↔◌, ◌||◌, [], length, get_or, false, None, Ok, is_ok, is_some, List, Option, Result, if◌then◌else◌, IsTrue, IfOk, codes, string_bytes, option_map};
+ghost use Rattle.std.specs.Prelude.{◌≡◌, ◌∷◌, ◌++◌, ◌↔◌, ◌||◌, [], map, Some, length, get_or, false, None, Ok, is_ok, is_some, List, Option, Result, if◌then◌else◌, IsTrue, IfOk, codes, string_bytes, option_map};
 ghost use Rattle.std.specs.FinSet as set;
 ghost use Rattle.std.specs.Option.{option_map_or};
 ghost use Rattle.fhir_json.specs.Tree.{Text, Tree};
-ghost use Rattle.fhir_json.specs.Views.{tree_of};
+ghost use Rattle.fhir_json.specs.Views.{tree_of, text_seen};
 ghost use Rattle.fhir_json.specs.Fields.{text_in};
 ghost use Rattle.fhir_json.specs.Grammar.{Reads};
 ghost use Rattle.fhir_json.specs.Memory.{Gives};
@@ -53,6 +53,8 @@ ghost use Rattle.fhir_derive_check.specs.Reaching.{HasCertificate};
 ghost use Rattle.fhir_findings.specs.Finding.{all_unusable};
 ghost use Rattle.fhir_report.specs.Faultless.{IsRightBy};
 ghost use Rattle.fhir_commands.specs.Commands.{command_seen, line_command};
+ghost use Rattle.fhir_words.specs.Requests.{RequestValue, folder_of, request, answer};
+ghost use Rattle.fhir_words.specs.Words.{plain_task};
 ghost use Rattle.fhir_commands.specs.Replies.{reply_seen};
 ghost use Rattle.fhir_reach.specs.Reach.{restrict};
 ghost use Rattle.fhir_reach.specs.Search.{reached};
@@ -72,11 +74,13 @@ use fhir_elements::{ElementDef, ElementFault};
 use fhir_entail::entails;
 use fhir_facets::{Facet, Pattern, narrower_holds};
 use fhir_forms::NodeForms;
+use fhir_findings::Selection;
 use fhir_fp_eval::{Env, holds};
 use fhir_fp_syntax::{Expr, Parsed, parse};
 use fhir_inheritance::Sources;
 use fhir_instance::{Misfit, Typed, type_resource};
 use fhir_json::{Json, JsonFault, NoMemory};
+use fhir_lines::Line;
 use fhir_matching::{json_eq, matches};
 use fhir_names::{ElementId, front_of};
 use fhir_nodes::{Nodes, Table};
@@ -85,11 +89,12 @@ use fhir_package::{Folder, Kind, LoadFault, Package, Survey, load};
 use fhir_prims::{PrimType, lexical};
 use fhir_reach::{reach, restrict, starts_of};
 use fhir_registry::Registry;
-use fhir_report::{Format, LackingTable, Subject};
+use fhir_report::{LackingTable, Subject};
 use fhir_schema::{NodeRef, Schema, Slot};
 use fhir_slicing::belongs;
 use fhir_snapshot::{SnapFault, generate};
 use fhir_validator::{Fault, validate};
+use fhir_words::{Detail, Format, Invocation, Manner, Task, WordsFault, task_of};
 use std::alloc::Global;
 
 /// The text of the field `url` of a JSON object, or why the bytes are no text of JSON.
@@ -376,7 +381,7 @@ pub fn are_usable<'r>(
     ensures { IfOk result (λ all. IsTrue all
         → (survey.now.faults ≡ []) × (all_unusable schema.now survey.now ≡ [])) }
 {
-    let found = fhir_findings::findings(alloc, survey, schema)?;
+    let found = fhir_findings::findings(alloc, survey, schema, &Selection::all())?;
     Ok(!fhir_findings::has_faults(&found))
 }
 
@@ -388,16 +393,22 @@ pub fn is_clean<'s, 'f: 's>(
     lacking: &'s LackingTable,
     files: usize,
 ) -> Result<bool, NoMemory>
-    ensures { IfOk result (λ is_clean. IsTrue is_clean → IsRightBy schema.now survey.now None) }
+    ensures { IfOk result (λ is_clean. IsTrue is_clean → IsRightBy None schema.now survey.now None) }
 {
+    let selection = Selection::all();
     let subject = Subject {
         survey,
         schema,
         lacking,
         files,
+        selection: &selection,
         certificate: None,
     };
-    let report = fhir_report::report_on(alloc, Format::Text, subject)?;
+    let manner = Manner {
+        format: Format::Text,
+        detail: Detail::Once,
+    };
+    let report = fhir_report::report_on(alloc, manner, subject)?;
     Ok(report.is_clean)
 }
 
@@ -435,4 +446,25 @@ pub fn reply_to(
         Ok(mut registry) => registry.apply(alloc, command),
         Err(_) => Err(NoMemory),
     }
+}
+
+/// The folder that is asked about, if words ask for an answer to a request.
+pub fn folder_asked<'w>(
+    alloc: Global,
+    words: &'w [String],
+) -> Result<Option<&'w str>, WordsFault>
+    ensures { (q : RequestValue) → plain_task (map string_bytes words.now) ≡ Some (answer (request q))
+        → IfOk result (λ folder. text_seen folder ≡ Some (folder_of q)) }
+{
+    match task_of(alloc, words)? {
+        Task::Answer(Invocation::Request(request)) => Ok(Some(request.folder())),
+        _ => Ok(None),
+    }
+}
+
+/// A line on a file, as a text.
+pub fn line_on(alloc: Global, file: &str, text: String) -> Result<String, NoMemory>
+    ensures { Gives string_bytes result (file.now ++ codes ": " ++ string_bytes text) }
+{
+    Line::of_file(file, None, text).to_text(alloc)
 }

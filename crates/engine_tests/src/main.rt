@@ -14,14 +14,13 @@
 ghost use Rattle.std.specs.Prelude.{◌≡◌, Option, Result};
 ghost use Rattle.fhir_json.specs.Tree.{Text};
 ghost use Rattle.fhir_package.specs.Folder.{Files};
-ghost use Rattle.fhir_engine.specs.declared.request.WordsFault.{WordsFault};
+ghost use Rattle.fhir_words.specs.declared.request.WordsFault.{WordsFault};
 ghost use Rattle.fhir_engine.specs.Promising.{Promise};
-ghost use Rattle.fhir_engine.specs.Requests.{InvocationValue};
+ghost use Rattle.fhir_words.specs.Requests.{InvocationValue};
 
-use fhir_engine::{
-    Invocation, Opened, Status, Task, WordsFault, open_asked, run, serve_directory, task_of,
-};
+use fhir_engine::{Opened, Status, open_asked, run, serve_directory};
 use fhir_package::Silent;
+use fhir_words::{Invocation, Task, WordsFault, task_of};
 use std::alloc::{AllocError, Global};
 use std::io::{Write, empty};
 use std::rt::Files;
@@ -66,6 +65,7 @@ fn task_status<R: Files + AllocGlobal + Clone + Drop, W: Write, E: Write>(
     match task_of(rt.alloc(), words) {
         Ok(Task::Answer(asked)) => status_of(rt, Ok(asked), out, err),
         Ok(Task::Serve(folder)) => serve_directory(rt, folder, empty(), &mut Silent, out, err),
+        Ok(Task::Gather(_)) => Status::Usage,
         Err(fault) => status_of(rt, Err(fault), out, err),
     }
 }

@@ -1,7 +1,7 @@
 -- What a session says of its schema and its files.
-use Rattle.std.proofs.Common.{◌≡◌, map, String, string_bytes, ap, sym, ◌∙◌, List, [], ◌∷◌, Bool, true, false, IsTrue, Option, None, Some, refl, subst}
+use Rattle.std.proofs.Common.{◌≡◌, ℕ, Result, Ok, Err, map, String, string_bytes, ap, sym, ◌∙◌, List, [], ◌∷◌, Bool, true, false, IsTrue, Option, None, Some, refl, subst}
 use Rattle.std.specs.Prelude.{find, slice_get}
-use Rattle.std.specs.Option.{option_or}
+use Rattle.std.specs.Option.{option_or, option_map_or}
 use Rattle.fhir_json.specs.Tree.{Text}
 use Rattle.fhir_package.specs.Definitions.{Definitions}
 use Rattle.fhir_package.specs.ReadFiles.{ReadFiles}
@@ -11,10 +11,13 @@ use Rattle.fhir_snapshot.specs.Faults.{number_of}
 use Rattle.fhir_snapshot.specs.Completing.{Numbered, IsCompletion}
 use Rattle.fhir_report.specs.Lacking.{Lacking, numbers, lacking_seen}
 use Rattle.fhir_schema.specs.Schemas.{SchemaValue, schema_of}
-use Rattle.fhir_findings.specs.Clean.{AreUsable}
-use Rattle.fhir_findings.specs.Finding.{all_unusable}
+use Rattle.fhir_findings.specs.declared.selection.SelectFault.{SelectFault}
+use Rattle.fhir_findings.specs.declared.selection.SelectFault.TheVariants.{Unknown}
+use Rattle.fhir_findings.specs.Clean.{AreSelectedUsable}
+use Rattle.fhir_findings.specs.Finding.{selected_unusable}
+use Rattle.fhir_findings.specs.Selecting.{SelectionValue, select, selection_of, unknown_place}
 use Rattle.fhir_report.specs.Faultless.{CertificateValue, PromisesIfAny, IsRightBy}
-use Rattle.fhir_engine.specs.Promising.{AreRight, Checked}
+use Rattle.fhir_engine.specs.Promising.{AreRight, CheckedOf}
 use Rattle.fhir_engine.specs.Reporting.{asked}
 use Rattle.fhir_engine.specs.Session.{SessionValue, IsCompleted, schema_in}
 use Rattle.fhir_engine.specs.Status.{code_of, report_status}
@@ -37,18 +40,40 @@ clean_by true e = refl
 clean_by false e = absurd cc
 
 -- what is right by the schema and the survey of a session
-pub right_of : ((survey : Surveyed) → all_unusable (schema_of survey.definitions) survey ≡ [] → AreUsable (schema_of survey.definitions))
-    → (schema : SchemaValue) (survey : Surveyed) (s : SessionValue) (certificate : Option CertificateValue) → survey ≡ s.survey → schema ≡ schema_in s
-    → IsRightBy schema survey certificate → PromisesIfAny schema certificate → (s.survey.faults ≡ []) × AreRight (schema_in s) certificate
-right_of usable schema survey s certificate same_survey same_schema right promises =
-    let by : IsRightBy (schema_in s) s.survey certificate =
-    subst (λ x. IsRightBy x s.survey certificate) same_schema (subst (λ x. IsRightBy schema x certificate) same_survey right) in
-    (by.0, (usable s.survey by.1, by.2, subst (λ x. PromisesIfAny x certificate) same_schema promises))
+pub right_of : ((chosen : SelectionValue) (survey : Surveyed) → selected_unusable chosen (schema_of survey.definitions) survey ≡ [] → AreSelectedUsable chosen survey.definitions)
+    → (selection : SelectionValue) (schema : SchemaValue) (survey : Surveyed) (s : SessionValue) (certificate : Option CertificateValue) → survey ≡ s.survey
+    → schema ≡ schema_in s → IsRightBy selection schema survey certificate → PromisesIfAny schema certificate
+    → (s.survey.faults ≡ []) × AreRight selection s.survey.definitions certificate
+right_of usable selection schema survey s certificate same_survey same_schema right promises =
+    let by : IsRightBy selection (schema_in s) s.survey certificate =
+    subst (λ x. IsRightBy selection x s.survey certificate) same_schema (subst (λ x. IsRightBy selection schema x certificate) same_survey right) in
+    (by.0, (usable selection s.survey by.1, by.2, subst (λ x. PromisesIfAny x certificate) same_schema promises))
 
 -- the same of the certificate that is asked about
-pub checked_so : (s : SessionValue) (name file : Option Text) (certificate : Option CertificateValue) → asked name file ≡ Some certificate
-    → (s.survey.faults ≡ []) × AreRight (schema_in s) certificate → (s.survey.faults ≡ []) × Checked (schema_in s) name file
-checked_so s name file certificate is promise = (promise.0, (certificate, is, promise.1))
+pub checked_so : (selection : SelectionValue) (s : SessionValue) (name file : Option Text) (certificate : Option CertificateValue) → asked name file ≡ Some certificate
+    → (s.survey.faults ≡ []) × AreRight selection s.survey.definitions certificate → (s.survey.faults ≡ []) × CheckedOf selection s.survey.definitions name file
+checked_so selection s name file certificate is promise = (promise.0, (certificate, is, promise.1))
+
+-- ---- prefixes
+
+-- what is selected, by the place of the first prefix that begins no url
+abbrev chosen : Option ℕ → SelectionValue → Result SelectionValue SelectFault
+chosen unknown selection = option_map_or (λ place. Err (Unknown place)) unknown (Ok selection)
+
+chosen_ok : (unknown : Option ℕ) (all own : SelectionValue) → chosen unknown all ≡ Ok own → (unknown ≡ None) × (own ≡ all)
+chosen_ok None all own is = (refl, cc)
+chosen_ok (Some place) all own is = absurd cc
+
+chosen_unknown : (unknown : Option ℕ) (all : SelectionValue) (place : ℕ) → chosen unknown all ≡ Err (Unknown place) → unknown ≡ Some place
+chosen_unknown None all place is = absurd cc
+chosen_unknown (Some other) all place is = cc
+
+pub selected : (prefixes : List Text) (p : Definitions) (selection : SelectionValue) → select prefixes p ≡ Ok selection
+    → (unknown_place p prefixes ≡ None) × (selection ≡ selection_of prefixes p)
+selected prefixes p selection is = chosen_ok (unknown_place p prefixes) (selection_of prefixes p) selection is
+
+pub unselected : (prefixes : List Text) (p : Definitions) (place : ℕ) → select prefixes p ≡ Err (Unknown place) → unknown_place p prefixes ≡ Some place
+unselected prefixes p place is = chosen_unknown (unknown_place p prefixes) (selection_of prefixes p) place is
 
 -- ---- completing
 

@@ -1,5 +1,5 @@
 -- What is answered.
-use Rattle.std.specs.Prelude.{◌≡◌, ◌↔◌, List, ℕ, ◌++◌, Bool, true, false, IsTrue, Option, None, Some, Result, Ok, Err, codes}
+use Rattle.std.specs.Prelude.{◌≡◌, ◌↔◌, List, [], ℕ, ◌++◌, get_or, Bool, true, false, IsTrue, Option, None, Some, Result, Ok, Err, codes}
 use Rattle.fhir_json.specs.Tree.{Text, Tree}
 use Rattle.fhir_json.specs.Compact.{compact}
 use Rattle.fhir_elements.specs.Element.{Element}
@@ -17,7 +17,8 @@ use Rattle.fhir_schema.specs.Schemas.{SchemaValue}
 use Rattle.fhir_commands.specs.declared.reply.Standing.{Standing}
 use Rattle.fhir_registry.specs.Judging.{IsJudged}
 use Rattle.fhir_registry.specs.Deriving.{Derivation, IsDerivationOf}
-use Rattle.fhir_words.specs.declared.request.Format.{Format}
+use Rattle.fhir_words.specs.declared.request.Manner.{Manner}
+use Rattle.fhir_findings.specs.Selecting.{SelectionValue, unknown_place, selection_of}
 use Rattle.fhir_report.specs.Faultless.{CertificateValue}
 use Rattle.fhir_words.specs.declared.request.WordsFault.{WordsFault}
 use Rattle.fhir_words.specs.declared.request.WordsFault.TheVariants.{Usage, NoMemory}
@@ -31,13 +32,13 @@ use Rattle.fhir_engine.specs.Status.{code_of, standing_status, report_status, wo
 -- ---- answers, and the replies that are theirs
 
 -- a reply that is stated; one on the bytes of a resource and a profile; one on the definition at a url; one on a derived profile and its
--- base; or a report on a session and a certificate
+-- base; or a report on what is selected of a session, and on a certificate
 pub data AnswerValue : Type 0 where
   stated : ReplyValue → AnswerValue
   judged : SchemaValue → (profile bytes : List ℕ) → AnswerValue
   listed : Definitions → List ℕ → AnswerValue
   between : SchemaValue → (derived base : List ℕ) → AnswerValue
-  reported : Format → SessionValue → Option CertificateValue → AnswerValue
+  reported : Manner → SelectionValue → SessionValue → Option CertificateValue → AnswerValue
 
 -- The status says how the resource stands, and an outcome that says so is written, with a line feed.
 pub record IsAnswered (s : SchemaValue) (profile bytes : Text) (reply : ReplyValue) : Type 0 where
@@ -66,11 +67,11 @@ pub record IsDerivationReply (s : SchemaValue) (derived base : Text) (reply : Re
   pub is_reply : reply ≡ derivation_reply s derived base derivation
 
 -- The status says whether all is right, and a report is written.
-pub record IsReported (format : Format) (s : SessionValue) (certificate : Option CertificateValue) (reply : ReplyValue) : Type 0 where
+pub record IsReported (manner : Manner) (selection : SelectionValue) (s : SessionValue) (certificate : Option CertificateValue) (reply : ReplyValue) : Type 0 where
   pub is_clean : Bool
-  pub all_right : IsTrue is_clean ↔ IsAllRight s certificate
+  pub all_right : IsTrue is_clean ↔ IsAllRight selection s certificate
   pub text : Text
-  pub is_report : IsReportOf format s certificate text
+  pub is_report : IsReportOf manner selection s certificate text
   pub is_reply : reply ≡ written (code_of (report_status is_clean)) text
 
 abbrev pub IsReply : AnswerValue → ReplyValue → Type 0
@@ -78,7 +79,7 @@ IsReply (stated answer) reply = reply ≡ answer
 IsReply (judged s profile bytes) reply = IsAnswered s profile bytes reply
 IsReply (listed p url) reply = IsListed p url reply
 IsReply (between s derived base) reply = IsDerivationReply s derived base reply
-IsReply (reported format s certificate) reply = IsReported format s certificate reply
+IsReply (reported manner selection s certificate) reply = IsReported manner selection s certificate reply
 
 -- ---- the answer to a request
 
@@ -98,9 +99,19 @@ certify_answer s name file = file_answer (λ bytes. stated (certificate_reply na
 abbrev pub validate_answer : SchemaValue → Text → Text → Option Text → AnswerValue
 validate_answer s profile name file = file_answer (λ bytes. judged s profile bytes) name file
 
-abbrev pub check_answer : Format → SessionValue → Option Text → Option Text → AnswerValue
-check_answer format s None file = reported format s None
-check_answer format s (Some name) file = file_answer (λ bytes. reported format s (Some (name, bytes))) name file
+abbrev pub report_answer : Manner → SelectionValue → SessionValue → Option Text → Option Text → AnswerValue
+report_answer manner selection s None file = reported manner selection s None
+report_answer manner selection s (Some name) file = file_answer (λ bytes. reported manner selection s (Some (name, bytes))) name file
+
+-- where each prefix begins a url, and else the first that begins none
+abbrev pub only_answer : List Text → Option ℕ → AnswerValue → AnswerValue
+only_answer prefixes None answer = answer
+only_answer prefixes (Some place) answer = stated (fault_reply (codes "only") (get_or prefixes place []))
+
+abbrev pub check_answer : Manner → List Text → SessionValue → Option Text → Option Text → AnswerValue
+check_answer manner prefixes s name file =
+    only_answer prefixes (unknown_place s.survey.definitions prefixes)
+    (report_answer manner (selection_of prefixes s.survey.definitions) s name file)
 
 -- of a session, and of the bytes of the file that is asked about
 abbrev pub answer_by : RequestValue → SessionValue → Option Text → AnswerValue
@@ -108,7 +119,7 @@ answer_by (certify folder name) s file = package_answer (refusal s.survey) (cert
 answer_by (validate folder profile name) s file = package_answer (refusal s.survey) (validate_answer (schema_in s) profile name file)
 answer_by (snapshot folder url) s file = package_answer (refusal s.survey) (listed s.survey.definitions url)
 answer_by (derive folder derived base) s file = package_answer (refusal s.survey) (between (schema_in s) derived base)
-answer_by (check folder certificate format) s file = check_answer format s certificate file
+answer_by (check folder certificate prefixes manner) s file = check_answer manner prefixes s certificate file
 
 -- A reply to a request, of the files that were read of a folder, or of a folder that wasn't listed.
 abbrev pub RepliesTo : RequestValue → Result ReadFiles FolderFault → Option Text → ReplyValue → Type 0

@@ -14,7 +14,8 @@ use Rattle.fhir_certificate.specs.Certificate.{CertificateValue as DerivedValue}
 use Rattle.fhir_cert_check.specs.Checking.{IsCertificate}
 use Rattle.fhir_cert_check.specs.Inclusion.{Includes}
 use Rattle.fhir_derive_check.specs.Deriving.{IsDerived}
-use Rattle.fhir_findings.specs.Clean.{AreUsable}
+use Rattle.fhir_findings.specs.Clean.{AreSelectedUsable}
+use Rattle.fhir_findings.specs.Selecting.{SelectionValue, selection_of}
 use Rattle.fhir_registry.specs.Standing.{AlwaysConforms}
 use Rattle.fhir_report.specs.Faultless.{CertificateValue, Promises, IsRightIfAny, PromisesIfAny}
 use Rattle.fhir_words.specs.declared.request.WordsFault.{WordsFault}
@@ -31,13 +32,18 @@ Certified s file = (bytes : Text) × (file ≡ Some bytes) × Promises s bytes
 abbrev pub Validated : SchemaValue → Text → Option Text → Type 0
 Validated s profile file = (bytes : Text) × (file ≡ Some bytes) × AlwaysConforms s profile bytes
 
--- each definition can be used, and the certificate, if there is one, is right, and what it promises holds
-abbrev pub AreRight : SchemaValue → Option CertificateValue → Type 0
-AreRight s certificate = AreUsable s × IsRightIfAny s certificate × PromisesIfAny s certificate
+-- each definition that is selected can be used, and the certificate, if there is one, is right, and what it promises holds
+abbrev pub AreRight : SelectionValue → Definitions → Option CertificateValue → Type 0
+AreRight selection p certificate =
+    AreSelectedUsable selection p × IsRightIfAny (schema_of p) certificate × PromisesIfAny (schema_of p) certificate
 
 -- The same of the certificate of that name, if one is asked about: its file was read.
-abbrev pub Checked : SchemaValue → Option Text → Option Text → Type 0
-Checked s name file = (certificate : Option CertificateValue) × (asked name file ≡ Some certificate) × AreRight s certificate
+abbrev pub CheckedOf : SelectionValue → Definitions → Option Text → Option Text → Type 0
+CheckedOf selection p name file = (certificate : Option CertificateValue) × (asked name file ≡ Some certificate) × AreRight selection p certificate
+
+-- The same of what prefixes select, or of all definitions where there are none.
+abbrev pub Checked : List Text → Definitions → Option Text → Option Text → Type 0
+Checked prefixes p name file = CheckedOf (selection_of prefixes p) p name file
 
 -- There is a snapshot of the definition at a url.
 abbrev pub Listed : Definitions → Text → Type 0
@@ -54,7 +60,7 @@ Promised (certify folder name) p file = Certified (schema_of p) file
 Promised (validate folder profile name) p file = Validated (schema_of p) profile file
 Promised (snapshot folder url) p file = Listed p url
 Promised (derive folder derived base) p file = Derived (schema_of p) derived base
-Promised (check folder certificate format) p file = Checked (schema_of p) certificate file
+Promised (check folder certificate prefixes manner) p file = Checked prefixes p certificate file
 
 -- of a session: nothing is wrong with any file, and the same of its package
 abbrev pub SessionPromise : RequestValue → SessionValue → Option Text → Type 0

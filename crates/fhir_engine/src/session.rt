@@ -1,12 +1,12 @@
 //! What is held between two answers, and what it answers.
 
-ghost use Rattle.std.specs.Prelude.{◌≡◌, [], None, Some, IfOk, IfErr};
+ghost use Rattle.std.specs.Prelude.{◌≡◌, [], None, Some, IfOk, IfErr, map, get_or, codes, string_bytes};
 ghost use Rattle.fhir_package.specs.Surveying.{refusal};
 ghost use Rattle.fhir_package.specs.SurveyView.{fault_seen};
 ghost use Rattle.fhir_report.specs.Faultless.{certificate_seen};
-ghost use Rattle.fhir_engine.specs.Answering.{IsReported, IsReply, listed, between, package_answer, certify_answer, validate_answer, check_answer, answer_by};
-ghost use Rattle.fhir_engine.specs.Promising.{Certified, Validated, Listed, Derived, AreRight, Checked, SessionPromise};
-ghost use Rattle.fhir_engine.specs.Replying.{reply_seen, status_of, refused_reply};
+ghost use Rattle.fhir_engine.specs.Answering.{IsReported, IsReply, listed, between, package_answer, certify_answer, validate_answer, report_answer, check_answer, answer_by};
+ghost use Rattle.fhir_engine.specs.Promising.{Certified, Validated, Listed, Derived, AreRight, CheckedOf, Checked, SessionPromise};
+ghost use Rattle.fhir_engine.specs.Replying.{reply_seen, status_of, fault_reply, refused_reply};
 ghost use Rattle.fhir_engine.specs.Session.{IsCompleted, IsSessionOf, schema_in};
 ghost use Rattle.fhir_engine.specs.Status.{report_status};
 ghost use Rattle.fhir_engine.specs.Views.{bytes_seen};
@@ -15,13 +15,13 @@ ghost use Rattle.fhir_words.specs.Views.{request_seen};
 use crate::answering::{certify, list_snapshot, validate_file};
 use crate::derive_reply::derive_between;
 use crate::reply::{Reply, Status, fault_reply, unreadable_reply};
-use fhir_findings::all_usable;
+use fhir_findings::{SelectFault, Selection, selected_usable};
 use fhir_json::NoMemory;
 use fhir_package::{FileFault, FolderFiles, Package, Progress, Stage, Survey};
 use fhir_report::{CertificateFile, LackingTable, Subject, report_on};
 use fhir_schema::Schema;
 use fhir_snapshot::complete;
-use fhir_words::{Format, Request};
+use fhir_words::{Manner, Request};
 use std::alloc::{AllocError, Global};
 use std::marker::Model;
 
@@ -76,6 +76,17 @@ fn completed<'f, P: Progress>(
     Ok((survey, lacking))
 }
 
+// That no url begins with the prefix at a place.
+fn only_reply(alloc: Global, prefixes: &[String], place: usize) -> Result<Reply, NoMemory>
+    ensures { IfOk result (λ r. reply_seen r ≡ fault_reply (codes "only") (get_or (map string_bytes prefixes.now) place [])) }
+{
+    let prefix = match prefixes.get(place) {
+        Some(prefix) => prefix.as_str(),
+        None => "",
+    };
+    Ok(fault_reply(alloc, "only", prefix)?)
+}
+
 fn report_status(is_clean: bool) -> Status
     ensures { result ≡ report_status is_clean }
 {
@@ -125,27 +136,28 @@ impl<'f> Session<'f> {
     pub fn answer(
         &self,
         alloc: Global,
-        request: Request<'_>,
+        request: &Request<'_>,
         file: Option<&[u8]>,
     ) -> Result<Reply, NoMemory>
-        ensures told { IfOk result (λ r. IsReply (answer_by (request_seen request.entry) self.now (bytes_seen file.entry)) (reply_seen r)) }
+        ensures told { IfOk result (λ r. IsReply (answer_by (request_seen request.now) self.now (bytes_seen file.entry)) (reply_seen r)) }
         ensures promised { IfOk result (λ r. status_of (reply_seen r) ≡ 0
-            → SessionPromise (request_seen request.entry) self.now (bytes_seen file.entry)) }
+            → SessionPromise (request_seen request.now) self.now (bytes_seen file.entry)) }
     {
         match request {
-            Request::Certify { file: name, .. } => self.certify(alloc, name, file),
+            Request::Certify { file: name, .. } => self.certify(alloc, *name, file),
             Request::Validate {
                 profile,
                 file: name,
                 ..
-            } => self.validate(alloc, profile, name, file),
-            Request::Snapshot { url, .. } => self.snapshot(alloc, url),
-            Request::Derive { derived, base, .. } => self.derive(alloc, derived, base),
+            } => self.validate(alloc, *profile, *name, file),
+            Request::Snapshot { url, .. } => self.snapshot(alloc, *url),
+            Request::Derive { derived, base, .. } => self.derive(alloc, *derived, *base),
             Request::Check {
                 certificate,
-                format,
+                prefixes,
+                manner,
                 ..
-            } => self.check(alloc, format, certificate, file),
+            } => self.check(alloc, *manner, prefixes, *certificate, file),
         }
     }
 
@@ -206,46 +218,70 @@ impl<'f> Session<'f> {
     fn report(
         &self,
         alloc: Global,
-        format: Format,
+        manner: Manner,
+        selection: &Selection,
         certificate: Option<CertificateFile<'_>>,
     ) -> Result<Reply, NoMemory>
-        ensures told { IfOk result (λ r. IsReported format self.now (certificate_seen certificate.entry) (reply_seen r)) }
+        ensures told { IfOk result (λ r. IsReported manner selection.now self.now (certificate_seen certificate.entry) (reply_seen r)) }
         ensures promised { IfOk result (λ r. status_of (reply_seen r) ≡ 0
-            → (self.now.survey.faults ≡ []) × AreRight (schema_in self.now) (certificate_seen certificate.entry)) }
+            → (self.now.survey.faults ≡ []) × AreRight selection.now self.now.survey.definitions (certificate_seen certificate.entry)) }
     {
-        all_usable();
+        selected_usable();
         let subject = Subject {
             survey: &self.survey,
             schema: self.schema(),
             lacking: &self.lacking,
             files: self.files,
+            selection,
             certificate,
         };
-        let report = report_on(alloc, format, subject)?;
+        let report = report_on(alloc, manner, subject)?;
         Ok(Reply::Answer {
             status: report_status(report.is_clean),
             out: report.text.into_bytes(),
         })
     }
 
-    fn check(
+    fn check_selected(
         &self,
         alloc: Global,
-        format: Format,
+        manner: Manner,
+        selection: &Selection,
         certificate: Option<&str>,
         file: Option<&[u8]>,
     ) -> Result<Reply, NoMemory>
-        ensures told { IfOk result (λ r. IsReply (check_answer format self.now (bytes_seen certificate.entry) (bytes_seen file.entry)) (reply_seen r)) }
+        ensures told { IfOk result (λ r. IsReply
+            (report_answer manner selection.now self.now (bytes_seen certificate.entry) (bytes_seen file.entry)) (reply_seen r)) }
         ensures promised { IfOk result (λ r. status_of (reply_seen r) ≡ 0 → (self.now.survey.faults ≡ [])
-            × Checked (schema_in self.now) (bytes_seen certificate.entry) (bytes_seen file.entry)) }
+            × CheckedOf selection.now self.now.survey.definitions (bytes_seen certificate.entry) (bytes_seen file.entry)) }
     {
         match (certificate, file) {
-            (None, _) => self.report(alloc, format, None),
+            (None, _) => self.report(alloc, manner, selection, None),
             (Some(name), None) => Ok(unreadable_reply(alloc, name)?),
             (Some(name), Some(bytes)) => {
                 let certificate = CertificateFile { name, bytes };
-                self.report(alloc, format, Some(certificate))
+                self.report(alloc, manner, selection, Some(certificate))
             }
+        }
+    }
+
+    fn check(
+        &self,
+        alloc: Global,
+        manner: Manner,
+        prefixes: &[String],
+        certificate: Option<&str>,
+        file: Option<&[u8]>,
+    ) -> Result<Reply, NoMemory>
+        ensures told { IfOk result (λ r. IsReply
+            (check_answer manner (map string_bytes prefixes.now) self.now (bytes_seen certificate.entry) (bytes_seen file.entry)) (reply_seen r)) }
+        ensures promised { IfOk result (λ r. status_of (reply_seen r) ≡ 0 → (self.now.survey.faults ≡ [])
+            × Checked (map string_bytes prefixes.now) self.now.survey.definitions (bytes_seen certificate.entry) (bytes_seen file.entry)) }
+    {
+        match Selection::of(alloc, self.survey.package(), prefixes) {
+            Ok(selection) => self.check_selected(alloc, manner, &selection, certificate, file),
+            Err(SelectFault::Unknown(place)) => only_reply(alloc, prefixes, place),
+            Err(SelectFault::NoMemory) => Err(NoMemory),
         }
     }
 }

@@ -1,6 +1,6 @@
 //! Lines of a report.
 
-ghost use Rattle.std.specs.Prelude.{◌≡◌, ◌++◌, ◌∷◌, [], map, flat_map, None, Some, IfOk, OnOk, option_map, string_bytes};
+ghost use Rattle.std.specs.Prelude.{◌≡◌, ◌++◌, ◌∷◌, [], map, flat_map, None, Some, IfOk, OnOk, option_map, codes, string_bytes};
 ghost use Rattle.std.specs.Fmt.{decimal};
 ghost use Rattle.fhir_json.specs.Tree.{string, number, object};
 ghost use Rattle.fhir_json.specs.Memory.{Gives};
@@ -122,6 +122,12 @@ fn number_of(alloc: Global, count: Option<usize>) -> Result<Option<String>, Allo
     }
 }
 
+fn keyed_text(alloc: Global, key: &str, sentence: &str) -> Result<String, AllocError>
+    ensures { IfOk result (λ text. string_bytes text ≡ key.now ++ codes ": " ++ sentence.now) }
+{
+    format!(in alloc; "{key}: {sentence}")
+}
+
 fn constraint_text(
     alloc: Global,
     key: Option<&str>,
@@ -131,7 +137,7 @@ fn constraint_text(
         ≡ constraint_text (option_map (λ t. t.now) key.entry) (option_map (λ t. t.now) sentence.entry)) }
 {
     match (key, sentence) {
-        (Some(key), Some(sentence)) => Ok(Some(format!(in alloc; "{key}: {sentence}")?)),
+        (Some(key), Some(sentence)) => Ok(Some(keyed_text(alloc, key, sentence)?)),
         (Some(key), None) => Ok(Some(String::from_str(alloc, key)?)),
         (None, Some(sentence)) => Ok(Some(String::from_str(alloc, sentence)?)),
         (None, None) => Ok(None),

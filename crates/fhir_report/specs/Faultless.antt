@@ -10,8 +10,9 @@ use Rattle.fhir_certificate.specs.Format.{Written, Spells}
 use Rattle.fhir_certificate.specs.Reading.{reading}
 use Rattle.fhir_cert_check.specs.Checking.{answer_of}
 use Rattle.fhir_cert_check.specs.Inclusion.{Includes, IncludesTyped}
-use Rattle.fhir_findings.specs.Clean.{AreUsable}
-use Rattle.fhir_findings.specs.Finding.{all_unusable}
+use Rattle.fhir_findings.specs.Clean.{AreSelectedUsable}
+use Rattle.fhir_findings.specs.Finding.{selected_unusable}
+use Rattle.fhir_findings.specs.Selecting.{SelectionValue}
 use Rattle.fhir_report.specs.declared.reporting.CertificateFile.{CertificateFile}
 
 -- a certificate: the name of its file, and its bytes
@@ -36,9 +37,9 @@ abbrev pub PromisesIfAny : SchemaValue → Option CertificateValue → Type 0
 PromisesIfAny s None = Unit {0}
 PromisesIfAny s (Some c) = Promises s c.1
 
--- nothing is wrong with what was surveyed, nor with the certificate, if there is one
-abbrev pub IsRightBy : SchemaValue → Surveyed → Option CertificateValue → Type 0
-IsRightBy s sv certificate = (sv.faults ≡ []) × (all_unusable s sv ≡ []) × IsRightIfAny s certificate
+-- nothing is wrong with the files that were surveyed, with the definitions that are reported on, nor with the certificate, if there is one
+abbrev pub IsRightBy : SelectionValue → SchemaValue → Surveyed → Option CertificateValue → Type 0
+IsRightBy selection s sv certificate = (sv.faults ≡ []) × (selected_unusable selection s sv ≡ []) × IsRightIfAny s certificate
 
 -- ---- the same of files
 
@@ -49,12 +50,12 @@ pub record AreOf (files : ReadFiles) (sv : Surveyed) (s : SchemaValue) : Type 0 
   pub survey_is : sv ≡ record (survey files) { definitions = sv.definitions }
   pub schema_is : s ≡ schema_of sv.definitions
 
--- The files were all given and are a package. Of that package completed, each definition can be used, and the certificate, if there is
--- one, is right.
-abbrev pub IsFaultless : ReadFiles → Option CertificateValue → Type 0
-IsFaultless files certificate =
+-- The files were all given and are a package. Of that package completed, each definition that is reported on can be used, and the
+-- certificate, if there is one, is right.
+abbrev pub IsFaultless : SelectionValue → ReadFiles → Option CertificateValue → Type 0
+IsFaultless selection files certificate =
     (p : Definitions) × (completed : Definitions) × (pack_given files ≡ Some (Ok p)) × Completes p completed
-    × AreUsable (schema_of completed) × IsRightIfAny (schema_of completed) certificate
+    × AreSelectedUsable selection completed × IsRightIfAny (schema_of completed) certificate
 
 -- what that promises
 abbrev pub IsPromised : ReadFiles → Option CertificateValue → Type 0

@@ -1,3 +1,4 @@
+pub mod CarrierLines
 pub mod Lacking
 pub mod Faultless
 pub mod Report

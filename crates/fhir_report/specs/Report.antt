@@ -15,13 +15,16 @@ use Rattle.fhir_cert_check.specs.Rule.{RuleName}
 use Rattle.fhir_cert_check.specs.Texts.{pair_text}
 use Rattle.fhir_package.specs.SurveyView.{fault_seen}
 use Rattle.fhir_findings.specs.declared.finding.Finding.{Finding}
-use Rattle.fhir_findings.specs.declared.finding.Finding.TheVariants.{File as FileOne, Unusable as UnusableOne, Unread as UnreadOne}
+use Rattle.fhir_findings.specs.declared.finding.Finding.TheVariants.{File as FileOne, Unusable as UnusableOne}
 use Rattle.fhir_findings.specs.Counting.{counts, counts_text}
-use Rattle.fhir_findings.specs.Finding.{UnusableValue, all_unusable}
+use Rattle.fhir_findings.specs.Carrying.{all_carriers}
+use Rattle.fhir_findings.specs.Finding.{UnusableValue, selected_unusable}
+use Rattle.fhir_findings.specs.Selecting.{SelectionValue}
 use Rattle.fhir_lines.specs.declared.line.FaultNumber.{FaultNumber}
 use Rattle.fhir_snapshot.specs.Faults.{number_of}
 use Rattle.fhir_lines.specs.declared.line.FaultNumber.TheVariants.{Unreadable, Clash, Json, Unusable, Snapshot, Certificate}
-use Rattle.fhir_words.specs.declared.request.Format.{Format}
+use Rattle.fhir_words.specs.declared.request.Manner.{Manner}
+use Rattle.fhir_report.specs.CarrierLines.{carried_lines}
 use Rattle.fhir_report.specs.Faultless.{CertificateValue}
 use Rattle.fhir_report.specs.Lacking.{Lacking}
 use Rattle.fhir_lines.specs.Lines.{LineValue, text_line, file_line, rows}
@@ -78,17 +81,16 @@ kept is h = option_map_or (λ number. if is number then h ∷ [] else []) h.numb
 abbrev pub all_told : (FaultNumber → Bool) → List LineValue → List Head
 all_told is ls = flat_map (λ l. kept is (head l)) ls
 
--- The lines tell each fault of a file and each definition that can't be used, once and in their order, and no other.
-pub record TellsFindings (s : SchemaValue) (survey : Surveyed) (lacking : Lacking) (ls : List LineValue) : Type 0 where
+-- The lines tell each fault of a file, and each definition that can't be used of those that are reported on, once and in their order, and
+-- no other.
+pub record TellsFindings (selection : SelectionValue) (s : SchemaValue) (survey : Surveyed) (lacking : Lacking) (ls : List LineValue) : Type 0 where
   pub of_faults : all_told is_of_file ls ≡ map fault_head survey.faults
-  pub of_unusable : all_told is_unusable ls ≡ map (unusable_head lacking) (all_unusable s survey)
+  pub of_unusable : all_told is_unusable ls ≡ map (unusable_head lacking) (selected_unusable selection s survey)
 
--- A line tells a finding: of an unread rule it has no number, and the element's id.
+-- A line tells a finding.
 abbrev pub TellsFinding : Lacking → Finding → LineValue → Type 0
 TellsFinding lacking (FileOne fault) l = head l ≡ fault_head (fault_seen fault.now)
 TellsFinding lacking (UnusableOne u) l = head l ≡ unusable_head lacking (u.file.now, u.url.now, u.reason)
-TellsFinding lacking (UnreadOne u) l =
-    (head l ≡ record { file = Some u.file.now; line = None; column = None; number = None; url = Some u.url.now }) × (l.id ≡ Some u.id.now)
 
 -- ---- what is told of a certificate
 
@@ -111,10 +113,14 @@ TellsCertificate s (Some c) ls = TellsAnswer s c.0 (answer_of (reading s c.1) s)
 
 -- ---- a report
 
--- The text has a row for each finding, then those on the certificate, and a last one with the counts of a package of so many files.
-pub record IsReport (format : Format) (files : ℕ) (s : SchemaValue) (survey : Surveyed) (lacking : Lacking) (certificate : Option CertificateValue) (text : Text) : Type 0 where
+-- The text has a row for each finding, then one for what isn't judged, then those on the certificate, and a last one with the counts of a
+-- package of so many files.
+pub record IsReport (manner : Manner) (files : ℕ) (selection : SelectionValue) (s : SchemaValue) (survey : Surveyed) (lacking : Lacking) (certificate : Option CertificateValue) (text : Text) : Type 0 where
   pub found : List LineValue
   pub judged : List LineValue
-  pub written : text ≡ rows format (found ++ judged ++ text_line (counts_text (counts files survey s)) ∷ [])
-  pub tells_findings : TellsFindings s survey lacking found
+  pub written :
+    text
+    ≡ rows manner.format
+    (found ++ carried_lines manner.detail survey.definitions (all_carriers selection s survey) ++ judged ++ text_line (counts_text (counts files survey s)) ∷ [])
+  pub tells_findings : TellsFindings selection s survey lacking found
   pub tells_certificate : TellsCertificate s certificate judged

@@ -12,7 +12,7 @@ ghost use Rattle.fhir_report.specs.Report.{head, fault_head, numbered_head, unus
 use crate::blaming::Blamed;
 use crate::lacking::LackingTable;
 use crate::wording::{expected_words, lacking_words};
-use fhir_findings::{Finding, UnreadRule, Unusable};
+use fhir_findings::{Finding, Unusable};
 use fhir_json::NoMemory;
 use fhir_lines::{FaultNumber, Line};
 use fhir_package::{Clash, FileFault, Kind, NotJson, Survey};
@@ -62,18 +62,6 @@ fn file_line<'s, 'f: 's>(alloc: Global, fault: &'s FileFault<'f>) -> Result<Line
         FileFault::NotJson(fault) => not_json_line(alloc, fault),
         FileFault::Clash(clash) => clash_line(alloc, clash),
     }
-}
-
-fn unread_line<'s>(alloc: Global, unread: &UnreadRule<'s>) -> Result<Line<'s>, AllocError>
-    ensures rule { IfOk result (λ l. head (line_seen l)
-        ≡ record { file = Some unread.now.file.now; line = None; column = None; number = None; url = Some unread.now.url.now }) }
-    ensures element { IfOk result (λ l. (line_seen l).id ≡ Some unread.now.id.now) }
-{
-    let text = format!(in alloc; "unread {}", unread.rule)?;
-    let mut line = Line::of_file(unread.file, None, text);
-    line.url = Some(unread.url);
-    line.id = Some(unread.id);
-    Ok(line)
 }
 
 fn why_text(alloc: Global, blamed: Option<Blamed<'_>>) -> Result<String, AllocError> {
@@ -163,6 +151,5 @@ pub fn finding_line<'s, 'f: 's>(
         Finding::Unusable(unusable) => {
             Ok(unusable_line(alloc, survey, schema, lacking, unusable)?)
         }
-        Finding::Unread(unread) => Ok(unread_line(alloc, unread)?),
     }
 }

@@ -9,25 +9,32 @@
 //!     lacking: &'s LackingTable,
 //!     files: usize,
 //! ) -> Result<bool, NoMemory>
-//!     ensures { IfOk result (λ is_clean. IsTrue is_clean → IsRightBy schema.now survey.now None) }
+//!     ensures { IfOk result (λ is_clean. IsTrue is_clean → IsRightBy None schema.now survey.now None) }
 //! {
+//!     let selection = Selection::all();
 //!     let subject = Subject {
 //!         survey,
 //!         schema,
 //!         lacking,
 //!         files,
+//!         selection: &selection,
 //!         certificate: None,
 //!     };
-//!     let report = fhir_report::report_on(alloc, Format::Text, subject)?;
+//!     let manner = Manner {
+//!         format: Format::Text,
+//!         detail: Detail::Once,
+//!     };
+//!     let report = fhir_report::report_on(alloc, manner, subject)?;
 //!     Ok(report.is_clean)
 //! }
 //! ```
 //!
 //! The contract to read first is that of [`report_on`]; the law [`reports`] says what it means for the files. What a report says
-//! stands in `specs/Report.antt`, and how its lines are written in `specs/Lines.antt`.
+//! stands in `specs/Report.antt`, and on what isn't judged in `specs/CarrierLines.antt`.
 #![tactic(auto)]
 
 mod blaming;
+mod carrier_lines;
 mod certificates;
 mod failing;
 mod finding_lines;

@@ -10,17 +10,18 @@ ghost use Rattle.fhir_lines.specs.Lines.{text_line, rows, line_seen, lines_seen}
 ghost use Rattle.fhir_report.specs.Report.{fault_head, unusable_head, IsOfCertificate, TellsAnswer, TellsCertificate, IsReport};
 ghost use Rattle.fhir_report.specs.Growing.{Grows};
 
+use crate::carrier_lines::carried_lines;
 use crate::certificates::{flaw_line, no_line};
 use crate::finding_lines::finding_line;
 use crate::lacking::LackingTable;
 use fhir_cert_check::{Answer, check_bytes};
 use fhir_certificate::{CertFault, Flaw, flaws};
-use fhir_findings::{Counts, Finding, counts_of, findings, has_faults};
+use fhir_findings::{Counts, Finding, Selection, carriers, counts_of, findings, has_faults};
 use fhir_json::NoMemory;
 use fhir_lines::{FaultNumber, Line, push_row, push_rows};
 use fhir_package::Survey;
 use fhir_schema::Schema;
-use fhir_words::{Detail, Format};
+use fhir_words::{Format, Manner};
 use std::alloc::{AllocError, Global};
 
 /// A certificate that is reported on.
@@ -43,6 +44,8 @@ pub struct Subject<'s, 'f> {
     pub lacking: &'s LackingTable,
     /// How many files there are.
     pub files: usize,
+    /// What of the package is reported on.
+    pub selection: &'s Selection,
     /// The certificate, if there is one.
     pub certificate: Option<CertificateFile<'s>>,
 }
@@ -200,53 +203,66 @@ fn counts_line(alloc: Global, counts: Counts) -> Result<Line<'static>, AllocErro
     Ok(Line::of_text(format!(in alloc; "{counts}")?))
 }
 
-// The rows of what was found and of what is told of a certificate, and a last one with the counts.
+// The lines of a report but the last: on what was found, on what isn't judged, and on a certificate.
+#[derive(Clone, Copy)]
+struct Parts<'p, 'r> {
+    found: &'p [Line<'r>],
+    carried: &'p [Line<'r>],
+    judged: &'p [Line<'r>],
+}
+
+// The rows of a report's lines, and a last one with the counts.
 fn text_of(
     alloc: Global,
     format: Format,
-    found: &[Line<'_>],
-    judged: &[Line<'_>],
+    parts: Parts<'_, '_>,
     counts: Counts,
 ) -> Result<String, NoMemory>
     ensures { IfOk result (λ text. string_bytes text
-        ≡ rows format (lines_seen found.now ++ lines_seen judged.now ++ text_line (counts_text counts) ∷ [])) }
+        ≡ rows format (lines_seen parts.entry.found.now ++ lines_seen parts.entry.carried.now ++ lines_seen parts.entry.judged.now
+        ++ text_line (counts_text counts) ∷ [])) }
 {
     let mut text = String::new(alloc);
-    push_rows(alloc, format, found, &mut text)?;
-    push_rows(alloc, format, judged, &mut text)?;
+    push_rows(alloc, format, parts.found, &mut text)?;
+    push_rows(alloc, format, parts.carried, &mut text)?;
+    push_rows(alloc, format, parts.judged, &mut text)?;
     push_row(alloc, format, &counts_line(alloc, counts)?, &mut text)?;
     Ok(text)
 }
 
-/// The report on a survey and a certificate: a line for each file that can't be read or isn't JSON, for each definition that
-/// differs from one before it, has no snapshot or can't be used, and for each rule that isn't judged, in the order of the files; then what is
-/// wrong with the certificate, or a yes; then the counts. The one refusal is want of memory.
+/// The report on a survey and a certificate: a line for each file that can't be read or isn't JSON, for each definition that differs from
+/// one before it, and for each that is selected and has no snapshot or can't be used, in the order of the files; then what isn't judged in
+/// those that are selected; then what is wrong with the certificate, or a yes; then the counts. The one refusal is want of memory.
 pub fn report_on<'s, 'f: 's>(
     alloc: Global,
-    format: Format,
+    manner: Manner,
     subject: Subject<'s, 'f>,
 ) -> Result<Report, NoMemory>
     ensures clean { IfOk result (λ r. IsTrue r.is_clean
-        → IsRightBy subject.entry.schema.now subject.entry.survey.now (certificate_seen subject.entry.certificate)) }
+        → IsRightBy subject.entry.selection.now subject.entry.schema.now subject.entry.survey.now (certificate_seen subject.entry.certificate)) }
     ensures promised { IfOk result (λ r. IsTrue r.is_clean
         → PromisesIfAny subject.entry.schema.now (certificate_seen subject.entry.certificate)) }
     ensures faulty { IfOk result (λ r. r.is_clean ≡ false
-        → IsRightBy subject.entry.schema.now subject.entry.survey.now (certificate_seen subject.entry.certificate) → ⊥) }
-    ensures told { IfOk result (λ r. IsReport format subject.entry.files subject.entry.schema.now subject.entry.survey.now
-        subject.entry.lacking.now (certificate_seen subject.entry.certificate) (string_bytes r.text)) }
+        → IsRightBy subject.entry.selection.now subject.entry.schema.now subject.entry.survey.now (certificate_seen subject.entry.certificate) → ⊥) }
+    ensures told { IfOk result (λ r. IsReport manner subject.entry.files subject.entry.selection.now subject.entry.schema.now
+        subject.entry.survey.now subject.entry.lacking.now (certificate_seen subject.entry.certificate) (string_bytes r.text)) }
 {
     let Subject {
         survey,
         schema,
         lacking,
         files,
+        selection,
         certificate,
     } = subject;
-    let found = findings(alloc, survey, schema)?;
+    let found = findings(alloc, survey, schema, selection)?;
     let lines = lines_of(alloc, survey, schema, lacking, &found)?;
+    let carriers = carriers(alloc, survey, schema, selection)?;
+    let carried = carried_lines(alloc, manner.detail, survey.package(), &carriers)?;
     let judged = judge_if_any(alloc, schema, certificate)?;
     let counts = counts_of(files, survey, schema);
-    let text = text_of(alloc, format, &lines, &judged.lines, counts)?;
+    let parts = Parts { found: &lines, carried: &carried, judged: &judged.lines };
+    let text = text_of(alloc, manner.format, parts, counts)?;
     Ok(Report {
         is_clean: !has_faults(&found) && judged.is_right,
         text,

@@ -20,7 +20,7 @@ request_seen (Certify folder file) = certify folder.now file.now
 request_seen (Validate folder profile file) = validate folder.now profile.now file.now
 request_seen (Snapshot folder url) = snapshot folder.now url.now
 request_seen (Derive folder derived base) = derive folder.now derived.now base.now
-request_seen (Check folder certificate prefixes format detail) = check folder.now (text_seen certificate) (map string_bytes prefixes.items) format detail
+request_seen (Check folder certificate prefixes manner) = check folder.now (text_seen certificate) (map string_bytes prefixes.items) manner
 
 abbrev pub invocation_seen : Invocation → InvocationValue
 invocation_seen (Asked asked) = request (request_seen asked)
@@ -29,7 +29,7 @@ invocation_seen Version = version
 abbrev pub task_seen : Task → TaskValue
 task_seen (Answer asked) = answer (invocation_seen asked)
 task_seen (Serve folder) = serve folder.now
-task_seen (Gather out folders detail) = gather out.now (texts_seen folders.items) detail
+task_seen (Gather g) = gather g.out.now (texts_seen g.folders.items) g.detail
 
 abbrev pub asked_seen : Result Invocation WordsFault → Result InvocationValue WordsFault
 asked_seen (Ok asked) = Ok (invocation_seen asked)

@@ -5,6 +5,7 @@ use Rattle.std.specs.Str.{bytes_eq}
 use Rattle.fhir_json.specs.Tree.{Text}
 use Rattle.fhir_words.specs.declared.request.Format.TheVariants.{Text as AsText}
 use Rattle.fhir_words.specs.declared.request.Detail.TheVariants.{Once}
+use Rattle.fhir_words.specs.declared.request.Manner.{Manner}
 use Rattle.fhir_words.specs.Requests.{RequestValue, certify, validate, snapshot, derive, check, InvocationValue, request, TaskValue, answer, serve, gather}
 
 abbrev pub is_option : Text → Bool
@@ -33,14 +34,18 @@ derive_request command first second third =
     if bytes_eq command (codes "derive") && not (is_option first) && are_plain second third
     then Some (derive first second third) else None
 
+-- a report in texts, in which what several elements carry is told once
+abbrev pub plain_manner : Manner
+plain_manner = record { format = AsText; detail = Once }
+
 -- the check of a folder, and the same with a certificate
 abbrev pub check_request : Text → Text → Option RequestValue
 check_request command folder =
-    if bytes_eq command (codes "check") && not (is_option folder) then Some (check folder None [] AsText Once) else None
+    if bytes_eq command (codes "check") && not (is_option folder) then Some (check folder None [] plain_manner) else None
 
 abbrev pub check_beside : Text → Text → Text → Option RequestValue
 check_beside command folder certificate =
-    if bytes_eq command (codes "check") && are_plain folder certificate then Some (check folder (Some certificate) [] AsText Once) else None
+    if bytes_eq command (codes "check") && are_plain folder certificate then Some (check folder (Some certificate) [] plain_manner) else None
 
 abbrev pub first_some : {A : Type 0} → Option A → Option A → Option A
 first_some (Some x) other = Some x

@@ -26,5 +26,5 @@ mod request;
 mod version;
 
 pub use reading::task_of;
-pub use request::{Detail, Format, Invocation, Request, Task, WordsFault};
+pub use request::{Detail, Format, GatherRequest, Invocation, Manner, Request, Task, WordsFault};
 pub use version::VERSION;

@@ -3,7 +3,9 @@
 ghost use Rattle.std.specs.Prelude.{◌≡◌, ◌↔◌, IfErr};
 ghost use Rattle.clap.specs.declared.error.kind.ErrorKind.TheVariants as kind;
 
-use crate::request::{Detail, Format, Invocation, Request, Task, WordsFault};
+use crate::request::{
+    Detail, Format, GatherRequest, Invocation, Manner, Request, Task, WordsFault,
+};
 use crate::version::VERSION;
 use clap::error::ErrorKind;
 use clap::{Arg, ArgAction, ArgMatches, Command};
@@ -174,6 +176,14 @@ fn owned_at(alloc: Global, matches: &ArgMatches<'_>, id: &str) -> Result<Vec<Str
     Ok(words)
 }
 
+fn format_matched(matches: &ArgMatches<'_>) -> Format {
+    if matches.get_flag("json") {
+        Format::Json
+    } else {
+        Format::Text
+    }
+}
+
 fn detail_matched(matches: &ArgMatches<'_>) -> Detail {
     if matches.get_flag("each") {
         Detail::Each
@@ -187,19 +197,17 @@ fn check_matched<'w>(alloc: Global, matches: &ArgMatches<'w>) -> Result<Request<
         folder: word(matches, "PACKAGE")?,
         certificate: matches.get_str("CERTIFICATE"),
         prefixes: owned_at(alloc, matches, "only")?,
-        format: if matches.get_flag("json") {
-            Format::Json
-        } else {
-            Format::Text
+        manner: Manner {
+            format: format_matched(matches),
+            detail: detail_matched(matches),
         },
-        detail: detail_matched(matches),
     })
 }
 
 fn gather_matched<'w>(alloc: Global, matches: &ArgMatches<'w>) -> Result<Task<'w>, WordsFault> {
-    Ok(Task::Gather {
+    Ok(Task::Gather(GatherRequest {
         out: word(matches, "OUT")?,
         folders: words_at(alloc, matches, "FOLDER")?,
         detail: detail_matched(matches),
-    })
+    }))
 }

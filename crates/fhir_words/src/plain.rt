@@ -3,11 +3,11 @@
 ghost use Rattle.std.specs.Prelude.{◌≡◌, ◌∷◌, ◌++◌, [], not, map, string_bytes, option_map, IfOk, OnOk};
 ghost use Rattle.std.specs.List.{list_any};
 ghost use Rattle.fhir_words.specs.Requests.{check, answer, serve, gather};
-ghost use Rattle.fhir_words.specs.Words.{is_option, are_plain, certify_request, validate_request, snapshot_request, derive_request, check_request, check_beside, first_some, command_request, plain_request, plain_invocation, folder_to_serve, served_folder, gather_task, plain_gathering, plain_task};
+ghost use Rattle.fhir_words.specs.Words.{is_option, are_plain, plain_manner, certify_request, validate_request, snapshot_request, derive_request, check_request, check_beside, first_some, command_request, plain_request, plain_invocation, folder_to_serve, served_folder, gather_task, plain_gathering, plain_task};
 ghost use Rattle.fhir_json.specs.Views.{text_seen};
 ghost use Rattle.fhir_words.specs.Views.{texts_seen, request_seen, task_seen};
 
-use crate::request::{Detail, Format, Invocation, Request, Task};
+use crate::request::{Detail, Format, GatherRequest, Invocation, Manner, Request, Task};
 use std::alloc::{AllocError, Global};
 
 fn is_option(word: &str) -> bool
@@ -88,14 +88,16 @@ fn derive_request<'w>(
 
 // The check of a folder, and of a certificate beside it, if there is one.
 fn check_of<'w>(alloc: Global, folder: &'w str, certificate: Option<&'w str>) -> Request<'w>
-    ensures { request_seen result ≡ check folder.now (text_seen certificate.entry) [] Format.Text Detail.Once }
+    ensures { request_seen result ≡ check folder.now (text_seen certificate.entry) [] plain_manner }
 {
     Request::Check {
         folder,
         certificate,
         prefixes: Vec::new(alloc),
-        format: Format::Text,
-        detail: Detail::Once,
+        manner: Manner {
+            format: Format::Text,
+            detail: Detail::Once,
+        },
     }
 }
 
@@ -260,11 +262,11 @@ fn gathering<'w>(
 {
     let mut folders = vec![in alloc; first]?;
     push_texts(others, &mut folders)?;
-    Ok(Task::Gather {
+    Ok(Task::Gather(GatherRequest {
         out,
         folders,
         detail: Detail::Once,
-    })
+    }))
 }
 
 fn are_folders(out: &str, first: &str, others: &[String]) -> bool

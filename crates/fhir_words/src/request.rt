@@ -26,6 +26,15 @@ pub enum Detail {
     Each,
 }
 
+/// How a report is made.
+#[derive(Clone, Copy, Debug, PartialEq, Eq)]
+pub struct Manner {
+    /// How its lines are written.
+    pub format: Format,
+    /// How often a rule is told that several elements carry.
+    pub detail: Detail,
+}
+
 /// What is asked.
 #[derive(Debug, Drop)]
 pub enum Request<'w> {
@@ -69,10 +78,8 @@ pub enum Request<'w> {
         certificate: Option<&'w str>,
         /// Where there are some, it is asked of the definitions whose urls begin with one of them, and of those that they reach.
         prefixes: Vec<String>,
-        /// How the answer is written.
-        format: Format,
-        /// How often a rule is told that several elements carry.
-        detail: Detail,
+        /// How the report is made.
+        manner: Manner,
     },
 }
 
@@ -111,6 +118,17 @@ pub enum Invocation<'w> {
     Version,
 }
 
+/// That the definitions in folders are gathered into a new one.
+#[derive(Debug, Drop)]
+pub struct GatherRequest<'w> {
+    /// The new folder.
+    pub out: &'w str,
+    /// The folders, in turn.
+    pub folders: Vec<&'w str>,
+    /// Whether a definition is told that equals one before it.
+    pub detail: Detail,
+}
+
 /// What words ask for.
 #[derive(Debug, Drop)]
 pub enum Task<'w> {
@@ -119,14 +137,7 @@ pub enum Task<'w> {
     /// That the definitions in a folder are served.
     Serve(&'w str),
     /// That the definitions in folders are gathered into a new one.
-    Gather {
-        /// The new folder.
-        out: &'w str,
-        /// The folders, in turn.
-        folders: Vec<&'w str>,
-        /// How often a definition is told that is there already.
-        detail: Detail,
-    },
+    Gather(GatherRequest<'w>),
 }
 
 /// Why words ask for nothing.

@@ -12,9 +12,10 @@ ghost use Rattle.fhir_engine.specs.Views.{bytes_seen};
 ghost use Rattle.fhir_words.specs.Views.{asked_seen};
 
 use fhir_engine::{
-    Invocation, Meter, Opened, Task, WordsFault, open_asked, run, serve_directory, task_of,
+    Meter, Opened, gather_directories, open_asked, run, serve_directory,
 };
 use fhir_package::{Folder, FolderFault, Progress};
+use fhir_words::{Invocation, Task, WordsFault, task_of};
 use std::alloc::Global;
 use std::io::{ErrorKind, IsTerminal, Write};
 use std::process::ExitCode;
@@ -37,6 +38,9 @@ fn main(rt: HostRuntime) -> ExitCode {
         Ok(Task::Serve(folder)) => {
             let input = rt.stdin();
             ExitCode::from(serve_directory(&rt, folder, input, &mut meter, &mut out, &mut err))
+        }
+        Ok(Task::Gather(gathering)) => {
+            ExitCode::from(gather_directories(&rt, &gathering, &mut meter, &mut out, &mut err))
         }
         Err(fault) => answer(&rt, Err(fault), &mut meter, &mut out, &mut err),
     }
