@@ -1,0 +1,56 @@
+# Lets bash complete the words of fhirprof: commands, options, and the names of folders and files where a word is one.
+# It is read by `. docs/fhirprof.bash`, or stands in the folder of completions under the name fhirprof.
+
+_fhirprof() {
+    local current=${COMP_WORDS[COMP_CWORD]} options='' places=() place=0 is_value='' is_rest='' i word
+    COMPREPLY=()
+    if ((COMP_CWORD == 1)); then
+        mapfile -t COMPREPLY < <(compgen -W 'check derive certify validate snapshot serve gather --version' -- "$current")
+        return
+    fi
+    case ${COMP_WORDS[1]} in
+    check) options='--only --each --json' places=(folder file) ;;
+    derive) places=(folder url url) ;;
+    certify) places=(folder file) ;;
+    validate) places=(folder url file) ;;
+    snapshot) places=(folder url) ;;
+    serve) places=(folder) ;;
+    gather) options='--each' places=(folder folder) ;;
+    *) return ;;
+    esac
+
+    # Which of the command's words the current one is. Bash parts a url at its colons: what stands behind one is the rest of a word.
+    for ((i = 2; i < COMP_CWORD; i++)); do
+        word=${COMP_WORDS[i]}
+        if [[ $word =~ ^[:=]+$ ]]; then
+            is_rest=1
+        elif [[ $is_rest ]]; then
+            is_rest='' is_value=''
+        elif [[ $is_value ]]; then
+            is_value=''
+        elif [[ $word == --only ]]; then
+            is_value=1
+        elif [[ $word != -* ]]; then
+            ((place++))
+        fi
+    done
+    [[ $is_rest || $current =~ ^[:=]+$ ]] && return
+    # A PREFIX is the front of a url.
+    [[ $is_value ]] && return
+    if [[ $current == -* ]]; then
+        mapfile -t COMPREPLY < <(compgen -W "$options" -- "$current")
+        return
+    fi
+
+    # All further words of `gather` are folders.
+    [[ ${COMP_WORDS[1]} == gather && $place -gt 1 ]] && place=1
+    case ${places[place]-} in
+    folder) mapfile -t COMPREPLY < <(compgen -d -- "$current") ;;
+    file) mapfile -t COMPREPLY < <(compgen -f -- "$current") ;;
+    *) return ;;
+    esac
+    # Blanks in names are quoted, and a folder gets its slash.
+    compopt -o filenames 2>/dev/null
+}
+
+complete -F _fhirprof fhirprof
