@@ -1,13 +1,13 @@
 -- The lines on what was gathered.
-use Rattle.std.specs.Prelude.{ℕ, List, [], ◌∷◌, ◌++◌, filter, length, Bool, true, not, Option, None, Some, if◌then◌else◌, codes}
+use Rattle.std.specs.Prelude.{ℕ, List, [], ◌++◌, length, count_by, Bool, true, not, Option, None, Some, if◌then◌else◌, codes}
 use Rattle.std.specs.Fmt.{decimal}
-use Rattle.std.specs.Option.{option_map_or}
 use Rattle.std.specs.List.{flat_map}
 use Rattle.fhir_json.specs.Tree.{Text}
 use Rattle.fhir_words.specs.declared.request.Detail.{Detail}
 use Rattle.fhir_words.specs.declared.request.Detail.TheVariants.{Once, Each}
 use Rattle.fhir_words.specs.declared.request.Format.TheVariants.{Text as AsText}
-use Rattle.fhir_lines.specs.Lines.{LineValue, text_line, file_line, row, rows}
+use Rattle.fhir_lines.specs.Lines.{LineValue, text_line, file_line, row}
+use Rattle.fhir_archives.specs.Archives.{Note, no_name, lacking, other}
 use Rattle.fhir_gather.specs.Gathering.{Origin, Dropped}
 use Rattle.fhir_gather.specs.Written.{kind_word}
 
@@ -40,3 +40,42 @@ is_told Once d = not d.is_equal
 
 abbrev pub dropped_rows : Detail → List Dropped → Text
 dropped_rows detail ds = flat_map (λ d. if is_told detail d then row AsText (dropped_line d) else []) ds
+
+-- ---- the files `package.json`
+
+abbrev pub package_path : Text → Text
+package_path folder = path_of folder (codes "package.json")
+
+-- a name that is depended on, and the version, where it is a text
+abbrev pub wanted_text : Text → Option Text → Text
+wanted_text name None = name
+wanted_text name (Some version) = name ++ codes " " ++ version
+
+abbrev pub note_line : Note → LineValue
+note_line (no_name folder) = file_line (package_path folder) None (codes "it has no name")
+note_line (lacking folder name version) =
+    file_line (package_path folder) None (codes "it depends on " ++ wanted_text name version ++ codes ", which no folder is")
+note_line (other folder name version found found_version) =
+    file_line (package_path folder) None
+    (codes "it depends on " ++ wanted_text name (Some version) ++ codes ", and " ++ found ++ codes " has " ++ version_text found_version)
+
+abbrev pub note_rows : List Note → Text
+note_rows ns = flat_map (λ n. row AsText (note_line n)) ns
+
+-- ---- all of it
+
+-- how many folders, files and definitions were read, and how many of these are kept
+pub record CountsValue : Type 0 where
+  pub folders : ℕ
+  pub files : ℕ
+  pub definitions : ℕ
+  pub kept : ℕ
+
+abbrev pub counts_text : CountsValue → List Dropped → Text
+counts_text c ds =
+    codes "folders: " ++ decimal c.folders ++ codes ", files: " ++ decimal c.files ++ codes ", definitions: " ++ decimal c.definitions
+    ++ codes ", kept: " ++ decimal c.kept ++ codes ", dropped: " ++ decimal (length ds) ++ codes ", equal: " ++ decimal (count_by (λ d. d.is_equal) ds)
+
+-- a row for each definition that isn't kept and is told, for each note, and a last one with the counts
+abbrev pub gather_text : Detail → CountsValue → List Dropped → List Note → Text
+gather_text detail c ds ns = dropped_rows detail ds ++ note_rows ns ++ row AsText (text_line (counts_text c ds))

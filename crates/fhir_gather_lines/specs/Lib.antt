@@ -1,1 +1,2 @@
 pub mod GatherLines
+pub mod Counted

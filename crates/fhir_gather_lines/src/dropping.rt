@@ -25,7 +25,8 @@ fn origin_path(alloc: Global, origin: &Origin) -> Result<String, AllocError>
     path_of(alloc, origin.folder.as_str(), origin.file.as_str())
 }
 
-fn version_text(alloc: Global, version: Option<&str>) -> Result<String, AllocError>
+/// A version in words.
+pub(crate) fn version_text(alloc: Global, version: Option<&str>) -> Result<String, AllocError>
     ensures { IfOk result (λ text. string_bytes text ≡ version_text (option_map (λ v. v.now) version.entry)) }
 {
     match version {

@@ -1,0 +1,4 @@
+mod KnownLemmas
+mod Steps
+mod Members
+mod Told

@@ -1,0 +1,4 @@
+pub mod Archives
+pub mod Views
+pub mod Known
+pub mod Telling

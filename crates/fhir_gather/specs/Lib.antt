@@ -1,0 +1,10 @@
+pub mod Gathering
+pub mod Written
+pub mod Places
+pub mod Views
+pub mod Reading
+pub mod FolderViews
+pub mod Faults
+pub mod Found
+pub mod Making
+pub mod PackageTrees
