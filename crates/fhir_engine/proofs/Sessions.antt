@@ -15,7 +15,7 @@ use Rattle.fhir_findings.specs.declared.selection.SelectFault.{SelectFault}
 use Rattle.fhir_findings.specs.declared.selection.SelectFault.TheVariants.{Unknown}
 use Rattle.fhir_findings.specs.Clean.{AreSelectedUsable}
 use Rattle.fhir_findings.specs.Finding.{selected_unusable}
-use Rattle.fhir_findings.specs.Selecting.{SelectionValue, select, selection_of, unknown_place}
+use Rattle.fhir_findings.specs.Selecting.{SelectionValue, select, asked_selection, unknown_place}
 use Rattle.fhir_report.specs.Faultless.{CertificateValue, PromisesIfAny, IsRightBy}
 use Rattle.fhir_engine.specs.Promising.{AreRight, CheckedOf}
 use Rattle.fhir_engine.specs.Reporting.{asked}
@@ -69,11 +69,11 @@ chosen_unknown None all place is = absurd cc
 chosen_unknown (Some other) all place is = cc
 
 pub selected : (prefixes : List Text) (p : Definitions) (selection : SelectionValue) → select prefixes p ≡ Ok selection
-    → (unknown_place p prefixes ≡ None) × (selection ≡ selection_of prefixes p)
-selected prefixes p selection is = chosen_ok (unknown_place p prefixes) (selection_of prefixes p) selection is
+    → (unknown_place p prefixes ≡ None) × (selection ≡ asked_selection prefixes p)
+selected prefixes p selection is = chosen_ok (unknown_place p prefixes) (asked_selection prefixes p) selection is
 
 pub unselected : (prefixes : List Text) (p : Definitions) (place : ℕ) → select prefixes p ≡ Err (Unknown place) → unknown_place p prefixes ≡ Some place
-unselected prefixes p place is = chosen_unknown (unknown_place p prefixes) (selection_of prefixes p) place is
+unselected prefixes p place is = chosen_unknown (unknown_place p prefixes) (asked_selection prefixes p) place is
 
 -- ---- completing
 

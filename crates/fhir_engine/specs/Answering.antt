@@ -18,7 +18,7 @@ use Rattle.fhir_commands.specs.declared.reply.Standing.{Standing}
 use Rattle.fhir_registry.specs.Judging.{IsJudged}
 use Rattle.fhir_registry.specs.Deriving.{Derivation, IsDerivationOf}
 use Rattle.fhir_words.specs.declared.request.Manner.{Manner}
-use Rattle.fhir_findings.specs.Selecting.{SelectionValue, unknown_place, selection_of}
+use Rattle.fhir_findings.specs.Selecting.{SelectionValue, unknown_place, asked_selection}
 use Rattle.fhir_report.specs.Faultless.{CertificateValue}
 use Rattle.fhir_words.specs.declared.request.WordsFault.{WordsFault}
 use Rattle.fhir_words.specs.declared.request.WordsFault.TheVariants.{Usage, NoMemory}
@@ -111,7 +111,7 @@ only_answer prefixes (Some place) answer = stated (fault_reply (codes "only") (g
 abbrev pub check_answer : Manner → List Text → SessionValue → Option Text → Option Text → AnswerValue
 check_answer manner prefixes s name file =
     only_answer prefixes (unknown_place s.survey.definitions prefixes)
-    (report_answer manner (selection_of prefixes s.survey.definitions) s name file)
+    (report_answer manner (asked_selection prefixes s.survey.definitions) s name file)
 
 -- of a session, and of the bytes of the file that is asked about
 abbrev pub answer_by : RequestValue → SessionValue → Option Text → AnswerValue

@@ -15,7 +15,7 @@ use Rattle.fhir_cert_check.specs.Checking.{IsCertificate}
 use Rattle.fhir_cert_check.specs.Inclusion.{Includes}
 use Rattle.fhir_derive_check.specs.Deriving.{IsDerived}
 use Rattle.fhir_findings.specs.Clean.{AreSelectedUsable}
-use Rattle.fhir_findings.specs.Selecting.{SelectionValue, selection_of}
+use Rattle.fhir_findings.specs.Selecting.{SelectionValue, asked_selection}
 use Rattle.fhir_registry.specs.Standing.{AlwaysConforms}
 use Rattle.fhir_report.specs.Faultless.{CertificateValue, Promises, IsRightIfAny, PromisesIfAny}
 use Rattle.fhir_words.specs.declared.request.WordsFault.{WordsFault}
@@ -43,7 +43,7 @@ CheckedOf selection p name file = (certificate : Option CertificateValue) × (as
 
 -- The same of what prefixes select, or of all definitions where there are none.
 abbrev pub Checked : List Text → Definitions → Option Text → Option Text → Type 0
-Checked prefixes p name file = CheckedOf (selection_of prefixes p) p name file
+Checked prefixes p name file = CheckedOf (asked_selection prefixes p) p name file
 
 -- There is a snapshot of the definition at a url.
 abbrev pub Listed : Definitions → Text → Type 0

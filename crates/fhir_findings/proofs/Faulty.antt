@@ -1,20 +1,20 @@
--- Which findings are faults.
-use Rattle.std.proofs.Common.{◌≡◌, List, [], ◌∷◌, Bool, true, false, ◌||◌, refl}
-use Rattle.std.specs.List.{list_any}
+-- Each finding is a fault.
+use Rattle.std.proofs.Common.{◌≡◌, List, [], ◌∷◌, Bool, true, false, not, ◌||◌, ◌==◌, length, refl, sym, ap, ◌∙◌, arith}
 use Rattle.fhir_findings.specs.declared.finding.Finding.{Finding}
-use Rattle.fhir_findings.specs.declared.finding.Finding.TheVariants.{File, Unusable, Unread}
-use Rattle.fhir_findings.specs.Faults.{is_fault}
+use Rattle.fhir_findings.specs.declared.finding.Finding.TheVariants.{File, Unusable}
 use Rattle.fhir_findings.specs.Finding.{faults_told, all_told, is_filled, has_faults}
 
 or_true : (b : Bool) → true ≡ (b || true)
 or_true true = refl
 or_true false = refl
 
-pub any_fault : (fs : List Finding) → list_any is_fault fs ≡ has_faults fs
-any_fault [] = refl
-any_fault (File fault ∷ fs) = refl
-any_fault (Unusable u ∷ fs) = or_true (is_filled (faults_told fs))
-any_fault (Unread u ∷ fs) = any_fault fs
+filled : (f : Finding) (fs : List Finding) → not (length (f ∷ fs) == 0) ≡ true
+filled f fs = grind arith
+
+pub any_found : (fs : List Finding) → not (length fs == 0) ≡ has_faults fs
+any_found [] = refl
+any_found (File fault ∷ fs) = filled (File fault) fs
+any_found (Unusable u ∷ fs) = filled (Unusable u) fs ∙ or_true (is_filled (faults_told fs))
 
 empty_told : {A : Type 0} (xs : List A) → is_filled xs ≡ false → xs ≡ []
 empty_told [] e = refl

@@ -1,4 +1,13 @@
 -- Lemmas on findings.
+pub mod Counted
+pub mod Each
 pub mod Faulty
-pub mod Told
+pub mod Firsts
+pub mod HeldKeys
+pub mod Listed
+pub mod Pushed
+pub mod Said
+pub mod Selected
+pub mod Telling
 pub mod Usable
+pub mod Wordings

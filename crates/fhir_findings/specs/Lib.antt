@@ -1,5 +1,13 @@
 pub mod Clean
-pub mod Faults
 pub mod Finding
 pub mod Counting
+pub mod Selecting
+pub mod Held
 pub mod Undecided
+pub mod Firsts
+pub mod Carrying
+pub mod Once
+pub mod Telling
+pub mod Views
+pub mod Sentences
+pub mod Seeking

@@ -1,14 +1,16 @@
 //! From a survey and a schema to what was found.
 
-ghost use Rattle.std.specs.Prelude.{◌≡◌, ◌≤◌, [], ◌∷◌, ◌++◌, drop, length, IfOk, OnOk};
+ghost use Rattle.std.specs.Prelude.{◌≡◌, ◌≤◌, [], ◌∷◌, ◌++◌, drop, filter, length, IfOk, OnOk};
+ghost use Rattle.fhir_package.specs.declared.kind.Kind.TheVariants.{StructureDefinition};
 ghost use Rattle.fhir_package.specs.SurveyView.{fault_seen, faults_seen};
-ghost use Rattle.fhir_findings.specs.Finding.{unusable_at, all_unusable, faults_told, all_told};
+ghost use Rattle.fhir_findings.specs.Finding.{unusable_at, selected_unusable, faults_told, all_told};
+ghost use Rattle.fhir_findings.specs.Selecting.{is_selected};
 
-use crate::finding::{Finding, UnreadRule, Unusable, fault_file};
-use crate::unread::unread_rules;
+use crate::finding::{Finding, Unusable, fault_file};
+use crate::selection::Selection;
 use fhir_json::NoMemory;
 use fhir_package::{FileFault, Kind, Survey};
-use fhir_schema::{NodeRef, Schema};
+use fhir_schema::Schema;
 use std::alloc::{AllocError, Global};
 
 fn push_fault<'s, 'f>(
@@ -83,91 +85,36 @@ fn push_unusable<'s, 'f>(
     Ok(())
 }
 
-fn push_rule<'s, 'f>(
-    unread: UnreadRule<'s>,
-    into: &mut Vec<Finding<'s, 'f>>,
-) -> Result<(), AllocError>
-    ensures faults { OnOk result (faults_told into.new.items ≡ faults_told into.old.items) }
-    ensures unusable { OnOk result (all_told into.new.items ≡ all_told into.old.items) }
-{
-    into.push(Finding::Unread(unread))?;
-    Ok(())
-}
-
-// Puts in the rules of a node that aren't judged.
-fn push_unread<'s, 'f>(
-    alloc: Global,
-    schema: &'s Schema,
+// Puts in the definition of a file at a url, if it is selected and can't be used.
+fn push_selected<'s, 'f>(
+    survey: &Survey<'_>,
+    schema: &Schema,
+    selection: &Selection,
     file: &'s str,
-    node: NodeRef,
-    into: &mut Vec<Finding<'s, 'f>>,
-) -> Result<(), AllocError>
-    ensures faults { OnOk result (faults_told into.new.items ≡ faults_told into.old.items) }
-    ensures unusable { OnOk result (all_told into.new.items ≡ all_told into.old.items) }
-{
-    let (url, id) = schema.name(node);
-    for rule in unread_rules(alloc, schema, node)? {
-        let unread = UnreadRule {
-            file,
-            url,
-            id,
-            rule,
-        };
-        push_rule(unread, into)?;
-    }
-    Ok(())
-}
-
-// Puts in the rules of the definition at a place that aren't judged, if it can be used.
-fn push_unread_each<'s, 'f>(
-    alloc: Global,
-    schema: &'s Schema,
-    file: &'s str,
-    place: usize,
-    into: &mut Vec<Finding<'s, 'f>>,
-) -> Result<(), AllocError>
-    ensures faults { OnOk result (faults_told into.new.items ≡ faults_told into.old.items) }
-    ensures unusable { OnOk result (all_told into.new.items ≡ all_told into.old.items) }
-{
-    let count = match schema.definitions().get(place) {
-        Some(definition) if schema.reason(place).is_none() => definition.elements().len(),
-        _ => 0,
-    };
-    for element in 0..count {
-        let node = NodeRef {
-            definition: place,
-            element,
-        };
-        push_unread(alloc, schema, file, node, into)?;
-    }
-    Ok(())
-}
-
-// Puts in what was found of a definition of a file, by its place and its url.
-fn push_definition<'s, 'f>(
-    alloc: Global,
-    schema: &'s Schema,
-    file: &'s str,
-    place: usize,
     url: &'s str,
     into: &mut Vec<Finding<'s, 'f>>,
 ) -> Result<(), AllocError>
     ensures faults { OnOk result (faults_told into.new.items ≡ faults_told into.old.items) }
-    ensures unusable { OnOk result (all_told into.new.items ≡ all_told into.old.items ++ unusable_at schema.now file.now url.now) }
+    ensures unusable { OnOk result (all_told into.new.items ≡ all_told into.old.items
+        ++ filter (λ u. is_selected selection.now survey.now.definitions StructureDefinition u.1) (unusable_at schema.now file.now url.now)) }
 {
-    push_unusable(schema, file, url, into)?;
-    push_unread_each(alloc, schema, file, place, into)
+    if !selection.has(survey.package(), Kind::StructureDefinition, url) {
+        return Ok(());
+    }
+    push_unusable(schema, file, url, into)
 }
 
-/// What is wrong with the files of a survey, its definitions that can't be used, and the rules of the others that aren't judged,
-/// by the schema of its package: in the order of the files, and within one the faults first. The one refusal is want of memory.
+/// What is wrong with the files of a survey, and its selected definitions that can't be used, by the schema of its package: in the
+/// order of the files, and within one the faults first. The one refusal is want of memory.
+#[tactic(auto, using(crate::proofs::Listed::kept_is))]
 pub fn findings<'s, 'f>(
     alloc: Global,
     survey: &'s Survey<'f>,
     schema: &'s Schema,
+    selection: &Selection,
 ) -> Result<Vec<Finding<'s, 'f>>, NoMemory>
     ensures faults { IfOk result (λ fs. faults_told fs.items ≡ survey.now.faults) }
-    ensures unusable { IfOk result (λ fs. all_told fs.items ≡ all_unusable schema.now survey.now) }
+    ensures unusable { IfOk result (λ fs. all_told fs.items ≡ selected_unusable selection.now schema.now survey.now) }
 {
     let faults = survey.faults();
     let mut found = Vec::new(alloc);
@@ -179,7 +126,7 @@ pub fn findings<'s, 'f>(
     {
         let file = survey.source(Kind::StructureDefinition, place);
         told = push_before(faults, told, file, &mut found)?;
-        push_definition(alloc, schema, file, place, url, &mut found)?;
+        push_selected(survey, schema, selection, file, url, &mut found)?;
     }
     push_faults(&faults[told..], &mut found)?;
     Ok(found)

@@ -1,13 +1,10 @@
 //! What was found in a package.
 
 ghost use Rattle.std.specs.Prelude.{◌≡◌, [], false};
-ghost use Rattle.std.specs.List.{list_any};
-ghost use Rattle.fhir_findings.specs.Faults.{is_fault};
 ghost use Rattle.fhir_package.specs.SurveyView.{fault_seen};
 ghost use Rattle.fhir_findings.specs.Finding.{fault_file, file_of, faults_told, all_told, has_faults};
 
 use fhir_elements::Reason;
-use fhir_facets::Unread;
 use fhir_package::FileFault;
 
 /// A definition that can't be used.
@@ -21,19 +18,6 @@ pub struct Unusable<'r> {
     pub reason: Reason,
 }
 
-/// A rule of a definition that can be used, and that isn't judged: a resource that meets it may be left open.
-#[derive(Clone, Copy, Debug)]
-pub struct UnreadRule<'r> {
-    /// The file that the definition stands in.
-    pub file: &'r str,
-    /// Its url.
-    pub url: &'r str,
-    /// The id of the element that states the rule.
-    pub id: &'r str,
-    /// The rule.
-    pub rule: Unread<'r>,
-}
-
 /// What was found in a package.
 #[derive(Clone, Copy, Debug)]
 pub enum Finding<'s, 'f> {
@@ -41,8 +25,6 @@ pub enum Finding<'s, 'f> {
     File(&'s FileFault<'f>),
     /// A definition can't be used.
     Unusable(Unusable<'s>),
-    /// A definition that can be used states a rule that isn't judged.
-    Unread(UnreadRule<'s>),
 }
 
 /// The file that a fault is of.
@@ -64,32 +46,15 @@ impl<'s, 'f: 's> Finding<'s, 'f> {
         match self {
             Finding::File(fault) => fault_file(fault),
             Finding::Unusable(unusable) => unusable.file,
-            Finding::Unread(unread) => unread.file,
         }
     }
 }
 
-fn is_fault(finding: &Finding<'_, '_>) -> bool
-    ensures { result ≡ is_fault finding.now }
-{
-    match finding {
-        Finding::File(_) => true,
-        Finding::Unusable(_) => true,
-        Finding::Unread(_) => false,
-    }
-}
-
-fn any_fault(findings: &[Finding<'_, '_>]) -> bool
-    ensures { result ≡ list_any is_fault findings.now }
-{
-    findings.iter().any(|finding| is_fault(finding))
-}
-
 /// Whether something is wrong with a file, or a definition can't be used.
-#[tactic(auto, using(crate::proofs::Faulty::any_fault, crate::proofs::Faulty::none_told))]
+#[tactic(auto, using(crate::proofs::Faulty::any_found, crate::proofs::Faulty::none_told))]
 pub fn has_faults(findings: &[Finding<'_, '_>]) -> bool
     ensures exact { result ≡ has_faults findings.now }
     ensures none { result ≡ false → (faults_told findings.now ≡ []) × (all_told findings.now ≡ []) }
 {
-    any_fault(findings)
+    !findings.is_empty()
 }

@@ -1,17 +1,14 @@
-//! The rules of elements that aren't judged, whatever the resource is.
+//! The rules of elements that aren't judged, whatever the resource is, but for constraints.
 
-ghost use Rattle.std.specs.Prelude.{◌≡◌, ◌++◌, ℕ, [], Some, is_some, map, string_bytes, IfOk, OnOk};
-ghost use Rattle.std.specs.List.{flat_map, slice_get};
+ghost use Rattle.std.specs.Prelude.{◌≡◌, ◌++◌, [], map, string_bytes, IfOk, OnOk};
+ghost use Rattle.std.specs.List.{flat_map};
 ghost use Rattle.std.specs.Option.{option_map_or};
 ghost use Rattle.fhir_json.specs.Views.{property_seen, text_seen};
-ghost use Rattle.fhir_nodes.specs.Expressions.{expression_of};
-ghost use Rattle.fhir_schema.specs.Expressions.{constraint_at};
-ghost use Rattle.fhir_schema.specs.Schemas.{element_at};
-ghost use Rattle.fhir_facets.specs.Carried.{bound_unread, target_unread, profile_unread, value_set_unread, constraint_unread};
+ghost use Rattle.fhir_facets.specs.Carried.{bound_unread, target_unread, profile_unread, value_set_unread};
 ghost use Rattle.fhir_facets.specs.Views.{unread_seen, rules_in};
-ghost use Rattle.fhir_findings.specs.Undecided.{entry_rules, element_rules, rules_at};
+ghost use Rattle.fhir_findings.specs.Undecided.{entry_rules, element_rules};
 
-use fhir_elements::{ConstraintDef, ElementDef, TypeEntry};
+use fhir_elements::{ElementDef, TypeEntry};
 use fhir_facets::Unread;
 use fhir_json::Member;
 use fhir_schema::{NodeRef, Schema};
@@ -106,67 +103,21 @@ fn put_value_set<'s>(
     }
 }
 
-fn put_constraint<'s>(
-    constraint: &'s ConstraintDef,
-    is_read: bool,
-    into: &mut Vec<Unread<'s>>,
-) -> Result<(), AllocError>
-    requires { is_read ≡ is_some (expression_of constraint.now) }
-    ensures { OnOk result (map unread_seen into.new.items ≡ map unread_seen into.old.items ++ constraint_unread constraint.now) }
-{
-    if constraint.must_hold() && !is_read {
-        into.push(Unread::of_constraint(constraint))?;
-    }
-    Ok(())
-}
-
-fn put_constraints<'s>(
-    schema: &Schema,
-    node: NodeRef,
-    constraints: &'s [ConstraintDef],
-    into: &mut Vec<Unread<'s>>,
-) -> Result<(), AllocError>
-    requires { (position : ℕ) → constraint_at schema.now node position ≡ slice_get constraints.now position }
-    ensures { OnOk result (map unread_seen into.new.items
-        ≡ map unread_seen into.old.items ++ flat_map constraint_unread constraints.now) }
-{
-    for (position, constraint) in constraints.iter().enumerate() {
-        let is_read = schema.expression(node, position).is_some();
-        put_constraint(constraint, is_read, into)?;
-    }
-    Ok(())
-}
-
-fn put_element<'s>(
-    schema: &'s Schema,
-    node: NodeRef,
-    element: &'s ElementDef,
-    into: &mut Vec<Unread<'s>>,
-) -> Result<(), AllocError>
-    requires { element_at schema.now node ≡ Some element.now }
-    ensures { OnOk result (map unread_seen into.new.items
-        ≡ map unread_seen into.old.items ++ element_rules schema.now node element.now) }
-{
-    put_bound(element.min_value(), into)?;
-    put_bound(element.max_value(), into)?;
-    put_types(schema, schema.types(node), into)?;
-    put_value_set(schema, element.required_value_set(), into)?;
-    put_constraints(schema, node, element.constraints(), into)
-}
-
-/// The rules of a node's element that aren't judged: bounds of types that aren't compared, targets and profiles that aren't
-/// there or can't be used, a required binding to a value set that isn't read, and constraints whose expressions aren't. That a
-/// binding is of an item which isn't looked up in value sets is seen at the item alone.
+/// The rules of a node's element that aren't judged, but for its constraints: bounds of types that aren't compared, targets and profiles
+/// that aren't there or can't be used, and a required binding to a value set that isn't read. That a binding is of an item which isn't
+/// looked up in value sets is seen at the item alone.
 pub(crate) fn unread_rules<'s>(
     alloc: Global,
     schema: &'s Schema,
     node: NodeRef,
+    element: &'s ElementDef,
 ) -> Result<Vec<Unread<'s>>, AllocError>
-    ensures { IfOk result (λ rules. map unread_seen rules.items ≡ rules_at schema.now node) }
+    ensures { IfOk result (λ rules. map unread_seen rules.items ≡ element_rules schema.now node element.now) }
 {
     let mut rules: Vec<Unread<'s>> = Vec::new(alloc);
-    if let Some(element) = schema.element(node) {
-        put_element(schema, node, element, &mut rules)?;
-    }
+    put_bound(element.min_value(), &mut rules)?;
+    put_bound(element.max_value(), &mut rules)?;
+    put_types(schema, schema.types(node), &mut rules)?;
+    put_value_set(schema, element.required_value_set(), &mut rules)?;
     Ok(rules)
 }

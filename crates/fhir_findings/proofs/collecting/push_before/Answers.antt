@@ -5,7 +5,7 @@ use Rattle.std.specs.List.{slice_range}
 use Rattle.fhir_package.specs.Surveying.{FileFault as Fault}
 use Rattle.fhir_package.specs.SurveyView.{fault_seen}
 use Rattle.fhir_findings.specs.Finding.{faults_told}
-use Rattle.fhir_findings.proofs.Told.{passed}
+use Rattle.fhir_findings.proofs.Listed.{passed}
 use Rattle.fhir_findings.proofs.collecting.push_before.Goals as goal
 
 pub returns-clause-faults : goal.returns-clause-faults
