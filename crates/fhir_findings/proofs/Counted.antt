@@ -1,7 +1,7 @@
 -- Each text once: how what is told grows with the list, and what it says of it.
-use Rattle.std.proofs.Common.{◌≡◌, ℕ, zero, suc, ◌+◌, ◌<◌, ◌≤◌, Bool, true, false, not, cond, ◌||◌, ◌&&◌, List, [], ◌∷◌, ◌++◌, map, filter, length, get_or, Option, None, Some, refl, sym, ap, ap₂, ◌∙◌, arith, nat_lt, subst, append_assoc, zero-add}
+use Rattle.std.proofs.Common.{◌≡◌, ℕ, zero, suc, ◌+◌, ◌<◌, ◌≤◌, Bool, true, false, not, cond, ◌||◌, ◌&&◌, List, [], ◌∷◌, ◌++◌, map, filter, length, get_or, None, Some, refl, sym, ap, ap₂, ◌∙◌, arith, nat_lt, subst, append_assoc, zero-add}
 use Rattle.std.specs.Prelude.{count_by}
-use Rattle.std.specs.List.{list_any, list_all, position_from, sum_by, slice_set}
+use Rattle.std.specs.List.{list_all, position_from, sum_by, slice_set}
 use Rattle.std.specs.Str.{bytes_eq}
 use Rattle.std.proofs.lemmas.List.Sums.{sum_by-cons, sum_by_push, count_by-le-length}
 use Rattle.std.proofs.lemmas.Bool.{false≢true, and_parts}
@@ -131,19 +131,25 @@ module _ {A : Type 0} (text : A → Text) where
           → (position_from (bytes_eq (text x)) (i + 1) (texts_told text ts) ≡ Some k → (n : ℕ) × (k ≡ i + 1 + n) × IsCounted ts x n)
           → (n : ℕ) × (k ≡ i + n) × IsCounted (t ∷ ts) x n
       by true same is rest =
-          let e : i ≡ k = cc in
-          (zero, sym e ∙ omega arith, record {
-            within = omega arith;
-            counted_more = λ d. ap (λ (b : Bool). cond b (record t { count = t.count + 1 } ∷ ts) (t ∷ with_one text ts x)) same;
-          })
+          let e : i ≡ k = cc in (
+            zero,
+            sym e ∙ omega arith,
+            record {
+              within = omega arith;
+              counted_more = λ d. ap (λ (b : Bool). cond b (record t { count = t.count + 1 } ∷ ts) (t ∷ with_one text ts x)) same;
+            },
+          )
       by false other is rest =
-          let more = rest is in
-          (suc more.0, more.1 ∙ omega arith, record {
-            within = omega (arith, more.2.within);
-            counted_more = λ d.
-              ap (λ (b : Bool). cond b (record t { count = t.count + 1 } ∷ ts) (t ∷ with_one text ts x)) other
-              ∙ ap (λ (l : List (Told A)). t ∷ l) (more.2.counted_more d);
-          })
+          let more = rest is in (
+            suc more.0,
+            more.1 ∙ omega arith,
+            record {
+              within = omega (arith, more.2.within);
+              counted_more = λ d.
+                  ap (λ (b : Bool). cond b (record t { count = t.count + 1 } ∷ ts) (t ∷ with_one text ts x)) other
+                  ∙ ap (λ (l : List (Told A)). t ∷ l) (more.2.counted_more d);
+            },
+          )
 
   pub told_at : (ts : List (Told A)) (x : A) (k : ℕ) → position_from (bytes_eq (text x)) 0 (texts_told text ts) ≡ Some k → IsCounted ts x k
   told_at ts x k is =

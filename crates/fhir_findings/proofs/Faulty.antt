@@ -1,5 +1,5 @@
 -- Each finding is a fault.
-use Rattle.std.proofs.Common.{◌≡◌, List, [], ◌∷◌, Bool, true, false, not, ◌||◌, ◌==◌, length, refl, sym, ap, ◌∙◌, arith}
+use Rattle.std.proofs.Common.{◌≡◌, List, [], ◌∷◌, Bool, true, false, not, ◌||◌, ◌==◌, length, refl, ◌∙◌, arith}
 use Rattle.fhir_findings.specs.declared.finding.Finding.{Finding}
 use Rattle.fhir_findings.specs.declared.finding.Finding.TheVariants.{File, Unusable}
 use Rattle.fhir_findings.specs.Finding.{faults_told, all_told, is_filled, has_faults}

@@ -1,6 +1,5 @@
 -- Keys that have places.
 use Rattle.std.proofs.Common.{◌≡◌, ℕ, Bool, true, false, cond, ◌||◌, List, [], ◌∷◌, ◌++◌, Option, Some, is_some, refl, sym, ap, ◌∙◌}
-use Rattle.std.specs.List.{list_any}
 use Rattle.std.proofs.lemmas.List.Folds.{list_any-append}
 use Rattle.fhir_json.specs.Tree.{Text}
 use Rattle.fhir_names.specs.Places.{Places, Puts}

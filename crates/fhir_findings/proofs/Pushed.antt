@@ -1,7 +1,5 @@
 -- Carriers that are put in one after the other.
-use Rattle.std.proofs.Common.{◌≡◌, ℕ, ◌+◌, ◌<◌, Bool, true, false, not, cond, List, [], ◌∷◌, ◌++◌, map, take, get_or, length, Option, None, Some, is_some, is_none, refl, sym, ap, ap₂, ◌∙◌, append_assoc, subst, arith}
-use Rattle.std.specs.List.{position_from}
-use Rattle.std.specs.Str.{bytes_eq}
+use Rattle.std.proofs.Common.{◌≡◌, ℕ, ◌+◌, ◌<◌, Bool, true, false, not, cond, List, [], ◌∷◌, ◌++◌, map, take, get_or, length, Option, None, Some, is_some, is_none, refl, sym, ap, ◌∙◌, append_assoc, subst, arith}
 use Rattle.std.proofs.lemmas.List.{append-nil, map-append, map_more, length-map}
 use Rattle.fhir_json.specs.Tree.{Text}
 use Rattle.fhir_names.specs.Places.{Places, place_of, Finds}

@@ -1,8 +1,8 @@
 -- What is selected.
-use Rattle.std.proofs.Common.{◌≡◌, ◌⊎◌, inl, inr, Bool, true, false, not, cond, ◌||◌, ◌&&◌, IsTrue, List, [], ◌∷◌, ◌++◌, map, filter, Option, None, Some, refl, sym, ap, subst, ◌∙◌, append_assoc}
+use Rattle.std.proofs.Common.{◌≡◌, inl, inr, Bool, true, false, cond, ◌||◌, ◌&&◌, List, [], ◌∷◌, ◌++◌, map, filter, Option, Some, refl, sym, ap, ◌∙◌, append_assoc}
 use Rattle.std.specs.Prelude.{codes}
 use Rattle.std.specs.List.{list_any, flat_map}
-use Rattle.std.specs.Map.{lookup, keys_of}
+use Rattle.std.specs.Map.{lookup}
 use Rattle.std.specs.Option.{option_map_or}
 use Rattle.std.specs.Str.{bytes_eq}
 use Rattle.std.proofs.lemmas.Bool.{or_cases, or_left, or_right, false≢true}
@@ -13,14 +13,14 @@ use Rattle.fhir_json.specs.Tree.{Text, Tree}
 use Rattle.fhir_json.specs.Fields.{text_at}
 use Rattle.fhir_package.specs.declared.kind.Kind.{Kind}
 use Rattle.fhir_package.specs.declared.kind.Kind.TheVariants.{StructureDefinition, ValueSet, CodeSystem}
-use Rattle.fhir_package.specs.Definitions.{ByUrl, Definitions, of_kind, at_url}
+use Rattle.fhir_package.specs.Definitions.{ByUrl, Definitions, at_url}
 use Rattle.fhir_definition.specs.Head.{is_type_definition}
 use Rattle.fhir_reach.specs.Keys.{KeyValue, of_url, of_code, has_key}
 use Rattle.fhir_reach.specs.Naming.{structure_keys, value_set_keys}
-use Rattle.fhir_reach.specs.Reach.{is_type_of, types_of, named_by, IsClosed, keys_of as keys_for, is_held, type_code_keys}
+use Rattle.fhir_reach.specs.Reach.{is_type_of, types_of, IsClosed, keys_of as keys_for, is_held, type_code_keys}
 use Rattle.fhir_reach.specs.Search.{reached}
 use Rattle.fhir_reach.proofs.Keys.{holds_one}
-use Rattle.fhir_findings.specs.Selecting.{begins_with, is_own, own_of, own_urls, all_urls, is_unknown, selection_of, is_selected, keys_named}
+use Rattle.fhir_findings.specs.Selecting.{is_own, own_of, own_urls, selection_of, is_selected, keys_named}
 
 -- ---- prefixes that begin some url
 

@@ -1,7 +1,7 @@
 -- One carrier more is told.
-use Rattle.std.proofs.Common.{◌≡◌, ℕ, ◌+◌, ◌<◌, ◌≤◌, ◌^◌, List, [], ◌∷◌, ◌++◌, map, take, length, get_or, Option, None, Some, refl, sym, ap, subst, ◌∙◌, arith}
+use Rattle.std.proofs.Common.{◌≡◌, ℕ, ◌+◌, ◌<◌, ◌≤◌, List, [], ◌∷◌, ◌++◌, take, length, get_or, None, Some, sym, ap, subst, ◌∙◌, arith}
 use Rattle.std.specs.List.{slice_set}
-use Rattle.std.proofs.lemmas.List.{map-append, map-set, get_or-map, length-map, length-take-le}
+use Rattle.std.proofs.lemmas.List.{map-append, map-set, get_or-map, length-map}
 use Rattle.fhir_json.specs.Tree.{Text}
 use Rattle.fhir_names.specs.Places.{Places, place_of, Finds}
 use Rattle.fhir_findings.specs.declared.carrier.Carrier.{Carrier as CarrierOf}

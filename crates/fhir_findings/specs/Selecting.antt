@@ -6,7 +6,7 @@ use Rattle.std.specs.Option.{option_map_or}
 use Rattle.fhir_json.specs.Tree.{Text, Tree}
 use Rattle.fhir_package.specs.declared.kind.Kind.{Kind}
 use Rattle.fhir_package.specs.declared.kind.Kind.TheVariants.{StructureDefinition, ValueSet, CodeSystem}
-use Rattle.fhir_package.specs.Definitions.{ByUrl, Definitions, of_kind, at_url}
+use Rattle.fhir_package.specs.Definitions.{ByUrl, Definitions, at_url}
 use Rattle.fhir_reach.specs.Keys.{KeyValue, of_url}
 use Rattle.fhir_reach.specs.Naming.{structure_keys, value_set_keys}
 use Rattle.fhir_reach.specs.Reach.{is_held}

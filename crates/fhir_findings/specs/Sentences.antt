@@ -5,7 +5,7 @@ use Rattle.std.specs.Option.{option_and_then, option_map_or, option_or}
 use Rattle.std.specs.Str.{bytes_eq}
 use Rattle.fhir_json.specs.Tree.{Text, Tree}
 use Rattle.fhir_json.specs.Fields.{field, text_in, text_at, items_in}
-use Rattle.fhir_package.specs.Definitions.{ByUrl, Definitions}
+use Rattle.fhir_package.specs.Definitions.{Definitions}
 use Rattle.fhir_facets.specs.Unread.{Unread, range, target, profile, binding, expression, constraint}
 use Rattle.fhir_findings.specs.Carrying.{Carried, rule, base, Carrier}
 

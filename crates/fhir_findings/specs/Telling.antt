@@ -1,5 +1,5 @@
 -- Words that the contracts of private functions alone cite: what is told, as one item more is told.
-use Rattle.std.specs.Prelude.{ℕ, ◌+◌, List, [], ◌∷◌, map, if◌then◌else◌}
+use Rattle.std.specs.Prelude.{◌+◌, List, [], ◌∷◌, map, if◌then◌else◌}
 use Rattle.fhir_json.specs.Tree.{Text}
 use Rattle.fhir_findings.specs.Firsts.{have_one_text}
 use Rattle.fhir_findings.specs.Once.{Told}

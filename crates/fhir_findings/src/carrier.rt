@@ -64,7 +64,11 @@ fn lacks(package: &Package<'_>, rule: Unread<'_>) -> bool
 {
     match rule {
         Unread::Range(_) => false,
-        Unread::Target(canonical) => lacks_definition(package, Kind::StructureDefinition, canonical),
+        Unread::Target(canonical) => lacks_definition(
+            package,
+            Kind::StructureDefinition,
+            canonical,
+        ),
         Unread::Profile(canonical) => {
             lacks_definition(package, Kind::StructureDefinition, canonical)
         }

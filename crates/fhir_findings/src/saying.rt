@@ -98,10 +98,7 @@ fn push_at<'s>(
     }
 }
 
-fn all_wordings<'s>(
-    alloc: Global,
-    package: &'s Package<'_>,
-) -> Result<Vec<Wording<'s>>, AllocError>
+fn all_wordings<'s>(alloc: Global, package: &'s Package<'_>) -> Result<Vec<Wording<'s>>, AllocError>
     ensures { IfOk result (λ ws. wordings_seen ws.items ≡ all_wordings «package».now) }
 {
     let mut all: Vec<Wording<'s>> = Vec::new(alloc);
@@ -139,10 +136,7 @@ fn said_of<'s>(key: &str, expression: Option<&str>, wording: &Wording<'s>) -> Op
 }
 
 // The key and the expression of an unread rule that is a constraint.
-fn named_by_rule<'s>(
-    key: Option<&'s str>,
-    rule: Unread<'s>,
-) -> Option<(&'s str, Option<&'s str>)>
+fn named_by_rule<'s>(key: Option<&'s str>, rule: Unread<'s>) -> Option<(&'s str, Option<&'s str>)>
     ensures { named_seen result ≡ named_by_rule (text_seen key.entry) (unread_seen rule.entry) }
 {
     match rule {

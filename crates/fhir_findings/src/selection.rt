@@ -125,15 +125,17 @@ fn push_own(
 }
 
 // The urls that begin with one of the prefixes.
-fn own_keys(
-    alloc: Global,
-    package: &Package<'_>,
-    prefixes: &[String],
-) -> Result<Vec<Key>, NoMemory>
+fn own_keys(alloc: Global, package: &Package<'_>, prefixes: &[String]) -> Result<Vec<Key>, NoMemory>
     ensures { IfOk result (λ keys. keys_seen keys.items ≡ map of_url (own_urls (map string_bytes prefixes.now) «package».now)) }
 {
     let mut keys = Vec::new(alloc);
-    push_own(alloc, package, Kind::StructureDefinition, prefixes, &mut keys)?;
+    push_own(
+        alloc,
+        package,
+        Kind::StructureDefinition,
+        prefixes,
+        &mut keys,
+    )?;
     push_own(alloc, package, Kind::ValueSet, prefixes, &mut keys)?;
     push_own(alloc, package, Kind::CodeSystem, prefixes, &mut keys)?;
     Ok(keys)

@@ -1,38 +1,21 @@
 //! The lines on definitions that aren't kept.
 
-ghost use Rattle.std.specs.Prelude.{◌≡◌, ◌++◌, [], None, Some, IfOk, OnOk, string_bytes, if◌then◌else◌};
-ghost use Rattle.std.specs.Option.{option_map};
+ghost use Rattle.std.specs.Prelude.{◌≡◌, ◌++◌, None, Some, IfOk, OnOk, string_bytes};
 ghost use Rattle.fhir_gather.specs.Views.{origin_seen, dropped_seen, all_dropped};
-ghost use Rattle.fhir_gather_lines.specs.GatherLines.{path_of, origin_path, version_text, dropped_text, dropped_line, is_told, dropped_rows};
+ghost use Rattle.fhir_gather_lines.specs.GatherLines.{origin_path, version_text, same_text, other_text, dropped_text, dropped_line, is_told, told_row, dropped_rows};
 ghost use Rattle.fhir_lines.specs.Lines.{file_line, row, line_seen};
 
+use crate::joining::{joined, path_of, version_text};
 use fhir_gather::{DroppedOne, Origin, kind_word};
 use fhir_json::NoMemory;
 use fhir_lines::{Line, push_row};
 use fhir_words::{Detail, Format};
 use std::alloc::{AllocError, Global};
 
-/// A file of a folder, by their names.
-pub(crate) fn path_of(alloc: Global, folder: &str, file: &str) -> Result<String, AllocError>
-    ensures { IfOk result (λ path. string_bytes path ≡ path_of folder.now file.now) }
-{
-    format!(in alloc; "{folder}/{file}")
-}
-
 fn origin_path(alloc: Global, origin: &Origin) -> Result<String, AllocError>
     ensures { IfOk result (λ path. string_bytes path ≡ origin_path (origin_seen origin.now)) }
 {
     path_of(alloc, origin.folder.as_str(), origin.file.as_str())
-}
-
-/// A version in words.
-pub(crate) fn version_text(alloc: Global, version: Option<&str>) -> Result<String, AllocError>
-    ensures { IfOk result (λ text. string_bytes text ≡ version_text (option_map (λ v. v.now) version.entry)) }
-{
-    match version {
-        Some(version) => format!(in alloc; "version {version}"),
-        None => String::from_str(alloc, "no version"),
-    }
 }
 
 fn origin_version(alloc: Global, origin: &Origin) -> Result<String, AllocError>
@@ -41,17 +24,50 @@ fn origin_version(alloc: Global, origin: &Origin) -> Result<String, AllocError>
     version_text(alloc, origin.version.as_deref())
 }
 
-fn dropped_text(alloc: Global, dropped: &DroppedOne) -> Result<String, AllocError>
-    ensures { IfOk result (λ text. string_bytes text ≡ dropped_text (dropped_seen dropped.now)) }
+fn same_text(alloc: Global, dropped: &DroppedOne) -> Result<String, AllocError>
+    ensures { IfOk result (λ text. string_bytes text ≡ same_text (dropped_seen dropped.now)) }
 {
     let first = origin_path(alloc, &dropped.first)?;
     let kind = kind_word(dropped.kind);
-    if dropped.is_equal {
-        return format!(in alloc; "dropped: {first} has the same {kind}");
-    }
+    joined(alloc, &["dropped: ", first.as_str(), " has the same ", kind])
+}
+
+fn other_text(alloc: Global, dropped: &DroppedOne) -> Result<String, AllocError>
+    ensures { IfOk result (λ text. string_bytes text ≡ other_text (dropped_seen dropped.now)) }
+{
+    let first = origin_path(alloc, &dropped.first)?;
     let own = origin_version(alloc, &dropped.second)?;
     let other = origin_version(alloc, &dropped.first)?;
-    format!(in alloc; "dropped ({own}): {first} has another {kind} of this url ({other})")
+    let parts = [
+        "dropped (",
+        own.as_str(),
+        "): ",
+        first.as_str(),
+        " has another ",
+        kind_word(dropped.kind),
+        " of this url (",
+        other.as_str(),
+        ")",
+    ];
+    joined(alloc, &parts)
+}
+
+fn dropped_text(alloc: Global, dropped: &DroppedOne) -> Result<String, AllocError>
+    ensures { IfOk result (λ text. string_bytes text ≡ dropped_text (dropped_seen dropped.now)) }
+{
+    if dropped.is_equal {
+        same_text(alloc, dropped)
+    } else {
+        other_text(alloc, dropped)
+    }
+}
+
+fn url_line<'l>(file: &'l str, url: &'l str, text: String) -> Line<'l>
+    ensures { line_seen result ≡ record (file_line file.now None (string_bytes text)) { url = Some url.now } }
+{
+    let mut line = Line::of_file(file, None, text);
+    line.url = Some(url);
+    line
 }
 
 fn push_dropped(
@@ -62,8 +78,8 @@ fn push_dropped(
     ensures { OnOk result (string_bytes into.new ≡ string_bytes into.old ++ row Format.Text (dropped_line (dropped_seen dropped.now))) }
 {
     let file = origin_path(alloc, &dropped.second)?;
-    let mut line = Line::of_file(file.as_str(), None, dropped_text(alloc, dropped)?);
-    line.url = Some(dropped.url.as_str());
+    let text = dropped_text(alloc, dropped)?;
+    let line = url_line(file.as_str(), dropped.url.as_str(), text);
     push_row(alloc, Format::Text, &line, into)
 }
 
@@ -76,14 +92,14 @@ fn is_told(detail: Detail, dropped: &DroppedOne) -> bool
     }
 }
 
+#[tactic(auto, unfolding(crate::specs::GatherLines::told_row))]
 fn push_if_told(
     alloc: Global,
     detail: Detail,
     dropped: &DroppedOne,
     into: &mut String,
 ) -> Result<(), NoMemory>
-    ensures { OnOk result (string_bytes into.new ≡ string_bytes into.old
-        ++ (if is_told detail (dropped_seen dropped.now) then row Format.Text (dropped_line (dropped_seen dropped.now)) else [])) }
+    ensures { OnOk result (string_bytes into.new ≡ string_bytes into.old ++ told_row detail (dropped_seen dropped.now)) }
 {
     if is_told(detail, dropped) {
         push_dropped(alloc, dropped, into)

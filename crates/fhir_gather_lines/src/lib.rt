@@ -14,6 +14,7 @@
 #![tactic(auto)]
 
 mod dropping;
+mod joining;
 mod noting;
 mod telling;
 

@@ -3,11 +3,12 @@
 ghost use Rattle.std.specs.Prelude.{◌≡◌, ◌++◌, length, count_by, IfOk, OnOk, map, string_bytes};
 ghost use Rattle.fhir_archives.specs.Views.{note_seen};
 ghost use Rattle.fhir_gather.specs.Views.{dropped_seen, all_dropped};
-ghost use Rattle.fhir_gather_lines.specs.GatherLines.{counts_text, gather_text};
+ghost use Rattle.fhir_gather_lines.specs.GatherLines.{read_text, kept_text, counts_text, gather_text};
 ghost use Rattle.fhir_gather_lines.specs.Counted.{counts_seen};
 ghost use Rattle.fhir_lines.specs.Lines.{text_line, row};
 
 use crate::dropping::push_each_dropped;
+use crate::joining::{joined, number_text};
 use crate::noting::push_notes;
 use fhir_gather::{DroppedOne, Gathered};
 use fhir_json::NoMemory;
@@ -15,26 +16,59 @@ use fhir_lines::{Line, push_row};
 use fhir_words::{Detail, Format};
 use std::alloc::{AllocError, Global};
 
-fn count_equal(dropped: &[DroppedOne]) -> usize
+fn count_told(dropped: &[DroppedOne]) -> usize
     ensures { result ≡ count_by (λ d. (dropped_seen d).is_equal) dropped.now }
 {
     dropped.iter().filter(|one| one.is_equal).count()
 }
 
+// How many equal the one that is kept.
+fn count_equal(dropped: &[DroppedOne]) -> usize
+    ensures { result ≡ count_by (λ d. d.is_equal) (all_dropped dropped.now) }
+{
+    count_told(dropped)
+}
+
+fn read_text(alloc: Global, gathered: &Gathered) -> Result<String, AllocError>
+    ensures { IfOk result (λ text. string_bytes text ≡ read_text (counts_seen gathered.now)) }
+{
+    let folders = number_text(alloc, gathered.folders)?;
+    let files = number_text(alloc, gathered.files)?;
+    let definitions = number_text(alloc, gathered.definitions)?;
+    let parts = [
+        "folders: ",
+        folders.as_str(),
+        ", files: ",
+        files.as_str(),
+        ", definitions: ",
+        definitions.as_str(),
+    ];
+    joined(alloc, &parts)
+}
+
+fn kept_text(alloc: Global, gathered: &Gathered) -> Result<String, AllocError>
+    ensures { IfOk result (λ text. string_bytes text ≡ kept_text (counts_seen gathered.now) (all_dropped gathered.now.dropped.items)) }
+{
+    let kept = number_text(alloc, gathered.kept)?;
+    let dropped = number_text(alloc, gathered.dropped.len())?;
+    let equal = number_text(alloc, count_equal(&gathered.dropped))?;
+    let parts = [
+        ", kept: ",
+        kept.as_str(),
+        ", dropped: ",
+        dropped.as_str(),
+        ", equal: ",
+        equal.as_str(),
+    ];
+    joined(alloc, &parts)
+}
+
 fn counts_text(alloc: Global, gathered: &Gathered) -> Result<String, AllocError>
     ensures { IfOk result (λ text. string_bytes text ≡ counts_text (counts_seen gathered.now) (all_dropped gathered.now.dropped.items)) }
 {
-    let equal = count_equal(&gathered.dropped);
-    format!(
-        in alloc;
-        "folders: {}, files: {}, definitions: {}, kept: {}, dropped: {}, equal: {}",
-        gathered.folders,
-        gathered.files,
-        gathered.definitions,
-        gathered.kept,
-        gathered.dropped.len(),
-        equal
-    )
+    let read = read_text(alloc, gathered)?;
+    let kept = kept_text(alloc, gathered)?;
+    joined(alloc, &[read.as_str(), kept.as_str()])
 }
 
 fn push_counts(alloc: Global, gathered: &Gathered, into: &mut String) -> Result<(), NoMemory>

@@ -1,4 +1,5 @@
 -- Lemmas on reports.
+pub mod Carried
 pub mod Placing
 pub mod Saying
 pub mod Told

@@ -74,12 +74,16 @@ module _ (lacking : Lacking) where
 
 -- ---- rows
 
-pub three_rows : (format : Format) (xs ys : List LineValue) (l : LineValue) (a b c : List ℕ) → a ≡ rows format xs → b ≡ a ++ rows format ys → c ≡ b ++ row format l
-    → c ≡ rows format (xs ++ ys ++ l ∷ [])
-three_rows format xs ys l a b c first second third =
-    third ∙ ap (λ (t : List ℕ). t ++ row format l) (second ∙ ap (λ (t : List ℕ). t ++ rows format ys) first ∙ sym (flat_map-append (row format) xs ys))
-    ∙ ap (λ (t : List ℕ). rows format (xs ++ ys) ++ t) (sym (append-nil (row format l)))
-    ∙ sym (flat_map-append (row format) (xs ++ ys) (l ∷ []))
+pub four_rows : (format : Format) (xs ys zs : List LineValue) (l : LineValue) (a b c d : List ℕ) → a ≡ rows format xs → b ≡ a ++ rows format ys
+    → c ≡ b ++ rows format zs → d ≡ c ++ row format l → d ≡ rows format (xs ++ ys ++ zs ++ l ∷ [])
+four_rows format xs ys zs l a b c d first second third fourth =
+    let two : b ≡ rows format (xs ++ ys) =
+    second ∙ ap (λ (t : List ℕ). t ++ rows format ys) first ∙ sym (flat_map-append (row format) xs ys) in
+    let three : c ≡ rows format (xs ++ ys ++ zs) =
+    third ∙ ap (λ (t : List ℕ). t ++ rows format zs) two ∙ sym (flat_map-append (row format) (xs ++ ys) zs) in
+    fourth ∙ ap (λ (t : List ℕ). t ++ row format l) three
+    ∙ ap (λ (t : List ℕ). rows format (xs ++ ys ++ zs) ++ t) (sym (append-nil (row format l)))
+    ∙ sym (flat_map-append (row format) (xs ++ ys ++ zs) (l ∷ []))
 
 -- ---- certificates
 

@@ -23,9 +23,13 @@ carrier_line c sentence count =
       details = record { key = c.key; sentence = sentence; lacks = c.lacks; count = count };
     }
 
--- told once, by the first carrier
+-- told once, by the first carrier, where a carrier's constraint says this
+abbrev pub said_line : (Carrier → Option Text) → Told Carrier → LineValue
+said_line says t = carrier_line t.first (says t.first) (Some t.count)
+
+-- the same by the sentences of a package
 abbrev pub told_line : Definitions → Told Carrier → LineValue
-told_line p t = carrier_line t.first (sentence_for p t.first) (Some t.count)
+told_line p t = said_line (sentence_for p) t
 
 -- told at each carrier
 abbrev pub each_line : Carrier → LineValue

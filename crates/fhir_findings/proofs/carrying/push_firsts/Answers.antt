@@ -18,10 +18,10 @@ loop-place-preserved c =
     ∙ length-take-le c.loop-place.place c.args.carriers.now (omega (arith, c.loop-place-test.true)) in
     record {
       found = subst (λ (l : List Carrier). Finds c.push_if_first.new.seen (map text_of l)) (sym more)
-      (c.in_ok-push_if_first.ensures.seen before c.loop-place.invariant.found long);
+          (c.in_ok-push_if_first.ensures.seen before c.loop-place.invariant.found long);
       pushed =
-        next_first text_of before (carriers_seen c.args.into.now.items) (carriers_seen c.loop-place.into.items)
-        (carriers_seen c.push_if_first.new.into.items) x c.loop-place.invariant.pushed
-        (c.in_ok-push_if_first.ensures.pushed before c.loop-place.invariant.found)
-        ∙ ap (λ (l : List Carrier). carriers_seen c.args.into.now.items ++ firsts text_of l) (sym more);
+          next_first text_of before (carriers_seen c.args.into.now.items) (carriers_seen c.loop-place.into.items)
+          (carriers_seen c.push_if_first.new.into.items) x c.loop-place.invariant.pushed
+          (c.in_ok-push_if_first.ensures.pushed before c.loop-place.invariant.found)
+          ∙ ap (λ (l : List Carrier). carriers_seen c.args.into.now.items ++ firsts text_of l) (sym more);
     }

@@ -12,10 +12,10 @@ count_more-requires-clause-within c =
 
 pub count_more-requires-clause-room : goal.count_more-requires-clause-room
 count_more-requires-clause-room c = λ d.
-  let x = carrier_seen c.args.carrier.now in
-  let there = found_place c.args.places.now (all_told_seen c.args.told.now.items) x c.as_str.result.now c.in-Some.place
-  (c.as_str.ensures.value ∙ c.in_ok-text.ensures) c.requires.found (sym c.get.ensures ∙ c.in-Some.is) in
-  c.requires.room c.in-Some.place d (within_items c.args.told.now.items x c.in-Some.place there)
+    let x = carrier_seen c.args.carrier.now in
+    let there = found_place c.args.places.now (all_told_seen c.args.told.now.items) x c.as_str.result.now c.in-Some.place
+    (c.as_str.ensures.value ∙ c.in_ok-text.ensures) c.requires.found (sym c.get.ensures ∙ c.in-Some.is) in
+    c.requires.room c.in-Some.place d (within_items c.args.told.now.items x c.in-Some.place there)
 
 pub returns-in-Some-clause-found : goal.returns-in-Some-clause-found
 returns-in-Some-clause-found c =

@@ -1,4 +1,4 @@
-use Rattle.std.proofs.Common.{arith, length}
+use Rattle.std.proofs.Common.{arith}
 use Rattle.std.proofs.lemmas.List.{length-map}
 use Rattle.fhir_json.specs.Views.{text_seen}
 use Rattle.fhir_findings.specs.Views.{wording_seen, texts_seen, firsts_seen, carrier_seen}

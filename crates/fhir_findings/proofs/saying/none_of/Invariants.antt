@@ -1,4 +1,4 @@
-use Rattle.std.proofs.Common.{◌≡◌, List, Option, None, map, take}
+use Rattle.std.proofs.Common.{◌≡◌, Option, None, map, take}
 use Rattle.fhir_json.specs.Tree.{Text}
 use Rattle.fhir_findings.specs.Views.{texts_seen, firsts_seen}
 use Rattle.fhir_findings.proofs.saying.none_of.Given as goal

@@ -1,10 +1,10 @@
-use Rattle.std.proofs.Common.{◌≡◌, ◌++◌, List, Option, Bor, sym, ap, subst, ◌∙◌}
+use Rattle.std.proofs.Common.{List, Option, Bor, sym, ap, subst, ◌∙◌}
 use Rattle.fhir_json.specs.Tree.{Text}
 use Rattle.fhir_findings.specs.declared.once.Told.{Told as ToldOf}
 use Rattle.fhir_findings.specs.declared.saying.Wording.{Wording as WordingOf}
 use Rattle.fhir_findings.specs.Carrying.{Carrier}
 use Rattle.fhir_findings.specs.Seeking.{AreSaid, said_for}
-use Rattle.fhir_findings.specs.Sentences.{Wording, first_said, sentence_for}
+use Rattle.fhir_findings.specs.Sentences.{first_said, sentence_for}
 use Rattle.fhir_findings.specs.Views.{carrier_seen, wordings_seen, texts_seen, firsts_seen}
 use Rattle.fhir_findings.proofs.Said.{sentence_said}
 use Rattle.fhir_findings.proofs.Wordings.{get_seen, next_sentence}

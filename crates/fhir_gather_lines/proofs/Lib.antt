@@ -1,0 +1,2 @@
+-- Lemmas on what is gathered.
+pub mod Equals
