@@ -73,8 +73,8 @@ use fhir_derive_check::{DeriveFault, Outcome, derive};
 use fhir_elements::{ElementDef, ElementFault};
 use fhir_entail::entails;
 use fhir_facets::{Facet, Pattern, narrower_holds};
-use fhir_forms::NodeForms;
 use fhir_findings::Selection;
+use fhir_forms::NodeForms;
 use fhir_fp_eval::{Env, holds};
 use fhir_fp_syntax::{Expr, Parsed, parse};
 use fhir_inheritance::Sources;
@@ -449,10 +449,7 @@ pub fn reply_to(
 }
 
 /// The folder that is asked about, if words ask for an answer to a request.
-pub fn folder_asked<'w>(
-    alloc: Global,
-    words: &'w [String],
-) -> Result<Option<&'w str>, WordsFault>
+pub fn folder_asked<'w>(alloc: Global, words: &'w [String]) -> Result<Option<&'w str>, WordsFault>
     ensures { (q : RequestValue) → plain_task (map string_bytes words.now) ≡ Some (answer (request q))
         → IfOk result (λ folder. text_seen folder ≡ Some (folder_of q)) }
 {

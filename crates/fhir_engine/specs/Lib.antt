@@ -9,3 +9,4 @@ pub mod Promising
 pub mod Ending
 pub mod Agreeing
 pub mod Serving
+pub mod Gathers

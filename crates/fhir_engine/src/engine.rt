@@ -21,7 +21,8 @@ use fhir_words::{Invocation, Request, VERSION, WordsFault};
 use std::alloc::Global;
 use std::io::Write;
 
-fn is_written<W: Write>(end: &mut W, bytes: &[u8]) -> bool
+/// Whether an output takes bytes.
+pub(crate) fn is_written<W: Write>(end: &mut W, bytes: &[u8]) -> bool
     ensures { IsTrue result → Appends (W.contents end.old) (W.contents end.new) bytes.now }
 {
     end.write_all(bytes).is_ok()

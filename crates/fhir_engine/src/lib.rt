@@ -29,6 +29,7 @@ mod answering;
 mod derive_reply;
 mod directory;
 mod engine;
+mod gathering;
 mod laws;
 mod meter;
 mod reply;
@@ -38,6 +39,7 @@ mod wrong_reply;
 
 pub use directory::{Opened, bytes_at, directory_at, open_asked, serve_directory};
 pub use engine::run;
+pub use gathering::{gather_directories, gather_folders};
 pub use laws::verdicts_agree;
 pub use meter::Meter;
 pub use reply::{Reply, Status};

@@ -1,5 +1,10 @@
 -- What an answer says of the folders that were read. Want of memory decides nothing.
-use Rattle.std.specs.Prelude.{◌≡◌, Result, Ok, Err, string_bytes}
+use Rattle.std.specs.Prelude.{◌≡◌, Option, None, Result, Ok, Err, String, string_bytes}
+use Rattle.std.specs.declared.alloc.Global.{Global}
+use Rattle.fhir_new_folder.specs.declared.new_folder.BeginFault.{BeginFault}
+use Rattle.fhir_new_folder.specs.declared.new_folder.BeginFault.TheVariants as begin
+use Rattle.fhir_new_folder.specs.declared.new_folder.WriteFault.{WriteFault}
+use Rattle.fhir_new_folder.specs.declared.new_folder.WriteFault.TheVariants as write
 use Rattle.fhir_gather.specs.declared.fault.GatherFault.{GatherFault}
 use Rattle.fhir_gather.specs.declared.fault.GatherFault.TheVariants.{Exists, Left, Unlisted, Unreadable, NotJson, Unwritten, NoMemory}
 use Rattle.fhir_gather.specs.Gathering.{Gathered}
@@ -19,3 +24,16 @@ IsRefusal NoMemory answer = Unit {0}
 abbrev pub IsGathered : Result Gathered GatherFault → Result Gathered Refusal → Type 0
 IsGathered (Ok g) answer = answer ≡ Ok g
 IsGathered (Err fault) answer = IsRefusal fault answer
+
+-- ---- the new folder's faults
+
+-- the fault of a new folder that isn't begun
+abbrev pub begin_fault : BeginFault → GatherFault
+begin_fault begin.Exists = Exists
+begin_fault begin.Left = Left
+begin_fault begin.Device = Unwritten None
+
+-- the fault of a file that isn't written, by its name, or of the new folder itself
+abbrev pub write_fault : WriteFault → Option (String Global) → GatherFault
+write_fault write.Device name = Unwritten name
+write_fault write.NoMemory name = NoMemory

@@ -35,7 +35,7 @@ pub enum GatherFault {
     },
     /// The device doesn't take a file, or else the folder that is to be made.
     Unwritten {
-        /// The name of the file.
+        /// The name of the file; none of the folder itself.
         name: Option<String>,
     },
     /// A growth of memory was refused.
@@ -67,9 +67,10 @@ impl<T: Drop> From<AllocFailed<T>> for GatherFault {
 }
 
 impl From<BeginFault> for GatherFault {
+    ghost use Rattle.fhir_gather.specs.Faults.{begin_fault};
     ghost use Rattle.fhir_gather.specs.Making.{SaysNothing};
 
-    ghost from_gives = { λ _ e. SaysNothing e };
+    ghost from_gives = { λ fault e. (e ≡ begin_fault fault) × SaysNothing e };
 
     fn from(fault: BeginFault) -> GatherFault {
         match fault {
@@ -81,11 +82,13 @@ impl From<BeginFault> for GatherFault {
 }
 
 impl GatherFault {
+    ghost use Rattle.fhir_gather.specs.Faults.{write_fault};
     ghost use Rattle.fhir_gather.specs.Making.{SaysNothing};
 
-    // The fault of a file that isn't written, or of the folder itself.
-    pub(crate) fn of_write(fault: WriteFault, name: Option<String>) -> GatherFault
-        ensures { SaysNothing result }
+    /// The fault of a file that isn't written, by its name, or of the folder itself.
+    pub fn of_write(fault: WriteFault, name: Option<String>) -> GatherFault
+        ensures fault { result ≡ write_fault fault name }
+        ensures nothing { SaysNothing result }
     {
         match fault {
             WriteFault::Device => GatherFault::Unwritten { name },

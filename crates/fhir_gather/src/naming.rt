@@ -83,7 +83,8 @@ fn push_url(out: &mut String, url: &str) -> Result<(), AllocError>
 
 impl<'f> Kept<'f> {
     /// The name of the file in which it is written as the one at a place, counted from 0, of so many: its number, its kind and the
-    /// first bytes of its url, with `_` for those that are no letter, digit, `-`, `.` or `_`. The one refusal is want of memory.
+    /// first bytes of its url, with `_` for those that are no letter, digit, `-`, `.` or `_`. The place is below the count. The one
+    /// refusal is want of memory.
     pub fn file_name(&self, alloc: Global, count: usize, place: usize) -> Result<String, NoMemory>
         requires { place < count }
         ensures { Gives string_bytes result (file_name count place (taken_seen self.now)) }

@@ -29,7 +29,10 @@ fn same_text(alloc: Global, dropped: &DroppedOne) -> Result<String, AllocError>
 {
     let first = origin_path(alloc, &dropped.first)?;
     let kind = kind_word(dropped.kind);
-    joined(alloc, &["dropped: ", first.as_str(), " has the same ", kind])
+    joined(
+        alloc,
+        &["dropped: ", first.as_str(), " has the same ", kind],
+    )
 }
 
 fn other_text(alloc: Global, dropped: &DroppedOne) -> Result<String, AllocError>
@@ -70,11 +73,7 @@ fn url_line<'l>(file: &'l str, url: &'l str, text: String) -> Line<'l>
     line
 }
 
-fn push_dropped(
-    alloc: Global,
-    dropped: &DroppedOne,
-    into: &mut String,
-) -> Result<(), NoMemory>
+fn push_dropped(alloc: Global, dropped: &DroppedOne, into: &mut String) -> Result<(), NoMemory>
     ensures { OnOk result (string_bytes into.new ≡ string_bytes into.old ++ row Format.Text (dropped_line (dropped_seen dropped.now))) }
 {
     let file = origin_path(alloc, &dropped.second)?;

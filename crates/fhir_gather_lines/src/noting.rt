@@ -32,7 +32,10 @@ fn lacking_text(alloc: Global, name: &str, version: Option<&str>) -> Result<Stri
     ensures { IfOk result (λ text. string_bytes text ≡ lacking_text name.now (text_seen version.entry)) }
 {
     let wanted = wanted_text(alloc, name, version)?;
-    joined(alloc, &["it depends on ", wanted.as_str(), ", which no folder is"])
+    joined(
+        alloc,
+        &["it depends on ", wanted.as_str(), ", which no folder is"],
+    )
 }
 
 fn version_text_of(
@@ -63,7 +66,12 @@ fn push_on(alloc: Global, folder: &str, text: String, into: &mut String) -> Resu
         ≡ string_bytes into.old ++ row Format.Text (package_line folder.now (string_bytes text))) }
 {
     let file = package_path(alloc, folder)?;
-    push_row(alloc, Format::Text, &Line::of_file(file.as_str(), None, text), into)
+    push_row(
+        alloc,
+        Format::Text,
+        &Line::of_file(file.as_str(), None, text),
+        into,
+    )
 }
 
 fn note_text(alloc: Global, note: &Note) -> Result<String, AllocError>

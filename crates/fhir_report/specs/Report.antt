@@ -119,8 +119,8 @@ pub record IsReport (manner : Manner) (files : ℕ) (selection : SelectionValue)
   pub found : List LineValue
   pub judged : List LineValue
   pub written :
-    text
-    ≡ rows manner.format
-    (found ++ carried_lines manner.detail survey.definitions (all_carriers selection s survey) ++ judged ++ text_line (counts_text (counts files survey s)) ∷ [])
+      text
+      ≡ rows manner.format
+      (found ++ carried_lines manner.detail survey.definitions (all_carriers selection s survey) ++ judged ++ text_line (counts_text (counts files survey s)) ∷ [])
   pub tells_findings : TellsFindings selection s survey lacking found
   pub tells_certificate : TellsCertificate s certificate judged

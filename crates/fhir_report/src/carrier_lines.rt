@@ -20,11 +20,7 @@ use std::alloc::Global;
 fn id_shown(id: &str) -> Option<&str>
     ensures { text_seen result ≡ id_shown id.now }
 {
-    if id.is_empty() {
-        None
-    } else {
-        Some(id)
-    }
+    if id.is_empty() { None } else { Some(id) }
 }
 
 // The line of what is carried, by a carrier, with the sentence of a constraint and a count, as far as they are told.

@@ -261,7 +261,11 @@ pub fn report_on<'s, 'f: 's>(
     let carried = carried_lines(alloc, manner.detail, survey.package(), &carriers)?;
     let judged = judge_if_any(alloc, schema, certificate)?;
     let counts = counts_of(files, survey, schema);
-    let parts = Parts { found: &lines, carried: &carried, judged: &judged.lines };
+    let parts = Parts {
+        found: &lines,
+        carried: &carried,
+        judged: &judged.lines,
+    };
     let text = text_of(alloc, manner.format, parts, counts)?;
     Ok(Report {
         is_clean: !has_faults(&found) && judged.is_right,

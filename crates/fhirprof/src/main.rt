@@ -11,9 +11,7 @@ ghost use Rattle.fhir_engine.specs.Session.{IsReadOf};
 ghost use Rattle.fhir_engine.specs.Views.{bytes_seen};
 ghost use Rattle.fhir_words.specs.Views.{asked_seen};
 
-use fhir_engine::{
-    Meter, Opened, gather_directories, open_asked, run, serve_directory,
-};
+use fhir_engine::{Meter, Opened, gather_directories, open_asked, run, serve_directory};
 use fhir_package::{Folder, FolderFault, Progress};
 use fhir_words::{Invocation, Task, WordsFault, task_of};
 use std::alloc::Global;

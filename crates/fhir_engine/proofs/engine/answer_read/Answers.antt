@@ -12,5 +12,5 @@ pub returns-clause-promised : goal.returns-clause-promised
 returns-clause-promised g c =
     IfOk-weaker c.answer.result _ _
     (λ r promise zero.
-    of_read c.surveys.ensures.packed (request_seen c.args.request) c.args.files.now c.in_ok-session.session (bytes_seen c.args.file) c.in_ok-session.ensures (promise zero))
+    of_read c.surveys.ensures.packed (request_seen c.args.request.now) c.args.files.now c.in_ok-session.session (bytes_seen c.args.file) c.in_ok-session.ensures (promise zero))
     c.answer.ensures.promised
