@@ -2,7 +2,7 @@
 //! against each other. That of `fhir_engine` stands in `engine_tests`, which stands on it in any case.
 #![tactic(auto)]
 
-ghost use Rattle.std.specs.Prelude.{◌≡◌, ◌∷◌, ◌++◌, ◌↔◌, ◌||◌, [], map, Some, length, get_or, false, None, Ok, is_ok, is_some, List, Option, Result, if◌then◌else◌, IsTrue, IfOk, codes, string_bytes, option_map};
+ghost use Rattle.std.specs.Prelude.{◌≡◌, ◌∷◌, ◌++◌, ◌↔◌, ◌||◌, [], map, Some, length, get_or, false, None, Ok, OnOk, OnErr, is_ok, is_some, List, Option, Result, if◌then◌else◌, IsTrue, IfOk, codes, string_bytes, option_map};
 ghost use Rattle.std.specs.FinSet as set;
 ghost use Rattle.std.specs.Option.{option_map_or};
 ghost use Rattle.fhir_json.specs.Tree.{Text, Tree};
@@ -53,6 +53,12 @@ ghost use Rattle.fhir_derive_check.specs.Reaching.{HasCertificate};
 ghost use Rattle.fhir_findings.specs.Finding.{all_unusable};
 ghost use Rattle.fhir_report.specs.Faultless.{IsRightBy};
 ghost use Rattle.fhir_commands.specs.Commands.{command_seen, line_command};
+ghost use Rattle.fhir_archives.specs.Archives.{notes};
+ghost use Rattle.fhir_archives.specs.Views.{archive_seen, note_seen};
+ghost use Rattle.fhir_gather.specs.Making.{folders_of, LoadsFirst};
+ghost use Rattle.fhir_gather.specs.Views.{all_dropped};
+ghost use Rattle.fhir_gather_lines.specs.GatherLines.{gather_text};
+ghost use Rattle.fhir_gather_lines.specs.Counted.{counts_seen};
 ghost use Rattle.fhir_words.specs.Requests.{RequestValue, folder_of, request, answer};
 ghost use Rattle.fhir_words.specs.Words.{plain_task};
 ghost use Rattle.fhir_commands.specs.Replies.{reply_seen};
@@ -61,6 +67,7 @@ ghost use Rattle.fhir_reach.specs.Search.{reached};
 ghost use Rattle.fhir_reach.specs.Starting.{starts_of};
 ghost use Rattle.fhir_registry.specs.Session.{IsReply};
 
+use fhir_archives::PackageJson;
 use fhir_asking::{Asks, settle};
 use fhir_cert_check::{Answer, check_bytes};
 use fhir_certificate::CertFault;
@@ -77,15 +84,17 @@ use fhir_findings::Selection;
 use fhir_forms::NodeForms;
 use fhir_fp_eval::{Env, holds};
 use fhir_fp_syntax::{Expr, Parsed, parse};
+use fhir_gather::{GatherFault, Gathered, NamedFolder, gather};
 use fhir_inheritance::Sources;
 use fhir_instance::{Misfit, Typed, type_resource};
 use fhir_json::{Json, JsonFault, NoMemory};
 use fhir_lines::Line;
 use fhir_matching::{json_eq, matches};
 use fhir_names::{ElementId, front_of};
+use fhir_new_folder::NewFolder;
 use fhir_nodes::{Nodes, Table};
 use fhir_overlay::{copied, laid_over};
-use fhir_package::{Folder, Kind, LoadFault, Package, Survey, load};
+use fhir_package::{Folder, Kind, LoadFault, Package, Silent, Survey, load};
 use fhir_prims::{PrimType, lexical};
 use fhir_reach::{reach, restrict, starts_of};
 use fhir_registry::Registry;
@@ -464,4 +473,50 @@ pub fn line_on(alloc: Global, file: &str, text: String) -> Result<String, NoMemo
     ensures { Gives string_bytes result (file.now ++ codes ": " ++ string_bytes text) }
 {
     Line::of_file(file, None, text).to_text(alloc)
+}
+
+/// Whether a folder of one file is made. Where it isn't, what stands under its name is as before.
+pub fn is_made<N: NewFolder>(folder: &mut N, name: &str, bytes: &[u8]) -> bool
+    ensures { N.whole folder.new ≡ (if result then Some ((name.now, bytes.now) ∷ []) else N.whole folder.old) }
+{
+    if folder.begin().is_err() {
+        return false;
+    }
+    if folder.write(name, bytes).is_ok() && folder.finish().is_ok() {
+        return true;
+    }
+    let _ = folder.abandon();
+    false
+}
+
+/// Whether there is nothing to note of archives: each has a name, and what it depends on is among them.
+pub fn is_complete(alloc: Global, archives: &[PackageJson<'_, '_>]) -> Result<bool, NoMemory>
+    ensures { IfOk result (λ yes. IsTrue yes ↔ (notes (map archive_seen archives.now) ≡ [])) }
+{
+    Ok(fhir_archives::notes(alloc, archives)?.is_empty())
+}
+
+/// Gathers folders into a new one, and says how many definitions are left out, since one of their kind and url comes before them. The
+/// new folder loads, and has of each kind and url the first definition that stands in the folders; or it isn't made.
+pub fn count_left_out<F: Folder + Drop, N: NewFolder>(
+    alloc: Global,
+    folders: Vec<NamedFolder<F>>,
+    out: &mut N,
+) -> Result<usize, GatherFault>
+    ensures loads { OnOk result (LoadsFirst (folders_of F.files folders.items) (N.whole out.new)) }
+    ensures nothing { OnErr result (N.whole out.new ≡ N.whole out.old) }
+{
+    let gathered = gather(alloc, folders, out, &mut Silent)?;
+    match out.finish() {
+        Ok(()) => Ok(gathered.dropped.len()),
+        Err(_) => Err(GatherFault::Unwritten { name: None }),
+    }
+}
+
+/// What is printed where each definition is told that isn't kept.
+pub fn whole_text(alloc: Global, gathered: &Gathered) -> Result<String, NoMemory>
+    ensures { IfOk result (λ text. string_bytes text ≡ gather_text Detail.Each (counts_seen gathered.now)
+        (all_dropped gathered.now.dropped.items) (map note_seen gathered.now.notes.items)) }
+{
+    fhir_gather_lines::gather_text(alloc, Detail::Each, gathered)
 }

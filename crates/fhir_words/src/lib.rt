@@ -2,10 +2,7 @@
 //!
 //! ```
 //! /// The folder that is asked about, if words ask for an answer to a request.
-//! pub fn folder_asked<'w>(
-//!     alloc: Global,
-//!     words: &'w [String],
-//! ) -> Result<Option<&'w str>, WordsFault>
+//! pub fn folder_asked<'w>(alloc: Global, words: &'w [String]) -> Result<Option<&'w str>, WordsFault>
 //!     ensures { (q : RequestValue) → plain_task (map string_bytes words.now) ≡ Some (answer (request q))
 //!         → IfOk result (λ folder. text_seen folder ≡ Some (folder_of q)) }
 //! {
