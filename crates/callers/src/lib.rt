@@ -490,7 +490,7 @@ pub fn is_made<N: NewFolder>(folder: &mut N, name: &str, bytes: &[u8]) -> bool
 }
 
 /// Whether there is nothing to note of archives: each has a name, and what it depends on is among them.
-pub fn is_complete(alloc: Global, archives: &[PackageJson<'_, '_>]) -> Result<bool, NoMemory>
+pub fn are_complete(alloc: Global, archives: &[PackageJson<'_, '_>]) -> Result<bool, NoMemory>
     ensures { IfOk result (λ yes. IsTrue yes ↔ (notes (map archive_seen archives.now) ≡ [])) }
 {
     Ok(fhir_archives::notes(alloc, archives)?.is_empty())
