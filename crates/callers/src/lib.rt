@@ -50,8 +50,8 @@ ghost use Rattle.fhir_certificate.specs.Judging.{Stands};
 ghost use Rattle.fhir_cert_check.specs.Checking.{SpellsCertificate};
 ghost use Rattle.fhir_entail.specs.Entailment.{entails};
 ghost use Rattle.fhir_derive_check.specs.Reaching.{HasCertificate};
-ghost use Rattle.fhir_findings.specs.Finding.{all_unusable};
-ghost use Rattle.fhir_report.specs.Faultless.{IsRightBy};
+ghost use Rattle.fhir_findings.specs.Finding.{selected_unusable};
+ghost use Rattle.fhir_report.specs.Faultless.{IsRightBy, certificate_seen};
 ghost use Rattle.fhir_commands.specs.Commands.{command_seen, line_command};
 ghost use Rattle.fhir_archives.specs.Archives.{notes};
 ghost use Rattle.fhir_archives.specs.Views.{archive_seen, note_seen};
@@ -98,7 +98,7 @@ use fhir_package::{Folder, Kind, LoadFault, Package, Silent, Survey, load};
 use fhir_prims::{PrimType, lexical};
 use fhir_reach::{reach, restrict, starts_of};
 use fhir_registry::Registry;
-use fhir_report::{LackingTable, Subject};
+use fhir_report::Subject;
 use fhir_schema::{NodeRef, Schema, Slot};
 use fhir_slicing::belongs;
 use fhir_snapshot::{SnapFault, generate};
@@ -381,38 +381,25 @@ pub fn has_certificate(
     }
 }
 
-/// Whether nothing is wrong with files, and each of their definitions can be used.
+/// Whether nothing is wrong with files, and each of their definitions that is selected can be used.
 pub fn are_usable<'r>(
     alloc: Global,
     survey: &'r Survey<'r>,
     schema: &'r Schema,
+    selection: &Selection,
 ) -> Result<bool, NoMemory>
     ensures { IfOk result (λ all. IsTrue all
-        → (survey.now.faults ≡ []) × (all_unusable schema.now survey.now ≡ [])) }
+        → (survey.now.faults ≡ []) × (selected_unusable selection.now schema.now survey.now ≡ [])) }
 {
-    let found = fhir_findings::findings(alloc, survey, schema, &Selection::all())?;
+    let found = fhir_findings::findings(alloc, survey, schema, selection)?;
     Ok(!fhir_findings::has_faults(&found))
 }
 
-/// Whether nothing is wrong with the files of a survey, and each of their definitions can be used, by the schema of its package.
-pub fn is_clean<'s, 'f: 's>(
-    alloc: Global,
-    survey: &'s Survey<'f>,
-    schema: &'s Schema,
-    lacking: &'s LackingTable,
-    files: usize,
-) -> Result<bool, NoMemory>
-    ensures { IfOk result (λ is_clean. IsTrue is_clean → IsRightBy None schema.now survey.now None) }
+/// Whether nothing is wrong with the files of a subject, and each of its definitions that is selected can be used.
+pub fn is_clean<'s, 'f: 's>(alloc: Global, subject: Subject<'s, 'f>) -> Result<bool, NoMemory>
+    ensures { IfOk result (λ is_clean. IsTrue is_clean → IsRightBy subject.entry.selection.now subject.entry.schema.now
+        subject.entry.survey.now (certificate_seen subject.entry.certificate)) }
 {
-    let selection = Selection::all();
-    let subject = Subject {
-        survey,
-        schema,
-        lacking,
-        files,
-        selection: &selection,
-        certificate: None,
-    };
     let manner = Manner {
         format: Format::Text,
         detail: Detail::Once,

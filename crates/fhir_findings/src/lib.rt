@@ -1,16 +1,17 @@
 //! What is wrong with the files of a folder and with its definitions, and what of them isn't judged.
 //!
 //! ```
-//! /// Whether nothing is wrong with files, and each of their definitions can be used.
+//! /// Whether nothing is wrong with files, and each of their definitions that is selected can be used.
 //! pub fn are_usable<'r>(
 //!     alloc: Global,
 //!     survey: &'r Survey<'r>,
 //!     schema: &'r Schema,
+//!     selection: &Selection,
 //! ) -> Result<bool, NoMemory>
 //!     ensures { IfOk result (λ all. IsTrue all
-//!         → (survey.now.faults ≡ []) × (all_unusable schema.now survey.now ≡ [])) }
+//!         → (survey.now.faults ≡ []) × (selected_unusable selection.now schema.now survey.now ≡ [])) }
 //! {
-//!     let found = fhir_findings::findings(alloc, survey, schema, &Selection::all())?;
+//!     let found = fhir_findings::findings(alloc, survey, schema, selection)?;
 //!     Ok(!fhir_findings::has_faults(&found))
 //! }
 //! ```

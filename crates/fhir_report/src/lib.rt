@@ -1,25 +1,11 @@
 //! What is told of the files of a folder, their definitions and a certificate: a line for each finding.
 //!
 //! ```
-//! /// Whether nothing is wrong with the files of a survey, and each of their definitions can be used, by the schema of its package.
-//! pub fn is_clean<'s, 'f: 's>(
-//!     alloc: Global,
-//!     survey: &'s Survey<'f>,
-//!     schema: &'s Schema,
-//!     lacking: &'s LackingTable,
-//!     files: usize,
-//! ) -> Result<bool, NoMemory>
-//!     ensures { IfOk result (λ is_clean. IsTrue is_clean → IsRightBy None schema.now survey.now None) }
+//! /// Whether nothing is wrong with the files of a subject, and each of its definitions that is selected can be used.
+//! pub fn is_clean<'s, 'f: 's>(alloc: Global, subject: Subject<'s, 'f>) -> Result<bool, NoMemory>
+//!     ensures { IfOk result (λ is_clean. IsTrue is_clean → IsRightBy subject.entry.selection.now subject.entry.schema.now
+//!         subject.entry.survey.now (certificate_seen subject.entry.certificate)) }
 //! {
-//!     let selection = Selection::all();
-//!     let subject = Subject {
-//!         survey,
-//!         schema,
-//!         lacking,
-//!         files,
-//!         selection: &selection,
-//!         certificate: None,
-//!     };
 //!     let manner = Manner {
 //!         format: Format::Text,
 //!         detail: Detail::Once,
