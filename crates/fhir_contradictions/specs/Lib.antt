@@ -1,0 +1,4 @@
+pub mod Typing
+pub mod Contradictions
+pub mod Along
+pub mod Listing
