@@ -1,6 +1,7 @@
 //! What an element asks for that can never hold.
 
 ghost use Rattle.std.specs.Prelude.{◌≡◌};
+ghost use Rattle.fhir_contradictions.specs.Texts.{text_of};
 
 use std::fmt;
 
@@ -29,7 +30,9 @@ pub enum Contradiction {
 
 impl Contradiction {
     /// What it says, in plain words.
-    pub fn text(&self) -> &'static str {
+    pub fn text(&self) -> &'static str
+        ensures { result.now ≡ text_of self.now }
+    {
         match self {
             Contradiction::NoType =>
                 "can never hold: it is required, and its items can be of none of its types",

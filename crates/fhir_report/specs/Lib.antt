@@ -1,4 +1,5 @@
 pub mod CarrierLines
+pub mod ContradictionLines
 pub mod Lacking
 pub mod Faultless
 pub mod Report

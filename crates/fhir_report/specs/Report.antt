@@ -24,7 +24,9 @@ use Rattle.fhir_lines.specs.declared.line.FaultNumber.{FaultNumber}
 use Rattle.fhir_snapshot.specs.Faults.{number_of}
 use Rattle.fhir_lines.specs.declared.line.FaultNumber.TheVariants.{Unreadable, Clash, Json, Unusable, Snapshot, Certificate}
 use Rattle.fhir_words.specs.declared.request.Manner.{Manner}
+use Rattle.fhir_words.specs.declared.request.Detail.{Detail}
 use Rattle.fhir_report.specs.CarrierLines.{carried_lines}
+use Rattle.fhir_report.specs.ContradictionLines.{contradiction_lines}
 use Rattle.fhir_report.specs.Faultless.{CertificateValue}
 use Rattle.fhir_report.specs.Lacking.{Lacking}
 use Rattle.fhir_lines.specs.Lines.{LineValue, text_line, file_line, rows}
@@ -113,7 +115,12 @@ TellsCertificate s (Some c) ls = TellsAnswer s c.0 (answer_of (reading s c.1) s)
 
 -- ---- a report
 
--- The text has a row for each finding, then one for what isn't judged, then those on the certificate, and a last one with the counts of a
+-- what isn't wrong and is told all the same: what can never hold, and what isn't judged
+abbrev pub noted_lines : Detail → SelectionValue → SchemaValue → Surveyed → List LineValue
+noted_lines detail selection s survey =
+    contradiction_lines selection s survey ++ carried_lines detail survey.definitions (all_carriers selection s survey)
+
+-- The text has a row for each finding, then those on what isn't wrong, then those on the certificate, and a last one with the counts of a
 -- package of so many files.
 pub record IsReport (manner : Manner) (files : ℕ) (selection : SelectionValue) (s : SchemaValue) (survey : Surveyed) (lacking : Lacking) (certificate : Option CertificateValue) (text : Text) : Type 0 where
   pub found : List LineValue
@@ -121,6 +128,6 @@ pub record IsReport (manner : Manner) (files : ℕ) (selection : SelectionValue)
   pub written :
       text
       ≡ rows manner.format
-      (found ++ carried_lines manner.detail survey.definitions (all_carriers selection s survey) ++ judged ++ text_line (counts_text (counts files survey s)) ∷ [])
+      (found ++ noted_lines manner.detail selection s survey ++ judged ++ text_line (counts_text (counts files survey s)) ∷ [])
   pub tells_findings : TellsFindings selection s survey lacking found
   pub tells_certificate : TellsCertificate s certificate judged

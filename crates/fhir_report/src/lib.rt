@@ -16,12 +16,14 @@
 //! ```
 //!
 //! The contract to read first is that of [`report_on`]; the law [`reports`] says what it means for the files. What a report says
-//! stands in `specs/Report.antt`, and on what isn't judged in `specs/CarrierLines.antt`.
+//! stands in `specs/Report.antt`, on what can never hold in `specs/ContradictionLines.antt`, and on what isn't judged in
+//! `specs/CarrierLines.antt`.
 #![tactic(auto)]
 
 mod blaming;
 mod carrier_lines;
 mod certificates;
+mod contradiction_lines;
 mod failing;
 mod finding_lines;
 mod lacking;

@@ -7,11 +7,12 @@ ghost use Rattle.fhir_findings.specs.Counting.{counts_text};
 ghost use Rattle.fhir_findings.specs.Finding.{fault_told, faults_told, unusable_told, all_told};
 ghost use Rattle.fhir_report.specs.Faultless.{IsRight, Promises, IsRightIfAny, PromisesIfAny, IsRightBy, certificate_seen};
 ghost use Rattle.fhir_lines.specs.Lines.{text_line, rows, line_seen, lines_seen};
-ghost use Rattle.fhir_report.specs.Report.{fault_head, unusable_head, IsOfCertificate, TellsAnswer, TellsCertificate, IsReport};
+ghost use Rattle.fhir_report.specs.Report.{noted_lines, fault_head, unusable_head, IsOfCertificate, TellsAnswer, TellsCertificate, IsReport};
 ghost use Rattle.fhir_report.specs.Growing.{Grows};
 
 use crate::carrier_lines::carried_lines;
 use crate::certificates::{flaw_line, no_line};
+use crate::contradiction_lines::contradiction_lines;
 use crate::finding_lines::finding_line;
 use crate::lacking::LackingTable;
 use fhir_cert_check::{Answer, check_bytes};
@@ -21,7 +22,7 @@ use fhir_json::NoMemory;
 use fhir_lines::{FaultNumber, Line, push_row, push_rows};
 use fhir_package::Survey;
 use fhir_schema::Schema;
-use fhir_words::{Format, Manner};
+use fhir_words::{Detail, Format, Manner};
 use std::alloc::{AllocError, Global};
 
 /// A certificate that is reported on.
@@ -203,11 +204,28 @@ fn counts_line(alloc: Global, counts: Counts) -> Result<Line<'static>, AllocErro
     Ok(Line::of_text(format!(in alloc; "{counts}")?))
 }
 
-// The lines of a report but the last: on what was found, on what isn't judged, and on a certificate.
+// The lines on what isn't wrong: what can never hold, and what isn't judged.
+fn noted_lines<'s>(
+    alloc: Global,
+    detail: Detail,
+    survey: &'s Survey<'_>,
+    schema: &'s Schema,
+    selection: &Selection,
+) -> Result<Vec<Line<'s>>, NoMemory>
+    ensures { IfOk result (λ ls. lines_seen ls.items ≡ noted_lines detail selection.now schema.now survey.now) }
+{
+    let mut lines = contradiction_lines(alloc, survey, schema, selection)?;
+    let carriers = carriers(alloc, survey, schema, selection)?;
+    let mut carried = carried_lines(alloc, detail, survey.package(), &carriers)?;
+    lines.append(&mut carried)?;
+    Ok(lines)
+}
+
+// The lines of a report but the last: on what was found, on what isn't wrong, and on a certificate.
 #[derive(Clone, Copy)]
 struct Parts<'p, 'r> {
     found: &'p [Line<'r>],
-    carried: &'p [Line<'r>],
+    noted: &'p [Line<'r>],
     judged: &'p [Line<'r>],
 }
 
@@ -219,20 +237,20 @@ fn text_of(
     counts: Counts,
 ) -> Result<String, NoMemory>
     ensures { IfOk result (λ text. string_bytes text
-        ≡ rows format (lines_seen parts.entry.found.now ++ lines_seen parts.entry.carried.now ++ lines_seen parts.entry.judged.now
+        ≡ rows format (lines_seen parts.entry.found.now ++ lines_seen parts.entry.noted.now ++ lines_seen parts.entry.judged.now
         ++ text_line (counts_text counts) ∷ [])) }
 {
     let mut text = String::new(alloc);
     push_rows(alloc, format, parts.found, &mut text)?;
-    push_rows(alloc, format, parts.carried, &mut text)?;
+    push_rows(alloc, format, parts.noted, &mut text)?;
     push_rows(alloc, format, parts.judged, &mut text)?;
     push_row(alloc, format, &counts_line(alloc, counts)?, &mut text)?;
     Ok(text)
 }
 
 /// The report on a survey and a certificate: a line for each file that can't be read or isn't JSON, for each definition that differs from
-/// one before it, and for each that is selected and has no snapshot or can't be used, in the order of the files; then what isn't judged in
-/// those that are selected; then what is wrong with the certificate, or a yes; then the counts. The one refusal is want of memory.
+/// one before it, and for each that is selected and has no snapshot or can't be used, in the order of the files; then what can never hold
+/// in those that are selected, and what isn't judged in them; then what is wrong with the certificate, or a yes; then the counts. The one refusal is want of memory.
 pub fn report_on<'s, 'f: 's>(
     alloc: Global,
     manner: Manner,
@@ -257,13 +275,12 @@ pub fn report_on<'s, 'f: 's>(
     } = subject;
     let found = findings(alloc, survey, schema, selection)?;
     let lines = lines_of(alloc, survey, schema, lacking, &found)?;
-    let carriers = carriers(alloc, survey, schema, selection)?;
-    let carried = carried_lines(alloc, manner.detail, survey.package(), &carriers)?;
+    let noted = noted_lines(alloc, manner.detail, survey, schema, selection)?;
     let judged = judge_if_any(alloc, schema, certificate)?;
     let counts = counts_of(files, survey, schema);
     let parts = Parts {
         found: &lines,
-        carried: &carried,
+        noted: &noted,
         judged: &judged.lines,
     };
     let text = text_of(alloc, manner.format, parts, counts)?;
