@@ -51,6 +51,7 @@ ghost use Rattle.fhir_cert_check.specs.Checking.{SpellsCertificate};
 ghost use Rattle.fhir_entail.specs.Entailment.{entails};
 ghost use Rattle.fhir_derive_check.specs.Reaching.{HasCertificate};
 ghost use Rattle.fhir_findings.specs.Finding.{selected_unusable};
+ghost use Rattle.fhir_contradictions.specs.Listing.{contradictions};
 ghost use Rattle.fhir_report.specs.Faultless.{IsRightBy, certificate_seen};
 ghost use Rattle.fhir_commands.specs.Commands.{command_seen, line_command};
 ghost use Rattle.fhir_archives.specs.Archives.{notes};
@@ -393,6 +394,13 @@ pub fn are_usable<'r>(
 {
     let found = fhir_findings::findings(alloc, survey, schema, selection)?;
     Ok(!fhir_findings::has_faults(&found))
+}
+
+/// Whether no element of the definition at a place asks for what can never hold.
+pub fn is_consistent(alloc: Global, schema: &Schema, place: usize) -> Result<bool, NoMemory>
+    ensures { IfOk result (λ is. IsTrue is ↔ (contradictions schema.now place ≡ [])) }
+{
+    Ok(fhir_contradictions::contradictions(alloc, schema, place)?.is_empty())
 }
 
 /// Whether nothing is wrong with the files of a subject, and each of its definitions that is selected can be used.
