@@ -1,5 +1,5 @@
 -- What an element asks for that no item can meet, or no parent of its items (FHIR R4, ElementDefinition).
-use Rattle.std.specs.Prelude.{◌≡◌, ℕ, suc, List, [], ◌∷◌, ◌++◌, map, length, Bool, true, false, not, ◌&&◌, ◌||◌, nat_eq, nat_lt, Option, None, Some, if◌then◌else◌}
+use Rattle.std.specs.Prelude.{◌≡◌, ℕ, suc, List, [], ◌∷◌, ◌++◌, map, length, Bool, true, false, not, ◌&&◌, ◌||◌, nat_eq, nat_le, nat_lt, Option, None, Some, if◌then◌else◌}
 use Rattle.std.specs.List.{list_all, list_any, sum_by}
 use Rattle.std.specs.Option.{option_map_or, option_and_then, option_map}
 use Rattle.fhir_json.specs.Tree.{Text, Tree}
@@ -166,17 +166,30 @@ if_so b c = if b then c ∷ [] else []
 abbrev pub Under : Type 0
 Under = NodeRef × Text
 
+-- types are compared where there are so many at most, each with each
+abbrev pub max_types : ℕ
+max_types = 128
+
+abbrev pub are_few : {A : Type 0} → List A → Bool
+are_few xs = nat_le (length xs) max_types
+
+abbrev pub are_few_under : SchemaValue → Under → NodeRef → Bool
+are_few_under s u n = are_few (types s n) && are_few (codes_under s u.0 u.1)
+
 -- where it is known what the items stand under
 abbrev pub type_contradictions : SchemaValue → Option Under → NodeRef → List Contradiction
 type_contradictions s under n =
-    if_so (option_map_or (λ u. lacks_type s u.0 u.1 n) under false) found.NoType
-    ++ if_so (option_map_or (λ u. fixed_misses (λ e. misses_type s u.0 u.1 n) s n) under false) found.FixedType
+    if_so (option_map_or (λ u. are_few_under s u n && lacks_type s u.0 u.1 n) under false) found.NoType
+    ++ if_so (option_map_or (λ u. are_few_under s u n && fixed_misses (λ e. misses_type s u.0 u.1 n) s n) under false) found.FixedType
+
+abbrev pub are_few_of_both : SchemaValue → NodeRef → NodeRef → Bool
+are_few_of_both s n slice = are_few (types s n) && are_few (types s slice)
 
 -- where the node may be a slice of another one
 abbrev pub slice_contradictions : SchemaValue → Option NodeRef → NodeRef → List Contradiction
 slice_contradictions s sliced n =
     if_so (asks_too_many s n) found.TooManySliced
-    ++ (if_so (option_map_or (λ m. has_other_types s m n) sliced false) found.OtherTypes
+    ++ (if_so (option_map_or (λ m. are_few_of_both s m n && has_other_types s m n) sliced false) found.OtherTypes
     ++ if_so (option_map_or (λ m. has_other_value s m n) sliced false) found.OtherValue)
 
 abbrev pub fixed_contradictions : SchemaValue → NodeRef → List Contradiction

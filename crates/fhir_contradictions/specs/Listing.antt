@@ -4,17 +4,18 @@ use Rattle.std.specs.Prelude.{ℕ, suc, List, [], ◌∷◌, ◌++◌, map, Bool
 use Rattle.std.specs.List.{slice_get}
 use Rattle.std.specs.Option.{option_map_or, option_map, option_and_then}
 use Rattle.fhir_json.specs.Tree.{Text}
+use Rattle.fhir_json.specs.Bytes.{is_empty}
 use Rattle.fhir_names.specs.Parents.{front_of, name_of}
 use Rattle.fhir_elements.specs.Element.{Element}
 use Rattle.fhir_definition.specs.Definition.{Definition}
 use Rattle.fhir_definition.specs.Snapshot.{id_place, slice_place}
 use Rattle.fhir_nodes.specs.declared.node.NodeRef.{NodeRef}
-use Rattle.fhir_schema.specs.Schemas.{SchemaValue, elements_at, is_root_node, is_usable, slot_named, type_root}
+use Rattle.fhir_schema.specs.Schemas.{SchemaValue, elements_at, is_root_node, is_usable, slots, slot_named, type_root}
 use Rattle.fhir_schema.specs.Covers.{type_at}
 use Rattle.fhir_facets.specs.Cardinality.{is_forbidden}
 use Rattle.fhir_contradictions.specs.declared.contradiction.Contradiction.{Contradiction}
 use Rattle.fhir_contradictions.specs.Typing.{typed_under}
-use Rattle.fhir_contradictions.specs.Contradictions.{Under, contradictions_at}
+use Rattle.fhir_contradictions.specs.Contradictions.{Under, are_few_under, contradictions_at}
 use Rattle.fhir_contradictions.specs.declared.known.Known.{Known}
 
 abbrev pub unknown : Known
@@ -26,6 +27,10 @@ known_at known place = option_map_or (λ p. get_or known p unknown) place unknow
 -- the node of an element of the definition at a place
 abbrev pub node_of : ℕ → ℕ → NodeRef
 node_of place element = record { definition = place; element = element }
+
+-- what types the children of a node's items, where it has any
+abbrev pub typed_below : SchemaValue → Under → NodeRef → Option NodeRef
+typed_below s u n = if are_few_under s u n && not (is_empty (slots s n)) then typed_under s u.0 u.1 n else None
 
 module _ (s : SchemaValue) (place : ℕ) where
   abbrev pub elements : List Element
@@ -51,7 +56,7 @@ module _ (s : SchemaValue) (place : ℕ) where
   abbrev pub typed_by_of : List Known → ℕ → Element → Option NodeRef
   typed_by_of known at e =
       if is_root_node s (node_of place at) then type_root s (type_at s (node_of place at))
-      else option_and_then (λ u. typed_under s u.0 u.1 (node_of place at)) (under_of known at e)
+      else option_and_then (λ u. typed_below s u (node_of place at)) (under_of known at e)
 
   abbrev pub is_absent_of : List Known → Element → Bool
   is_absent_of known e =

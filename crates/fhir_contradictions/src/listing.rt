@@ -1,20 +1,20 @@
 //! The contradictions of all elements of a definition.
 
-ghost use Rattle.std.specs.Prelude.{◌≡◌, ◌++◌, ◌∷◌, [], map, false, IfOk, OnOk};
+ghost use Rattle.std.specs.Prelude.{◌≡◌, ◌&&◌, ◌++◌, ◌∷◌, [], map, false, IfOk, OnOk};
 ghost use Rattle.std.specs.Option.{option_map, option_map_or};
 ghost use Rattle.fhir_definition.specs.Snapshot.{id_place, slice_place};
 ghost use Rattle.fhir_names.specs.Parents.{name_of};
 ghost use Rattle.fhir_schema.specs.Schemas.{element_at, elements_at};
 ghost use Rattle.fhir_contradictions.specs.declared.contradiction.Contradiction.TheVariants.{OtherTypes, OtherValue};
-ghost use Rattle.fhir_contradictions.specs.Contradictions.{if_so, has_other_types, has_other_value, lacks_type, is_required, type_contradictions, slice_contradictions, contradictions_at};
-ghost use Rattle.fhir_contradictions.specs.Listing.{known_at, node_of, node_sliced, is_entry, above_of, under_of, typed_by_of, is_absent_of, next_known, found_at, found_from, contradictions};
+ghost use Rattle.fhir_contradictions.specs.Contradictions.{are_few, are_few_under, are_few_of_both, fixed_misses, misses_type, if_so, has_other_types, has_other_value, lacks_type, is_required, type_contradictions, slice_contradictions, contradictions_at};
+ghost use Rattle.fhir_contradictions.specs.Listing.{typed_below, known_at, node_of, node_sliced, is_entry, above_of, under_of, typed_by_of, is_absent_of, next_known, found_at, found_from, contradictions};
 
 use crate::contradiction::Contradiction;
 use crate::fixed::{allows_some, fixed_misses_type, push_fixed, push_if};
 use crate::known::Known;
 use crate::slices::{asks_too_many, has_other_types, has_other_value};
 use crate::typing::{typed_under, types_under};
-use fhir_elements::ElementDef;
+use fhir_elements::{ElementDef, TypeEntry};
 use fhir_facets::is_forbidden;
 use fhir_json::NoMemory;
 use fhir_names::{front_of, name_of, sliced_of};
@@ -41,6 +41,47 @@ fn lacks_type(schema: &Schema, by: NodeRef, name: &str, node: NodeRef) -> bool
     is_required(schema, node) && !allows_some(schema, node, types_under(schema, by, name))
 }
 
+// How many types of an element are compared with others at most, each with each. R4's widest choice has 50.
+const MAX_TYPES: usize = 128;
+
+fn are_few(entries: &[TypeEntry]) -> bool
+    ensures { result ≡ are_few entries.now }
+{
+    entries.len() <= MAX_TYPES
+}
+
+fn are_few_under(schema: &Schema, by: NodeRef, name: &str, node: NodeRef) -> bool
+    ensures { result ≡ are_few_under schema.now (by, name.now) node }
+{
+    are_few(schema.types(node)) && are_few(types_under(schema, by, name))
+}
+
+fn are_few_of_both(schema: &Schema, node: NodeRef, slice: NodeRef) -> bool
+    ensures { result ≡ are_few_of_both schema.now node slice }
+{
+    are_few(schema.types(node)) && are_few(schema.types(slice))
+}
+
+// Where types are few, whether there has to be an item that can be of none of them.
+fn is_of_no_type(schema: &Schema, by: NodeRef, name: &str, node: NodeRef) -> bool
+    ensures { result ≡ (are_few_under schema.now (by, name.now) node && lacks_type schema.now by name.now node) }
+{
+    are_few_under(schema, by, name, node) && lacks_type(schema, by, name, node)
+}
+
+fn is_fixed_to_no_type(schema: &Schema, by: NodeRef, name: &str, node: NodeRef) -> bool
+    ensures { result ≡ (are_few_under schema.now (by, name.now) node
+        && fixed_misses (λ e. misses_type schema.now by name.now node) schema.now node) }
+{
+    are_few_under(schema, by, name, node) && fixed_misses_type(schema, by, name, node)
+}
+
+fn is_of_other_types(schema: &Schema, node: NodeRef, slice: NodeRef) -> bool
+    ensures { result ≡ (are_few_of_both schema.now node slice && has_other_types schema.now node slice) }
+{
+    are_few_of_both(schema, node, slice) && has_other_types(schema, node, slice)
+}
+
 fn push_type_contradictions(
     schema: &Schema,
     under: Option<Under<'_>>,
@@ -53,10 +94,10 @@ fn push_type_contradictions(
     let Some((by, name)) = under else {
         return Ok(());
     };
-    let lacks_type = lacks_type(schema, by, name, node);
-    push_if(lacks_type, Contradiction::NoType, into)?;
-    let misses_type = fixed_misses_type(schema, by, name, node);
-    push_if(misses_type, Contradiction::FixedType, into)
+    let is_of_no_type = is_of_no_type(schema, by, name, node);
+    push_if(is_of_no_type, Contradiction::NoType, into)?;
+    let is_fixed_to_no_type = is_fixed_to_no_type(schema, by, name, node);
+    push_if(is_fixed_to_no_type, Contradiction::FixedType, into)
 }
 
 // Of a slice of another node.
@@ -68,10 +109,10 @@ fn push_of_slice(
     into: &mut Vec<Contradiction>,
 ) -> Result<(), NoMemory>
     ensures { OnOk result (into.new.items ≡ into.old.items
-        ++ (if_so (has_other_types schema.now sliced node) OtherTypes ++ if_so (has_other_value schema.now sliced node) OtherValue)) }
+        ++ (if_so (are_few_of_both schema.now sliced node && has_other_types schema.now sliced node) OtherTypes ++ if_so (has_other_value schema.now sliced node) OtherValue)) }
 {
-    let has_other_types = has_other_types(schema, sliced, node);
-    push_if(has_other_types, Contradiction::OtherTypes, into)?;
+    let is_of_other_types = is_of_other_types(schema, sliced, node);
+    push_if(is_of_other_types, Contradiction::OtherTypes, into)?;
     let has_other_value = has_other_value(alloc, schema, sliced, node)?;
     push_if(has_other_value, Contradiction::OtherValue, into)?;
     Ok(())
@@ -208,6 +249,23 @@ fn under_of<'s>(
     Some((by, name_of(element.id())))
 }
 
+fn typed_below(
+    alloc: Global,
+    schema: &Schema,
+    by: NodeRef,
+    name: &str,
+    node: NodeRef,
+) -> Result<Option<NodeRef>, NoMemory>
+    ensures { IfOk result (λ below. below ≡ typed_below schema.now (by, name.now) node) }
+{
+    let is_asked = are_few_under(schema, by, name, node) && !schema.slots(node).is_empty();
+    if is_asked {
+        typed_under(alloc, schema, by, name, node)
+    } else {
+        Ok(None)
+    }
+}
+
 fn typed_by_of(
     alloc: Global,
     schema: &Schema,
@@ -223,7 +281,7 @@ fn typed_by_of(
         return Ok(schema.type_root(schema.type_code(node)));
     }
     match under_of(schema, place, known, at, element) {
-        Some((by, name)) => typed_under(alloc, schema, by, name, node),
+        Some((by, name)) => typed_below(alloc, schema, by, name, node),
         None => Ok(None),
     }
 }
