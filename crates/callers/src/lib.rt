@@ -400,7 +400,8 @@ pub fn are_usable<'r>(
 pub fn is_consistent(alloc: Global, schema: &Schema, place: usize) -> Result<bool, NoMemory>
     ensures { IfOk result (λ is. IsTrue is ↔ (contradictions schema.now place ≡ [])) }
 {
-    Ok(fhir_contradictions::contradictions(alloc, schema, place)?.is_empty())
+    let regular = fhir_contradictions::are_regular(schema);
+    Ok(fhir_contradictions::contradictions(alloc, schema, regular, place)?.is_empty())
 }
 
 /// Whether nothing is wrong with the files of a subject, and each of its definitions that is selected can be used.

@@ -1,5 +1,5 @@
 -- What an element asks for that no item can meet, or no parent of its items (FHIR R4, ElementDefinition).
-use Rattle.std.specs.Prelude.{◌≡◌, ℕ, suc, List, [], ◌∷◌, ◌++◌, map, length, Bool, true, false, not, ◌&&◌, ◌||◌, nat_eq, nat_le, nat_lt, Option, None, Some, if◌then◌else◌}
+use Rattle.std.specs.Prelude.{◌≡◌, ℕ, List, [], ◌∷◌, ◌++◌, map, length, Bool, true, false, not, ◌&&◌, ◌||◌, nat_le, nat_lt, Option, None, Some, if◌then◌else◌}
 use Rattle.std.specs.List.{list_all, list_any, sum_by}
 use Rattle.std.specs.Option.{option_map_or, option_and_then, option_map}
 use Rattle.fhir_json.specs.Tree.{Text, Tree}
@@ -15,7 +15,7 @@ use Rattle.fhir_nodes.specs.Types.{names_resource, primitive_of, is_system}
 use Rattle.fhir_nodes.specs.Slots.{Slot}
 use Rattle.fhir_forms.specs.Criteria.{Criterion, Sought, sole, slot_called}
 use Rattle.fhir_forms.specs.Criteria.{fixed as fixed_sought}
-use Rattle.fhir_schema.specs.Schemas.{SchemaValue, element_at, slots, slices, entry_of, types, holder, loaded, criteria}
+use Rattle.fhir_schema.specs.Schemas.{SchemaValue, element_at, is_root_node, slots, slices, entry_of, types, holder, loaded, criteria}
 use Rattle.fhir_schema.specs.Covers.{covers}
 use Rattle.fhir_instance.specs.Items.{Item, json_of}
 use Rattle.fhir_instance.specs.Typing.{is_filled_text}
@@ -188,7 +188,7 @@ are_few_of_both s n slice = are_few (types s n) && are_few (types s slice)
 -- where the node may be a slice of another one
 abbrev pub slice_contradictions : SchemaValue → Option NodeRef → NodeRef → List Contradiction
 slice_contradictions s sliced n =
-    if_so (asks_too_many s n) found.TooManySliced
+    if_so (not (is_root_node s n) && asks_too_many s n) found.TooManySliced
     ++ (if_so (option_map_or (λ m. are_few_of_both s m n && has_other_types s m n) sliced false) found.OtherTypes
     ++ if_so (option_map_or (λ m. has_other_value s m n) sliced false) found.OtherValue)
 

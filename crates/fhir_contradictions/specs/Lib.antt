@@ -1,4 +1,5 @@
 pub mod Typing
+pub mod Regular
 pub mod Contradictions
 pub mod Along
 pub mod Listing

@@ -1,20 +1,17 @@
 -- The contradictions of all elements of a definition, in their order; but for what can't be there, and what lies below that (FHIR R4,
 -- ElementDefinition, max). An element that stands before the one above it is taken by itself.
-use Rattle.std.specs.Prelude.{ℕ, suc, List, [], ◌∷◌, ◌++◌, map, Bool, true, false, not, ◌&&◌, ◌||◌, nat_eq, get_or, Option, None, Some, if◌then◌else◌}
-use Rattle.std.specs.List.{slice_get}
+use Rattle.std.specs.Prelude.{ℕ, suc, List, [], ◌∷◌, ◌++◌, map, Bool, false, not, ◌&&◌, ◌||◌, nat_eq, get_or, Option, None, Some, if◌then◌else◌}
 use Rattle.std.specs.Option.{option_map_or, option_map, option_and_then}
-use Rattle.fhir_json.specs.Tree.{Text}
 use Rattle.fhir_json.specs.Bytes.{is_empty}
 use Rattle.fhir_names.specs.Parents.{front_of, name_of}
 use Rattle.fhir_elements.specs.Element.{Element}
-use Rattle.fhir_definition.specs.Definition.{Definition}
 use Rattle.fhir_definition.specs.Snapshot.{id_place, slice_place}
 use Rattle.fhir_nodes.specs.declared.node.NodeRef.{NodeRef}
-use Rattle.fhir_schema.specs.Schemas.{SchemaValue, elements_at, is_root_node, is_usable, slots, slot_named, type_root}
-use Rattle.fhir_schema.specs.Covers.{type_at}
+use Rattle.fhir_schema.specs.Schemas.{SchemaValue, elements_at, is_root_node, is_usable, slots, slot_named}
 use Rattle.fhir_facets.specs.Cardinality.{is_forbidden}
 use Rattle.fhir_contradictions.specs.declared.contradiction.Contradiction.{Contradiction}
 use Rattle.fhir_contradictions.specs.Typing.{typed_under}
+use Rattle.fhir_contradictions.specs.Regular.{typed_at_root}
 use Rattle.fhir_contradictions.specs.Contradictions.{Under, are_few_under, contradictions_at}
 use Rattle.fhir_contradictions.specs.declared.known.Known.{Known}
 
@@ -55,12 +52,16 @@ module _ (s : SchemaValue) (place : ℕ) where
 
   abbrev pub typed_by_of : List Known → ℕ → Element → Option NodeRef
   typed_by_of known at e =
-      if is_root_node s (node_of place at) then type_root s (type_at s (node_of place at))
+      if is_root_node s (node_of place at) then typed_at_root s (node_of place at)
       else option_and_then (λ u. typed_below s u (node_of place at)) (under_of known at e)
+
+  -- a slice of the root: no item stands among those of a parent there, so that none belongs to it
+  abbrev pub is_root_slice : Element → Bool
+  is_root_slice e = option_map_or (λ p. is_root_node s (node_of place p)) (slice_place elements e) false
 
   abbrev pub is_absent_of : List Known → Element → Bool
   is_absent_of known e =
-      is_forbidden e || (known_at known (above_of e)).is_absent || (known_at known (slice_place elements e)).is_absent
+      is_forbidden e || is_root_slice e || (known_at known (above_of e)).is_absent || (known_at known (slice_place elements e)).is_absent
 
   abbrev pub next_known : List Known → ℕ → Element → Known
   next_known known at e = record { typed_by = typed_by_of known at e; is_absent = is_absent_of known e }

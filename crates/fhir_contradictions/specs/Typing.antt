@@ -1,11 +1,9 @@
 -- Of which types the items of an element can be (FHIR R4, JSON representation of resources): type definitions alone say so, and never
 -- a profile.
-use Rattle.std.specs.Prelude.{◌≡◌, ℕ, List, [], ◌∷◌, map, filter, Bool, true, false, not, ◌&&◌, ◌||◌, Option, None, Some, is_some, if◌then◌else◌}
-use Rattle.std.specs.List.{list_all, list_any}
+use Rattle.std.specs.Prelude.{◌≡◌, List, [], ◌∷◌, map, filter, Bool, ◌||◌, Option, None, Some, is_some, if◌then◌else◌}
+use Rattle.std.specs.List.{list_any}
 use Rattle.std.specs.Option.{option_map_or, option_and_then, option_or}
 use Rattle.fhir_json.specs.Tree.{Text, Tree}
-use Rattle.fhir_json.specs.Bytes.{is_empty}
-use Rattle.fhir_elements.specs.TypeEntry.{TypeEntry}
 use Rattle.fhir_nodes.specs.declared.node.NodeRef.{NodeRef}
 use Rattle.fhir_nodes.specs.Types.{names_resource, primitive_of, is_system}
 use Rattle.fhir_nodes.specs.Slots.{Slot}

@@ -5,7 +5,8 @@
 //! pub fn is_consistent(alloc: Global, schema: &Schema, place: usize) -> Result<bool, NoMemory>
 //!     ensures { IfOk result (λ is. IsTrue is ↔ (contradictions schema.now place ≡ [])) }
 //! {
-//!     Ok(fhir_contradictions::contradictions(alloc, schema, place)?.is_empty())
+//!     let regular = fhir_contradictions::are_regular(schema);
+//!     Ok(fhir_contradictions::contradictions(alloc, schema, regular, place)?.is_empty())
 //! }
 //! ```
 //!
@@ -20,6 +21,7 @@ mod fixed;
 mod known;
 mod laws;
 mod listing;
+mod regular;
 mod slices;
 mod typing;
 mod typing_laws;
@@ -27,4 +29,5 @@ mod typing_laws;
 pub use contradiction::Contradiction;
 pub use laws::{fixed_values, slice_types, slice_values, slices_together};
 pub use listing::contradictions;
+pub use regular::are_regular;
 pub use typing_laws::{fixed_types, required_types, typed_items};

@@ -7,11 +7,13 @@ ghost use Rattle.fhir_names.specs.Parents.{name_of};
 ghost use Rattle.fhir_schema.specs.Schemas.{element_at, elements_at};
 ghost use Rattle.fhir_contradictions.specs.declared.contradiction.Contradiction.TheVariants.{OtherTypes, OtherValue};
 ghost use Rattle.fhir_contradictions.specs.Contradictions.{are_few, are_few_under, are_few_of_both, fixed_misses, misses_type, if_so, has_other_types, has_other_value, lacks_type, is_required, type_contradictions, slice_contradictions, contradictions_at};
-ghost use Rattle.fhir_contradictions.specs.Listing.{typed_below, known_at, node_of, node_sliced, is_entry, above_of, under_of, typed_by_of, is_absent_of, next_known, found_at, found_from, contradictions};
+ghost use Rattle.fhir_contradictions.specs.Regular.{are_regular};
+ghost use Rattle.fhir_contradictions.specs.Listing.{typed_below, known_at, node_of, node_sliced, is_entry, above_of, under_of, typed_by_of, is_root_slice, is_absent_of, next_known, found_at, found_from, contradictions};
 
 use crate::contradiction::Contradiction;
 use crate::fixed::{allows_some, fixed_misses_type, push_fixed, push_if};
 use crate::known::Known;
+use crate::regular::typed_at_root;
 use crate::slices::{asks_too_many, has_other_types, has_other_value};
 use crate::typing::{typed_under, types_under};
 use fhir_elements::{ElementDef, TypeEntry};
@@ -127,11 +129,8 @@ fn push_slice_contradictions(
 ) -> Result<(), NoMemory>
     ensures { OnOk result (into.new.items ≡ into.old.items ++ slice_contradictions schema.now sliced node) }
 {
-    push_if(
-        asks_too_many(schema, node),
-        Contradiction::TooManySliced,
-        into,
-    )?;
+    let is_over = !schema.is_root(node) && asks_too_many(schema, node);
+    push_if(is_over, Contradiction::TooManySliced, into)?;
     match sliced {
         Some(sliced) => push_of_slice(alloc, schema, sliced, node, into),
         None => Ok(()),
@@ -269,20 +268,31 @@ fn typed_below(
 fn typed_by_of(
     alloc: Global,
     schema: &Schema,
+    regular: bool,
     place: usize,
     known: &[Known],
     at: usize,
     element: &ElementDef,
 ) -> Result<Option<NodeRef>, NoMemory>
+    requires { regular ≡ are_regular schema.now }
     ensures { IfOk result (λ by. by ≡ typed_by_of schema.now place known.now at element.now) }
 {
     let node = node_of(place, at);
     if schema.is_root(node) {
-        return Ok(schema.type_root(schema.type_code(node)));
+        return Ok(typed_at_root(schema, regular, node));
     }
     match under_of(schema, place, known, at, element) {
         Some((by, name)) => typed_below(alloc, schema, by, name, node),
         None => Ok(None),
+    }
+}
+
+fn is_root_slice(schema: &Schema, place: usize, element: &ElementDef) -> bool
+    ensures { result ≡ is_root_slice schema.now place element.now }
+{
+    match slice_place(schema, place, element) {
+        Some(sliced) => schema.is_root(node_of(place, sliced)),
+        None => false,
     }
 }
 
@@ -291,21 +301,26 @@ fn is_absent_of(schema: &Schema, place: usize, known: &[Known], element: &Elemen
 {
     let is_below_absent = known_at(known, above_of(schema, place, element)).is_absent;
     let is_of_absent = known_at(known, slice_place(schema, place, element)).is_absent;
-    is_forbidden(element) || is_below_absent || is_of_absent
+    is_forbidden(element)
+        || is_root_slice(schema, place, element)
+        || is_below_absent
+        || is_of_absent
 }
 
 fn next_known(
     alloc: Global,
     schema: &Schema,
+    regular: bool,
     place: usize,
     known: &[Known],
     at: usize,
     element: &ElementDef,
 ) -> Result<Known, NoMemory>
+    requires { regular ≡ are_regular schema.now }
     ensures { IfOk result (λ next. next ≡ next_known schema.now place known.now at element.now) }
 {
     Ok(Known {
-        typed_by: typed_by_of(alloc, schema, place, known, at, element)?,
+        typed_by: typed_by_of(alloc, schema, regular, place, known, at, element)?,
         is_absent: is_absent_of(schema, place, known, element),
     })
 }
@@ -392,35 +407,60 @@ fn push_at(
     push_present(alloc, schema, place, known, at, element, into)
 }
 
+// What is found of an element, and what is known of it.
+fn push_both(
+    alloc: Global,
+    schema: &Schema,
+    regular: bool,
+    place: usize,
+    at: usize,
+    element: &ElementDef,
+    known: &mut Vec<Known>,
+    into: &mut Vec<(NodeRef, Contradiction)>,
+) -> Result<(), NoMemory>
+    requires { regular ≡ are_regular schema.now }
+    ensures known { OnOk result (known.new.items ≡ known.old.items ++ next_known schema.now place known.old.items at element.now ∷ []) }
+    ensures found { OnOk result (into.new.items ≡ into.old.items ++ found_at schema.now place known.old.items at element.now) }
+{
+    push_at(alloc, schema, place, known, at, element, into)?;
+    let next = next_known(alloc, schema, regular, place, known, at, element)?;
+    known.push(next)?;
+    Ok(())
+}
+
 fn all_found(
     alloc: Global,
     schema: &Schema,
+    regular: bool,
     place: usize,
 ) -> Result<Vec<(NodeRef, Contradiction)>, NoMemory>
+    requires { regular ≡ are_regular schema.now }
     ensures { IfOk result (λ found. found.items ≡ found_from schema.now place [] 0 (elements_at schema.now place)) }
 {
     let mut known = Vec::new(alloc);
     let mut found = Vec::new(alloc);
     for (at, element) in elements_at(schema, place).iter().enumerate() {
-        push_at(alloc, schema, place, &known, at, element, &mut found)?;
-        let next = next_known(alloc, schema, place, &known, at, element)?;
-        known.push(next)?;
+        push_both(
+            alloc, schema, regular, place, at, element, &mut known, &mut found,
+        )?;
     }
     Ok(found)
 }
 
 /// What the elements of the definition at a place ask for that can never hold, in their order, each with its node. Nothing is told of what
-/// can't be there, as its `max` is 0 or that of an element above it; and nothing of a definition that can't be used. The one refusal is want
-/// of memory.
+/// can't be there, as its `max` is 0 or that of an element above it; and nothing of a definition that can't be used. The caller says whether
+/// the types are regular: where they aren't, nothing is told of types. The one refusal is want of memory.
 pub fn contradictions(
     alloc: Global,
     schema: &Schema,
+    regular: bool,
     place: usize,
 ) -> Result<Vec<(NodeRef, Contradiction)>, NoMemory>
+    requires { regular ≡ are_regular schema.now }
     ensures { IfOk result (λ found. found.items ≡ contradictions schema.now place) }
 {
     if schema.reason(place).is_some() {
         return Ok(Vec::new(alloc));
     }
-    all_found(alloc, schema, place)
+    all_found(alloc, schema, regular, place)
 }

@@ -77,7 +77,8 @@ fn typing_entries<'s>(schema: &'s Schema, node: NodeRef, element: &'s ElementDef
     }
 }
 
-fn types_of_items<'s>(schema: &'s Schema, node: NodeRef) -> &'s [TypeEntry]
+/// The types that the items of a type's element can have.
+pub(crate) fn types_of_items<'s>(schema: &'s Schema, node: NodeRef) -> &'s [TypeEntry]
     ensures { map (λ entry. entry.code) result.now ≡ type_codes schema.now node }
 {
     match schema.element(node) {

@@ -1,10 +1,11 @@
 //! From what can never hold to lines.
 
 ghost use Rattle.std.specs.Prelude.{◌≡◌, ◌++◌, ◌∷◌, [], map, OnOk, IfOk};
+ghost use Rattle.fhir_contradictions.specs.Regular.{are_regular};
 ghost use Rattle.fhir_lines.specs.Lines.{line_seen, lines_seen};
 ghost use Rattle.fhir_report.specs.ContradictionLines.{contradiction_line, lines_at, lines_from, contradiction_lines};
 
-use fhir_contradictions::{Contradiction, contradictions};
+use fhir_contradictions::{Contradiction, are_regular, contradictions};
 use fhir_findings::Selection;
 use fhir_json::NoMemory;
 use fhir_lines::Line;
@@ -64,18 +65,20 @@ fn push_lines_at<'s>(
     alloc: Global,
     survey: &'s Survey<'_>,
     schema: &'s Schema,
+    regular: bool,
     selection: &Selection,
     place: usize,
     url: &str,
     lines: &mut Vec<Line<'s>>,
 ) -> Result<(), NoMemory>
+    requires { regular ≡ are_regular schema.now }
     ensures { OnOk result (lines_seen lines.new.items ≡ lines_seen lines.old.items ++ lines_at selection.now schema.now survey.now place url.now) }
 {
     if !selection.has(survey.package(), Kind::StructureDefinition, url) {
         return Ok(());
     }
     let file = survey.source(Kind::StructureDefinition, place);
-    let found = contradictions(alloc, schema, place)?;
+    let found = contradictions(alloc, schema, regular, place)?;
     push_lines(alloc, schema, file, &found, lines)?;
     Ok(())
 }
@@ -89,13 +92,23 @@ pub(crate) fn contradiction_lines<'s>(
 ) -> Result<Vec<Line<'s>>, NoMemory>
     ensures { IfOk result (λ ls. lines_seen ls.items ≡ contradiction_lines selection.now schema.now survey.now) }
 {
+    let regular = are_regular(schema);
     let mut lines: Vec<Line<'s>> = Vec::new(alloc);
     for (place, url) in survey
         .package()
         .names(Kind::StructureDefinition)
         .enumerate()
     {
-        push_lines_at(alloc, survey, schema, selection, place, url, &mut lines)?;
+        push_lines_at(
+            alloc,
+            survey,
+            schema,
+            are_regular,
+            selection,
+            place,
+            url,
+            &mut lines,
+        )?;
     }
     Ok(lines)
 }
