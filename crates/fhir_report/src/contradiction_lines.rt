@@ -100,14 +100,7 @@ pub(crate) fn contradiction_lines<'s>(
         .enumerate()
     {
         push_lines_at(
-            alloc,
-            survey,
-            schema,
-            are_regular,
-            selection,
-            place,
-            url,
-            &mut lines,
+            alloc, survey, schema, regular, selection, place, url, &mut lines,
         )?;
     }
     Ok(lines)
