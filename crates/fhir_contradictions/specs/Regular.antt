@@ -1,7 +1,7 @@
 -- Where the root of a type's definition types each item of that type. It does, where no other type derives from one of resources that isn't
 -- abstract, and no element of a type has children of its own in place of those of a type that isn't abstract. So it is in FHIR (FHIR R4,
 -- StructureDefinition, abstract).
-use Rattle.std.specs.Prelude.{Bool, false, not, ◌&&◌, ◌||◌, Option, None, if◌then◌else◌}
+use Rattle.std.specs.Prelude.{Bool, false, not, ◌&&◌, ◌||◌, Option, None, is_some, if◌then◌else◌}
 use Rattle.std.specs.Option.{option_map_or, option_and_then}
 use Rattle.std.specs.List.{list_any, slice_get}
 use Rattle.fhir_json.specs.Tree.{Text}
@@ -22,6 +22,10 @@ base_of s d = option_and_then (λ n. slice_get s.definitions n.definition) (opti
 abbrev pub is_open : Definition → Bool
 is_open b = not b.is_type || (is_resource b && not b.abstract)
 
+-- its base is such a one, or can't be used
+abbrev pub rests_on_open : SchemaValue → Definition → Bool
+rests_on_open s d = option_map_or is_open (base_of s d) (is_some d.base)
+
 -- the code is of no type, or of one that isn't abstract
 abbrev pub is_concrete : SchemaValue → Text → Bool
 is_concrete s code = not (option_map_or (λ d. d.abstract) (type_of_code s.definitions code) false)
@@ -35,7 +39,7 @@ element_types_inline s d e = option_map_or (types_inline s) (node s d.url e.id) 
 
 -- a type by which an item of another type may be typed otherwise than by that
 abbrev pub is_irregular : SchemaValue → Definition → Bool
-is_irregular s d = d.is_type && (option_map_or is_open (base_of s d) false || list_any (element_types_inline s d) d.elements)
+is_irregular s d = d.is_type && (rests_on_open s d || list_any (element_types_inline s d) d.elements)
 
 abbrev pub are_regular : SchemaValue → Bool
 are_regular s = not (list_any (is_irregular s) s.definitions)

@@ -3,7 +3,7 @@
 ghost use Rattle.std.specs.Prelude.{◌≡◌, false, not, map};
 ghost use Rattle.std.specs.List.{list_any};
 ghost use Rattle.std.specs.Option.{option_copied, option_map_or};
-ghost use Rattle.fhir_contradictions.specs.Regular.{base_of, is_open, is_concrete, types_inline, element_types_inline, is_irregular, are_regular, typed_at_root};
+ghost use Rattle.fhir_contradictions.specs.Regular.{base_of, is_open, rests_on_open, is_concrete, types_inline, element_types_inline, is_irregular, are_regular, typed_at_root};
 
 use crate::typing::types_of_items;
 use fhir_definition::Definition;
@@ -25,11 +25,11 @@ fn is_open(base: &Definition) -> bool
 }
 
 fn rests_on_open(schema: &Schema, definition: &Definition) -> bool
-    ensures { result ≡ option_map_or is_open (base_of schema.now definition.now) false }
+    ensures { result ≡ rests_on_open schema.now definition.now }
 {
     match base_of(schema, definition) {
         Some(base) => is_open(base),
-        None => false,
+        None => definition.base().is_some(),
     }
 }
 
