@@ -1,34 +1,18 @@
 -- What an item that conforms to a node meets: of the node's rules of its value, of its children, and of its type.
-use Rattle.std.proofs.Common.{◌≡◌, Bool, true, false, cond, List, [], ◌∷◌, ◌++◌, length, nat_eq, refl, sym, ap, ◌∙◌, inl, inr, IsTrue, ◌||◌}
+use Rattle.std.proofs.Common.{◌≡◌, Bool, true, false, cond, List, [], ◌∷◌, ◌++◌, length, nat_eq, refl, ap, inl, inr, IsTrue, ◌||◌}
 use Rattle.std.specs.Option.{option_map_or}
-use Rattle.std.specs.List.{list_all, list_any}
-use Rattle.std.proofs.lemmas.Bool.{and_parts, or_cases, or_left, or_right}
-use Rattle.std.proofs.lemmas.List.Folds.{list_all-append}
+use Rattle.std.specs.List.{AllByRecursion, list_all, list_any}
+use Rattle.std.proofs.lemmas.Bool.{and_parts, both_ways, or_cases, or_left, or_right}
 use Rattle.fhir_elements.specs.TypeEntry.{TypeEntry}
 use Rattle.fhir_nodes.specs.declared.node.NodeRef.{NodeRef}
 use Rattle.fhir_schema.specs.Schemas.{SchemaValue, element_at, is_root_node, types, type_root}
-use Rattle.fhir_schema.specs.Covers.{covers}
+use Rattle.fhir_schema.specs.Covers.{covers, type_at}
 use Rattle.fhir_instance.specs.Items.{Item, item, type_of, kids_of}
+use Rattle.fhir_facets.specs.Unread.{Meaning}
 use Rattle.fhir_facets.specs.Targets.{targets_hold}
 use Rattle.fhir_conformance.specs.Asks.{Ask, own, root_type, types as of_types, facet_asks, constraint_asks, own_root, profile_asks, kids_asks, root_asks, inner_asks}
-use Rattle.fhir_conformance.specs.Conformance.{Interpretation, Around, meaning_at, resource_at, inside, kid_tests, ask_holds, root_holds, inner_holds, conforms, seen, is_untyped, entry_allows, entry_holds, profiles_hold, types_hold}
-
--- where some element passes a test, some element passes a weaker one
-any_weaker : {A : Type 0} (p q : A → Bool) → ((x : A) → IsTrue (p x) → IsTrue (q x)) → (xs : List A) → IsTrue (list_any p xs) → IsTrue (list_any q xs)
-any_weaker p q step [] h = h
-any_weaker p q step (x ∷ xs) h =
-    elim (or_cases (p x) (list_any p xs) h) [
-      | inl here ↦ or_left (q x) (list_any q xs) (step x here)
-      | inr there ↦ or_right (q x) (list_any q xs) (any_weaker p q step xs there)
-    ]
-
--- what all elements of two lists pass, those of the first do
-front : {A : Type 0} (p : A → Bool) (xs ys : List A) → IsTrue (list_all p (xs ++ ys)) → IsTrue (list_all p xs)
-front p xs ys h = (and_parts (list_all p xs) (list_all p ys) (sym (list_all-append p xs ys) ∙ h)).0
-
--- and those of the second do
-back : {A : Type 0} (p : A → Bool) (xs ys : List A) → IsTrue (list_all p (xs ++ ys)) → IsTrue (list_all p ys)
-back p xs ys h = (and_parts (list_all p xs) (list_all p ys) (sym (list_all-append p xs ys) ∙ h)).1
+use Rattle.fhir_conformance.specs.Conformance.{Interpretation, Around, meaning_at, resource_at, inside, kid_tests, ask_holds, root_holds, inner_holds, conforms, seen, is_untyped, fixed_at, pattern_at, range_at, length_at, binding_at, at_element, entry_allows, entry_holds, profiles_hold, types_hold}
+use Rattle.fhir_contradictions.proofs.Passing.{all_front, all_back, any_weaker}
 
 -- one of the node's types covers the item's, where it names any
 abbrev pub IsCovered : SchemaValue → Item → NodeRef → Type 0
@@ -43,12 +27,13 @@ module _ (s : SchemaValue) (meaning : Interpretation) (around : Around) (x : Ite
   abbrev pub holds : (NodeRef → Bool) → Ask → Bool
   holds roots ask = ask_holds s (meaning_at meaning around) (resource_at s around x) x tests roots ask
 
-  -- what a node asks of the value and of the children is met
+  -- what a node asks of the value, of the children and of the type is met
   pub record Meets (n : NodeRef) : Type 0 where
     pub roots : NodeRef → Bool
     pub facets : IsTrue (list_all (holds roots) (facet_asks n))
     pub kids : IsTrue (list_all (holds roots) (kids_asks s x n))
     pub type : IsCovered s x n
+    pub root : is_root_node s n ≡ true → IsTrue (covers s (type_at s n) (type_of x))
 
   -- a root names no types
   untyped_root : (n : NodeRef) → is_root_node s n ≡ true → IsCovered s x n
@@ -61,13 +46,13 @@ module _ (s : SchemaValue) (meaning : Interpretation) (around : Around) (x : Ite
   meets_root n is h =
       let roots : NodeRef → Bool = λ r. true in
       let others = constraint_asks s n ++ kids_asks s x n in
-      let rest : IsTrue (list_all (holds roots) (facet_asks n ++ others)) =
-      (and_parts (holds roots (own root_type n)) (list_all (holds roots) (facet_asks n ++ others)) h).1 in
+      let parts = and_parts (holds roots (own root_type n)) (list_all (holds roots) (facet_asks n ++ others)) h in
       record {
         roots = roots;
-        facets = front (holds roots) (facet_asks n) others rest;
-        kids = back (holds roots) (constraint_asks s n) (kids_asks s x n) (back (holds roots) (facet_asks n) others rest);
+        facets = all_front (holds roots) (facet_asks n) others parts.1;
+        kids = all_back (holds roots) (constraint_asks s n) (kids_asks s x n) (all_back (holds roots) (facet_asks n) others parts.1);
         type = untyped_root n is;
+        root = λ is. parts.0;
       }
 
   -- the item is of a type that the entry's code covers
@@ -86,19 +71,20 @@ module _ (s : SchemaValue) (meaning : Interpretation) (around : Around) (x : Ite
       ]
 
   -- where all holds that another node asks, so are they, and its type
-  meets_inner : (roots : NodeRef → Bool) (n : NodeRef) → IsTrue (list_all (holds roots) (inner_asks s x n)) → Meets n
-  meets_inner roots n h =
+  meets_inner : (roots : NodeRef → Bool) (n : NodeRef) → is_root_node s n ≡ false → IsTrue (list_all (holds roots) (inner_asks s x n)) → Meets n
+  meets_inner roots n inner h =
       let last = profile_asks s x n ++ kids_asks s x n in
       let of_root = own_root (type_root s (type_of x)) ++ last in
       let others = constraint_asks s n ++ of_root in
       let parts = and_parts (holds roots (of_types n)) (list_all (holds roots) (facet_asks n ++ others)) h in
       record {
         roots = roots;
-        facets = front (holds roots) (facet_asks n) others parts.1;
-        kids = back (holds roots) (profile_asks s x n) (kids_asks s x n)
-            (back (holds roots) (own_root (type_root s (type_of x))) last
-            (back (holds roots) (constraint_asks s n) of_root (back (holds roots) (facet_asks n) others parts.1)));
+        facets = all_front (holds roots) (facet_asks n) others parts.1;
+        kids = all_back (holds roots) (profile_asks s x n) (kids_asks s x n)
+            (all_back (holds roots) (own_root (type_root s (type_of x))) last
+            (all_back (holds roots) (constraint_asks s n) of_root (all_back (holds roots) (facet_asks n) others parts.1)));
         type = of_a_type roots n parts.0;
+        root = λ is. absurd (both_ways (is_root_node s n) inner is);
       }
 
 -- an item that conforms to a node meets what that asks
@@ -112,4 +98,27 @@ meets s meaning around (item type json kids) n holds = go (is_root_node s n) ref
     go true is h = meets_root s meaning around (item type json kids) n is h
     go false is h =
         meets_inner s meaning around (item type json kids)
-        (root_holds s (meaning_at meaning around) (resource_at s around (item type json kids)) (item type json kids) (tests s meaning around (item type json kids))) n h
+        (root_holds s (meaning_at meaning around) (resource_at s around (item type json kids)) (item type json kids) (tests s meaning around (item type json kids))) n is h
+
+-- ---- the rules of the node's element that are of the item's value
+
+pub record ValueRulesHold (s : SchemaValue) (m : Meaning) (x : Item) (n : NodeRef) : Type 0 where
+  pub fixed : IsTrue (at_element s (fixed_at x) n)
+  pub pattern : IsTrue (at_element s (pattern_at x) n)
+  pub range : IsTrue (at_element s (range_at m x) n)
+  pub length_limit : IsTrue (at_element s (length_at x) n)
+  pub binding : IsTrue (at_element s (binding_at s m x) n)
+
+-- what passes a test of all passes it one by one
+all_each : {A : Type 0} (p : A → Bool) (xs : List A) → IsTrue (list_all p xs) → AllByRecursion (λ x. IsTrue (p x)) xs
+all_each p [] h = tt
+all_each p (x ∷ xs) h =
+    let parts = and_parts (p x) (list_all p xs) h in
+    (parts.0, all_each p xs parts.1)
+
+-- they hold of an item that meets what the node asks
+pub value_rules : (s : SchemaValue) (meaning : Interpretation) (around : Around) (x : Item) (n : NodeRef) → Meets s meaning around x n
+    → ValueRulesHold s (meaning_at meaning around) x n
+value_rules s meaning around x n met =
+    let each = all_each (holds s meaning around x met.roots) (facet_asks n) met.facets in
+    record { fixed = each.0; pattern = each.1.0; range = each.1.1.0; length_limit = each.1.1.1.0; binding = each.1.1.1.1.0 }

@@ -1,5 +1,6 @@
 -- A fixed value that another rule of its element refuses is no item's value.
 use Rattle.std.proofs.Common.{◌≡◌, Bool, true, false, not, ◌&&◌, List, [], ◌∷◌, ◌++◌, Option, Some, None, inl, inr, refl, sym, ap, subst, ◌∙◌, IsTrue, arith}
+use Rattle.std.specs.Prelude.{if◌then◌else◌}
 use Rattle.std.specs.List.{Contains, list_all, list_any}
 use Rattle.std.specs.Option.{option_map_or, option_and_then}
 use Rattle.std.proofs.lemmas.Bool.{and_parts, or_cases, not-true, false≢true}
@@ -12,21 +13,21 @@ use Rattle.fhir_elements.specs.TypeEntry.{TypeEntry}
 use Rattle.fhir_elements.specs.Element.{Element, required_value_set}
 use Rattle.fhir_nodes.specs.declared.node.NodeRef.{NodeRef}
 use Rattle.fhir_nodes.specs.Types.{names_resource}
-use Rattle.fhir_schema.specs.Schemas.{SchemaValue, element_at, types}
-use Rattle.fhir_schema.specs.Covers.{covers}
+use Rattle.fhir_schema.specs.Schemas.{SchemaValue, element_at, is_root_node, types}
+use Rattle.fhir_schema.specs.Covers.{covers, type_at}
 use Rattle.fhir_instance.specs.Items.{Item, type_of, json_of, has_kids}
 use Rattle.fhir_facets.specs.Seen.{Seen}
 use Rattle.fhir_facets.specs.Unread.{Unread, Meaning}
 use Rattle.fhir_facets.specs.Values.{is_alone, fixed_holds, is_short}
 use Rattle.fhir_facets.specs.Ranges.{range_holds}
 use Rattle.fhir_facets.specs.Bindings.{Binding, binding_to, binding_holds}
-use Rattle.fhir_conformance.specs.Conformance.{seen, is_untyped, range_of, fixed_at, pattern_at, range_at, length_at, binding_at}
+use Rattle.fhir_conformance.specs.Conformance.{Interpretation, Around, meaning_at, seen, is_untyped, range_of, fixed_at, pattern_at, range_at, length_at, binding_at}
 use Rattle.fhir_contradictions.specs.declared.contradiction.Contradiction.{Contradiction}
 use Rattle.fhir_contradictions.specs.declared.contradiction.Contradiction.TheVariants as found
 use Rattle.fhir_contradictions.specs.Contradictions.{IsSoundValue, seen_as, lenient, misses_pattern, misses_length, fails_as, fails_as_each, misses_range, misses_binding, fixed_misses, if_so, fixed_contradictions}
 use Rattle.fhir_contradictions.proofs.EqualValues.{same_text}
 use Rattle.fhir_contradictions.proofs.SeenAlike.{seen_with, range_alike, binding_alike}
-use Rattle.fhir_contradictions.proofs.FacetsAsked.{ValueRulesHold, FacetsHold, is_of_type}
+use Rattle.fhir_contradictions.proofs.Asked.{IsCovered, Meets, ValueRulesHold, value_rules}
 
 -- ---- laws of other libraries
 
@@ -83,33 +84,42 @@ seen_is x json is = ap (λ (o : Option Tree). let s : Seen = record { type = typ
 
 -- ---- a test that it fails as an item of each type
 
+-- what a node asks of an item's type: that one of those that it names covers it, or that the root's does
+abbrev IsAskedType : SchemaValue → Item → NodeRef → Type 0
+IsAskedType s x n = IsCovered s x n × (is_root_node s n ≡ true → IsTrue (covers s (type_at s n) (type_of x)))
+
 module _ (s : SchemaValue) (alone : CoversItself s) (test : Seen → Bool) (value : Tree) (x : Item)
     (holds : IsTrue (test (seen_as value (type_of x)))) where
   -- not as one of a type that covers the item's
-  fails_not : (e : TypeEntry) → IsTrue (fails_as s test value e) → IsTrue (covers s e.code (type_of x)) → ⊥
-  fails_not e fails covered =
-      let both = and_parts (not (names_resource s.definitions e.code)) (not (test (seen_as value e.code))) fails in
-      let code : e.code ≡ type_of x = alone e.code (type_of x) (not-true (names_resource s.definitions e.code) both.0) covered in
-      refuted (test (seen_as value e.code)) both.1 (subst (λ t. IsTrue (test (seen_as value t))) (sym code) holds)
+  fails_not : (code : Text) → IsTrue (fails_as s test value code) → IsTrue (covers s code (type_of x)) → ⊥
+  fails_not code fails covered =
+      let both = and_parts (not (names_resource s.definitions code)) (not (test (seen_as value code))) fails in
+      let same : code ≡ type_of x = alone code (type_of x) (not-true (names_resource s.definitions code) both.0) covered in
+      refuted (test (seen_as value code)) both.1 (subst (λ t. IsTrue (test (seen_as value t))) (sym same) holds)
 
   -- not as one of each type in a list, where one of them covers the item's
-  none_fails : (es : List TypeEntry) → IsTrue (list_all (fails_as s test value) es) → IsTrue (list_any (λ e. covers s e.code (type_of x)) es) → ⊥
+  none_fails : (es : List TypeEntry) → IsTrue (list_all (λ e. fails_as s test value e.code) es) → IsTrue (list_any (λ e. covers s e.code (type_of x)) es) → ⊥
   none_fails [] all some = false≢true some
   none_fails (e ∷ es) all some =
-      let both = and_parts (fails_as s test value e) (list_all (fails_as s test value) es) all in
+      let both = and_parts (fails_as s test value e.code) (list_all (λ e. fails_as s test value e.code) es) all in
       elim (or_cases (covers s e.code (type_of x)) (list_any (λ e. covers s e.code (type_of x)) es) some) [
-        | inl here ↦ fails_not e both.0 here
+        | inl here ↦ fails_not e.code both.0 here
         | inr later ↦ none_fails es both.1 later
       ]
 
-  -- not as one of each of the node's types
-  fails_not_each : (n : NodeRef) → IsTrue (is_of_type s x n) → IsTrue (fails_as_each s n test value) → ⊥
-  fails_not_each n of_type fails =
-      let both = and_parts (not (is_untyped s n)) (list_all (fails_as s test value) (types s n)) fails in
-      elim (or_cases (is_untyped s n) (list_any (λ e. covers s e.code (type_of x)) (types s n)) of_type) [
-        | inl untyped ↦ refuted (is_untyped s n) both.0 untyped
-        | inr some ↦ none_fails (types s n) both.1 some
-      ]
+  -- not as one of each of the node's types, nor as one of a root's
+  fails_not_each : (n : NodeRef) → IsAskedType s x n → IsTrue (fails_as_each s n test value) → ⊥
+  fails_not_each n of_type = by_root (is_root_node s n) refl
+    where
+      by_root : (b : Bool) → is_root_node s n ≡ b
+          → IsTrue (if b then fails_as s test value (type_at s n) else not (is_untyped s n) && list_all (λ e. fails_as s test value e.code) (types s n)) → ⊥
+      by_root true root fails = fails_not (type_at s n) fails (of_type.1 root)
+      by_root false inner fails =
+          let both = and_parts (not (is_untyped s n)) (list_all (λ e. fails_as s test value e.code) (types s n)) fails in
+          elim (or_cases (is_untyped s n) (list_any (λ e. covers s e.code (type_of x)) (types s n)) of_type.0) [
+            | inl untyped ↦ refuted (is_untyped s n) both.0 untyped
+            | inr some ↦ none_fails (types s n) both.1 some
+          ]
 
 -- ---- the four contradictions
 
@@ -133,7 +143,7 @@ module _ (s : SchemaValue) (m : Meaning) (x : Item) (n : NodeRef) (e : Element) 
       (of_some (λ most. option_map_or (is_short most) (option_and_then as_text (json_of x)) true) e.max_length most.value holds most.is)
       (ap (λ (o : Option Tree). option_and_then as_text o) its.is ∙ sym (same_text value its.json its.same) ∙ text.is))
 
-  module _ (alone : CoversItself s) (of_type : IsTrue (is_of_type s x n)) where
+  module _ (alone : CoversItself s) (of_type : IsAskedType s x n) where
     -- it is within the bounds, as an item of the item's type
     range_refuses : IsPositive range_holds → IsTrue (range_at m x e) → IsTrue (misses_range s n e value) → ⊥
     range_refuses positive holds misses =
@@ -195,18 +205,21 @@ none_found false false false false no_a no_b no_c no_d f (k, lt, at) = absurd (o
 module _ (alone : (s : SchemaValue) → CoversItself s) (equal_values : EqualValuesFit) (range_positive : IsPositive range_holds)
     (binding_positive : IsPositive binding_holds) where
   -- what holds of an item's facets refuses no fixed value of the node
-  pub none_refused : (s : SchemaValue) (m : Meaning) (x : Item) (n : NodeRef) (c : Contradiction) → IsSoundValue x → FacetsHold s m x n
-      → Contains (fixed_contradictions s n) c → ⊥
-  none_refused s m x n c sounds holds =
+  pub none_refused : (s : SchemaValue) (meaning : Interpretation) (around : Around) (x : Item) (n : NodeRef) (c : Contradiction) → IsSoundValue x
+      → Meets s meaning around x n → Contains (fixed_contradictions s n) c → ⊥
+  none_refused s meaning around x n c sounds met =
+      let m = meaning_at meaning around in
+      let rules = value_rules s meaning around x n met in
+      let of_type : IsAskedType s x n = (met.type, met.root) in
       none_found (fixed_misses misses_pattern s n) (fixed_misses misses_length s n) (fixed_misses (misses_range s n) s n)
       (fixed_misses (misses_binding s n) s n)
-      (not_missed misses_pattern s m x n holds.value (λ e at value its.
-      pattern_refuses s m x n e value its equal_values (sounds its.json its.is) (of_some (pattern_at x) (element_at s n) e holds.value.pattern at)))
-      (not_missed misses_length s m x n holds.value (λ e at value its.
-      length_refuses s m x n e value its (of_some (length_at x) (element_at s n) e holds.value.length_limit at)))
-      (not_missed (misses_range s n) s m x n holds.value (λ e at value its.
-      range_refuses s m x n e value its (alone s) holds.type range_positive (of_some (range_at m x) (element_at s n) e holds.value.range at)))
-      (not_missed (misses_binding s n) s m x n holds.value (λ e at value its.
-      binding_refuses s m x n e value its (alone s) holds.type binding_positive (sounds its.json its.is)
-      (of_some (binding_at s m x) (element_at s n) e holds.value.binding at)))
+      (not_missed misses_pattern s m x n rules (λ e at value its.
+      pattern_refuses s m x n e value its equal_values (sounds its.json its.is) (of_some (pattern_at x) (element_at s n) e rules.pattern at)))
+      (not_missed misses_length s m x n rules (λ e at value its.
+      length_refuses s m x n e value its (of_some (length_at x) (element_at s n) e rules.length_limit at)))
+      (not_missed (misses_range s n) s m x n rules (λ e at value its.
+      range_refuses s m x n e value its (alone s) of_type range_positive (of_some (range_at m x) (element_at s n) e rules.range at)))
+      (not_missed (misses_binding s n) s m x n rules (λ e at value its.
+      binding_refuses s m x n e value its (alone s) of_type binding_positive (sounds its.json its.is)
+      (of_some (binding_at s m x) (element_at s n) e rules.binding at)))
       c

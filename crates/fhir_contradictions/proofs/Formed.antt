@@ -10,9 +10,9 @@ use Rattle.fhir_json.specs.Tree.{item as one_more}
 use Rattle.fhir_nodes.specs.declared.node.NodeRef.{NodeRef}
 use Rattle.fhir_forms.specs.Forms.{Form, is_primitive, companion_name}
 use Rattle.fhir_schema.specs.Schemas.{SchemaValue, forms}
-use Rattle.fhir_instance.specs.Items.{Item, Named, kids_in, kids_of}
+use Rattle.fhir_instance.specs.Items.{Item, Kids, Named, kids_in, kids_of}
 use Rattle.fhir_instance.specs.Typing.{Frame, Value, Held, Halves, both, joined, content_item, where_true, if_not_null, is_null, values_in, side_by_side, places_of, held_by, value_in, companion_in, under, place_items, form_items, forms_in, is_known, is_of_role, object_kids, kids_as, fields_of, items_in, values_of, value_of, held_of}
-use Rattle.fhir_contradictions.specs.Typing.{IsTypedBy, children_of}
+use Rattle.fhir_contradictions.specs.Typing.{IsTypedBy, childless, an_object, children_of}
 use Rattle.fhir_contradictions.proofs.Listed.{contains_none, contains_first, contains_later, contains_cases, from_filter}
 
 -- ---- lists that are joined
@@ -266,7 +266,9 @@ module _ (s : SchemaValue) where
 
   -- each child of an item that a node types is of one of the node's forms
   pub child_of_form : (by : NodeRef) (x : Item) (k : Named) → IsTypedBy s by x → Contains (children_of (kids_of x)) k → IsOfForm (forms s by) k
-  child_of_form by x k typed has =
+  child_of_form by x k (childless none) has =
+      absurd (contains_none k (subst (λ (ks : Kids). Contains (children_of ks) k) none has))
+  child_of_form by x k (an_object typed) has =
       let frame : Frame = record { node = by; role = typed.role } in
       let among : Contains typed.kids k =
       subst (λ (l : List Named). Contains l k) (ap children_of typed.children ∙ children_in typed.kids) has in

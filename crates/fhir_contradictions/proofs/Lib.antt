@@ -1,9 +1,9 @@
 pub mod Lists
+pub mod Counted
 pub mod Listed
 pub mod Passing
 pub mod Counting
 pub mod Told
-pub mod FacetsAsked
 pub mod EqualValues
 pub mod SeenAlike
 pub mod FixedRefused
@@ -16,4 +16,13 @@ pub mod FixedKept
 pub mod Obeying
 pub mod SliceTypes
 pub mod Together
+pub mod Paths
 pub mod Values
+pub mod ConformingChildren
+pub mod UsableNodes
+pub mod IdParts
+pub mod NamesApart
+pub mod Homes
+pub mod Reached
+pub mod Codes
+pub mod PartsTyped

@@ -1,6 +1,6 @@
 -- What lists contain.
 use Rattle.std.proofs.Common.{◌≡◌, ℕ, zero, suc, ◌<◌, Bool, true, false, cond, List, [], ◌∷◌, map, length, get_or, None, Some, refl, sym, ap, ◌∙◌, subst, ◌⊎◌, inl, inr, IsTrue, arith}
-use Rattle.std.specs.List.{Contains, filter, flat_map, list_all, list_any, slice_get}
+use Rattle.std.specs.List.{Contains, find, filter, flat_map, list_all, list_any, slice_get}
 use Rattle.std.proofs.lemmas.Bool.{or_left, or_right, and_parts, false≢true}
 use Rattle.std.proofs.lemmas.Option.{none-some, same_Some}
 use Rattle.std.proofs.lemmas.List.Elements.{Contains-append_cases, Contains-append_left, Contains-append_right}
@@ -74,6 +74,15 @@ module _ {X : Type 0} where
         | inl here ↦ sym (ap p here) ∙ parts.0
         | inr there ↦ all_at p xs y parts.1 there
       ]
+
+-- what is found in a list is one of it
+pub found_among : {X : Type 0} (p : X → Bool) (xs : List X) (x : X) → find p xs ≡ Some x → Contains xs x
+found_among p [] x is = absurd (none-some x is)
+found_among {X} p (y ∷ ys) x is = by_case (p y) (found_among p ys x) is
+  where
+    by_case : (b : Bool) → (find p ys ≡ Some x → Contains ys x) → cond b (Some y) (find p ys) ≡ Some x → Contains (y ∷ ys) x
+    by_case true more is = contains_first y ys x (same_Some y x is)
+    by_case false more is = contains_later y ys x (more is)
 
 module _ {A B : Type 0} where
   -- an element of a list, what it gives, and that this contains the other one

@@ -71,7 +71,7 @@ stands_at i name (kid other x kids) j has = go (bytes_eq name other) refl has (s
     go false e has more = behind (more has)
 
 -- the test at a position is that of the child there
-tests_at : (s : SchemaValue) (meaning : Interpretation) (around : Around) (n : NodeRef) (i : ℕ) (kids : Kids) (j : ℕ) (x : Item) → kid_at kids j ≡ Some x
+pub tests_at : (s : SchemaValue) (meaning : Interpretation) (around : Around) (n : NodeRef) (i : ℕ) (kids : Kids) (j : ℕ) (x : Item) → kid_at kids j ≡ Some x
     → get_or (kid_tests s meaning around i kids) j (λ n. true) n ≡ conforms s meaning (below around (i + j)) x n
 tests_at s meaning around n i no_kids j x e = absurd (none-some x e)
 tests_at s meaning around n i (kid name y kids) zero x e =

@@ -5,7 +5,8 @@ use Rattle.fhir_nodes.specs.declared.node.NodeRef.{NodeRef}
 use Rattle.fhir_schema.specs.Schemas.{SchemaValue}
 use Rattle.fhir_contradictions.specs.declared.contradiction.Contradiction.{Contradiction}
 use Rattle.fhir_contradictions.specs.declared.known.Known.{Known}
-use Rattle.fhir_contradictions.specs.Contradictions.{Under, contradictions_at}
+use Rattle.fhir_contradictions.specs.Typing.{Under}
+use Rattle.fhir_contradictions.specs.Contradictions.{contradictions_at}
 use Rattle.fhir_contradictions.specs.Listing.{next_known, found_at, found_from}
 
 -- what is found of a node with what it stands under, by what these are

@@ -23,7 +23,7 @@ use Rattle.fhir_instance.specs.Items.{Item, item, Named, type_of, kids_of, kids_
 use Rattle.fhir_instance.specs.Typing.{Value, content_item, item_with, plain_item, kids_by, primitive_item, system_item, complex_item, resource_item, resource_of_type, alone, is_filled_text, value_of, kids_as}
 use Rattle.fhir_instance.specs.declared.role.ObjectRole.TheVariants as roles
 use Rattle.fhir_conformance.specs.Conformance.{is_untyped}
-use Rattle.fhir_contradictions.specs.Typing.{IsTypedBy, type_codes, may_be, allows_code, typed_inside, typed_at_slot, typed_under}
+use Rattle.fhir_contradictions.specs.Typing.{IsTypedBy, an_object, type_codes, may_be, allows_code, typed_inside, typed_at_slot, typed_under}
 use Rattle.fhir_contradictions.proofs.Listed.{contains_none, contains_cases, in_filter}
 use Rattle.fhir_contradictions.proofs.Slotted.{ArePlaced, IsOfType}
 use Rattle.fhir_contradictions.proofs.Asked.{IsCovered}
@@ -208,13 +208,13 @@ module _ (s : SchemaValue) where
     where
       go : (o : Option (List Named)) → kids_as s t (record { node = inside; role = roles.Element }) ≡ o → item_with code (Some t) o ≡ Some y → IsTypedBy s inside y
       go None e is = absurd (none-some y is)
-      go (Some ks) e is = record {
+      go (Some ks) e is = an_object (record {
         tree = t;
         role = roles.Element;
         kids = ks;
         typed = e;
         children = sym (ap kids_of (same_Some (item code (Some t) (kids_in ks)) y is));
-      }
+      })
 
   -- where it has a value and no companion
   typed_alone : (inside : NodeRef) (code : Text) (v c : Option Tree) (y : Item)

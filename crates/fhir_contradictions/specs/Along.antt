@@ -1,32 +1,37 @@
--- Items whose children stand under the slots by which a path leads from a node. Whether an item belongs to a slice hangs on children
--- under the name of a path and under the same with `[x]`; a node asks of those alone that stand under its slot.
-use Rattle.std.specs.Prelude.{List, [], ◌∷◌, Bool, true, not, ◌&&◌, ◌||◌}
-use Rattle.std.specs.List.{list_all}
-use Rattle.std.specs.Option.{option_map_or}
+-- Where the path leads by which a slice is told, as long as it stays among the children that a node asks of. What an item belongs to hangs on
+-- its children under a path's name and under the same with `[x]`, and a node asks of those alone that stand under its slot.
+use Rattle.std.specs.Prelude.{List, [], ◌∷◌, ◌++◌, Bool, not, ◌&&◌, ◌||◌, is_some, Option, None, Some, if◌then◌else◌, codes}
+use Rattle.std.specs.Option.{option_and_then}
 use Rattle.std.specs.Str.{bytes_eq}
 use Rattle.fhir_json.specs.Tree.{Text}
 use Rattle.fhir_nodes.specs.declared.node.NodeRef.{NodeRef}
 use Rattle.fhir_nodes.specs.Slots.{Slot}
 use Rattle.fhir_forms.specs.Criteria.{slot_called}
-use Rattle.fhir_schema.specs.Schemas.{SchemaValue, slots, entry_of, holder, criteria}
-use Rattle.fhir_instance.specs.Items.{Item, Named, kids_of}
-use Rattle.fhir_slicing.specs.Belonging.{is_called}
-use Rattle.fhir_contradictions.specs.Typing.{children_of}
-use Rattle.fhir_contradictions.specs.Contradictions.{profile_root}
+use Rattle.fhir_schema.specs.Schemas.{SchemaValue, slots, slot_named, entry_of, holder}
+use Rattle.fhir_contradictions.specs.Typing.{Under, typed_by}
 
--- a child that a name calls stands under the slot, and passes a test
-abbrev pub stands_under : Text → Slot → (Item → Bool) → Named → Bool
-stands_under name slot test k = not (is_called name k.0) || (bytes_eq slot.name k.0 && test k.1)
+-- the type's element has a child under a name that isn't the slot's
+abbrev pub has_other : SchemaValue → NodeRef → Slot → Text → Bool
+has_other s by slot name = not (bytes_eq name slot.name) && is_some (slot_named s by name)
 
--- the children to which the names lead from an item stand under the slots by which they lead from the node
-abbrev pub keeps_to : SchemaValue → List Text → NodeRef → Item → Bool
-keeps_to s [] n x = true
-keeps_to s (name ∷ names) n x =
-    option_map_or (λ h. option_map_or (λ slot. list_all (stands_under name slot (keeps_to s names (entry_of h slot))) (children_of (kids_of x))) (slot_called (slots s h) name) true) (holder s n) true
+-- of what a name calls, the type's element has no other child than the slot's
+abbrev pub calls_alone : SchemaValue → NodeRef → Slot → Text → Bool
+calls_alone s by slot name = not (has_other s by slot name || has_other s by slot (name ++ codes "[x]"))
 
-abbrev pub keeps_to_each : SchemaValue → NodeRef → Item → NodeRef → Bool
-keeps_to_each s slice x n = list_all (λ c. keeps_to s c.names n x) (criteria s slice)
+-- what stands below a node, and what types the parents of its items, with their name
+abbrev pub Next : Type 0
+Next = NodeRef × Under
 
--- along the paths by which an item is told to belong to a slice: those of the element, and of the profile of the slice's type
-abbrev pub keeps_to_slots : SchemaValue → NodeRef → NodeRef → Item → Bool
-keeps_to_slots s n slice x = keeps_to_each s slice x n && option_map_or (keeps_to_each s slice x) (profile_root s slice) true
+-- what a name leads to from a node, where a type's element that types the node's items has nothing else under it
+abbrev pub next_in : SchemaValue → NodeRef → NodeRef → Text → Option Next
+next_in s by h name =
+    option_and_then (λ slot. if calls_alone s by slot name then Some (entry_of h slot, (by, slot.name)) else None) (slot_called (slots s h) name)
+
+abbrev pub next_along : SchemaValue → Option NodeRef → NodeRef → Text → Option Next
+next_along s by n name = option_and_then (λ b. option_and_then (λ h. next_in s b h name) (holder s n)) by
+
+-- where names lead from a node, where it may be known which type's element types the node's items
+abbrev pub end_along : SchemaValue → Option NodeRef → NodeRef → List Text → Option NodeRef
+end_along s by n [] = Some n
+end_along s by n (name ∷ names) =
+    option_and_then (λ next. end_along s (typed_by s (Some next.1) next.0) next.0 names) (next_along s by n name)

@@ -1,7 +1,7 @@
 -- What an element asks for that no item can meet, or no parent of its items (FHIR R4, ElementDefinition).
-use Rattle.std.specs.Prelude.{◌≡◌, ℕ, List, [], ◌∷◌, ◌++◌, map, length, Bool, true, false, not, ◌&&◌, ◌||◌, nat_le, nat_lt, Option, None, Some, if◌then◌else◌}
+use Rattle.std.specs.Prelude.{◌≡◌, ℕ, List, [], ◌∷◌, ◌++◌, map, Bool, true, false, not, ◌&&◌, ◌||◌, nat_lt, Option, None, Some, is_none, if◌then◌else◌}
 use Rattle.std.specs.List.{list_all, list_any, sum_by}
-use Rattle.std.specs.Option.{option_map_or, option_and_then, option_map}
+use Rattle.std.specs.Option.{option_map_or, option_and_then}
 use Rattle.fhir_json.specs.Tree.{Text, Tree}
 use Rattle.fhir_json.specs.Fields.{as_text, is_object}
 use Rattle.fhir_json.specs.Sound.{IsSound, differ}
@@ -13,10 +13,10 @@ use Rattle.fhir_elements.specs.Element.{Element, required_value_set}
 use Rattle.fhir_nodes.specs.declared.node.NodeRef.{NodeRef}
 use Rattle.fhir_nodes.specs.Types.{names_resource, primitive_of, is_system}
 use Rattle.fhir_nodes.specs.Slots.{Slot}
-use Rattle.fhir_forms.specs.Criteria.{Criterion, Sought, sole, slot_called}
+use Rattle.fhir_forms.specs.Criteria.{Criterion, Sought, sole}
 use Rattle.fhir_forms.specs.Criteria.{fixed as fixed_sought}
-use Rattle.fhir_schema.specs.Schemas.{SchemaValue, element_at, is_root_node, slots, slices, entry_of, types, holder, loaded, criteria}
-use Rattle.fhir_schema.specs.Covers.{covers}
+use Rattle.fhir_schema.specs.Schemas.{SchemaValue, element_at, is_root_node, slices, entry_of, types, loaded, criteria}
+use Rattle.fhir_schema.specs.Covers.{covers, type_at}
 use Rattle.fhir_instance.specs.Items.{Item, json_of}
 use Rattle.fhir_instance.specs.Typing.{is_filled_text}
 use Rattle.fhir_facets.specs.Seen.{Seen}
@@ -28,7 +28,8 @@ use Rattle.fhir_facets.specs.Cardinality.{least_of, are_within}
 use Rattle.fhir_conformance.specs.Conformance.{is_untyped, range_of}
 use Rattle.fhir_contradictions.specs.declared.contradiction.Contradiction.{Contradiction}
 use Rattle.fhir_contradictions.specs.declared.contradiction.Contradiction.TheVariants as found
-use Rattle.fhir_contradictions.specs.Typing.{codes_under, allows_code}
+use Rattle.fhir_contradictions.specs.Typing.{Under, are_few, are_few_under, typed_by, codes_under, allows_code}
+use Rattle.fhir_contradictions.specs.Along.{end_along}
 
 -- no two have one name, as in each definition that can be used
 abbrev pub names_differ : List Slot → Bool
@@ -73,37 +74,31 @@ is_scalar (Tree.string t) = true
 is_scalar (Tree.array ts) = false
 is_scalar (Tree.object ms) = false
 
--- the node to which a name leads from another one, by the slots of that, and the one to which several lead
-abbrev pub next_node : SchemaValue → NodeRef → Text → Option NodeRef
-next_node s n name = option_and_then (λ h. option_map (entry_of h) (slot_called (slots s h) name)) (holder s n)
-
-abbrev pub end_at : SchemaValue → NodeRef → List Text → Option NodeRef
-end_at s n [] = Some n
-end_at s n (name ∷ names) = option_and_then (λ next. end_at s next names) (next_node s n name)
-
 abbrev pub fixes_other : SchemaValue → Tree → NodeRef → Bool
 fixes_other s value n =
     option_map_or (λ e. option_map_or (λ p. not (equal value p.1)) e.fixed false) (element_at s n) false
 
-abbrev pub leads_elsewhere : SchemaValue → Criterion → Tree → NodeRef → Bool
-leads_elsewhere s c value n = option_map_or (fixes_other s value) (end_at s n c.names) false
+-- its path leads to where another value is fixed
+abbrev pub leads_elsewhere : SchemaValue → Option NodeRef → NodeRef → Criterion → Tree → Bool
+leads_elsewhere s by n c value = option_map_or (fixes_other s value) (end_along s by n c.names) false
 
 -- the value that it looks for, if that is a fixed one without parts
 abbrev pub value_of : Sought → Option Tree
 value_of (fixed_sought value) = if is_scalar value then Some value else None
 value_of _ = None
 
-abbrev pub is_elsewhere : SchemaValue → NodeRef → Criterion → Bool
-is_elsewhere s n c = option_map_or (λ value. leads_elsewhere s c value n) (value_of c.sought) false
+abbrev pub is_elsewhere : SchemaValue → Option NodeRef → NodeRef → Criterion → Bool
+is_elsewhere s by n c = option_map_or (leads_elsewhere s by n c) (value_of c.sought) false
 
 -- the root of the one profile of the node's one type
 abbrev pub profile_root : SchemaValue → NodeRef → Option NodeRef
 profile_root s n = option_and_then (loaded s) (option_and_then (λ entry. sole entry.profiles) (sole (types s n)))
 
-abbrev pub has_other_value : SchemaValue → NodeRef → NodeRef → Bool
-has_other_value s n slice =
-    list_any (is_elsewhere s n) (criteria s slice)
-    || option_map_or (λ r. list_any (is_elsewhere s r) (criteria s slice)) (profile_root s slice) false
+-- where it may be known which node of a type's definition types the slice's items
+abbrev pub has_other_value : SchemaValue → Option NodeRef → NodeRef → NodeRef → Bool
+has_other_value s by n slice =
+    list_any (is_elsewhere s by n) (criteria s slice)
+    || option_map_or (λ r. list_any (is_elsewhere s by r) (criteria s slice)) (profile_root s slice) false
 
 -- ---- a fixed value that something else of its element refuses
 
@@ -125,12 +120,15 @@ misses_pattern e value = option_map_or (λ p. not (fits value p.1)) e.pattern fa
 abbrev pub misses_length : Element → Tree → Bool
 misses_length e value = option_map_or (λ most. option_map_or (λ text. not (is_short most text)) (as_text value) false) e.max_length false
 
--- the value fails a test as an item of each type that the node names, of which none is of resources
-abbrev pub fails_as : SchemaValue → (Seen → Bool) → Tree → TypeEntry → Bool
-fails_as s test value entry = not (names_resource s.definitions entry.code) && not (test (seen_as value entry.code))
+-- the value fails a test as an item of a type that isn't one of resources
+abbrev pub fails_as : SchemaValue → (Seen → Bool) → Tree → Text → Bool
+fails_as s test value code = not (names_resource s.definitions code) && not (test (seen_as value code))
 
+-- it does of each type that the node names, or of the one that a profile's root is of
 abbrev pub fails_as_each : SchemaValue → NodeRef → (Seen → Bool) → Tree → Bool
-fails_as_each s n test value = not (is_untyped s n) && list_all (fails_as s test value) (types s n)
+fails_as_each s n test value =
+    if is_root_node s n then fails_as s test value (type_at s n)
+    else not (is_untyped s n) && list_all (λ entry. fails_as s test value entry.code) (types s n)
 
 abbrev pub misses_range : SchemaValue → NodeRef → Element → Tree → Bool
 misses_range s n e value = fails_as_each s n (range_holds lenient (range_of e)) value
@@ -162,20 +160,6 @@ fixed_misses test s n = option_map_or (λ e. option_map_or (λ p. test e p.1) e.
 abbrev pub if_so : Bool → Contradiction → List Contradiction
 if_so b c = if b then c ∷ [] else []
 
--- the node of a type's definition that types the parents of a node's items, with the items' name
-abbrev pub Under : Type 0
-Under = NodeRef × Text
-
--- types are compared where there are so many at most, each with each
-abbrev pub max_types : ℕ
-max_types = 128
-
-abbrev pub are_few : {A : Type 0} → List A → Bool
-are_few xs = nat_le (length xs) max_types
-
-abbrev pub are_few_under : SchemaValue → Under → NodeRef → Bool
-are_few_under s u n = are_few (types s n) && are_few (codes_under s u.0 u.1)
-
 -- where it is known what the items stand under
 abbrev pub type_contradictions : SchemaValue → Option Under → NodeRef → List Contradiction
 type_contradictions s under n =
@@ -186,11 +170,11 @@ abbrev pub are_few_of_both : SchemaValue → NodeRef → NodeRef → Bool
 are_few_of_both s n slice = are_few (types s n) && are_few (types s slice)
 
 -- where the node may be a slice of another one
-abbrev pub slice_contradictions : SchemaValue → Option NodeRef → NodeRef → List Contradiction
-slice_contradictions s sliced n =
-    if_so (not (is_root_node s n) && asks_too_many s n) found.TooManySliced
+abbrev pub slice_contradictions : SchemaValue → Option Under → Option NodeRef → NodeRef → List Contradiction
+slice_contradictions s under sliced n =
+    if_so (is_none sliced && (not (is_root_node s n) && asks_too_many s n)) found.TooManySliced
     ++ (if_so (option_map_or (λ m. are_few_of_both s m n && has_other_types s m n) sliced false) found.OtherTypes
-    ++ if_so (option_map_or (λ m. has_other_value s m n) sliced false) found.OtherValue)
+    ++ if_so (option_map_or (λ m. has_other_value s (typed_by s under n) m n) sliced false) found.OtherValue)
 
 abbrev pub fixed_contradictions : SchemaValue → NodeRef → List Contradiction
 fixed_contradictions s n =
@@ -200,4 +184,4 @@ fixed_contradictions s n =
     ++ if_so (fixed_misses (misses_binding s n) s n) found.FixedBinding))
 
 abbrev pub contradictions_at : SchemaValue → Option Under → Option NodeRef → NodeRef → List Contradiction
-contradictions_at s under sliced n = type_contradictions s under n ++ (slice_contradictions s sliced n ++ fixed_contradictions s n)
+contradictions_at s under sliced n = type_contradictions s under n ++ (slice_contradictions s under sliced n ++ fixed_contradictions s n)

@@ -1,6 +1,6 @@
 -- The contradictions of all elements of a definition, in their order; but for what can't be there, and what lies below that (FHIR R4,
 -- ElementDefinition, max). An element that stands before the one above it is taken by itself.
-use Rattle.std.specs.Prelude.{ℕ, suc, List, [], ◌∷◌, ◌++◌, map, Bool, false, not, ◌&&◌, ◌||◌, nat_eq, get_or, Option, None, Some, if◌then◌else◌}
+use Rattle.std.specs.Prelude.{ℕ, suc, List, [], ◌∷◌, ◌++◌, map, Bool, false, ◌||◌, nat_eq, get_or, Option, None, Some, if◌then◌else◌}
 use Rattle.std.specs.Option.{option_map_or, option_map, option_and_then}
 use Rattle.fhir_json.specs.Bytes.{is_empty}
 use Rattle.fhir_names.specs.Parents.{front_of, name_of}
@@ -10,9 +10,9 @@ use Rattle.fhir_nodes.specs.declared.node.NodeRef.{NodeRef}
 use Rattle.fhir_schema.specs.Schemas.{SchemaValue, elements_at, is_root_node, is_usable, slots, slot_named}
 use Rattle.fhir_facets.specs.Cardinality.{is_forbidden}
 use Rattle.fhir_contradictions.specs.declared.contradiction.Contradiction.{Contradiction}
-use Rattle.fhir_contradictions.specs.Typing.{typed_under}
+use Rattle.fhir_contradictions.specs.Typing.{Under, typed_by}
 use Rattle.fhir_contradictions.specs.Regular.{typed_at_root}
-use Rattle.fhir_contradictions.specs.Contradictions.{Under, are_few_under, contradictions_at}
+use Rattle.fhir_contradictions.specs.Contradictions.{contradictions_at}
 use Rattle.fhir_contradictions.specs.declared.known.Known.{Known}
 
 abbrev pub unknown : Known
@@ -27,7 +27,7 @@ node_of place element = record { definition = place; element = element }
 
 -- what types the children of a node's items, where it has any
 abbrev pub typed_below : SchemaValue → Under → NodeRef → Option NodeRef
-typed_below s u n = if are_few_under s u n && not (is_empty (slots s n)) then typed_under s u.0 u.1 n else None
+typed_below s u n = if is_empty (slots s n) then None else typed_by s (Some u) n
 
 module _ (s : SchemaValue) (place : ℕ) where
   abbrev pub elements : List Element

@@ -1,6 +1,6 @@
 -- Of which types the items of an element can be (FHIR R4, JSON representation of resources): type definitions alone say so, and never
 -- a profile.
-use Rattle.std.specs.Prelude.{◌≡◌, List, [], ◌∷◌, map, filter, Bool, ◌||◌, Option, None, Some, is_some, if◌then◌else◌}
+use Rattle.std.specs.Prelude.{◌≡◌, ℕ, List, [], ◌∷◌, map, filter, length, Bool, ◌&&◌, ◌||◌, nat_le, Option, None, Some, is_some, IsTrue, if◌then◌else◌}
 use Rattle.std.specs.List.{list_any}
 use Rattle.std.specs.Option.{option_map_or, option_and_then, option_or}
 use Rattle.fhir_json.specs.Tree.{Text, Tree}
@@ -9,7 +9,7 @@ use Rattle.fhir_nodes.specs.Types.{names_resource, primitive_of, is_system}
 use Rattle.fhir_nodes.specs.Slots.{Slot}
 use Rattle.fhir_nodes.specs.Holders.{typing_entries}
 use Rattle.fhir_forms.specs.Criteria.{sole}
-use Rattle.fhir_schema.specs.Schemas.{SchemaValue, element_at, slot_named, entry_of, types, child_holder, type_root}
+use Rattle.fhir_schema.specs.Schemas.{SchemaValue, has, element_at, slot_named, entry_of, types, child_holder, type_root}
 use Rattle.fhir_schema.specs.Covers.{covers}
 use Rattle.fhir_instance.specs.Items.{Item, Kids, no_kids, kid, Named, kids_of, kids_in}
 use Rattle.fhir_instance.specs.Typing.{kids_as}
@@ -19,12 +19,21 @@ use Rattle.fhir_conformance.specs.Conformance.{is_untyped}
 -- ---- items by the node of a type's definition
 
 -- The item's children are those of an object that the node types, as that of an element, of a resource or of a companion.
-pub record IsTypedBy (s : SchemaValue) (by : NodeRef) (x : Item) : Type 0 where
+pub record IsObjectOf (s : SchemaValue) (by : NodeRef) (x : Item) : Type 0 where
   pub tree : Tree
   pub role : ObjectRole
   pub kids : List Named
   pub typed : kids_as s tree (record { node = by; role = role }) ≡ Some kids
   pub children : kids_of x ≡ kids_in kids
+
+-- so they are, where it has any
+pub data IsTypedBy (s : SchemaValue) (by : NodeRef) (x : Item) : Type 0 where
+  childless : kids_of x ≡ no_kids → IsTypedBy s by x
+  an_object : IsObjectOf s by x → IsTypedBy s by x
+
+-- where it is known which node types the item: one of a definition that can be used
+abbrev pub IsTypedIfKnown : SchemaValue → Option NodeRef → Item → Type 0
+IsTypedIfKnown s by x = (b : NodeRef) → by ≡ Some b → IsTrue (has s b) × IsTypedBy s b x
 
 -- the children of an item with their names
 abbrev pub children_of : Kids → List Named
@@ -66,3 +75,22 @@ typed_at_slot s by n slot =
 -- of the items of a node that stand under a name, where they can be of one type alone
 abbrev pub typed_under : SchemaValue → NodeRef → Text → NodeRef → Option NodeRef
 typed_under s by name n = option_and_then (typed_at_slot s by n) (slot_named s by name)
+
+-- ---- the same where types are few, since each is compared with each
+
+-- the node of a type's definition that types the parents of a node's items, with the items' name
+abbrev pub Under : Type 0
+Under = NodeRef × Text
+
+abbrev pub max_types : ℕ
+max_types = 128
+
+abbrev pub are_few : {A : Type 0} → List A → Bool
+are_few xs = nat_le (length xs) max_types
+
+abbrev pub are_few_under : SchemaValue → Under → NodeRef → Bool
+are_few_under s u n = are_few (types s n) && are_few (codes_under s u.0 u.1)
+
+-- by which node the children of a node's items are typed, where it is known what the items stand under
+abbrev pub typed_by : SchemaValue → Option Under → NodeRef → Option NodeRef
+typed_by s under n = option_and_then (λ u. if are_few_under s u n then typed_under s u.0 u.1 n else None) under

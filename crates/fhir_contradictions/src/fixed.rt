@@ -79,16 +79,16 @@ fn is_outside(schema: &Schema, canonical: &str, value: &Json<'_>, code: &str) ->
     fails(Binding::of(schema, canonical).holds(&view_as(value, code)))
 }
 
-fn is_beyond_as(schema: &Schema, element: &ElementDef, value: &Json<'_>, entry: &TypeEntry) -> bool
-    ensures { result ≡ fails_as schema.now (range_holds lenient (range_of element.now)) (tree_of value.now) entry.now }
+fn is_beyond_as(schema: &Schema, element: &ElementDef, value: &Json<'_>, code: &str) -> bool
+    ensures { result ≡ fails_as schema.now (range_holds lenient (range_of element.now)) (tree_of value.now) code.now }
 {
-    !schema.is_resource(entry.code()) && is_beyond(element, value, entry.code())
+    !schema.is_resource(code) && is_beyond(element, value, code)
 }
 
-fn is_outside_as(schema: &Schema, canonical: &str, value: &Json<'_>, entry: &TypeEntry) -> bool
-    ensures { result ≡ fails_as schema.now (binding_holds lenient (binding_to schema.now canonical.now)) (tree_of value.now) entry.now }
+fn is_outside_as(schema: &Schema, canonical: &str, value: &Json<'_>, code: &str) -> bool
+    ensures { result ≡ fails_as schema.now (binding_holds lenient (binding_to schema.now canonical.now)) (tree_of value.now) code.now }
 {
-    !schema.is_resource(entry.code()) && is_outside(schema, canonical, value, entry.code())
+    !schema.is_resource(code) && is_outside(schema, canonical, value, code)
 }
 
 fn is_beyond_as_each(
@@ -97,11 +97,11 @@ fn is_beyond_as_each(
     value: &Json<'_>,
     entries: &[TypeEntry],
 ) -> bool
-    ensures { result ≡ list_all (fails_as schema.now (range_holds lenient (range_of element.now)) (tree_of value.now)) entries.now }
+    ensures { result ≡ list_all (λ entry. fails_as schema.now (range_holds lenient (range_of element.now)) (tree_of value.now) entry.code) entries.now }
 {
     entries
         .iter()
-        .all(|entry| is_beyond_as(schema, element, value, entry))
+        .all(|entry| is_beyond_as(schema, element, value, entry.code()))
 }
 
 fn is_outside_as_each(
@@ -110,22 +110,26 @@ fn is_outside_as_each(
     value: &Json<'_>,
     entries: &[TypeEntry],
 ) -> bool
-    ensures { result ≡ list_all (fails_as schema.now (binding_holds lenient (binding_to schema.now canonical.now)) (tree_of value.now)) entries.now }
+    ensures { result ≡ list_all (λ entry. fails_as schema.now (binding_holds lenient (binding_to schema.now canonical.now)) (tree_of value.now) entry.code) entries.now }
 {
-    entries
-        .iter()
-        .all(|entry| is_outside_as(schema, canonical, value, entry))
+    entries.iter().all(|entry| is_outside_as(schema, canonical, value, entry.code()))
 }
 
 fn misses_range(schema: &Schema, node: NodeRef, element: &ElementDef, value: &Json<'_>) -> bool
     ensures { result ≡ misses_range schema.now node element.now (tree_of value.now) }
 {
+    if schema.is_root(node) {
+        return is_beyond_as(schema, element, value, schema.type_code(node));
+    }
     !is_untyped(schema, node) && is_beyond_as_each(schema, element, value, schema.types(node))
 }
 
 fn misses_set(schema: &Schema, node: NodeRef, canonical: &str, value: &Json<'_>) -> bool
     ensures { result ≡ fails_as_each schema.now node (binding_holds lenient (binding_to schema.now canonical.now)) (tree_of value.now) }
 {
+    if schema.is_root(node) {
+        return is_outside_as(schema, canonical, value, schema.type_code(node));
+    }
     !is_untyped(schema, node) && is_outside_as_each(schema, canonical, value, schema.types(node))
 }
 

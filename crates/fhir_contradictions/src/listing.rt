@@ -6,7 +6,8 @@ ghost use Rattle.fhir_definition.specs.Snapshot.{id_place, slice_place};
 ghost use Rattle.fhir_names.specs.Parents.{name_of};
 ghost use Rattle.fhir_schema.specs.Schemas.{element_at, elements_at};
 ghost use Rattle.fhir_contradictions.specs.declared.contradiction.Contradiction.TheVariants.{OtherTypes, OtherValue};
-ghost use Rattle.fhir_contradictions.specs.Contradictions.{are_few, are_few_under, are_few_of_both, fixed_misses, misses_type, if_so, has_other_types, has_other_value, lacks_type, is_required, type_contradictions, slice_contradictions, contradictions_at};
+ghost use Rattle.fhir_contradictions.specs.Typing.{are_few_under, typed_by};
+ghost use Rattle.fhir_contradictions.specs.Contradictions.{are_few_of_both, fixed_misses, misses_type, if_so, has_other_types, has_other_value, lacks_type, is_required, type_contradictions, slice_contradictions, contradictions_at};
 ghost use Rattle.fhir_contradictions.specs.Regular.{are_regular};
 ghost use Rattle.fhir_contradictions.specs.Listing.{typed_below, known_at, node_of, node_sliced, is_entry, above_of, under_of, typed_by_of, is_root_slice, is_absent_of, next_known, found_at, found_from, contradictions};
 
@@ -15,8 +16,8 @@ use crate::fixed::{allows_some, fixed_misses_type, push_fixed, push_if};
 use crate::known::Known;
 use crate::regular::typed_at_root;
 use crate::slices::{asks_too_many, has_other_types, has_other_value};
-use crate::typing::{typed_under, types_under};
-use fhir_elements::{ElementDef, TypeEntry};
+use crate::typing::{Under, are_few, are_few_under, typed_by, types_under};
+use fhir_elements::ElementDef;
 use fhir_facets::is_forbidden;
 use fhir_json::NoMemory;
 use fhir_names::{front_of, name_of, sliced_of};
@@ -24,9 +25,6 @@ use fhir_schema::{NodeRef, Schema};
 use std::alloc::{AllocError, Global};
 
 // ---- of one node
-
-// The node of a type's definition that types the parents of a node's items, with the items' name.
-type Under<'s> = (NodeRef, &'s str);
 
 fn is_required(schema: &Schema, node: NodeRef) -> bool
     ensures { result ≡ option_map_or is_required (element_at schema.now node) false }
@@ -41,21 +39,6 @@ fn lacks_type(schema: &Schema, by: NodeRef, name: &str, node: NodeRef) -> bool
     ensures { result ≡ lacks_type schema.now by name.now node }
 {
     is_required(schema, node) && !allows_some(schema, node, types_under(schema, by, name))
-}
-
-// How many types of an element are compared with others at most, each with each. R4's widest choice has 50.
-const MAX_TYPES: usize = 128;
-
-fn are_few(entries: &[TypeEntry]) -> bool
-    ensures { result ≡ are_few entries.now }
-{
-    entries.len() <= MAX_TYPES
-}
-
-fn are_few_under(schema: &Schema, by: NodeRef, name: &str, node: NodeRef) -> bool
-    ensures { result ≡ are_few_under schema.now (by, name.now) node }
-{
-    are_few(schema.types(node)) && are_few(types_under(schema, by, name))
 }
 
 fn are_few_of_both(schema: &Schema, node: NodeRef, slice: NodeRef) -> bool
@@ -106,16 +89,19 @@ fn push_type_contradictions(
 fn push_of_slice(
     alloc: Global,
     schema: &Schema,
+    under: Option<Under<'_>>,
     sliced: NodeRef,
     node: NodeRef,
     into: &mut Vec<Contradiction>,
 ) -> Result<(), NoMemory>
     ensures { OnOk result (into.new.items ≡ into.old.items
-        ++ (if_so (are_few_of_both schema.now sliced node && has_other_types schema.now sliced node) OtherTypes ++ if_so (has_other_value schema.now sliced node) OtherValue)) }
+        ++ (if_so (are_few_of_both schema.now sliced node && has_other_types schema.now sliced node) OtherTypes
+        ++ if_so (has_other_value schema.now (typed_by schema.now (option_map (λ u. (u.0, u.1.now)) under.entry) node) sliced node) OtherValue)) }
 {
     let is_of_other_types = is_of_other_types(schema, sliced, node);
     push_if(is_of_other_types, Contradiction::OtherTypes, into)?;
-    let has_other_value = has_other_value(alloc, schema, sliced, node)?;
+    let by = typed_by(alloc, schema, under, node)?;
+    let has_other_value = has_other_value(alloc, schema, by, sliced, node)?;
     push_if(has_other_value, Contradiction::OtherValue, into)?;
     Ok(())
 }
@@ -123,16 +109,18 @@ fn push_of_slice(
 fn push_slice_contradictions(
     alloc: Global,
     schema: &Schema,
+    under: Option<Under<'_>>,
     sliced: Option<NodeRef>,
     node: NodeRef,
     into: &mut Vec<Contradiction>,
 ) -> Result<(), NoMemory>
-    ensures { OnOk result (into.new.items ≡ into.old.items ++ slice_contradictions schema.now sliced node) }
+    ensures { OnOk result (into.new.items ≡ into.old.items
+        ++ slice_contradictions schema.now (option_map (λ u. (u.0, u.1.now)) under.entry) sliced node) }
 {
-    let is_over = !schema.is_root(node) && asks_too_many(schema, node);
+    let is_over = sliced.is_none() && !schema.is_root(node) && asks_too_many(schema, node);
     push_if(is_over, Contradiction::TooManySliced, into)?;
     match sliced {
-        Some(sliced) => push_of_slice(alloc, schema, sliced, node, into),
+        Some(sliced) => push_of_slice(alloc, schema, under, sliced, node, into),
         None => Ok(()),
     }
 }
@@ -149,7 +137,7 @@ fn contradictions_at(
 {
     let mut found = Vec::new(alloc);
     push_type_contradictions(schema, under, node, &mut found)?;
-    push_slice_contradictions(alloc, schema, sliced, node, &mut found)?;
+    push_slice_contradictions(alloc, schema, under, sliced, node, &mut found)?;
     push_fixed(schema, node, &mut found)?;
     Ok(found)
 }
@@ -257,12 +245,10 @@ fn typed_below(
 ) -> Result<Option<NodeRef>, NoMemory>
     ensures { IfOk result (λ below. below ≡ typed_below schema.now (by, name.now) node) }
 {
-    let is_asked = are_few_under(schema, by, name, node) && !schema.slots(node).is_empty();
-    if is_asked {
-        typed_under(alloc, schema, by, name, node)
-    } else {
-        Ok(None)
+    if schema.slots(node).is_empty() {
+        return Ok(None);
     }
+    typed_by(alloc, schema, Some((by, name)), node)
 }
 
 fn typed_by_of(

@@ -1,13 +1,13 @@
 //! Whether the root of a type's definition types each item of that type (FHIR R4, StructureDefinition, abstract).
 
-ghost use Rattle.std.specs.Prelude.{◌≡◌, false, not, map};
-ghost use Rattle.std.specs.List.{list_any};
+ghost use Rattle.std.specs.Prelude.{◌≡◌, false, not, map, length};
+ghost use Rattle.std.specs.List.{list_any, range_with_len};
 ghost use Rattle.std.specs.Option.{option_copied, option_map_or};
-ghost use Rattle.fhir_contradictions.specs.Regular.{base_of, is_open, rests_on_open, is_concrete, types_inline, element_types_inline, is_irregular, are_regular, typed_at_root};
+ghost use Rattle.fhir_contradictions.specs.Regular.{base_of, may_type_otherwise, rests_on_such, may_have_items, types_inline, element_types_inline, is_irregular, are_regular, typed_at_root};
 
 use crate::typing::types_of_items;
 use fhir_definition::Definition;
-use fhir_elements::{ElementDef, TypeEntry};
+use fhir_elements::TypeEntry;
 use fhir_nodes::is_resource;
 use fhir_schema::{NodeRef, Schema};
 
@@ -18,23 +18,23 @@ fn base_of<'s>(schema: &'s Schema, definition: &Definition) -> Option<&'s Defini
     schema.definitions().get(root.definition)
 }
 
-fn is_open(base: &Definition) -> bool
-    ensures { result ≡ is_open base.now }
+fn may_type_otherwise(base: &Definition) -> bool
+    ensures { result ≡ may_type_otherwise base.now }
 {
     !base.is_type() || (is_resource(base) && !base.is_abstract())
 }
 
-fn rests_on_open(schema: &Schema, definition: &Definition) -> bool
-    ensures { result ≡ rests_on_open schema.now definition.now }
+fn rests_on_such(schema: &Schema, definition: &Definition) -> bool
+    ensures { result ≡ rests_on_such schema.now definition.now }
 {
     match base_of(schema, definition) {
-        Some(base) => is_open(base),
+        Some(base) => may_type_otherwise(base),
         None => definition.base().is_some(),
     }
 }
 
-fn is_concrete(schema: &Schema, code: &str) -> bool
-    ensures { result ≡ is_concrete schema.now code.now }
+fn may_have_items(schema: &Schema, code: &str) -> bool
+    ensures { result ≡ may_have_items schema.now code.now }
 {
     let Some(place) = schema.type_place(code) else {
         return true;
@@ -45,48 +45,58 @@ fn is_concrete(schema: &Schema, code: &str) -> bool
     }
 }
 
-fn has_concrete(schema: &Schema, entries: &[TypeEntry]) -> bool
-    ensures { result ≡ list_any (λ entry. is_concrete schema.now entry.code) entries.now }
+fn some_entry_may(schema: &Schema, entries: &[TypeEntry]) -> bool
+    ensures { result ≡ list_any (λ entry. may_have_items schema.now entry.code) entries.now }
 {
     entries
         .iter()
-        .any(|entry| is_concrete(schema, entry.code()))
+        .any(|entry| may_have_items(schema, entry.code()))
 }
 
 #[tactic(auto, using(crate::proofs::Lists::any_made))]
-fn some_is_concrete(schema: &Schema, entries: &[TypeEntry]) -> bool
-    ensures { result ≡ list_any (is_concrete schema.now) (map (λ entry. entry.code) entries.now) }
+fn some_may_have_items(schema: &Schema, entries: &[TypeEntry]) -> bool
+    ensures { result ≡ list_any (may_have_items schema.now) (map (λ entry. entry.code) entries.now) }
 {
-    has_concrete(schema, entries)
+    some_entry_may(schema, entries)
 }
 
 fn types_inline(schema: &Schema, node: NodeRef) -> bool
     ensures { result ≡ types_inline schema.now node }
 {
     let has_children = !schema.slots(node).is_empty();
-    has_children && !schema.is_root(node) && some_is_concrete(schema, types_of_items(schema, node))
+    has_children
+        && !schema.is_root(node)
+        && some_may_have_items(schema, types_of_items(schema, node))
 }
 
-fn element_types_inline(schema: &Schema, definition: &Definition, element: &ElementDef) -> bool
-    ensures { result ≡ element_types_inline schema.now definition.now element.now }
+fn element_types_inline(schema: &Schema, definition: &Definition, element: usize) -> bool
+    ensures { result ≡ element_types_inline schema.now definition.now element }
 {
-    match schema.node(definition.url(), element.id()) {
-        Some(node) => types_inline(schema, node),
-        None => false,
-    }
+    types_inline(
+        schema,
+        NodeRef {
+            definition: definition.place(),
+            element,
+        },
+    )
 }
 
 fn some_types_inline(schema: &Schema, definition: &Definition) -> bool
-    ensures { result ≡ list_any (element_types_inline schema.now definition.now) definition.now.elements }
+    ensures { result ≡ list_any (element_types_inline schema.now definition.now) (range_with_len 0 (length definition.now.elements)) }
 {
-    definition.elements().iter().any(|element| element_types_inline(schema, definition, element))
+    for element in 0..definition.elements().len() {
+        if element_types_inline(schema, definition, element) {
+            return true;
+        }
+    }
+    false
 }
 
 fn is_irregular(schema: &Schema, definition: &Definition) -> bool
     ensures { result ≡ is_irregular schema.now definition.now }
 {
     definition.is_type()
-        && (rests_on_open(schema, definition) || some_types_inline(schema, definition))
+        && (rests_on_such(schema, definition) || some_types_inline(schema, definition))
 }
 
 fn some_is_irregular(schema: &Schema, definitions: &[Definition]) -> bool
@@ -111,7 +121,7 @@ pub(crate) fn typed_at_root(schema: &Schema, regular: bool, node: NodeRef) -> Op
     ensures { result ≡ typed_at_root schema.now node }
 {
     let code = schema.type_code(node);
-    if regular && is_concrete(schema, code) {
+    if regular && may_have_items(schema, code) {
         schema.type_root(code)
     } else {
         None

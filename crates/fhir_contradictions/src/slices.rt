@@ -1,22 +1,22 @@
 //! What the slices of an element ask for that can never hold (FHIR R4, Profiling, slicing).
 
-ghost use Rattle.std.specs.Prelude.{◌≡◌, ◌++◌, map, codes, not, nat_le, option_copied, string_bytes, IfOk};
+ghost use Rattle.std.specs.Prelude.{◌≡◌, not, nat_le, IfOk};
 ghost use Rattle.std.specs.List.{list_all, list_any, sum_by};
-ghost use Rattle.std.specs.Option.{option_map, option_map_or};
 ghost use Rattle.fhir_json.specs.Views.{tree_of, tree_seen, text_seen};
-ghost use Rattle.fhir_forms.specs.Criteria.{sole, slot_called};
+ghost use Rattle.fhir_forms.specs.Criteria.{sole};
 ghost use Rattle.fhir_forms.specs.CriteriaSeen.{sought_seen, criterion_seen, criteria_seen};
 ghost use Rattle.fhir_schema.specs.Schemas.{slots, slices};
 ghost use Rattle.fhir_elements.specs.Max.{is_within};
 ghost use Rattle.fhir_facets.specs.Cardinality.{are_within};
-ghost use Rattle.fhir_contradictions.specs.Contradictions.{slice_least, asks_too_many, may_share, shares_none, has_other_types, is_scalar, next_node, end_at, fixes_other, leads_elsewhere, value_of, is_elsewhere, profile_root, has_other_value};
+ghost use Rattle.fhir_contradictions.specs.Contradictions.{slice_least, asks_too_many, may_share, shares_none, has_other_types, is_scalar, fixes_other, leads_elsewhere, value_of, is_elsewhere, profile_root, has_other_value};
 
+use crate::along::end_along;
 use crate::typing::{entry_of, is_untyped};
 use fhir_elements::{ElementDef, Max, TypeEntry};
 use fhir_json::{Json, NoMemory};
 use fhir_matching::json_eq;
 use fhir_schema::{Criterion, NodeRef, Schema, Slot, Sought};
-use std::alloc::{AllocError, Global};
+use std::alloc::Global;
 
 // ---- how many items they ask for together
 
@@ -116,63 +116,6 @@ fn is_scalar(value: &Json<'_>) -> bool
     }
 }
 
-// The slot of a name, or the choice that is named so without its `[x]`.
-fn slot_called<'s>(
-    alloc: Global,
-    schema: &'s Schema,
-    node: NodeRef,
-    name: &str,
-) -> Result<Option<&'s Slot>, AllocError>
-    ensures { IfOk result (λ slot. option_copied slot ≡ slot_called (slots schema.now node) name.now) }
-{
-    if name.as_bytes().ends_with(b"[x]") {
-        return Ok(None);
-    }
-    let slot = schema.slot(node, name);
-    if slot.is_some() {
-        return Ok(slot);
-    }
-    let mut choice = String::from_str(alloc, name)?;
-    choice.push_str("[x]")?;
-    Ok(schema.slot(node, choice.as_str()))
-}
-
-// The node to which a name leads from another one.
-fn next_node(
-    alloc: Global,
-    schema: &Schema,
-    node: NodeRef,
-    name: &str,
-) -> Result<Option<NodeRef>, AllocError>
-    ensures { IfOk result (λ next. next ≡ next_node schema.now node name.now) }
-{
-    let Some(holder) = schema.holder(node) else {
-        return Ok(None);
-    };
-    match slot_called(alloc, schema, holder, name)? {
-        Some(slot) => Ok(Some(entry_of(holder, slot))),
-        None => Ok(None),
-    }
-}
-
-fn end_at(
-    alloc: Global,
-    schema: &Schema,
-    node: NodeRef,
-    names: &[String],
-) -> Result<Option<NodeRef>, AllocError>
-    ensures { IfOk result (λ end. end ≡ end_at schema.now node (map string_bytes names.now)) }
-{
-    let mut at = node;
-    for name in names {
-        match next_node(alloc, schema, at, name.as_str())? {
-            Some(next) => at = next,
-            None => return Ok(None),
-        }
-    }
-    Ok(Some(at))
-}
-
 fn fixes_other(schema: &Schema, value: &Json<'_>, node: NodeRef) -> bool
     ensures { result ≡ fixes_other schema.now (tree_of value.now) node }
 {
@@ -188,13 +131,14 @@ fn fixes_other(schema: &Schema, value: &Json<'_>, node: NodeRef) -> bool
 fn leads_elsewhere(
     alloc: Global,
     schema: &Schema,
+    by: Option<NodeRef>,
+    node: NodeRef,
     criterion: &Criterion,
     value: &Json<'_>,
-    node: NodeRef,
-) -> Result<bool, AllocError>
-    ensures { IfOk result (λ is. is ≡ leads_elsewhere schema.now (criterion_seen criterion.now) (tree_of value.now) node) }
+) -> Result<bool, NoMemory>
+    ensures { IfOk result (λ is. is ≡ leads_elsewhere schema.now by node (criterion_seen criterion.now) (tree_of value.now)) }
 {
-    match end_at(alloc, schema, node, &criterion.names)? {
+    match end_along(alloc, schema, by, node, &criterion.names)? {
         Some(end) => Ok(fixes_other(schema, value, end)),
         None => Ok(false),
     }
@@ -212,13 +156,14 @@ fn value_of(sought: &Sought) -> Option<&Json<'static>>
 fn is_elsewhere(
     alloc: Global,
     schema: &Schema,
+    by: Option<NodeRef>,
     node: NodeRef,
     criterion: &Criterion,
-) -> Result<bool, AllocError>
-    ensures { IfOk result (λ is. is ≡ is_elsewhere schema.now node (criterion_seen criterion.now)) }
+) -> Result<bool, NoMemory>
+    ensures { IfOk result (λ is. is ≡ is_elsewhere schema.now by node (criterion_seen criterion.now)) }
 {
     match value_of(&criterion.sought) {
-        Some(value) => leads_elsewhere(alloc, schema, criterion, value, node),
+        Some(value) => leads_elsewhere(alloc, schema, by, node, criterion, value),
         None => Ok(false),
     }
 }
@@ -226,13 +171,14 @@ fn is_elsewhere(
 fn some_is_elsewhere(
     alloc: Global,
     schema: &Schema,
+    by: Option<NodeRef>,
     node: NodeRef,
     criteria: &[Criterion],
-) -> Result<bool, AllocError>
-    ensures { IfOk result (λ is. is ≡ list_any (is_elsewhere schema.now node) (criteria_seen criteria.now)) }
+) -> Result<bool, NoMemory>
+    ensures { IfOk result (λ is. is ≡ list_any (is_elsewhere schema.now by node) (criteria_seen criteria.now)) }
 {
     for criterion in criteria {
-        if is_elsewhere(alloc, schema, node, criterion)? {
+        if is_elsewhere(alloc, schema, by, node, criterion)? {
             return Ok(true);
         }
     }
@@ -258,22 +204,23 @@ fn profile_root(schema: &Schema, node: NodeRef) -> Option<NodeRef>
     }
 }
 
-/// Whether a slice of a node is told by a value, where the node, or the profile of the slice's type, has another one at that path. The one
-/// refusal is want of memory.
+/// Whether a slice of a node is told by a value, where the node, or the profile of the slice's type, has another one at that path; and where
+/// it may be known which node of a type's definition types the slice's items. The one refusal is want of memory.
 pub(crate) fn has_other_value(
     alloc: Global,
     schema: &Schema,
+    by: Option<NodeRef>,
     node: NodeRef,
     slice: NodeRef,
 ) -> Result<bool, NoMemory>
-    ensures { IfOk result (λ has. has ≡ has_other_value schema.now node slice) }
+    ensures { IfOk result (λ has. has ≡ has_other_value schema.now by node slice) }
 {
     let criteria = schema.criteria(slice);
-    if some_is_elsewhere(alloc, schema, node, criteria)? {
+    if some_is_elsewhere(alloc, schema, by, node, criteria)? {
         return Ok(true);
     }
     match profile_root(schema, slice) {
-        Some(root) => Ok(some_is_elsewhere(alloc, schema, root, criteria)?),
+        Some(root) => some_is_elsewhere(alloc, schema, by, root, criteria),
         None => Ok(false),
     }
 }

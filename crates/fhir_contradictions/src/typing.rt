@@ -1,8 +1,8 @@
 //! Of which types the items of an element can be (FHIR R4, JSON representation of resources).
 
-ghost use Rattle.std.specs.Prelude.{◌≡◌, ◌∷◌, ◌++◌, [], map, filter, option_copied, IfOk, OnOk};
+ghost use Rattle.std.specs.Prelude.{◌≡◌, ◌∷◌, ◌++◌, [], map, filter, Some, option_copied, IfOk, OnOk};
 ghost use Rattle.std.specs.List.{list_any};
-ghost use Rattle.std.specs.Option.{option_and_then};
+ghost use Rattle.std.specs.Option.{option_and_then, option_map};
 ghost use Rattle.fhir_json.specs.Views.{text_seen};
 ghost use Rattle.fhir_forms.specs.Criteria.{sole};
 ghost use Rattle.fhir_nodes.specs.Contents.{entries_of};
@@ -10,7 +10,7 @@ ghost use Rattle.fhir_nodes.specs.Holders.{has_own_types, typing_entries};
 ghost use Rattle.fhir_nodes.specs.Types.{primitive_of};
 ghost use Rattle.fhir_schema.specs.Schemas.{entry_of, element_at, target};
 ghost use Rattle.fhir_conformance.specs.Conformance.{is_untyped};
-ghost use Rattle.fhir_contradictions.specs.Typing.{type_codes, codes_under, may_be, allows_code, is_plain, typed_inside, typed_at_slot, typed_under};
+ghost use Rattle.fhir_contradictions.specs.Typing.{type_codes, codes_under, may_be, allows_code, is_plain, typed_inside, typed_at_slot, typed_under, are_few, are_few_under, typed_by};
 
 use fhir_definition::is_root;
 use fhir_elements::{ElementDef, TypeEntry};
@@ -215,9 +215,9 @@ fn typed_at_slot(
     }
 }
 
-/// By which node of a type's definition the children of a node's items are typed, where the items stand under a name and another node
-/// types their parents; none where they can be of several types. The one refusal is want of memory.
-pub(crate) fn typed_under(
+// By which node of a type's definition the children of a node's items are typed, where the items stand under a name and another node types
+// their parents; none where they can be of several types.
+fn typed_under(
     alloc: Global,
     schema: &Schema,
     by: NodeRef,
@@ -228,6 +228,60 @@ pub(crate) fn typed_under(
 {
     match schema.slot(by, name) {
         Some(slot) => Ok(typed_at_slot(alloc, schema, by, node, slot)?),
+        None => Ok(None),
+    }
+}
+
+// ---- the same where types are few
+
+/// The node of a type's definition that types the parents of a node's items, with the items' name.
+pub(crate) type Under<'s> = (NodeRef, &'s str);
+
+// How many types of an element are compared with others at most, each with each. R4's widest choice has 50.
+const MAX_TYPES: usize = 128;
+
+/// Whether so few that each is compared with each of others.
+pub(crate) fn are_few(entries: &[TypeEntry]) -> bool
+    ensures { result ≡ are_few entries.now }
+{
+    entries.len() <= MAX_TYPES
+}
+
+/// Whether the types of a node are few, and those that its items can have.
+pub(crate) fn are_few_under(schema: &Schema, by: NodeRef, name: &str, node: NodeRef) -> bool
+    ensures { result ≡ are_few_under schema.now (by, name.now) node }
+{
+    are_few(schema.types(node)) && are_few(types_under(schema, by, name))
+}
+
+fn typed_if_few(
+    alloc: Global,
+    schema: &Schema,
+    by: NodeRef,
+    name: &str,
+    node: NodeRef,
+) -> Result<Option<NodeRef>, NoMemory>
+    ensures { IfOk result (λ inside. inside ≡ typed_by schema.now (Some (by, name.now)) node) }
+{
+    if are_few_under(schema, by, name, node) {
+        typed_under(alloc, schema, by, name, node)
+    } else {
+        Ok(None)
+    }
+}
+
+/// By which node the children of a node's items are typed, where it is known what the items stand under, and where types are few. The one
+/// refusal is want of memory.
+pub(crate) fn typed_by(
+    alloc: Global,
+    schema: &Schema,
+    under: Option<Under<'_>>,
+    node: NodeRef,
+) -> Result<Option<NodeRef>, NoMemory>
+    ensures { IfOk result (λ inside. inside ≡ typed_by schema.now (option_map (λ u. (u.0, u.1.now)) under.entry) node) }
+{
+    match under {
+        Some((by, name)) => typed_if_few(alloc, schema, by, name, node),
         None => Ok(None),
     }
 }

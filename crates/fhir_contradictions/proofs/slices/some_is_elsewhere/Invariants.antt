@@ -6,5 +6,5 @@ use Rattle.fhir_contradictions.proofs.slices.some_is_elsewhere.Given as goal
 
 abbrev pub invariant-loop-criterion : goal.invariant-loop-criterion
 invariant-loop-criterion l =
-    list_any (is_elsewhere l.schema l.node) (criteria_seen (drop l.criterion-index l.criteria))
-    ≡ list_any (is_elsewhere l.schema l.node) (criteria_seen l.criteria)
+    list_any (is_elsewhere l.schema l.by l.node) (criteria_seen (drop l.criterion-index l.criteria))
+    ≡ list_any (is_elsewhere l.schema l.by l.node) (criteria_seen l.criteria)
