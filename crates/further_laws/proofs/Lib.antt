@@ -6,3 +6,15 @@ mod Sliced
 mod Some
 mod Typed
 mod Listed
+mod SlotPlaces
+mod Taken
+mod StandingItems
+mod Beneath
+mod KnownTypes
+mod ToldOf
+mod NeverHeld
+mod RegularTypes
+mod TypedRoots
+mod Holding
+mod SoundItems
+mod SoundParts

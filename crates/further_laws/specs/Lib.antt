@@ -1,3 +1,4 @@
 pub mod Bases
 pub mod Children
 pub mod Types
+pub mod Standing
