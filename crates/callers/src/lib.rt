@@ -4,6 +4,7 @@
 
 ghost use Rattle.std.specs.Prelude.{◌≡◌, ◌∷◌, ◌++◌, ◌↔◌, ◌||◌, [], map, Some, length, get_or, false, None, Ok, OnOk, OnErr, is_ok, is_some, List, Option, Result, if◌then◌else◌, IsTrue, IfOk, codes, string_bytes, option_map};
 ghost use Rattle.std.specs.FinSet as set;
+ghost use Rattle.std.specs.List.{list_any};
 ghost use Rattle.std.specs.Option.{option_map_or};
 ghost use Rattle.fhir_json.specs.Tree.{Text, Tree};
 ghost use Rattle.fhir_json.specs.Views.{tree_of, text_seen};
@@ -104,6 +105,7 @@ use fhir_schema::{NodeRef, Schema, Slot};
 use fhir_slicing::belongs;
 use fhir_snapshot::{SnapFault, generate};
 use fhir_validator::{Fault, validate};
+use fhir_vouching::{Spelled, Vouching};
 use fhir_words::{Detail, Format, Invocation, Manner, Task, WordsFault, task_of};
 use std::alloc::Global;
 
@@ -515,4 +517,11 @@ pub fn whole_text(alloc: Global, gathered: &Gathered) -> Result<String, NoMemory
         (all_dropped gathered.now.dropped.items) (map note_seen gathered.now.notes.items)) }
 {
     fhir_gather_lines::gather_text(alloc, Detail::Each, gathered)
+}
+
+/// Whether what a thing spells is one of these texts.
+pub fn is_given<T: Spelled>(texts: Vec<String>, thing: &T) -> bool
+    ensures { result ≡ list_any (bytes_eq (T.spelled thing.now)) (map string_bytes texts.items) }
+{
+    Vouching::of(texts).contains(thing)
 }
