@@ -59,19 +59,24 @@ module _ (s : SchemaValue) (place : ℕ) where
   abbrev pub is_root_slice : Element → Bool
   is_root_slice e = option_map_or (λ p. is_root_node s (node_of place p)) (slice_place elements e) false
 
-  abbrev pub is_absent_of : List Known → Element → Bool
-  is_absent_of known e =
-      is_forbidden e || is_root_slice e || (known_at known (above_of e)).is_absent || (known_at known (slice_place elements e)).is_absent
+  -- no slot of the element above leads there, as to the value of a primitive, which is no child
+  abbrev pub is_unreached : ℕ → Element → Bool
+  is_unreached at e = option_map_or (λ above. not (is_entry at e above)) (above_of e) false
+
+  abbrev pub is_absent_of : List Known → ℕ → Element → Bool
+  is_absent_of known at e =
+      is_forbidden e || is_root_slice e || is_unreached at e || (known_at known (above_of e)).is_absent
+      || (known_at known (slice_place elements e)).is_absent
 
   abbrev pub next_known : List Known → ℕ → Element → Known
-  next_known known at e = record { typed_by = typed_by_of known at e; is_absent = is_absent_of known e }
+  next_known known at e = record { typed_by = typed_by_of known at e; is_absent = is_absent_of known at e }
 
   abbrev pub node_sliced : Element → Option NodeRef
   node_sliced e = option_map (node_of place) (slice_place elements e)
 
   abbrev pub found_at : List Known → ℕ → Element → List (NodeRef × Contradiction)
   found_at known at e =
-      if is_absent_of known e then [] else map (λ c. (node_of place at, c)) (contradictions_at s (under_of known at e) (node_sliced e) (node_of place at))
+      if is_absent_of known at e then [] else map (λ c. (node_of place at, c)) (contradictions_at s (under_of known at e) (node_sliced e) (node_of place at))
 
   -- those of the elements from a place on, where this is known of the ones before
   abbrev pub found_from : List Known → ℕ → List Element → List (NodeRef × Contradiction)

@@ -83,7 +83,7 @@ abbrev pub Under : Type 0
 Under = NodeRef × Text
 
 abbrev pub max_types : ℕ
-max_types = 128
+max_types = 64
 
 abbrev pub are_few : {A : Type 0} → List A → Bool
 are_few xs = nat_le (length xs) max_types

@@ -9,7 +9,7 @@ ghost use Rattle.fhir_contradictions.specs.declared.contradiction.Contradiction.
 ghost use Rattle.fhir_contradictions.specs.Typing.{are_few_under, typed_by};
 ghost use Rattle.fhir_contradictions.specs.Contradictions.{are_few_of_both, fixed_misses, misses_type, if_so, has_other_types, has_other_value, lacks_type, is_required, type_contradictions, slice_contradictions, contradictions_at};
 ghost use Rattle.fhir_contradictions.specs.Regular.{are_regular};
-ghost use Rattle.fhir_contradictions.specs.Listing.{typed_below, known_at, node_of, node_sliced, is_entry, above_of, under_of, typed_by_of, is_root_slice, is_absent_of, next_known, found_at, found_from, contradictions};
+ghost use Rattle.fhir_contradictions.specs.Listing.{typed_below, known_at, node_of, node_sliced, is_entry, above_of, under_of, typed_by_of, is_root_slice, is_unreached, is_absent_of, next_known, found_at, found_from, contradictions};
 
 use crate::contradiction::Contradiction;
 use crate::fixed::{allows_some, fixed_misses_type, push_fixed, push_if};
@@ -282,13 +282,29 @@ fn is_root_slice(schema: &Schema, place: usize, element: &ElementDef) -> bool
     }
 }
 
-fn is_absent_of(schema: &Schema, place: usize, known: &[Known], element: &ElementDef) -> bool
-    ensures { result ≡ is_absent_of schema.now place known.now element.now }
+fn is_unreached(schema: &Schema, place: usize, at: usize, element: &ElementDef) -> bool
+    ensures { result ≡ is_unreached schema.now place at element.now }
+{
+    match above_of(schema, place, element) {
+        Some(above) => !is_entry(schema, place, at, element, above),
+        None => false,
+    }
+}
+
+fn is_absent_of(
+    schema: &Schema,
+    place: usize,
+    known: &[Known],
+    at: usize,
+    element: &ElementDef,
+) -> bool
+    ensures { result ≡ is_absent_of schema.now place known.now at element.now }
 {
     let is_below_absent = known_at(known, above_of(schema, place, element)).is_absent;
     let is_of_absent = known_at(known, slice_place(schema, place, element)).is_absent;
     is_forbidden(element)
         || is_root_slice(schema, place, element)
+        || is_unreached(schema, place, at, element)
         || is_below_absent
         || is_of_absent
 }
@@ -307,7 +323,7 @@ fn next_known(
 {
     Ok(Known {
         typed_by: typed_by_of(alloc, schema, regular, place, known, at, element)?,
-        is_absent: is_absent_of(schema, place, known, element),
+        is_absent: is_absent_of(schema, place, known, at, element),
     })
 }
 
@@ -387,7 +403,7 @@ fn push_at(
 ) -> Result<(), NoMemory>
     ensures { OnOk result (into.new.items ≡ into.old.items ++ found_at schema.now place known.now at element.now) }
 {
-    if is_absent_of(schema, place, known, element) {
+    if is_absent_of(schema, place, known, at, element) {
         return Ok(());
     }
     push_present(alloc, schema, place, known, at, element, into)

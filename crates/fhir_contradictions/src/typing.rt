@@ -238,7 +238,7 @@ fn typed_under(
 pub(crate) type Under<'s> = (NodeRef, &'s str);
 
 // How many types of an element are compared with others at most, each with each. R4's widest choice has 50.
-const MAX_TYPES: usize = 128;
+const MAX_TYPES: usize = 64;
 
 /// Whether so few that each is compared with each of others.
 pub(crate) fn are_few(entries: &[TypeEntry]) -> bool

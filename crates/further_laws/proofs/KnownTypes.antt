@@ -193,7 +193,7 @@ module _ (s : SchemaValue) (meaning : Interpretation) (laws : Taken s meaning) (
     -- what is told of one element
     told_at : (known : List Known) → AreSound known → (at : ℕ) (e : Element) → slice_get es at ≡ Some e → (n : NodeRef) (c : Contradiction)
         → Contains {X = NodeRef × Contradiction} (found_at s place known at e) (n, c) → IsTold n c
-    told_at known sounds at e is n c = by (is_absent_of s place known e)
+    told_at known sounds at e is n c = by (is_absent_of s place known at e)
       where
         all : List Contradiction
         all = contradictions_at s (under_of s place known at e) (node_sliced s place e) (node_of place at)
