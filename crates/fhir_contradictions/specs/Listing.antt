@@ -1,6 +1,6 @@
 -- The contradictions of all elements of a definition, in their order; but for what can't be there, and what lies below that (FHIR R4,
 -- ElementDefinition, max). An element that stands before the one above it is taken by itself.
-use Rattle.std.specs.Prelude.{ℕ, suc, List, [], ◌∷◌, ◌++◌, map, Bool, false, ◌||◌, nat_eq, get_or, Option, None, Some, if◌then◌else◌}
+use Rattle.std.specs.Prelude.{ℕ, suc, List, [], ◌∷◌, ◌++◌, map, Bool, false, not, ◌||◌, nat_eq, get_or, Option, None, Some, if◌then◌else◌}
 use Rattle.std.specs.Option.{option_map_or, option_map, option_and_then}
 use Rattle.fhir_json.specs.Bytes.{is_empty}
 use Rattle.fhir_names.specs.Parents.{front_of, name_of}
