@@ -3,4 +3,4 @@ use Rattle.fhir_vouching.proofs.vouching.Vouching.none.Goals as goal
 
 pub invariant_of-result : goal.invariant_of-result
 unfolding IsStrictlySortedBy
-invariant_of-result c = rw c.new.ensures.items tt
+invariant_of-result c = tt
