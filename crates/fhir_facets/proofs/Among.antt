@@ -3,7 +3,7 @@ use Rattle.std.proofs.Common.{◌≡◌, ℕ, zero, suc, ◌+◌, ◌<◌, Bool,
 use Rattle.std.specs.List.{Contains, flat_map, list_any}
 use Rattle.std.proofs.lemmas.List.Elements.{Contains-append_left, Contains-append_right}
 use Rattle.fhir_facets.specs.declared.holding.Holding.{Holding}
-use Rattle.fhir_facets.specs.declared.holding.Holding.TheVariants.{Holds, Fails, Unread as Undecided}
+use Rattle.fhir_facets.specs.declared.holding.Holding.TheVariants.{Holds, Fails, Given as AsGiven, Unread as Undecided}
 use Rattle.fhir_facets.specs.Unread.{Unread}
 use Rattle.fhir_facets.specs.Views.{unread_seen, IsCarried}
 
@@ -19,16 +19,19 @@ pub carried_among : {X Y : Type 0} (f : Y → List Unread) (v : X → Y) (h : Ho
     → get_or xs k x ≡ x → IsCarried (f (v x)) h → IsCarried (flat_map f (map v xs)) h
 carried_among f v Holds xs k x lt is c = c
 carried_among f v Fails xs k x lt is c = c
+carried_among f v (AsGiven u) xs k x lt is c = among_all f v (unread_seen u) xs k x lt is c
 carried_among f v (Undecided u) xs k x lt is c = among_all f v (unread_seen u) xs k x lt is c
 
 pub carried_first : (us vs : List Unread) (h : Holding) → IsCarried us h → IsCarried (us ++ vs) h
 carried_first us vs Holds c = c
 carried_first us vs Fails c = c
+carried_first us vs (AsGiven u) c = Contains-append_left us vs (unread_seen u) c
 carried_first us vs (Undecided u) c = Contains-append_left us vs (unread_seen u) c
 
 pub carried_second : (us vs : List Unread) (h : Holding) → IsCarried vs h → IsCarried (us ++ vs) h
 carried_second us vs Holds c = c
 carried_second us vs Fails c = c
+carried_second us vs (AsGiven u) c = Contains-append_right us vs (unread_seen u) c
 carried_second us vs (Undecided u) c = Contains-append_right us vs (unread_seen u) c
 
 -- ---- one more of several is looked at

@@ -1,5 +1,5 @@
 -- Each facet is as narrow as itself.
-use Rattle.std.proofs.Common.{◌≡◌, Bool, true, false, not, ℕ, ◌&&◌, ◌||◌, Option, Some, None, List, [], ◌∷◌, ◌++◌, IsTrue, refl, sym, ap, ◌∙◌, subst, append_assoc, nat_le, arith}
+use Rattle.std.proofs.Common.{◌≡◌, Bool, true, false, not, ℕ, ◌&&◌, ◌||◌, Option, Some, None, List, [], ◌∷◌, ◌++◌, IsTrue, refl, ◌∙◌, subst, append_assoc, nat_le, arith}
 use Rattle.std.specs.List.{list_any, list_all}
 use Rattle.std.specs.Str.{bytes_eq}
 use Rattle.std.proofs.lemmas.Bool.{and_from, or_right}

@@ -1,6 +1,6 @@
 -- What a narrower binding holds of, a wider one does, where unread rules mean something fair; and what a binding holds of, it
 -- does where more of the unread rules hold.
-use Rattle.std.proofs.Common.{◌≡◌, Bool, true, false, ◌||◌, Option, Some, None, IsTrue, refl, sym, ap, ◌∙◌}
+use Rattle.std.proofs.Common.{Bool, true, false, Option, Some, None, IsTrue, sym, ap, ◌∙◌}
 use Rattle.std.specs.Option.{option_map, option_map_or, option_and_then}
 use Rattle.std.specs.FinSet as set
 use Rattle.std.specs.Prelude.{codes}

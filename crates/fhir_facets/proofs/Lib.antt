@@ -6,4 +6,5 @@ mod KeptBounds
 mod KeptTargets
 mod KeptBindings
 mod Among
+mod Readings
 mod Itself

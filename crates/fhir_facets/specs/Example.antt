@@ -1,6 +1,6 @@
 -- Values that the examples of facets are asked of.
-use Rattle.std.specs.Prelude.{Bool, true, false, Option, None, Some, codes}
-use Rattle.fhir_json.specs.Tree.{Text, Tree, number, string, array, object, Items, no_items, item, no_members, member, Property}
+use Rattle.std.specs.Prelude.{true, false, None, Some, codes}
+use Rattle.fhir_json.specs.Tree.{Text, Tree, number, string, array, object, Items, no_members, member}
 use Rattle.fhir_codes.specs.Concepts.{Concepts}
 use Rattle.fhir_facets.specs.Bindings.{Binding}
 use Rattle.fhir_facets.specs.Seen.{Seen}

@@ -1,6 +1,8 @@
 -- Unread rules: what a definition asks for and this program doesn't judge, each by what it says.
-use Rattle.std.specs.Prelude.{ℕ, List, ◌++◌, Bool, codes}
+use Rattle.std.specs.Prelude.{ℕ, List, ◌++◌, Bool, true, false, codes}
+use Rattle.std.specs.List.{list_any}
 use Rattle.std.specs.Option.{option_map_or}
+use Rattle.std.specs.Str.{bytes_eq}
 use Rattle.fhir_json.specs.Tree.{Text, Tree}
 use Rattle.fhir_json.specs.Compact.{compact}
 use Rattle.fhir_elements.specs.Constraint.{Constraint}
@@ -34,3 +36,18 @@ unread_text (constraint key) = codes "constraint " ++ key
 -- What the unread rules mean of one item: whether each holds. Any test may be meant.
 abbrev pub Meaning : Type 0
 Meaning = Unread → Bool
+
+-- ---- readings, where a user vouches for rules by their texts
+
+-- its text is one of them
+abbrev pub is_given : List Text → Unread → Bool
+is_given texts rule = list_any (bytes_eq (unread_text rule)) texts
+
+-- what unread rules are taken to mean: that none holds; that those hold whose texts are given, and no other; that each holds
+pub data Reading : Type 0 where
+  strict as_given lenient : Reading
+
+abbrev pub meaning_of : List Text → Reading → Meaning
+meaning_of texts strict rule = false
+meaning_of texts as_given rule = is_given texts rule
+meaning_of texts lenient rule = true

@@ -1,5 +1,5 @@
 -- What contracts see of unread rules, views, bounds, bindings and answers.
-use Rattle.std.specs.Prelude.{List, [], ◌∷◌, ◌++◌, Bool, true, false, Option, None, Some, if◌then◌else◌}
+use Rattle.std.specs.Prelude.{◌≡◌, List, [], ◌∷◌, ◌++◌, Bool, true, false, Option, None, Some, if◌then◌else◌}
 use Rattle.std.specs.declared.cmp.Ordering.{Ordering}
 use Rattle.std.specs.List.{Contains, flat_map}
 use Rattle.std.specs.Option.{option_copied, option_map_or}
@@ -12,12 +12,12 @@ use Rattle.fhir_facets.specs.declared.unread.Unread.{Unread as UnreadRule}
 use Rattle.fhir_facets.specs.declared.unread.Unread.TheVariants.{Range as UnreadRange, Target as UnreadTarget, Profile as UnreadProfile, Binding as UnreadBinding, Expression as UnreadExpression, Constraint as UnreadConstraint}
 use Rattle.fhir_facets.specs.declared.view.View.{View}
 use Rattle.fhir_facets.specs.declared.holding.Holding.{Holding}
-use Rattle.fhir_facets.specs.declared.holding.Holding.TheVariants.{Holds, Fails, Unread as Undecided}
+use Rattle.fhir_facets.specs.declared.holding.Holding.TheVariants.{Holds, Fails, Given as AsGiven, Unread as Undecided}
 use Rattle.fhir_facets.specs.declared.bounds.Side.{Side}
 use Rattle.fhir_facets.specs.declared.bounds.Side.TheVariants.{Least, Most}
 use Rattle.fhir_facets.specs.declared.ranges.Range.{Range as RangeOf}
 use Rattle.fhir_facets.specs.declared.bindings.Binding.{Binding as BindingOf}
-use Rattle.fhir_facets.specs.Unread.{Unread, unread_text, range, target, profile, binding, expression, constraint}
+use Rattle.fhir_facets.specs.Unread.{Unread, Reading, strict, as_given, lenient, is_given, unread_text, range, target, profile, binding, expression, constraint}
 use Rattle.fhir_facets.specs.Seen.{Seen}
 use Rattle.fhir_facets.specs.Ranges.{Range}
 use Rattle.fhir_facets.specs.Targets.{has_targets}
@@ -53,12 +53,32 @@ view_seen v = record { type = v.code.now; json = tree_seen v.json; has_kids = v.
 abbrev pub holding_under : Bool → Holding → Bool
 holding_under b Holds = true
 holding_under b Fails = false
+holding_under b (AsGiven u) = b
 holding_under b (Undecided u) = b
+
+-- the same of a reading
+abbrev pub holding_at : Reading → Holding → Bool
+holding_at reading Holds = true
+holding_at reading Fails = false
+holding_at strict (AsGiven u) = false
+holding_at as_given (AsGiven u) = true
+holding_at lenient (AsGiven u) = true
+holding_at strict (Undecided u) = false
+holding_at as_given (Undecided u) = false
+holding_at lenient (Undecided u) = true
+
+-- the rule that it hangs on is given, where it holds as given, and isn't, where it is undecided
+abbrev pub IsVouched : List Text → Holding → Type 0
+IsVouched texts Holds = Unit {0}
+IsVouched texts Fails = Unit {0}
+IsVouched texts (AsGiven u) = is_given texts (unread_seen u) ≡ true
+IsVouched texts (Undecided u) = is_given texts (unread_seen u) ≡ false
 
 -- an unread rule in an answer is among these
 abbrev pub IsCarried : List Unread → Holding → Type 0
 IsCarried rules Holds = Unit {0}
 IsCarried rules Fails = Unit {0}
+IsCarried rules (AsGiven u) = Contains rules (unread_seen u)
 IsCarried rules (Undecided u) = Contains rules (unread_seen u)
 
 -- ---- bounds

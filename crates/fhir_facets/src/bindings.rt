@@ -4,7 +4,7 @@ ghost use Rattle.std.specs.Prelude.{◌≡◌};
 ghost use Rattle.std.specs.Option.{option_copied};
 ghost use Rattle.fhir_facets.specs.Bindings.{binding_to, decision, binding_holds, lies_within, binding_narrower};
 ghost use Rattle.fhir_facets.specs.Carried.{binding_unread};
-ghost use Rattle.fhir_facets.specs.Views.{binding_seen, holding_under, view_seen, IsCarried};
+ghost use Rattle.fhir_facets.specs.Views.{binding_seen, view_seen};
 
 use crate::facet::Facet;
 use crate::holding::Holding;
@@ -13,6 +13,7 @@ use crate::unread::Unread;
 use crate::view::View;
 use fhir_codes::ConceptSet;
 use fhir_schema::Schema;
+use fhir_vouching::Vouching;
 
 /// A required binding: of what an item says, one concept at least is in the value set (FHIR R4, ElementDefinition, binding;
 /// Terminologies, required). A primitive's text is looked up as a code alone, a Coding by its system and code, and of a
@@ -63,9 +64,13 @@ impl<'s> Facet<'s, View<'_, '_>> for Binding<'s> {
     ghost is_narrower = { λ binding base. binding_narrower (binding_seen binding) (binding_seen base) };
 
     fn holds(&self, asked: &View<'_, '_>) -> Holding<'s> {
+        self.holds_given(asked, &Vouching::none())
+    }
+
+    fn holds_given(&self, asked: &View<'_, '_>, given: &Vouching) -> Holding<'s> {
         match self.decision(asked) {
             Some(holds) => Holding::of(holds),
-            None => Holding::Unread(Unread::Binding(self.canonical)),
+            None => Holding::of_rule(Unread::Binding(self.canonical), given),
         }
     }
 

@@ -1,6 +1,6 @@
 //! One bound of a value. A bound is read anew each time, which takes no memory: a decimal and a moment borrow from its text.
 
-ghost use Rattle.std.specs.Prelude.{◌≡◌, Bool, false};
+ghost use Rattle.std.specs.Prelude.{◌≡◌, false};
 ghost use Rattle.std.specs.Option.{option_map, option_map_or};
 ghost use Rattle.fhir_json.specs.Views.{tree_of, property_of, tree_seen, property_seen};
 ghost use Rattle.fhir_decimal.specs.Reading.{parts};
@@ -9,7 +9,8 @@ ghost use Rattle.fhir_decimal.specs.Views.{parts_seen};
 ghost use Rattle.fhir_prims.specs.Views.{fields_seen};
 ghost use Rattle.fhir_facets.specs.Carried.{bound_unread};
 ghost use Rattle.fhir_facets.specs.Ranges.{number_in, fields_in, number_order, field_order_of, order_of, is_beyond, scale_holds, bound_holds, is_same_bound, is_narrow_bound, bound_narrower, same_scale, scale_of_code, scale_of_bound};
-ghost use Rattle.fhir_facets.specs.Views.{side_test, holding_under, view_seen, IsCarried};
+ghost use Rattle.fhir_facets.specs.Unread.{Reading, meaning_of};
+ghost use Rattle.fhir_facets.specs.Views.{side_test, holding_at, view_seen, IsVouched, IsCarried};
 
 use crate::holding::Holding;
 use crate::identity::identical;
@@ -19,6 +20,7 @@ use crate::view::View;
 use fhir_decimal::Decimal;
 use fhir_json::{Json, Member};
 use fhir_prims::{Moment, cmp_moment};
+use fhir_vouching::Vouching;
 use std::cmp::Ordering;
 
 /// The side of a value that a bound is on.
@@ -119,14 +121,16 @@ pub(crate) fn bound_holds<'a>(
     side: Side,
     bound: &'a Member<'static>,
     view: &View<'_, '_>,
+    given: &Vouching,
 ) -> Holding<'a>
-    ensures exact { (b : Bool) → holding_under b result
-        ≡ bound_holds (side_test side) (λ u. b) (view_seen view.now) (property_of bound.now) }
+    ensures exact { (r : Reading) → holding_at r result
+        ≡ bound_holds (side_test side) (meaning_of given.now r) (view_seen view.now) (property_of bound.now) }
+    ensures vouched { IsVouched given.now result }
     ensures carried { IsCarried (bound_unread (property_of bound.now)) result }
 {
     match scale_of_bound(bound.name.as_str()) {
         Some(scale) => Holding::of(scale_holds(side, &bound.value, view, scale)),
-        None => Holding::Unread(Unread::Range(bound)),
+        None => Holding::of_rule(Unread::Range(bound), given),
     }
 }
 

@@ -8,6 +8,7 @@ ghost use Rattle.fhir_facets.specs.Cardinality.{least_of, are_enough, are_within
 use crate::facet::Facet;
 use crate::holding::Holding;
 use fhir_elements::{ElementDef, Max};
+use fhir_vouching::Vouching;
 
 /// How many items there may be (FHIR R4, ElementDefinition, min and max). A bound that is absent asks for nothing.
 #[derive(Clone, Copy, Debug)]
@@ -85,6 +86,10 @@ impl<'a> Facet<'a, usize> for Cardinality<'_> {
     ghost is_narrower = { λ cardinality base. cardinality_narrower cardinality.0.now base.0.now };
 
     fn holds(&self, asked: &usize) -> Holding<'a> {
+        self.holds_given(asked, &Vouching::none())
+    }
+
+    fn holds_given(&self, asked: &usize, _given: &Vouching) -> Holding<'a> {
         Holding::of(are_enough(self.0, *asked) && are_within(self.0, *asked))
     }
 

@@ -1,6 +1,7 @@
 //! Laws: what the definitions say of one another.
 
-ghost use Rattle.std.specs.Prelude.{◌≡◌, ℕ, ℤ, Bool, None, Some, IsTrue, codes};
+ghost use Rattle.std.specs.Prelude.{◌≡◌, ◌↔◌, ℕ, ℤ, List, Bool, true, None, Some, IsTrue, codes};
+ghost use Rattle.std.specs.List.{Contains};
 ghost use Rattle.fhir_json.specs.Tree.{Text, Tree};
 ghost use Rattle.fhir_elements.specs.Element.{Element};
 ghost use Rattle.fhir_elements.specs.TypeEntry.{TypeEntry};
@@ -11,7 +12,7 @@ ghost use Rattle.fhir_facets.specs.Cardinality.{cardinality_holds, cardinality_n
 ghost use Rattle.fhir_facets.specs.Ranges.{Range, range_holds, range_narrower};
 ghost use Rattle.fhir_facets.specs.Seen.{Seen};
 ghost use Rattle.fhir_facets.specs.Targets.{referred_type, targets_hold, targets_narrower};
-ghost use Rattle.fhir_facets.specs.Unread.{Unread, Meaning};
+ghost use Rattle.fhir_facets.specs.Unread.{Unread, Meaning, unread_text, is_given};
 ghost use Rattle.fhir_facets.specs.Values.{fixed_holds, fixed_narrower, pattern_holds, pattern_narrower, fixed_fits, length_holds, length_narrower};
 
 use fhir_codes::{codes_of_subset, subsets};
@@ -85,4 +86,9 @@ pub fn positive()
 /// Meanings by which each unread rule holds, or none does, are fair.
 pub fn fair_meanings()
     ensures { (s : SchemaValue) (b : Bool) → IsFair s (λ u. b) }
+{}
+
+/// A rule is given where its whole text is one of those that a user vouches for.
+pub fn given_rules()
+    ensures { (texts : List Text) (rule : Unread) → (is_given texts rule ≡ true) ↔ Contains texts (unread_text rule) }
 {}

@@ -38,7 +38,9 @@ pub use cardinality::{Cardinality, are_enough, are_within, is_forbidden};
 pub use facet::Facet;
 pub use holding::Holding;
 pub use identity::identical;
-pub use laws::{fair_meanings, narrower_holds, narrower_itself, other_references, positive};
+pub use laws::{
+    fair_meanings, given_rules, narrower_holds, narrower_itself, other_references, positive,
+};
 pub use lookup::Lookup;
 pub use ranges::Range;
 pub use targets::Targets;

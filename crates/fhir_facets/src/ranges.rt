@@ -1,11 +1,12 @@
 //! Bounds of values (FHIR R4, ElementDefinition, minValue[x] and maxValue[x]).
 
-ghost use Rattle.std.specs.Prelude.{◌≡◌, Bool, true, []};
+ghost use Rattle.std.specs.Prelude.{◌≡◌, true, []};
 ghost use Rattle.std.specs.Option.{option_map_or};
 ghost use Rattle.fhir_json.specs.Views.{property_seen};
 ghost use Rattle.fhir_facets.specs.Carried.{bound_unread};
 ghost use Rattle.fhir_facets.specs.Ranges.{bound_holds, side_narrower, range_holds, range_narrower};
-ghost use Rattle.fhir_facets.specs.Views.{side_test, range_seen, range_rules, holding_under, view_seen, IsCarried};
+ghost use Rattle.fhir_facets.specs.Unread.{Reading, meaning_of};
+ghost use Rattle.fhir_facets.specs.Views.{side_test, range_seen, range_rules, holding_at, view_seen, IsVouched, IsCarried};
 
 use crate::bounds::{Side, bound_holds, bound_narrower};
 use crate::facet::Facet;
@@ -13,6 +14,7 @@ use crate::holding::Holding;
 use crate::view::View;
 use fhir_elements::ElementDef;
 use fhir_json::Member;
+use fhir_vouching::Vouching;
 
 /// The least and the greatest value that an item may have, each if there is one (FHIR R4, ElementDefinition, minValue[x]
 /// and maxValue[x]). Numbers are compared by value, and dates, moments and times of day by their fields, where they have an
@@ -44,13 +46,15 @@ fn side_holds<'a>(
     side: Side,
     bound: Option<&'a Member<'static>>,
     view: &View<'_, '_>,
+    given: &Vouching,
 ) -> Holding<'a>
-    ensures exact { (b : Bool) → holding_under b result
-        ≡ option_map_or (bound_holds (side_test side) (λ u. b) (view_seen view.now)) (property_seen bound.entry) true }
+    ensures exact { (r : Reading) → holding_at r result
+        ≡ option_map_or (bound_holds (side_test side) (meaning_of given.now r) (view_seen view.now)) (property_seen bound.entry) true }
+    ensures vouched { IsVouched given.now result }
     ensures carried { IsCarried (option_map_or bound_unread (property_seen bound.entry) []) result }
 {
     match bound {
-        Some(bound) => bound_holds(side, bound, view),
+        Some(bound) => bound_holds(side, bound, view, given),
         None => Holding::Holds,
     }
 }
@@ -75,7 +79,16 @@ impl<'a> Facet<'a, View<'_, '_>> for Range<'a> {
     ghost is_narrower = { λ range base. range_narrower (range_seen range) (range_seen base) };
 
     fn holds(&self, asked: &View<'_, '_>) -> Holding<'a> {
-        side_holds(Side::Least, self.least, asked).and(side_holds(Side::Most, self.most, asked))
+        self.holds_given(asked, &Vouching::none())
+    }
+
+    fn holds_given(&self, asked: &View<'_, '_>, given: &Vouching) -> Holding<'a> {
+        side_holds(Side::Least, self.least, asked, given).and(side_holds(
+            Side::Most,
+            self.most,
+            asked,
+            given,
+        ))
     }
 
     fn narrower(&self, base: &Self) -> bool {

@@ -1,12 +1,13 @@
 //! Targets of references (FHIR R4, ElementDefinition, type.targetProfile; References, literal references).
 
-ghost use Rattle.std.specs.Prelude.{◌≡◌, Bool, true, map, string_bytes};
+ghost use Rattle.std.specs.Prelude.{◌≡◌, true, map, string_bytes};
 ghost use Rattle.std.specs.Option.{option_map_or};
 ghost use Rattle.std.specs.List.{list_any, list_all, flat_map};
 ghost use Rattle.fhir_json.specs.Views.{text_seen};
 ghost use Rattle.fhir_facets.specs.Carried.{target_unread};
 ghost use Rattle.fhir_facets.specs.Targets.{has_targets, referred_type, target_type, target_holds, targets_hold, covers_known, target_narrower, targets_narrower};
-ghost use Rattle.fhir_facets.specs.Views.{target_rules, holding_under, view_seen, IsCarried};
+ghost use Rattle.fhir_facets.specs.Unread.{Reading, meaning_of};
+ghost use Rattle.fhir_facets.specs.Views.{target_rules, holding_at, view_seen, IsVouched, IsCarried};
 
 use crate::facet::Facet;
 use crate::holding::Holding;
@@ -15,6 +16,7 @@ use crate::view::View;
 use fhir_elements::TypeEntry;
 use fhir_names::relative_target;
 use fhir_schema::Schema;
+use fhir_vouching::Vouching;
 
 /// The targets that references of a type entry may have (FHIR R4, ElementDefinition, type.targetProfile). A target is judged
 /// by the type that a relative reference names, as `Patient/1` does; a reference of another form is passed over. A target
@@ -53,25 +55,37 @@ fn target_type<'s>(schema: &'s Schema, canonical: &str) -> Option<&'s str>
     }
 }
 
-fn target_holds<'s>(schema: &'s Schema, type_name: &str, canonical: &'s str) -> Holding<'s>
-    ensures exact { (b : Bool) → holding_under b result
-        ≡ target_holds schema.now (λ u. b) type_name.now canonical.now }
+fn target_holds<'s>(
+    schema: &'s Schema,
+    type_name: &str,
+    canonical: &'s str,
+    given: &Vouching,
+) -> Holding<'s>
+    ensures exact { (r : Reading) → holding_at r result
+        ≡ target_holds schema.now (meaning_of given.now r) type_name.now canonical.now }
+    ensures vouched { IsVouched given.now result }
     ensures carried { IsCarried (target_unread schema.now canonical.now) result }
 {
     match target_type(schema, canonical) {
         Some(code) => Holding::of(schema.covers(code, type_name)),
-        None => Holding::Unread(Unread::Target(canonical)),
+        None => Holding::of_rule(Unread::Target(canonical), given),
     }
 }
 
-fn some_target_holds<'s>(schema: &'s Schema, type_name: &str, targets: &'s [String]) -> Holding<'s>
-    ensures exact { (b : Bool) → holding_under b result
-        ≡ list_any (target_holds schema.now (λ u. b) type_name.now) (map string_bytes targets.now) }
+fn some_target_holds<'s>(
+    schema: &'s Schema,
+    type_name: &str,
+    targets: &'s [String],
+    given: &Vouching,
+) -> Holding<'s>
+    ensures exact { (r : Reading) → holding_at r result
+        ≡ list_any (target_holds schema.now (meaning_of given.now r) type_name.now) (map string_bytes targets.now) }
+    ensures vouched { IsVouched given.now result }
     ensures carried { IsCarried (flat_map (target_unread schema.now) (map string_bytes targets.now)) result }
 {
     let mut found = Holding::Fails;
     for target in targets {
-        found = found.or(target_holds(schema, type_name, target.as_str()));
+        found = found.or(target_holds(schema, type_name, target.as_str(), given));
         if let Holding::Holds = found {
             return found;
         }
@@ -80,14 +94,17 @@ fn some_target_holds<'s>(schema: &'s Schema, type_name: &str, targets: &'s [Stri
 }
 
 impl<'s> Targets<'s> {
-    fn of_reference(&self, view: &View<'_, '_>) -> Holding<'s>
-        ensures exact { (b : Bool) → holding_under b result ≡ option_map_or
-            (λ type. list_any (target_holds self.now.schema.now (λ u. b) type) self.now.entry.now.targets)
+    fn of_reference(&self, view: &View<'_, '_>, given: &Vouching) -> Holding<'s>
+        ensures exact { (r : Reading) → holding_at r result ≡ option_map_or
+            (λ type. list_any (target_holds self.now.schema.now (meaning_of given.now r) type) self.now.entry.now.targets)
             (referred_type (view_seen view.now)) true }
+        ensures vouched { IsVouched given.now result }
         ensures carried { IsCarried (flat_map (target_unread self.now.schema.now) self.now.entry.now.targets) result }
     {
         match referred_type(view) {
-            Some(type_name) => some_target_holds(self.schema, type_name, self.entry.targets()),
+            Some(type_name) => {
+                some_target_holds(self.schema, type_name, self.entry.targets(), given)
+            }
             None => Holding::Holds,
         }
     }
@@ -139,8 +156,12 @@ impl<'s> Facet<'s, View<'_, '_>> for Targets<'s> {
     ghost is_narrower = { λ t base. targets_narrower t.schema.now t.entry.now base.entry.now };
 
     fn holds(&self, asked: &View<'_, '_>) -> Holding<'s> {
+        self.holds_given(asked, &Vouching::none())
+    }
+
+    fn holds_given(&self, asked: &View<'_, '_>, given: &Vouching) -> Holding<'s> {
         if has_targets(self.entry) {
-            self.of_reference(asked)
+            self.of_reference(asked, given)
         } else {
             Holding::Holds
         }

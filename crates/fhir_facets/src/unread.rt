@@ -3,7 +3,7 @@
 ghost use Rattle.std.specs.Prelude.{◌≡◌};
 ghost use Rattle.fhir_json.specs.Views.{property_of};
 ghost use Rattle.fhir_facets.specs.Carried.{bound_unread, target_unread, profile_unread, value_set_unread};
-ghost use Rattle.fhir_facets.specs.Unread.{unread_constraint};
+ghost use Rattle.fhir_facets.specs.Unread.{unread_constraint, unread_text};
 ghost use Rattle.fhir_facets.specs.Views.{unread_seen, printed, rules_in};
 
 use crate::compact::write_compact;
@@ -11,6 +11,8 @@ use crate::scale::scale_of_bound;
 use fhir_elements::ConstraintDef;
 use fhir_json::Member;
 use fhir_schema::Schema;
+use fhir_vouching::{Progress, Spelled};
+use std::cmp::Ordering;
 use std::fmt;
 
 /// A rule that a definition has and that isn't judged here. `Display` prints what it says: `range`, its property and its
@@ -81,6 +83,27 @@ impl<'a> Unread<'a> {
             Some(text) => Unread::Expression(text),
             None => Unread::Constraint(constraint.key()),
         }
+    }
+}
+
+impl Spelled for Unread<'_> {
+    ghost spelled = { λ rule. unread_text (unread_seen rule) };
+
+    fn cmp_text(&self, text: &str) -> Ordering {
+        let progress = Progress::of(text);
+        let spelled = match self {
+            Unread::Range(bound) => progress
+                .then("range ")
+                .then(bound.name.as_str())
+                .then(" ")
+                .then_compact(&bound.value),
+            Unread::Target(canonical) => progress.then("target ").then(canonical),
+            Unread::Profile(canonical) => progress.then("profile ").then(canonical),
+            Unread::Binding(canonical) => progress.then("binding ").then(canonical),
+            Unread::Expression(text) => progress.then("expression ").then(text),
+            Unread::Constraint(key) => progress.then("constraint ").then(key),
+        };
+        spelled.order()
     }
 }
 

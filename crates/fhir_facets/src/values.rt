@@ -11,6 +11,7 @@ use crate::holding::Holding;
 use crate::view::View;
 use fhir_json::Json;
 use fhir_matching::{json_eq, matches};
+use fhir_vouching::Vouching;
 
 /// The value that an item is to be, and no more: a primitive may have neither an id nor extensions (FHIR R4,
 /// ElementDefinition, fixed[x]).
@@ -82,6 +83,10 @@ impl<'a> Facet<'a, View<'_, '_>> for Fixed<'a> {
     ghost is_narrower = { λ fixed base. fixed_narrower (tree_of fixed.0.now) (tree_of base.0.now) };
 
     fn holds(&self, asked: &View<'_, '_>) -> Holding<'a> {
+        self.holds_given(asked, &Vouching::none())
+    }
+
+    fn holds_given(&self, asked: &View<'_, '_>, _given: &Vouching) -> Holding<'a> {
         Holding::of(is_fixed_to(self.0, asked))
     }
 
@@ -98,6 +103,10 @@ impl<'a> Facet<'a, View<'_, '_>> for Pattern<'a> {
     ghost is_narrower = { λ pattern base. pattern_narrower (tree_of pattern.0.now) (tree_of base.0.now) };
 
     fn holds(&self, asked: &View<'_, '_>) -> Holding<'a> {
+        self.holds_given(asked, &Vouching::none())
+    }
+
+    fn holds_given(&self, asked: &View<'_, '_>, _given: &Vouching) -> Holding<'a> {
         Holding::of(has_pattern(self.0, asked))
     }
 
@@ -114,6 +123,10 @@ impl<'a> Facet<'a, View<'_, '_>> for Length {
     ghost is_narrower = { λ most base. length_narrower most.0 base.0 };
 
     fn holds(&self, asked: &View<'_, '_>) -> Holding<'a> {
+        self.holds_given(asked, &Vouching::none())
+    }
+
+    fn holds_given(&self, asked: &View<'_, '_>, _given: &Vouching) -> Holding<'a> {
         Holding::of(has_length(self.0, asked))
     }
 

@@ -1,4 +1,3 @@
-use Rattle.std.proofs.Common.{refl}
 use Rattle.fhir_facets.proofs.Itself.{cardinality_itself, binding_itself, targets_itself}
 use Rattle.fhir_facets.proofs.laws.narrower_itself.Goals as goal
 

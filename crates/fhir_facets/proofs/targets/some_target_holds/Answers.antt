@@ -2,7 +2,8 @@ use Rattle.std.proofs.Common.{◌<◌, length, string_bytes, sym, ap, ◌∙◌,
 use Rattle.fhir_json.specs.Tree.{Text}
 use Rattle.fhir_facets.specs.Carried.{target_unread}
 use Rattle.fhir_facets.specs.Targets.{target_holds}
-use Rattle.fhir_facets.specs.Views.{holding_under, IsCarried}
+use Rattle.fhir_facets.specs.Unread.{meaning_of}
+use Rattle.fhir_facets.specs.Views.{holding_at, IsCarried}
 use Rattle.fhir_facets.proofs.Among.{carried_among, any_step}
 use Rattle.fhir_facets.proofs.targets.some_target_holds.Goals as goal
 
@@ -12,14 +13,16 @@ loop-target-preserved c =
     let i = c.loop-target.target-index in
     let target = c.target-item.result in
     let schema = c.args.schema.now in
+    let given = c.args.given.now in
     let lt : i < length targets = omega arith in
     record {
-      exact = λ b.
-          any_step (target_holds schema (λ u. b) c.args.type_name.now) string_bytes targets i target
-          (holding_under b c.loop-target.found) (holding_under b c.or-found.result) (holding_under b c.target_holds.result) _
-          lt c.target-item.is (c.or-found.ensures.one b)
-          (c.target_holds.ensures.exact b ∙ ap (target_holds schema (λ u. b) c.args.type_name.now) c.as_str.ensures.value)
-          (c.loop-target.invariant.exact b);
+      exact = λ r.
+          any_step (target_holds schema (meaning_of given r) c.args.type_name.now) string_bytes targets i target
+          (holding_at r c.loop-target.found) (holding_at r c.or-found.result) (holding_at r c.target_holds.result) _
+          lt c.target-item.is (c.or-found.ensures.one r)
+          (c.target_holds.ensures.exact r ∙ ap (target_holds schema (meaning_of given r) c.args.type_name.now) c.as_str.ensures.value)
+          (c.loop-target.invariant.exact r);
+      vouched = c.or-found.ensures.vouched given c.loop-target.invariant.vouched c.target_holds.ensures.vouched;
       carried =
           c.or-found.ensures.carried _ c.loop-target.invariant.carried
           (carried_among (target_unread schema) string_bytes c.target_holds.result targets i target lt (sym c.target-item.is)

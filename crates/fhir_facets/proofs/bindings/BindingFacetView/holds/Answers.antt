@@ -1,6 +1,10 @@
-use Rattle.fhir_facets.specs.Carried.{binding_unread}
+use Rattle.fhir_facets.specs.Bindings.{binding_holds}
 use Rattle.fhir_facets.specs.Views.{binding_seen, view_seen}
+use Rattle.fhir_facets.specs.Unread.{Meaning}
+use Rattle.fhir_facets.proofs.Readings.{in_both}
 use Rattle.fhir_facets.proofs.bindings.BindingFacetView.holds.Goals as goal
 
-pub returns-in-Some-clause-carried : goal.returns-in-Some-clause-carried
-returns-in-Some-clause-carried c = c.of.ensures.carried (binding_unread (binding_seen c.args.self.now) (view_seen c.args.asked.now))
+pub returns-clause-exact : goal.returns-clause-exact
+returns-clause-exact c =
+    in_both (λ (m : Meaning). binding_holds m (binding_seen c.args.self.now) (view_seen c.args.asked.now))
+    c.none.result c.holds_given-2.result c.holds_given-2.ensures.exact
