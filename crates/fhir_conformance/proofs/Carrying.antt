@@ -70,7 +70,7 @@ module _ (s : SchemaValue) (m m' : Meaning) where
       by_case None each holds = each.0 holds
       by_case (Some r) each holds = holds
 
-  targets_step : (x : Item) (e : TypeEntry) → AreCarried m m' (targets_unread s e)
+  pub targets_step : (x : Item) (e : TypeEntry) → AreCarried m m' (targets_unread s e)
       → IsTrue (targets_hold s m e (seen x)) → IsTrue (targets_hold s m' e (seen x))
   targets_step x e = by_case (has_targets e) (referred_type (seen x))
     where
@@ -166,7 +166,7 @@ module _ (s : SchemaValue) (m m' : Meaning) where
       by_case None each holds = each.0 holds
       by_case (Some scale) each holds = holds
 
-  element_step : (x : Item) (e : Element) → AreCarried m m' (range_unread e) → IsTrue (range_at m x e) → IsTrue (range_at m' x e)
+  pub element_step : (x : Item) (e : Element) → AreCarried m m' (range_unread e) → IsTrue (range_at m x e) → IsTrue (range_at m' x e)
   element_step x e each holds =
       let parts = and_parts (option_map_or (bound_holds is_ge m (seen x)) e.min_value true) (option_map_or (bound_holds is_le m (seen x)) e.max_value true) holds in
       and_from (option_map_or (bound_holds is_ge m' (seen x)) e.min_value true) (option_map_or (bound_holds is_le m' (seen x)) e.max_value true)
@@ -186,7 +186,7 @@ module _ (s : SchemaValue) (m m' : Meaning) where
   decided_step x canonical None each holds = each.0 holds
   decided_step x canonical (Some b) each holds = holds
 
-  set_step : (x : Item) (o : Option Text) → AreCarried m m' (option_map_or (λ canonical. binding_unread (binding_to s canonical) (seen x)) o [])
+  pub set_step : (x : Item) (o : Option Text) → AreCarried m m' (option_map_or (λ canonical. binding_unread (binding_to s canonical) (seen x)) o [])
       → IsTrue (option_map_or (λ canonical. binding_holds m (binding_to s canonical) (seen x)) o true)
       → IsTrue (option_map_or (λ canonical. binding_holds m' (binding_to s canonical) (seen x)) o true)
   set_step x None each holds = holds
@@ -206,7 +206,7 @@ module _ (s : SchemaValue) (m m' : Meaning) where
           (all_back (λ u. IsTrue (m u) → IsTrue (m' u)) (range_unread e) (set_unread s x e ++ flat_map constraint_unread e.constraints) each))
           holds
 
-  constraint_given : (resource x : Item) (c : Constraint) (must : Bool) (e : Option Expression)
+  pub constraint_given : (resource x : Item) (c : Constraint) (must : Bool) (e : Option Expression)
       → AreCarried m m' (if must && is_none e then unread_constraint c ∷ [] else [])
       → IsTrue (not must || option_map_or (λ e. is_true (record { schema = s; resource = resource; context = x }) e x) e (m (unread_constraint c)))
       → IsTrue (not must || option_map_or (λ e. is_true (record { schema = s; resource = resource; context = x }) e x) e (m' (unread_constraint c)))

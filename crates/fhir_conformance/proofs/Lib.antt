@@ -1,5 +1,7 @@
+mod Agreeing
 pub mod Lists
 pub mod Carrying
+mod Hanging
 pub mod Asked
 pub mod Stepping
 pub mod Placing

@@ -17,7 +17,7 @@ use Rattle.fhir_schema.specs.Expressions.{constraint_at}
 use Rattle.fhir_instance.specs.Items.{Item, item, Kids, no_kids, kid, Place, type_of, json_of, has_kids, kids_of}
 use Rattle.fhir_instance.specs.Typing.{Types}
 use Rattle.fhir_fp_eval.specs.Meaning.{is_true}
-use Rattle.fhir_facets.specs.Unread.{Unread, Meaning, unread_constraint}
+use Rattle.fhir_facets.specs.Unread.{Unread, Meaning, Reading, meaning_of, unread_constraint}
 use Rattle.fhir_facets.specs.Unread.{profile as unread_profile}
 use Rattle.fhir_facets.specs.Seen.{Seen}
 use Rattle.fhir_facets.specs.Values.{fixed_holds, pattern_holds, length_holds}
@@ -201,6 +201,10 @@ outermost x = record { outermost = x; place = []; nearest = x }
 -- each unread rule holds everywhere, or none does anywhere
 abbrev pub constant : Bool → Interpretation
 constant b rule outermost place = b
+
+-- they are read so everywhere, where a user vouches for those with these texts
+abbrev pub as_read : List Text → Reading → Interpretation
+as_read texts r rule outermost place = meaning_of texts r rule
 
 -- What unread rules mean is fair at each place: where a binding holds, so does one to a larger set.
 abbrev pub IsFairEverywhere : SchemaValue → Interpretation → Type 0

@@ -1,6 +1,6 @@
 //! Whether a rule holds of an item.
 
-ghost use Rattle.std.specs.Prelude.{◌≡◌, Bool, [], IfOk, IsTrue};
+ghost use Rattle.std.specs.Prelude.{◌≡◌, [], IfOk, IsTrue};
 ghost use Rattle.std.specs.Option.{option_copied, option_map, option_map_or};
 ghost use Rattle.fhir_elements.specs.Constraint.{must_hold};
 ghost use Rattle.fhir_fp_syntax.specs.Expression.{expression_of as tree_of};
@@ -10,7 +10,8 @@ ghost use Rattle.fhir_schema.specs.Schemas.{element_at};
 ghost use Rattle.fhir_instance.specs.View.{item_of};
 ghost use Rattle.fhir_facets.specs.Carried.{range_unread, constraint_unread};
 ghost use Rattle.fhir_facets.specs.Cardinality.{are_enough, are_within};
-ghost use Rattle.fhir_facets.specs.Views.{view_seen, holding_under, IsCarried};
+ghost use Rattle.fhir_facets.specs.Unread.{Reading, meaning_of};
+ghost use Rattle.fhir_facets.specs.Views.{view_seen, holding_at, IsVouched, IsCarried};
 ghost use Rattle.fhir_conformance.specs.Conformance.{seen, constraint_passes, constraint_holds, fixed_at, pattern_at, range_at, length_at, binding_at, at_element, entry_allows, count_in, rule_holds};
 ghost use Rattle.fhir_conformance.specs.Asks.{constraint as constraint_rule};
 ghost use Rattle.fhir_conformance.specs.Meeting.{entry_unread, set_unread, rule_unread};
@@ -29,6 +30,7 @@ use fhir_fp_syntax::Expr;
 use fhir_instance::Typed;
 use fhir_json::NoMemory;
 use fhir_schema::{NodeRef, Schema};
+use fhir_vouching::Vouching;
 use std::alloc::Global;
 
 fn view_of<'t, 'j>(item: &'t Typed<'_, 'j>) -> View<'t, 'j>
@@ -43,94 +45,132 @@ fn view_of<'t, 'j>(item: &'t Typed<'_, 'j>) -> View<'t, 'j>
 
 /// Whether an item is of the type of a type entry, and its reference's target one of the entry's (FHIR R4, ElementDefinition,
 /// type and type.targetProfile). The profiles that the entry names are no part of it. Where unread rules decide it, it answers
-/// one of the entry's.
+/// one of the entry's: one whose text is given, where those do that are given.
 pub fn judge_entry<'s>(
     schema: &'s Schema,
     item: &Typed<'_, '_>,
     entry: &'s TypeEntry,
+    given: &Vouching,
 ) -> Holding<'s>
-    ensures exact { (b : Bool) → holding_under b result
-        ≡ entry_allows schema.now (λ unread. b) (item_of item.now) entry.now }
+    ensures exact { (r : Reading) → holding_at r result
+        ≡ entry_allows schema.now (meaning_of given.now r) (item_of item.now) entry.now }
+    ensures vouched { IsVouched given.now result }
     ensures carried { IsCarried (entry_unread schema.now (item_of item.now) entry.now) result }
 {
     if schema.covers(entry.code(), item.code()) {
-        Targets { schema, entry }.holds(&view_of(item))
+        Targets { schema, entry }.holds_given(&view_of(item), given)
     } else {
         Holding::Fails
     }
 }
 
-fn judge_fixed<'s>(schema: &'s Schema, item: &Typed<'_, '_>, node: NodeRef) -> Holding<'s>
-    ensures exact { (b : Bool) → holding_under b result
+fn judge_fixed<'s>(
+    schema: &'s Schema,
+    item: &Typed<'_, '_>,
+    node: NodeRef,
+    given: &Vouching,
+) -> Holding<'s>
+    ensures exact { (r : Reading) → holding_at r result
         ≡ at_element schema.now (fixed_at (item_of item.now)) node }
+    ensures vouched { IsVouched given.now result }
     ensures decided { IsCarried [] result }
 {
     let Some(element) = schema.element(node) else {
         return Holding::Holds;
     };
     match element.fixed() {
-        Some(fixed) => Fixed(&fixed.value).holds(&view_of(item)),
+        Some(fixed) => Fixed(&fixed.value).holds_given(&view_of(item), given),
         None => Holding::Holds,
     }
 }
 
-fn judge_pattern<'s>(schema: &'s Schema, item: &Typed<'_, '_>, node: NodeRef) -> Holding<'s>
-    ensures exact { (b : Bool) → holding_under b result
+fn judge_pattern<'s>(
+    schema: &'s Schema,
+    item: &Typed<'_, '_>,
+    node: NodeRef,
+    given: &Vouching,
+) -> Holding<'s>
+    ensures exact { (r : Reading) → holding_at r result
         ≡ at_element schema.now (pattern_at (item_of item.now)) node }
+    ensures vouched { IsVouched given.now result }
     ensures decided { IsCarried [] result }
 {
     let Some(element) = schema.element(node) else {
         return Holding::Holds;
     };
     match element.pattern() {
-        Some(pattern) => Pattern(&pattern.value).holds(&view_of(item)),
+        Some(pattern) => Pattern(&pattern.value).holds_given(&view_of(item), given),
         None => Holding::Holds,
     }
 }
 
-fn judge_range<'s>(schema: &'s Schema, item: &Typed<'_, '_>, node: NodeRef) -> Holding<'s>
-    ensures exact { (b : Bool) → holding_under b result
-        ≡ at_element schema.now (range_at (λ unread. b) (item_of item.now)) node }
+fn judge_range<'s>(
+    schema: &'s Schema,
+    item: &Typed<'_, '_>,
+    node: NodeRef,
+    given: &Vouching,
+) -> Holding<'s>
+    ensures exact { (r : Reading) → holding_at r result
+        ≡ at_element schema.now (range_at (meaning_of given.now r) (item_of item.now)) node }
+    ensures vouched { IsVouched given.now result }
     ensures carried { IsCarried (option_map_or range_unread (element_at schema.now node) []) result }
 {
     match schema.element(node) {
-        Some(element) => Range::of(element).holds(&view_of(item)),
+        Some(element) => Range::of(element).holds_given(&view_of(item), given),
         None => Holding::Holds,
     }
 }
 
-fn judge_length<'s>(schema: &'s Schema, item: &Typed<'_, '_>, node: NodeRef) -> Holding<'s>
-    ensures exact { (b : Bool) → holding_under b result
+fn judge_length<'s>(
+    schema: &'s Schema,
+    item: &Typed<'_, '_>,
+    node: NodeRef,
+    given: &Vouching,
+) -> Holding<'s>
+    ensures exact { (r : Reading) → holding_at r result
         ≡ at_element schema.now (length_at (item_of item.now)) node }
+    ensures vouched { IsVouched given.now result }
     ensures decided { IsCarried [] result }
 {
     let Some(element) = schema.element(node) else {
         return Holding::Holds;
     };
     match element.max_length() {
-        Some(most) => Length(most).holds(&view_of(item)),
+        Some(most) => Length(most).holds_given(&view_of(item), given),
         None => Holding::Holds,
     }
 }
 
-fn judge_set<'s>(schema: &'s Schema, item: &Typed<'_, '_>, element: &'s ElementDef) -> Holding<'s>
-    ensures exact { (b : Bool) → holding_under b result
-        ≡ binding_at schema.now (λ unread. b) (item_of item.now) element.now }
+fn judge_set<'s>(
+    schema: &'s Schema,
+    item: &Typed<'_, '_>,
+    element: &'s ElementDef,
+    given: &Vouching,
+) -> Holding<'s>
+    ensures exact { (r : Reading) → holding_at r result
+        ≡ binding_at schema.now (meaning_of given.now r) (item_of item.now) element.now }
+    ensures vouched { IsVouched given.now result }
     ensures carried { IsCarried (set_unread schema.now (item_of item.now) element.now) result }
 {
     match element.required_value_set() {
-        Some(canonical) => Binding::of(schema, canonical).holds(&view_of(item)),
+        Some(canonical) => Binding::of(schema, canonical).holds_given(&view_of(item), given),
         None => Holding::Holds,
     }
 }
 
-fn judge_binding<'s>(schema: &'s Schema, item: &Typed<'_, '_>, node: NodeRef) -> Holding<'s>
-    ensures exact { (b : Bool) → holding_under b result
-        ≡ at_element schema.now (binding_at schema.now (λ unread. b) (item_of item.now)) node }
+fn judge_binding<'s>(
+    schema: &'s Schema,
+    item: &Typed<'_, '_>,
+    node: NodeRef,
+    given: &Vouching,
+) -> Holding<'s>
+    ensures exact { (r : Reading) → holding_at r result
+        ≡ at_element schema.now (binding_at schema.now (meaning_of given.now r) (item_of item.now)) node }
+    ensures vouched { IsVouched given.now result }
     ensures carried { IsCarried (option_map_or (set_unread schema.now (item_of item.now)) (element_at schema.now node) []) result }
 {
     match schema.element(node) {
-        Some(element) => judge_set(schema, item, element),
+        Some(element) => judge_set(schema, item, element, given),
         None => Holding::Holds,
     }
 }
@@ -149,14 +189,16 @@ fn judge_expression<'s, 't, 'a, 'j>(
     item: &'t Typed<'a, 'j>,
     constraint: &'s ConstraintDef,
     expression: Option<&'t Expr>,
+    given: &Vouching,
 ) -> Result<Holding<'s>, NoMemory>
     requires { option_map (λ e. tree_of e.now) expression ≡ expression_of constraint.now }
-    ensures exact { IfOk result (λ h. (b : Bool) → holding_under b h
-        ≡ constraint_holds schema.now (λ unread. b) (item_of resource.now) (item_of item.now) constraint.now) }
+    ensures exact { IfOk result (λ h. (r : Reading) → holding_at r h
+        ≡ constraint_holds schema.now (meaning_of given.now r) (item_of resource.now) (item_of item.now) constraint.now) }
+    ensures vouched { IfOk result (IsVouched given.now) }
     ensures carried { IfOk result (λ h. IsTrue (must_hold constraint.now) → IsCarried (constraint_unread constraint.now) h) }
 {
     let Some(expression) = expression else {
-        return Ok(Holding::Unread(Unread::of_constraint(constraint)));
+        return Ok(Holding::of_rule(Unread::of_constraint(constraint), given));
     };
     let env = Env {
         schema,
@@ -173,9 +215,11 @@ fn judge_constraint<'s, 't, 'a, 'j>(
     item: &'t Typed<'a, 'j>,
     node: NodeRef,
     position: usize,
+    given: &Vouching,
 ) -> Result<Holding<'s>, NoMemory>
-    ensures exact { IfOk result (λ h. (b : Bool) → holding_under b h
-        ≡ rule_holds schema.now (λ unread. b) (item_of resource.now) (item_of item.now) (constraint_rule position) node) }
+    ensures exact { IfOk result (λ h. (r : Reading) → holding_at r h
+        ≡ rule_holds schema.now (meaning_of given.now r) (item_of resource.now) (item_of item.now) (constraint_rule position) node) }
+    ensures vouched { IfOk result (IsVouched given.now) }
     ensures carried { IfOk result (λ h. IsCarried (option_map_or constraint_unread (constraint_at schema.now node position) []) h) }
 {
     let Some(constraint) = constraint_of(schema, node, position) else {
@@ -185,7 +229,7 @@ fn judge_constraint<'s, 't, 'a, 'j>(
         return Ok(Holding::Holds);
     }
     let expression = schema.expression(node, position);
-    judge_expression(alloc, schema, resource, item, constraint, expression)
+    judge_expression(alloc, schema, resource, item, constraint, expression, given)
 }
 
 fn has_enough(schema: &Schema, node: NodeRef, count: usize) -> bool
@@ -241,8 +285,8 @@ fn has_no_more_in(
 }
 
 /// Whether a rule of a node's element holds of an item, of which these are the children, and that the nearest resource at
-/// or around it (FHIR R4, ElementDefinition). Where unread rules decide it, it answers one of the rule's. The one refusal is
-/// want of memory.
+/// or around it (FHIR R4, ElementDefinition). Where unread rules decide it, it answers one of the rule's: one whose text is
+/// given, where those do that are given. The one refusal is want of memory.
 pub fn judge<'s, 't, 'a, 'j>(
     alloc: Global,
     schema: &'s Schema,
@@ -251,10 +295,12 @@ pub fn judge<'s, 't, 'a, 'j>(
     kids_by_name: &KidsByName<'_>,
     rule: ElementRule<'s>,
     node: NodeRef,
+    given: &Vouching,
 ) -> Result<Holding<'s>, NoMemory>
     requires { IsIndexOf (item_of item.now) kids_by_name.now }
-    ensures exact { IfOk result (λ h. (b : Bool) → holding_under b h
-        ≡ rule_holds schema.now (λ unread. b) (item_of resource.now) (item_of item.now) (rule_name rule.entry) node) }
+    ensures exact { IfOk result (λ h. (r : Reading) → holding_at r h
+        ≡ rule_holds schema.now (meaning_of given.now r) (item_of resource.now) (item_of item.now) (rule_name rule.entry) node) }
+    ensures vouched { IfOk result (IsVouched given.now) }
     ensures carried { IfOk result (IsCarried (rule_unread schema.now (item_of item.now) (rule_name rule.entry) node)) }
 {
     match rule {
@@ -262,11 +308,11 @@ pub fn judge<'s, 't, 'a, 'j>(
             schema.type_code(node),
             item.code(),
         ))),
-        ElementRule::Fixed => Ok(judge_fixed(schema, item, node)),
-        ElementRule::Pattern => Ok(judge_pattern(schema, item, node)),
-        ElementRule::Range => Ok(judge_range(schema, item, node)),
-        ElementRule::Length => Ok(judge_length(schema, item, node)),
-        ElementRule::Binding => Ok(judge_binding(schema, item, node)),
+        ElementRule::Fixed => Ok(judge_fixed(schema, item, node, given)),
+        ElementRule::Pattern => Ok(judge_pattern(schema, item, node, given)),
+        ElementRule::Range => Ok(judge_range(schema, item, node, given)),
+        ElementRule::Length => Ok(judge_length(schema, item, node, given)),
+        ElementRule::Binding => Ok(judge_binding(schema, item, node, given)),
         ElementRule::TooFew(name) => Ok(Holding::of(has_enough(
             schema,
             node,
@@ -296,7 +342,7 @@ pub fn judge<'s, 't, 'a, 'j>(
             schema, item, node, position,
         ))),
         ElementRule::Constraint(position) => {
-            judge_constraint(alloc, schema, resource, item, node, position)
+            judge_constraint(alloc, schema, resource, item, node, position, given)
         }
     }
 }

@@ -1,15 +1,16 @@
 //! Laws: what the definitions say of one another.
 
 ghost use Rattle.std.specs.Prelude.{◌≡◌, List, [], ◌∷◌, Bool, true, false, IsTrue, codes};
-ghost use Rattle.std.specs.List.{list_all};
+ghost use Rattle.std.specs.List.{Contains, list_all};
 ghost use Rattle.fhir_json.specs.Tree.{Text, Tree, no_members};
+ghost use Rattle.fhir_elements.specs.TypeEntry.{TypeEntry};
 ghost use Rattle.fhir_nodes.specs.declared.node.NodeRef.{NodeRef};
 ghost use Rattle.fhir_schema.specs.Schemas.{SchemaValue};
 ghost use Rattle.fhir_instance.specs.Items.{Item, Place};
-ghost use Rattle.fhir_facets.specs.Unread.{Unread, Meaning};
-ghost use Rattle.fhir_conformance.specs.Asks.{root_asks};
-ghost use Rattle.fhir_conformance.specs.Conformance.{Interpretation, constant, Around, outermost, ask_holds, conforms, IsFairEverywhere, Conforms};
-ghost use Rattle.fhir_conformance.specs.Meeting.{Met, unread_at};
+ghost use Rattle.fhir_facets.specs.Unread.{Unread, Meaning, as_given, is_given};
+ghost use Rattle.fhir_conformance.specs.Asks.{ElementRuleName, root_asks};
+ghost use Rattle.fhir_conformance.specs.Conformance.{Interpretation, constant, as_read, Around, outermost, rule_holds, entry_allows, ask_holds, conforms, IsFairEverywhere, Conforms};
+ghost use Rattle.fhir_conformance.specs.Meeting.{Met, targets_unread, rule_unread, unread_at};
 ghost use Rattle.fhir_conformance.specs.Example.{schema, bare, noted, unknown};
 ghost use Rattle.fhir_conformance.specs.Recipes.{recipes, untitled, of_steps};
 ghost use Rattle.fhir_conformance.specs.Recipes.{titled as titled_recipe};
@@ -31,6 +32,17 @@ pub fn positive()
     roots_are_roots();
 }
 
+/// A rule of a node hangs on the unread rules that it carries alone, and so do the code and the targets of a type entry: where a
+/// meaning says of these no less than another, what holds by that one holds by it.
+pub fn hangs_on_carried()
+    ensures rules { (s : SchemaValue) (less more : Meaning) (resource x : Item) (rule : ElementRuleName) (n : NodeRef)
+        → ((u : Unread) → Contains (rule_unread s x rule n) u → IsTrue (less u) → IsTrue (more u))
+        → IsTrue (rule_holds s less resource x rule n) → IsTrue (rule_holds s more resource x rule n) }
+    ensures entries { (s : SchemaValue) (less more : Meaning) (x : Item) (e : TypeEntry)
+        → ((u : Unread) → Contains (targets_unread s e) u → IsTrue (less u) → IsTrue (more u))
+        → IsTrue (entry_allows s less x e) → IsTrue (entry_allows s more x e) }
+{}
+
 /// Meanings by which each unread rule holds everywhere, or none does anywhere, are fair.
 pub fn fair_meanings()
     ensures { (s : SchemaValue) (b : Bool) → IsFairEverywhere s (constant b) }
@@ -44,6 +56,21 @@ pub fn meanings_agree()
         → conforms s one (outermost x) x n ≡ conforms s other (outermost x) x n }
 {
     roots_are_roots();
+}
+
+/// Where a user vouches for more unread rules, no less conforms. Where they vouch for others that no pair of node and item that is
+/// met carries, all is as it was.
+pub fn given_texts()
+    ensures more { (s : SchemaValue) (texts others : List Text)
+        → ((u : Unread) → IsTrue (is_given texts u) → IsTrue (is_given others u)) → (profile : Text) (t : Tree)
+        → Conforms s (as_read texts as_given) profile t → Conforms s (as_read others as_given) profile t }
+    ensures others { (s : SchemaValue) (x : Item) (n : NodeRef) (texts others : List Text)
+        → ((place : Place) (r y : Item) (m : NodeRef) → Met s x n place r y m
+        → (u : Unread) → Contains (unread_at s y m) u → is_given texts u ≡ is_given others u)
+        → conforms s (as_read texts as_given) (outermost x) x n ≡ conforms s (as_read others as_given) (outermost x) x n }
+{
+    roots_are_roots();
+    positive();
 }
 
 /// A root asks for no root, no types and no profile: whether all that it asks holds doesn't hang on which roots the item conforms to.
@@ -84,6 +111,15 @@ pub fn letters_example()
     ensures kind { ¬ Conforms letters (constant false) (codes "urn:Letter") (coded (codes "kind") (codes "c")) }
     ensures open_kind { Conforms letters (constant true) (codes "urn:Letter") (coded (codes "kind") (codes "c")) }
     ensures mood { (meaning : Interpretation) → Conforms letters meaning (codes "urn:Letter") (coded (codes "mood") (codes "c")) }
+{}
+
+/// The same letters, where a user vouches for rules by their texts: for the unread target (`target`), for the unread binding (`kind`),
+/// for one by the front of its text alone (`front`), and for one that is no rule of these definitions (`strange`).
+pub fn given_example()
+    ensures target { Conforms letters (as_read (codes "target urn:other" ∷ []) as_given) (codes "urn:Letter") (answering (codes "Person/1")) }
+    ensures kind { Conforms letters (as_read (codes "binding urn:set" ∷ []) as_given) (codes "urn:Letter") (coded (codes "kind") (codes "c")) }
+    ensures front { ¬ Conforms letters (as_read (codes "binding urn:se" ∷ []) as_given) (codes "urn:Letter") (coded (codes "kind") (codes "c")) }
+    ensures strange { ¬ Conforms letters (as_read (codes "binding urn:sets" ∷ []) as_given) (codes "urn:Letter") (coded (codes "kind") (codes "c")) }
 {}
 
 /// The definitions at work on letters with one value. A greeting fits the pattern `dear` (`greeting`, `rude`), the language is the

@@ -20,3 +20,24 @@ returns-in-Apart-clause-carried c = c.of-in-Apart.ensures.carried _
 
 pub returns-in-InASlice-clause-carried : goal.returns-in-InASlice-clause-carried
 returns-in-InASlice-clause-carried c = c.of-in-InASlice.ensures.carried _
+
+pub returns-in-RootType-clause-vouched : goal.returns-in-RootType-clause-vouched
+returns-in-RootType-clause-vouched c = c.of.ensures.vouched _
+
+pub returns-in-TooFew-clause-vouched : goal.returns-in-TooFew-clause-vouched
+returns-in-TooFew-clause-vouched c = c.of-in-TooFew.ensures.vouched _
+
+pub returns-in-TooMany-clause-vouched : goal.returns-in-TooMany-clause-vouched
+returns-in-TooMany-clause-vouched c = c.of-in-TooMany.ensures.vouched _
+
+pub returns-in-TooFewIn-clause-vouched : goal.returns-in-TooFewIn-clause-vouched
+returns-in-TooFewIn-clause-vouched c = c.of-in-TooFewIn.ensures.vouched _
+
+pub returns-in-TooManyIn-clause-vouched : goal.returns-in-TooManyIn-clause-vouched
+returns-in-TooManyIn-clause-vouched c = c.of-in-TooManyIn.ensures.vouched _
+
+pub returns-in-Apart-clause-vouched : goal.returns-in-Apart-clause-vouched
+returns-in-Apart-clause-vouched c = c.of-in-Apart.ensures.vouched _
+
+pub returns-in-InASlice-clause-vouched : goal.returns-in-InASlice-clause-vouched
+returns-in-InASlice-clause-vouched c = c.of-in-InASlice.ensures.vouched _

@@ -1,19 +1,10 @@
-use Rattle.std.proofs.Common.{◌≡◌, Bool, true, false, IsTrue, refl, sym, subst}
-use Rattle.std.specs.Prelude.{if◌then◌else◌}
+use Rattle.std.proofs.Common.{IsTrue, refl, sym, subst}
 use Rattle.fhir_conformance.specs.Conformance.{Interpretation, meaning_at, outermost, is_resource_item, resource_at, conforms}
 use Rattle.fhir_conformance.specs.Meeting.{Met, first, at_item, at_profile, at_child}
+use Rattle.fhir_conformance.proofs.Agreeing.{same_bool, own_nearest}
 use Rattle.fhir_conformance.proofs.Carrying.{AreCarried}
 use Rattle.fhir_conformance.proofs.Stepping.{conforms_step}
 use Rattle.fhir_conformance.proofs.laws.meanings_agree.Goals as goal
-
-same_bool : (a b : Bool) → (IsTrue a → IsTrue b) → (IsTrue b → IsTrue a) → a ≡ b
-same_bool true b f g = sym (f refl)
-same_bool false true f g = g refl
-same_bool false false f g = refl
-
-own_nearest : {A : Type 0} (b : Bool) (x : A) → (if b then x else x) ≡ x
-own_nearest true x = refl
-own_nearest false x = refl
 
 pub returns : goal.returns
 returns c s x n none one other = same_bool (conforms s one (outermost x) x n) (conforms s other (outermost x) x n) (go one other) (go other one)
