@@ -11,7 +11,7 @@ use Rattle.fhir_nodes.specs.declared.node.NodeRef.{NodeRef}
 use Rattle.fhir_schema.specs.Schemas.{SchemaValue}
 use Rattle.fhir_instance.specs.Items.{Item, Place, kids_of}
 use Rattle.fhir_conformance.specs.Asks.{asks, child}
-use Rattle.fhir_conformance.specs.Conformance.{Interpretation, Around, nearest_to, constant, inside, below, around_of, conforms, kid_tests, ask_conforms}
+use Rattle.fhir_conformance.specs.Conformance.{Interpretation, Around, nearest_to, as_read, inside, below, around_of, conforms, kid_tests, ask_conforms}
 use Rattle.fhir_conformance.specs.Positions.{kid_at}
 use Rattle.fhir_conformance.specs.Views.{ask_seen, asks_seen}
 use Rattle.fhir_conformance.specs.declared.ask.Ask.{Ask}
@@ -98,24 +98,24 @@ module _ (layout : LayoutValue) (p : ItemPair) (position : ℕ) (n : NodeRef) wh
       → IsThere layout p.item around → IsThere layout q (below (inside s around x) (0 + position))
   kid_there q near around there = ap (λ r. nearest_to s r (item_at layout q)) there ∙ sym near
 
-  pub asked_of : (b : Bool) (around : Around) (o : Option Item) → o ≡ kid_at (kids_of x) position
-      → get_or (kid_tests s (constant b) (inside s around x) 0 (kids_of x)) position (λ n. true) n
-      ≡ option_map_or (λ y. conforms s (constant b) (below (inside s around x) (0 + position)) y n) o true
-  asked_of b around o e =
-      test_at s (constant b) (inside s around x) 0 (kids_of x) position n
-      ∙ ap (λ o. option_map_or (λ y. conforms s (constant b) (below (inside s around x) (0 + position)) y n) o true) (sym e)
+  pub asked_of : (meaning : Interpretation) (around : Around) (o : Option Item) → o ≡ kid_at (kids_of x) position
+      → get_or (kid_tests s meaning (inside s around x) 0 (kids_of x)) position (λ n. true) n
+      ≡ option_map_or (λ y. conforms s meaning (below (inside s around x) (0 + position)) y n) o true
+  asked_of meaning around o e =
+      test_at s meaning (inside s around x) 0 (kids_of x) position n
+      ∙ ap (λ o. option_map_or (λ y. conforms s meaning (below (inside s around x) (0 + position)) y n) o true) (sym e)
 
   pub of_kid : (q : ItemPair) → q.node ≡ n → Some (item_at layout q.item) ≡ kid_at (kids_of x) position
       → resource_of layout q.item ≡ nearest_to s (resource_of layout p.item) (item_at layout q.item)
       → (a : Judgement) → IsRight layout q a → IsRightOf layout p (child position n) a
-  of_kid q same e near a right b around there =
-      right b (below (inside s around x) (0 + position)) (kid_there q.item near around there)
-      ∙ ap (conforms s (constant b) (below (inside s around x) (0 + position)) (item_at layout q.item)) same
-      ∙ sym (asked_of b around (Some (item_at layout q.item)) e)
+  of_kid q same e near a right r around there =
+      right r (below (inside s around x) (0 + position)) (kid_there q.item near around there)
+      ∙ ap (conforms s (as_read layout.given r) (below (inside s around x) (0 + position)) (item_at layout q.item)) same
+      ∙ sym (asked_of (as_read layout.given r) around (Some (item_at layout q.item)) e)
 
-  pub of_none : None ≡ kid_at (kids_of x) position → (b : Bool) (around : Around)
-      → true ≡ get_or (kid_tests s (constant b) (inside s around x) 0 (kids_of x)) position (λ n. true) n
-  of_none e b around = sym (asked_of b around None e)
+  pub of_none : None ≡ kid_at (kids_of x) position → (meaning : Interpretation) (around : Around)
+      → true ≡ get_or (kid_tests s meaning (inside s around x) 0 (kids_of x)) position (λ n. true) n
+  of_none e meaning around = sym (asked_of meaning around None e)
 
 -- the item of a number stands wherever the nearest resource is its own
 pub met_there : (layout : LayoutValue) (number : ℕ) (outermost : Item) (place : Place) → IsThere layout number (around_of outermost place (resource_of layout number))

@@ -16,11 +16,11 @@ use Rattle.fhir_fp_eval.specs.Meaning.{is_true}
 use Rattle.fhir_schema.specs.Schemas.{SchemaValue, is_root_node, element_at, target, type_root}
 use Rattle.fhir_schema.specs.Expressions.{constraint_at}
 use Rattle.fhir_instance.specs.Items.{Item, Kids, no_kids, kid, Place, type_of, kids_of}
-use Rattle.fhir_facets.specs.Unread.{Meaning, unread_constraint}
+use Rattle.fhir_facets.specs.Unread.{as_given, is_given, meaning_of, unread_constraint}
 use Rattle.fhir_conformance.specs.Positions.{kid_at}
 use Rattle.fhir_conformance.specs.Asks.{Ask, own, types, root, child, root_type, constraint, constraint_ask, own_constraint_asks, constraint_asks, facet_asks, own_root, profile_asks, kids_asks, root_asks, inner_asks, asks}
-use Rattle.fhir_conformance.specs.Conformance.{Interpretation, Around, meaning_at, nearest_to, resource_at, inside, below, conforms, kid_tests, ask_conforms, constant, outermost, Conforms, is_resource_item, constraint_holds, constraint_passes}
-use Rattle.fhir_validator.specs.Needed.{Needed, first, at_item, at_child, IsTrueOf, ConstraintsHold}
+use Rattle.fhir_conformance.specs.Conformance.{Interpretation, Around, nearest_to, resource_at, inside, below, conforms, kid_tests, ask_conforms, as_read, outermost, Conforms, is_resource_item, constraint_holds, constraint_passes}
+use Rattle.fhir_validator.specs.Needed.{Needed, first, at_item, at_child, IsTrueOrGiven, ConstraintsHold, ConstraintsHoldAsGiven}
 use Rattle.fhir_validator.proofs.Asking.{IsOfType, IsOfCanonical, conforms_to, contains_mapped}
 
 all_among : {A : Type 0} (p : A → Bool) (xs : List A) (x : A) → list_all p xs ≡ true → Contains xs x → p x ≡ true
@@ -128,27 +128,35 @@ passed : (b h : Bool) → b ≡ true → (not b || h) ≡ true → h ≡ true
 passed true h must e = e
 passed false h must e = absurd (false≢true must)
 
-read_and_true : (s : SchemaValue) (resource x : Item) (c : Constraint) (m : Meaning) → ((rule : _) → m rule ≡ false)
-    → constraint_holds s m resource x c ≡ true → IsTrueOf s resource x c
-read_and_true s resource x c m none = by (expression_of c) refl
+read_and_true : (s : SchemaValue) (texts : List Text) (resource x : Item) (c : Constraint)
+    → constraint_holds s (meaning_of texts as_given) resource x c ≡ true → IsTrueOrGiven s texts resource x c
+read_and_true s texts resource x c = by (expression_of c) refl
   where
     by : (o : Option Expression) → expression_of c ≡ o
-        → option_map_or (λ e. is_true (record { schema = s; resource = resource; context = x }) e x) o (m (unread_constraint c)) ≡ true → IsTrueOf s resource x c
-    by None f e = absurd (false≢true (sym (none (unread_constraint c)) ∙ e))
-    by (Some expression) f e = record { expression = expression; read = f; holds = e }
+        → option_map_or (λ e. is_true (record { schema = s; resource = resource; context = x }) e x) o (is_given texts (unread_constraint c)) ≡ true
+        → IsTrueOrGiven s texts resource x c
+    by None f e = inr (f, e)
+    by (Some expression) f e = inl (record { expression = expression; read = f; holds = e })
 
-pub constraints_hold : (s : SchemaValue) → IsOfType s → IsOfCanonical s → (profile : Text) (t : Tree) → Conforms s (constant false) profile t → ConstraintsHold s profile t
-constraints_hold s roots others profile t conforming node o usable typed place resource x n k needed which position c at must =
+pub constraints_hold : (s : SchemaValue) → IsOfType s → IsOfCanonical s → (texts : List Text) (profile : Text) (t : Tree)
+    → Conforms s (as_read texts as_given) profile t → ConstraintsHoldAsGiven s texts profile t
+constraints_hold s roots others texts profile t conforming node o usable typed place resource x n k needed which position c at must =
+    let M : Interpretation = as_read texts as_given in
     let same_item : conforming.itself ≡ o = same_Some conforming.itself o (sym conforming.typed ∙ typed) in
     let same_node : conforming.node ≡ node = same_Some conforming.node node (sym conforming.usable ∙ usable) in
-    let holds : IsTrue (conforms s (constant false) (outermost o) o node) =
-    subst (λ m. IsTrue (conforms s (constant false) (outermost o) o m)) same_node
-    (subst (λ y. IsTrue (conforms s (constant false) (outermost y) y conforming.node)) same_item conforming.holds) in
-    let it = stands s roots others (constant false) o node holds needed in
+    let holds : IsTrue (conforms s M (outermost o) o node) =
+    subst (λ m. IsTrue (conforms s M (outermost o) o m)) same_node
+    (subst (λ y. IsTrue (conforms s M (outermost y) y conforming.node)) same_item conforming.holds) in
+    let it = stands s roots others M o node holds needed in
     let asked = constraint_asked s x n (own (constraint position) k) (listed_with s n k position c which at) in
-    let m = meaning_at (constant false) it.0 in
+    let m = meaning_of texts as_given in
     let passes : constraint_passes s m (resource_at s it.0 x) x c ≡ true =
     sym (ap (λ o. option_map_or (constraint_passes s m (resource_at s it.0 x) x) o true) at)
-    ∙ all_asked s roots others (constant false) o node holds it.0 x n (own (constraint position) k) it.1.1 asked in
-    subst (λ r. IsTrueOf s r x c) it.1.0
-    (read_and_true s (resource_at s it.0 x) x c m (λ rule. refl) (passed (must_hold c) (constraint_holds s m (resource_at s it.0 x) x c) must passes))
+    ∙ all_asked s roots others M o node holds it.0 x n (own (constraint position) k) it.1.1 asked in
+    subst (λ r. IsTrueOrGiven s texts r x c) it.1.0
+    (read_and_true s texts (resource_at s it.0 x) x c (passed (must_hold c) (constraint_holds s m (resource_at s it.0 x) x c) must passes))
+
+-- where no rule is given, each is true
+pub none_given : (s : SchemaValue) (profile : Text) (t : Tree) → ConstraintsHoldAsGiven s [] profile t → ConstraintsHold s profile t
+none_given s profile t each node o usable typed place resource x n k needed which position c at must =
+    elim (each node o usable typed place resource x n k needed which position c at must) [ inl true_of ↦ true_of | inr given ↦ absurd (false≢true given.1) ]

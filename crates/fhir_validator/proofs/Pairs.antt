@@ -7,18 +7,18 @@ use Rattle.fhir_nodes.specs.declared.node.NodeRef.{NodeRef}
 use Rattle.fhir_validator.specs.declared.pair.ItemPair.{ItemPair}
 use Rattle.fhir_validator.specs.contracts.pair.ItemPairOrd.TheImpl.{cmp-value}
 
-abbrev same_node : NodeRef → NodeRef → Bool
+abbrev pub same_node : NodeRef → NodeRef → Bool
 same_node n m = nat_eq n.definition m.definition && nat_eq n.element m.element
 
-abbrev same_pair : ItemPair → ItemPair → Bool
+abbrev pub same_pair : ItemPair → ItemPair → Bool
 same_pair p q = nat_eq p.item q.item && same_node p.node q.node
 
-is_at_pair : (p q : ItemPair) → is_at (cmp-value.it p) q ≡ same_pair p q
+pub is_at_pair : (p q : ItemPair) → is_at (cmp-value.it p) q ≡ same_pair p q
 is_at_pair p q =
     sym (both_tied _ _ _ _ (sym (unsigned_tied p.item q.item))
     (both_tied _ _ _ _ (sym (unsigned_tied p.node.definition q.node.definition)) (sym (unsigned_tied p.node.element q.node.element))))
 
-same_pair-true : (p q : ItemPair) → IsTrue (same_pair p q) → p ≡ q
+pub same_pair-true : (p q : ItemPair) → IsTrue (same_pair p q) → p ≡ q
 same_pair-true p q h =
     let k = and_parts (nat_eq p.item q.item) (same_node p.node q.node) h in
     let l = and_parts (nat_eq p.node.definition q.node.definition) (nat_eq p.node.element q.node.element) k.1 in

@@ -7,6 +7,7 @@ use Rattle.std.specs.Option.{option_map, option_map_or}
 use Rattle.std.proofs.lemmas.List.{get_or_append_left, get_or-append-add, length-append}
 use Rattle.std.proofs.lemmas.Option.{slice_get_past, slice_get-get_or}
 use Rattle.std.proofs.lemmas.List.{length-map, map-append, append_assoc, take_more, take_all}
+use Rattle.fhir_json.specs.Tree.{Text}
 use Rattle.fhir_schema.specs.Schemas.{SchemaValue}
 use Rattle.fhir_nodes.specs.declared.node.NodeRef.{NodeRef}
 use Rattle.fhir_instance.specs.Items.{Item, Kids, no_kids, kid, kids_of, kids_in}
@@ -216,9 +217,9 @@ nearest_at s [] i h each = absurd (omega arith)
 nearest_at s (stand ∷ stands) zero h each = each.0.nearest
 nearest_at s (stand ∷ stands) (suc i) h each = nearest_at s stands i (omega arith) each.1
 
-module _ (s : SchemaValue) (stands : List Stand) where
+module _ (s : SchemaValue) (given : List Text) (stands : List Stand) where
   abbrev pub row : LayoutValue
-  row = laid_out s stands
+  row = laid_out s given stands
 
   pub long : length row.spots ≡ length stands
   long = length-map stands spot_in

@@ -1,34 +1,37 @@
 -- What is listed of a pair.
-use Rattle.std.proofs.Common.{◌≡◌, ◌<◌, ◌+◌, ◌++◌, ◌∷◌, [], ℕ, zero, suc, Bool, true, false, List, map, length, take, get_or, refl, sym, ap, ◌∙◌, ◌&&◌, subst, arith, IsTrue, Some, ◌⊎◌, inl, inr}
+use Rattle.std.proofs.Common.{◌≡◌, ◌<◌, ◌++◌, ◌∷◌, [], ℕ, zero, suc, Bool, true, false, List, map, length, get_or, refl, sym, ap, ◌∙◌, subst, arith, IsTrue, Some}
 use Rattle.std.specs.Prelude.{Result, Ok, Err, OnOk}
-use Rattle.std.specs.List.{list_all, Contains}
+use Rattle.std.specs.List.{list_all, AllByRecursion, Contains}
+use Rattle.std.specs.BTreeSet.{contains}
 use Rattle.std.proofs.lemmas.Bool.{false≢true}
 use Rattle.std.proofs.lemmas.List.{length-append}
 use Rattle.std.proofs.lemmas.List.Elements.{Contains-get_or}
-use Rattle.std.proofs.lemmas.List.Folds.{list_all_more, list_all_at}
+use Rattle.std.proofs.lemmas.List.Folds.{list_all_at}
 use Rattle.fhir_nodes.specs.declared.node.NodeRef.{NodeRef}
 use Rattle.fhir_schema.specs.Schemas.{SchemaValue}
 use Rattle.fhir_instance.specs.Items.{Item, Place}
 use Rattle.fhir_facets.specs.Views.{unread_seen}
 use Rattle.fhir_facets.specs.declared.unread.Unread.{Unread}
-use Rattle.fhir_facets.specs.Unread.{Unread as UnreadRule}
+use Rattle.fhir_facets.specs.Unread.{Unread as UnreadRule, Reading, lenient, meaning_of}
 use Rattle.fhir_conformance.specs.Asks.{ElementRuleName, Ask, own, asks}
-use Rattle.fhir_conformance.specs.Conformance.{Around, around_of, constant, ask_conforms, rule_holds}
+use Rattle.fhir_conformance.specs.Conformance.{Interpretation, Around, around_of, as_read, ask_conforms, rule_holds}
 use Rattle.fhir_conformance.specs.Meeting.{Met, ask_unread}
 use Rattle.fhir_conformance.specs.Views.{ask_seen, asks_seen}
 use Rattle.fhir_conformance.specs.declared.ask.Ask.{Ask as AskValue}
 use Rattle.fhir_validator.specs.declared.judgement.Judgement.{Judgement}
-use Rattle.fhir_validator.specs.declared.judgement.Judgement.TheVariants.{Holds, Open, Fails}
+use Rattle.fhir_validator.specs.declared.judgement.Judgement.TheVariants.{Holds, Given, Open, Fails}
 use Rattle.fhir_validator.specs.declared.issue.Breach.{Breach}
 use Rattle.fhir_validator.specs.declared.issue.Issue.{Issue}
 use Rattle.fhir_validator.specs.declared.issue.Issue.TheVariants.{Broken}
 use Rattle.fhir_validator.specs.declared.issue.Site.{Site}
 use Rattle.fhir_validator.specs.declared.pair.ItemPair.{ItemPair}
-use Rattle.fhir_validator.specs.Judgements.{under}
+use Rattle.fhir_validator.specs.contracts.pair.ItemPairOrd.TheImpl.{cmp-value}
+use Rattle.fhir_validator.specs.Judgements.{under, same_judgement}
 use Rattle.fhir_validator.specs.Judging.{IsThere, IsRightOf}
 use Rattle.fhir_validator.specs.Layouts.{LayoutValue, item_at, resource_of}
-use Rattle.fhir_validator.specs.Issues.{Said, told_of, IsNamed, IsBroken, IsOpenAt, rule_said}
-use Rattle.fhir_validator.specs.Listing.{same_judgement, side, is_filled, ListingValue, IsFound, IsAllowed, IsAskedBy, IsToList, IsHanging, Grown, Lists}
+use Rattle.fhir_validator.specs.Issues.{Said, told_of, IsNamed, IsBroken, rule_said}
+use Rattle.fhir_validator.specs.Verdicts.{IsHeld}
+use Rattle.fhir_validator.specs.Listing.{lower, upper, is_hanging, IsOver, ListingValue, Leaves, IsClear, RuleIsTold, IsLeftBy, MarksAreTold, IsFound, IsFoundSite, IsAllowed, IsAskedBy, IsToList, IsHanging, Grown, Lists}
 use Rattle.fhir_validator.proofs.Judged.{met_there}
 use Rattle.fhir_validator.proofs.Rows.{all_pushed}
 
@@ -45,60 +48,81 @@ pub of_made : {A E : Type 0} (P : ListingValue → Type 0) (made new : ListingVa
 of_made P made new (Ok a) e h = subst P (sym e) h
 of_made P made new (Err e) f h = tt
 
-some_pushed : {A : Type 0} (xs : List A) (x : A) → 0 < length (xs ++ x ∷ [])
-some_pushed xs x = omega (arith, length-append xs (x ∷ []))
+pub same_is : (a w : Judgement) → same_judgement a w ≡ true → a ≡ w
+same_is Holds Holds e = refl
+same_is Given Given e = refl
+same_is Open Open e = refl
+same_is Fails Fails e = refl
+same_is Holds Given e = absurd (false≢true e)
+same_is Holds Open e = absurd (false≢true e)
+same_is Holds Fails e = absurd (false≢true e)
+same_is Given Holds e = absurd (false≢true e)
+same_is Given Open e = absurd (false≢true e)
+same_is Given Fails e = absurd (false≢true e)
+same_is Open Holds e = absurd (false≢true e)
+same_is Open Given e = absurd (false≢true e)
+same_is Open Fails e = absurd (false≢true e)
+same_is Fails Holds e = absurd (false≢true e)
+same_is Fails Given e = absurd (false≢true e)
+same_is Fails Open e = absurd (false≢true e)
 
-module _ (issues : List Issue) (sites : List Site) where
-  -- what fails, where `u` is what it comes to on the side that is wanted
-  pub told_broken : (w : Judgement) (t u : Bool) → false ≡ t → IsAllowed w t → 0 < length issues → IsTrue u ⊎ is_filled w issues sites
-  told_broken Holds t u fails allowed some = inr tt
-  told_broken Open t u fails allowed some = absurd (false≢true (fails ∙ allowed))
-  told_broken Fails t u fails allowed some = inr some
+-- What has another judgement than the wanted one, and may be there, holds by the reading by which what is wanted doesn't.
+pub not_wanted : (w a : Judgement) (issues : List Issue) (sites : List Site) (meaning : Interpretation)
+    → IsAllowed w (under (upper w) a) → same_judgement a w ≡ false → IsClear w issues sites meaning → IsTrue (under (lower w) a)
+not_wanted Holds a issues sites meaning allowed other clear = absurd clear
+not_wanted Given Holds issues sites meaning allowed other clear = refl
+not_wanted Given Given issues sites meaning allowed other clear = absurd (false≢true (sym other))
+not_wanted Given Open issues sites meaning allowed other clear = absurd (false≢true allowed)
+not_wanted Given Fails issues sites meaning allowed other clear = absurd (false≢true allowed)
+not_wanted Open Holds issues sites meaning allowed other clear = refl
+not_wanted Open Given issues sites meaning allowed other clear = refl
+not_wanted Open Open issues sites meaning allowed other clear = absurd (false≢true (sym other))
+not_wanted Open Fails issues sites meaning allowed other clear = absurd (false≢true allowed)
+not_wanted Fails Holds issues sites meaning allowed other clear = refl
+not_wanted Fails Given issues sites meaning allowed other clear = refl
+not_wanted Fails Open issues sites meaning allowed other clear = refl
+not_wanted Fails Fails issues sites meaning allowed other clear = absurd (false≢true (sym other))
 
-  -- what is open
-  pub told_other : (w : Judgement) (u : Bool) → side w ≡ u → same_judgement w Open ≡ false → IsTrue u ⊎ is_filled w issues sites
-  told_other Holds u hangs other = inr tt
-  told_other Open u hangs other = absurd (false≢true (sym other))
-  told_other Fails u hangs other = inl (sym hangs)
+-- what fails may be listed, and then no meaning is left
+pub none_fails : (w : Judgement) (issues : List Issue) (x : Issue) (sites : List Site) (meaning : Interpretation)
+    → IsAllowed w false → IsClear w (issues ++ x ∷ []) sites meaning → ⊥
+none_fails Holds issues x sites meaning allowed clear = clear
+none_fails Given issues x sites meaning allowed clear = false≢true allowed
+none_fails Open issues x sites meaning allowed clear = false≢true allowed
+none_fails Fails issues x sites meaning allowed clear = omega (arith, ap length clear, length-append issues (x ∷ []))
 
-  pub told_open : (w : Judgement) (u : Bool) → same_judgement w Open ≡ true → 0 < length sites → IsTrue u ⊎ is_filled w issues sites
-  told_open Holds u same some = absurd (false≢true same)
-  told_open Open u same some = inr some
-  told_open Fails u same some = absurd (false≢true same)
+all_before : {A : Type 0} (P : A → Type 0) (xs : List A) (x : A) → AllByRecursion P (xs ++ x ∷ []) → AllByRecursion P xs
+all_before P [] x each = tt
+all_before P (y ∷ xs) x each = (each.0, all_before P xs x each.1)
 
-  pub told_same : (w a : Judgement) (here there : Bool → Bool) → ((b : Bool) → under b a ≡ here b) → ((b : Bool) → under b a ≡ there b) → IsAllowed w (here true)
-      → same_judgement a w ≡ false → IsTrue (there (side w)) ⊎ is_filled w issues sites
-  told_same Holds a here there is was allowed other = inr tt
-  told_same Open Holds here there is was allowed other = inl (sym (was false))
-  told_same Open Open here there is was allowed other = absurd (false≢true (sym other))
-  told_same Open Fails here there is was allowed other = absurd (false≢true (is true ∙ allowed))
-  told_same Fails Holds here there is was allowed other = inl (sym (was true))
-  told_same Fails Open here there is was allowed other = inl (sym (was true))
-  told_same Fails Fails here there is was allowed other = absurd (false≢true (sym other))
+all_last : {A : Type 0} (P : A → Type 0) (xs : List A) (x : A) → AllByRecursion P (xs ++ x ∷ []) → P x
+all_last P [] x each = each.0
+all_last P (y ∷ xs) x each = all_last P xs x each.1
 
-  pub told_last : (w : Judgement) (t : Bool) → under (side w) w ≡ t → IsTrue t ⊎ is_filled w issues sites → is_filled w issues sites
-  told_last Holds t is told = tt
-  told_last Open t is told = elim told [ inl all ↦ absurd (false≢true (is ∙ all)) | inr filled ↦ filled ]
-  told_last Fails t is told = elim told [ inl all ↦ absurd (false≢true (is ∙ all)) | inr filled ↦ filled ]
+-- more that is listed leaves less
+pub issue_left : (w : Judgement) (issues : List Issue) (sites : List Site) (x : Issue) (meaning : Interpretation)
+    → IsClear w (issues ++ x ∷ []) sites meaning → IsClear w issues sites meaning
+issue_left Holds issues sites x meaning clear = clear
+issue_left Given issues sites x meaning clear = clear
+issue_left Open issues sites x meaning clear = clear
+issue_left Fails issues sites x meaning clear = absurd (none_fails Fails issues x sites meaning tt clear)
 
-pub more_told : {A : Type 0} (P Q : Type 0) (p : A → Bool) (xs : List A) (i : ℕ) (d : A) → i < length xs → (P → Q)
-    → IsTrue (list_all p (take i xs)) ⊎ P → IsTrue (p (get_or xs i d)) ⊎ Q → IsTrue (list_all p (take (i + 1) xs)) ⊎ Q
-more_told P Q p xs i d h kept so_far one =
-    elim so_far [
-      | inl all ↦ elim one [ inl this ↦ inl (list_all_more p xs i d h ∙ (λ j. all j && this j)) | inr filled ↦ inr filled ]
-      | inr filled ↦ inr (kept filled)
-    ]
+pub site_left : (w : Judgement) (issues : List Issue) (sites : List Site) (x : Site) (meaning : Interpretation)
+    → IsClear w issues (sites ++ x ∷ []) meaning → IsClear w issues sites meaning
+site_left Holds issues sites x meaning clear = clear
+site_left Given issues sites x meaning clear = all_before (IsHeld meaning) sites x clear
+site_left Open issues sites x meaning clear = absurd (omega (arith, ap length clear, length-append sites (x ∷ [])))
+site_left Fails issues sites x meaning clear = clear
 
-pub allowed_at : {A : Type 0} (w : Judgement) (p : A → Bool) (xs : List A) (i : ℕ) (d : A) → i < length xs → under true w ≡ list_all p xs → IsAllowed w (p (get_or xs i d))
-allowed_at Holds p xs i d h is = tt
-allowed_at Open p xs i d h is = by_case (p (get_or xs i d)) refl
-  where
-    by_case : (b : Bool) → p (get_or xs i d) ≡ b → IsTrue b
-    by_case true e = refl
-    by_case false e = absurd (false≢true (sym (list_all_at p xs i d h e) ∙ sym is))
-allowed_at Fails p xs i d h is = tt
+-- what a site leaves
+pub site_leaves : (w : Judgement) (issues : List Issue) (sites : List Site) (x : Site) (meaning : Interpretation)
+    → IsClear w issues (sites ++ x ∷ []) meaning → IsLeftBy w meaning (unread_seen x.unread)
+site_leaves Holds issues sites x meaning clear = tt
+site_leaves Given issues sites x meaning clear = all_last (IsHeld meaning) sites x clear
+site_leaves Open issues sites x meaning clear = absurd (omega (arith, ap length clear, length-append sites (x ∷ [])))
+site_leaves Fails issues sites x meaning clear = tt
 
-contains_map : {A B : Type 0} (f : A → B) (xs : List A) (i : ℕ) (d : A) → i < length xs → get_or (map f xs) i (f d) ≡ f (get_or xs i d)
+pub contains_map : {A B : Type 0} (f : A → B) (xs : List A) (i : ℕ) (d : A) → i < length xs → get_or (map f xs) i (f d) ≡ f (get_or xs i d)
 contains_map f [] i d h = refl
 contains_map f (x ∷ xs) zero d h = refl
 contains_map f (x ∷ xs) (suc i) d h = contains_map f xs i d (omega arith)
@@ -112,43 +136,36 @@ asked_at s x n xs i d e h =
     long [] = refl
     long (x ∷ xs) = ap suc (long xs)
 
-pub same_is : (a w : Judgement) → same_judgement a w ≡ true → a ≡ w
-same_is Holds Holds e = refl
-same_is Holds Open e = absurd (false≢true e)
-same_is Holds Fails e = absurd (false≢true e)
-same_is Open Holds e = absurd (false≢true e)
-same_is Open Open e = refl
-same_is Open Fails e = absurd (false≢true e)
-same_is Fails Holds e = absurd (false≢true e)
-same_is Fails Open e = absurd (false≢true e)
-same_is Fails Fails e = refl
-
-pub is_open : (w : Judgement) → same_judgement w Open ≡ true → w ≡ Open
-is_open Holds e = absurd (false≢true e)
-is_open Open e = refl
-is_open Fails e = absurd (false≢true e)
-
--- what is filled stays so
-pub issue_kept : (w : Judgement) (issues : List Issue) (sites : List Site) (x : Issue) → is_filled w issues sites → is_filled w (issues ++ x ∷ []) sites
-issue_kept Holds issues sites x h = tt
-issue_kept Open issues sites x h = h
-issue_kept Fails issues sites x h = some_pushed issues x
-
-pub site_kept : (w : Judgement) (issues : List Issue) (sites : List Site) (x : Site) → is_filled w issues sites → is_filled w issues (sites ++ x ∷ [])
-site_kept Holds issues sites x h = tt
-site_kept Open issues sites x h = some_pushed sites x
-site_kept Fails issues sites x h = h
+pub allowed_at : {A : Type 0} (w : Judgement) (p : A → Bool) (xs : List A) (i : ℕ) (d : A) → i < length xs → under (upper w) w ≡ list_all p xs → IsAllowed w (p (get_or xs i d))
+allowed_at Holds p xs i d h is = tt
+allowed_at Given p xs i d h is = by_case (p (get_or xs i d)) refl
+  where
+    by_case : (b : Bool) → p (get_or xs i d) ≡ b → IsTrue b
+    by_case true e = refl
+    by_case false e = absurd (false≢true (sym (list_all_at p xs i d h e) ∙ sym is))
+allowed_at Open p xs i d h is = by_case (p (get_or xs i d)) refl
+  where
+    by_case : (b : Bool) → p (get_or xs i d) ≡ b → IsTrue b
+    by_case true e = refl
+    by_case false e = absurd (false≢true (sym (list_all_at p xs i d h e) ∙ sym is))
+allowed_at Fails p xs i d h is = tt
 
 abbrev pub IsMet : LayoutValue → ItemPair → Item → NodeRef → Place → Type 0
 IsMet layout p outermost profile place = Met layout.schema outermost profile place (resource_of layout p.item) (item_at layout p.item) p.node
 
+-- where nothing is marked anew and less is left, what is marked is told still
+pub marks_kept : (layout : LayoutValue) (old new : ListingValue) → new.marks ≡ old.marks
+    → ((meaning : Interpretation) → Leaves layout new meaning → Leaves layout old meaning) → MarksAreTold layout old → MarksAreTold layout new
+marks_kept layout old new e left told q is meaning leaves = told q (sym (ap (λ m. contains cmp-value.it m q) e) ∙ is) meaning (left meaning leaves)
+
 pub grown_none : (layout : LayoutValue) (p : ItemPair) (listing : ListingValue) → Grown layout p listing listing
-grown_none layout p listing = record { wanted = refl; kept = λ h. h; found = λ o profile place met h. h }
+grown_none layout p listing = record { wanted = refl; left = λ meaning h. h; marked = λ h. h; found = λ o profile place met h. h }
 
 pub grown_more : (layout : LayoutValue) (p : ItemPair) (one two three : ListingValue) → Grown layout p one two → Grown layout p two three → Grown layout p one three
 grown_more layout p one two three less more = record {
   wanted = more.wanted ∙ less.wanted;
-  kept = λ h. more.kept (less.kept h);
+  left = λ meaning h. less.left meaning (more.left meaning h);
+  marked = λ h. more.marked (less.marked h);
   found = λ o profile place met h. more.found o profile place met (less.found o profile place met h);
 }
 
@@ -158,11 +175,17 @@ pub grown_by : (layout : LayoutValue) (p q : ItemPair) (old new : ListingValue)
     → Grown layout q old new → Grown layout p old new
 grown_by layout p q old new f grown = record {
   wanted = grown.wanted;
-  kept = grown.kept;
+  left = grown.left;
+  marked = grown.marked;
   found = λ o profile place met h. let there = f o profile place met in grown.found o profile there.0 there.1 h;
 }
 
--- what is put into a listing
+-- a rule that was told is told still
+pub rule_kept : (layout : LayoutValue) (p : ItemPair) (old new : ListingValue) (rule : UnreadRule) → Grown layout p old new → RuleIsTold layout old rule → RuleIsTold layout new rule
+rule_kept layout p old new rule grown told meaning leaves = subst (λ w. IsLeftBy w meaning rule) (sym grown.wanted) (told meaning (grown.left meaning leaves))
+
+-- ---- what is put into a listing
+
 module _ (layout : LayoutValue) (p : ItemPair) (node : NodeRef) (old : ListingValue) where
   broken_at : (ask : Ask) (said : Said) (breach : Breach) → IsAskedBy layout p ask → told_of layout.schema (item_at layout p.item) p.node ask ≡ Some (node, said)
       → IsRightOf layout p ask Fails → breach.node ≡ node → rule_said breach.rule ≡ said → IsNamed layout.schema node breach.url.now breach.id.now
@@ -175,7 +198,7 @@ module _ (layout : LayoutValue) (p : ItemPair) (node : NodeRef) (old : ListingVa
     ask = ask;
     met = met;
     asked = asked;
-    fails = sym (fails true (around_of outermost place (resource_of layout p.item)) (met_there layout p.item outermost place));
+    fails = sym (fails lenient (around_of outermost place (resource_of layout p.item)) (met_there layout p.item outermost place));
     told = told ∙ (λ j. Some (sym e j, sym f j));
     named = subst (λ m. IsNamed layout.schema m breach.url.now breach.id.now) (sym e) named;
   }
@@ -183,27 +206,34 @@ module _ (layout : LayoutValue) (p : ItemPair) (node : NodeRef) (old : ListingVa
   pub broken_lists : (ask : Ask) (said : Said) (breach : Breach) → IsToList layout old p ask → told_of layout.schema (item_at layout p.item) p.node ask ≡ Some (node, said)
       → IsRightOf layout p ask Fails → breach.node ≡ node → rule_said breach.rule ≡ said → IsNamed layout.schema node breach.url.now breach.id.now
       → Lists layout p ask old (record old { issues = old.issues ++ Broken breach ∷ [] })
-  broken_lists ask said breach listed told fails e f named = record {
-    grown = record {
-      wanted = refl;
-      kept = issue_kept old.wanted old.issues old.sites (Broken breach);
-      found = λ o profile place met before. (
-        all_pushed (IsFound layout.schema o profile) old.issues (Broken breach) before.0 (broken_at ask said breach listed.asked told fails e f named o profile place met),
-        before.1,
-      );
-    };
-    told = λ around there.
-        told_broken (old.issues ++ Broken breach ∷ []) old.sites old.wanted
-        (ask_conforms layout.schema (constant true) listed.allowed.0 (item_at layout p.item) ask) (ask_conforms layout.schema (constant (side old.wanted)) around (item_at layout p.item) ask)
-        (fails true listed.allowed.0 listed.allowed.1) listed.allowed.2 (some_pushed old.issues (Broken breach));
-  }
+  broken_lists ask said breach listed told fails e f named =
+      let new : ListingValue = record old { issues = old.issues ++ Broken breach ∷ [] } in
+      let left : (meaning : Interpretation) → Leaves layout new meaning → Leaves layout old meaning =
+      λ meaning h. record { over = h.over; clear = issue_left old.wanted old.issues old.sites (Broken breach) meaning h.clear } in
+      record {
+        grown = record {
+          wanted = refl;
+          left = left;
+          marked = marks_kept layout old new refl left;
+          found = λ o profile place met before. (
+            all_pushed (IsFound layout.schema o profile) old.issues (Broken breach) before.0 (broken_at ask said breach listed.asked told fails e f named o profile place met),
+            before.1,
+          );
+        };
+        told = λ marked meaning leaves around there.
+            absurd (none_fails old.wanted old.issues (Broken breach) old.sites meaning
+            (subst (IsAllowed old.wanted) (sym (fails (upper old.wanted) listed.allowed.0 listed.allowed.1)) listed.allowed.2) leaves.clear);
+      }
 
-  open_at : (rule : UnreadRule) → IsHanging layout p node rule → (site : Site) (unread : Unread) → site.node ≡ node → site.unread ≡ unread → unread_seen unread ≡ rule
+  hanging_at : (rule : UnreadRule) → IsHanging layout old.wanted p node rule → (site : Site) (unread : Unread) → site.node ≡ node → site.unread ≡ unread → unread_seen unread ≡ rule
+      → under (upper old.wanted) old.wanted ≡ true → under (lower old.wanted) old.wanted ≡ false
       → IsNamed layout.schema node site.url.now site.id.now
-      → (outermost : Item) (profile : NodeRef) (place : Place) → IsMet layout p outermost profile place → IsOpenAt layout.schema outermost profile site
-  open_at rule hanging site unread e f g named outermost profile place met =
+      → (outermost : Item) (profile : NodeRef) (place : Place) → IsMet layout p outermost profile place
+      → IsFoundSite layout.schema layout.given old.wanted outermost profile site
+  hanging_at rule hanging site unread e f g above below named outermost profile place met =
       let here = around_of outermost place (resource_of layout p.item) in
       let there = met_there layout p.item outermost place in
+      let same : unread_seen site.unread ≡ rule = ap unread_seen f ∙ g in
       record {
         place = place;
         resource = resource_of layout p.item;
@@ -214,54 +244,74 @@ module _ (layout : LayoutValue) (p : ItemPair) (node : NodeRef) (old : ListingVa
         met = met;
         asked = hanging.asked;
         told = hanging.told ∙ (λ j. Some (sym e j, hanging.said));
-        carried = subst (Contains (ask_unread layout.schema (item_at layout p.item) hanging.ask)) (sym g ∙ ap unread_seen (sym f)) hanging.carried;
-        full = sym (hanging.hangs true here there);
-        empty = sym (hanging.hangs false here there);
+        carried = subst (Contains (ask_unread layout.schema (item_at layout p.item) hanging.ask)) (sym same) hanging.carried;
+        holds = sym (hanging.hangs (upper old.wanted) here there) ∙ above;
+        fails = sym (hanging.hangs (lower old.wanted) here there) ∙ below;
+        rule_holds = ap (meaning_of layout.given (upper old.wanted)) same ∙ hanging.between.0;
+        rule_fails = ap (meaning_of layout.given (lower old.wanted)) same ∙ hanging.between.1;
         named = subst (λ m. IsNamed layout.schema m site.url.now site.id.now) (sym e) named;
       }
 
-  pub site_grown : (rule : UnreadRule) → IsHanging layout p node rule → (site : Site) (unread : Unread) → site.node ≡ node → site.unread ≡ unread → unread_seen unread ≡ rule
+  pub site_grown : (rule : UnreadRule) → IsHanging layout old.wanted p node rule → (site : Site) (unread : Unread) → site.node ≡ node → site.unread ≡ unread → unread_seen unread ≡ rule
+      → under (upper old.wanted) old.wanted ≡ true → under (lower old.wanted) old.wanted ≡ false
       → IsNamed layout.schema node site.url.now site.id.now → Grown layout p old (record old { sites = old.sites ++ site ∷ [] })
-  site_grown rule hanging site unread e f g named = record {
-    wanted = refl;
-    kept = site_kept old.wanted old.issues old.sites site;
-    found = λ o profile place met before. (before.0, all_pushed (IsOpenAt layout.schema o profile) old.sites site before.1 (open_at rule hanging site unread e f g named o profile place met));
-  }
+  site_grown rule hanging site unread e f g above below named =
+      let new : ListingValue = record old { sites = old.sites ++ site ∷ [] } in
+      let left : (meaning : Interpretation) → Leaves layout new meaning → Leaves layout old meaning =
+      λ meaning h. record { over = h.over; clear = site_left old.wanted old.issues old.sites site meaning h.clear } in
+      record {
+        wanted = refl;
+        left = left;
+        marked = marks_kept layout old new refl left;
+        found = λ o profile place met before. (
+          before.0,
+          all_pushed (IsFoundSite layout.schema layout.given old.wanted o profile) old.sites site before.1 (hanging_at rule hanging site unread e f g above below named o profile place met),
+        );
+      }
 
-pub site_listed : (old : ListingValue) (site : Site) → 0 < length (old.sites ++ site ∷ [])
-site_listed old site = some_pushed old.sites site
+  pub site_told : (site : Site) (unread : Unread) → site.unread ≡ unread → RuleIsTold layout (record old { sites = old.sites ++ site ∷ [] }) (unread_seen unread)
+  site_told site unread f meaning leaves =
+      subst (IsLeftBy old.wanted meaning) (ap unread_seen f) (site_leaves old.wanted old.issues old.sites site meaning leaves.clear)
+
+-- by what hangs on unread rules the one reading differs from the other
+pub hangs_above : (w : Judgement) → is_hanging w ≡ true → under (upper w) w ≡ true
+hangs_above Holds e = absurd (false≢true e)
+hangs_above Given e = refl
+hangs_above Open e = refl
+hangs_above Fails e = absurd (false≢true e)
+
+pub hangs_below : (w : Judgement) → is_hanging w ≡ true → under (lower w) w ≡ false
+hangs_below Holds e = absurd (false≢true e)
+hangs_below Given e = refl
+hangs_below Open e = refl
+hangs_below Fails e = refl
 
 -- what may be listed may be so later
 pub to_list_since : (layout : LayoutValue) (p : ItemPair) (ask : Ask) (old new : ListingValue) → new.wanted ≡ old.wanted → IsToList layout old p ask → IsToList layout new p ask
 to_list_since layout p ask old new e h = record {
   asked = h.asked;
   allowed =
-      subst (λ w. (around : Around) × IsThere layout p.item around × IsAllowed w (ask_conforms layout.schema (constant true) around (item_at layout p.item) ask)) (sym e) h.allowed;
+      subst (λ w. (around : Around) × IsThere layout p.item around × IsAllowed w (ask_conforms layout.schema (as_read layout.given (upper w)) around (item_at layout p.item) ask)) (sym e) h.allowed;
 }
 
--- what is listed of an ask by its judgement
-module _ (layout : LayoutValue) (p : ItemPair) (ask : Ask) (old : ListingValue) where
-  pub lists_held : IsRightOf layout p ask Holds → Lists layout p ask old old
-  lists_held right = record { grown = grown_none layout p old; told = λ around there. inl (sym (right (side old.wanted) around there)) }
-
-  pub lists_other : IsRightOf layout p ask Open → same_judgement old.wanted Open ≡ false → Lists layout p ask old old
-  lists_other right other = record {
-    grown = grown_none layout p old;
-    told = λ around there.
-        told_other old.issues old.sites old.wanted (ask_conforms layout.schema (constant (side old.wanted)) around (item_at layout p.item) ask) (right (side old.wanted) around there) other;
-  }
-
-  pub lists_open : (new : ListingValue) → same_judgement old.wanted Open ≡ true → 0 < length new.sites → Grown layout p old new → Lists layout p ask old new
-  lists_open new same some grown = record {
-    grown = grown;
-    told = λ around there.
-        let u = ask_conforms layout.schema (constant (side old.wanted)) around (item_at layout p.item) ask in
-        subst (λ w. IsTrue u ⊎ is_filled w new.issues new.sites) (sym grown.wanted) (told_open new.issues new.sites old.wanted u same some);
-  }
+-- An ask that has another judgement than the wanted one is told, and nothing is listed. It is one of those that hold by each meaning
+-- that says no less.
+pub lists_other : (layout : LayoutValue) (p : ItemPair) (ask : Ask) (old : ListingValue) (a : Judgement)
+    → ((less more : Interpretation) → IsOver less more → (around : Around) → IsTrue (ask_conforms layout.schema less around (item_at layout p.item) ask)
+    → IsTrue (ask_conforms layout.schema more around (item_at layout p.item) ask))
+    → IsToList layout old p ask → IsRightOf layout p ask a → same_judgement a old.wanted ≡ false → Lists layout p ask old old
+lists_other layout p ask old a raised listed right other = record {
+  grown = grown_none layout p old;
+  told = λ marked meaning leaves around there.
+      raised (as_read layout.given (lower old.wanted)) meaning leaves.over around
+      (sym (right (lower old.wanted) around there)
+      ∙ not_wanted old.wanted a old.issues old.sites meaning
+      (subst (IsAllowed old.wanted) (sym (right (upper old.wanted) listed.allowed.0 listed.allowed.1)) listed.allowed.2) other leaves.clear);
+}
 
 -- a rule by its item's own nearest resource, and where the item stands
 pub judged_there : (layout : LayoutValue) (p : ItemPair) (rule : ElementRuleName) (node : NodeRef) (a : Judgement)
-    → ((b : Bool) → under b a ≡ rule_holds layout.schema (λ u. b) (resource_of layout p.item) (item_at layout p.item) rule node)
+    → ((r : Reading) → under r a ≡ rule_holds layout.schema (meaning_of layout.given r) (resource_of layout p.item) (item_at layout p.item) rule node)
     → IsRightOf layout p (own rule node) a
-judged_there layout p rule node a right b around there =
-    right b ∙ ap (λ (r : Item). rule_holds layout.schema (λ u. b) r (item_at layout p.item) rule node) (sym there)
+judged_there layout p rule node a right r around there =
+    right r ∙ ap (λ (z : Item). rule_holds layout.schema (meaning_of layout.given r) z (item_at layout p.item) rule node) (sym there)

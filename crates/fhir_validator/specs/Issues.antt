@@ -14,12 +14,13 @@ use Rattle.fhir_schema.specs.Expressions.{constraint_at}
 use Rattle.fhir_instance.specs.Items.{Item, Place, kids_of}
 use Rattle.fhir_instance.specs.Typing.{Types}
 use Rattle.fhir_facets.specs.Cardinality.{least_of}
+use Rattle.fhir_facets.specs.Unread.{Reading, strict, as_given, lenient, meaning_of}
 use Rattle.fhir_facets.specs.Views.{unread_seen}
 use Rattle.fhir_slicing.specs.Belonging.{two_slices}
 use Rattle.fhir_conformance.specs.Asks as asked
 use Rattle.fhir_conformance.specs.Asks.{ElementRuleName, Ask, own, asks}
 use Rattle.fhir_conformance.specs.Positions.{kid_at}
-use Rattle.fhir_conformance.specs.Conformance.{count_of, count_in, constant, around_of, ask_conforms}
+use Rattle.fhir_conformance.specs.Conformance.{count_of, count_in, constant, as_read, around_of, ask_conforms}
 use Rattle.fhir_conformance.specs.Meeting.{Met, ask_unread}
 use Rattle.fhir_validator.specs.declared.broken_rule.BrokenRule.{BrokenRule}
 use Rattle.fhir_validator.specs.declared.broken_rule.BrokenRule.TheVariants.{RootType, Types as OfTypes, Fixed, Pattern, Range, Length, Binding, TooFew, TooMany, InSlices, InNoSlice, Constraint}
@@ -129,8 +130,9 @@ IsIssue s profile t (Broken breach) =
 
 -- ---- sites
 
--- What the node of a pair asks hangs on what unread rules mean, and on this one of them.
-pub record IsOpenAt (s : SchemaValue) (outermost : Item) (profile : NodeRef) (site : Site) : Type 0 where
+-- What the node of a pair asks holds by one reading of the unread rules and not by another, and so does this one of them, on which
+-- it hangs.
+pub record IsHangingAt (s : SchemaValue) (texts : List Text) (lower upper : Reading) (outermost : Item) (profile : NodeRef) (site : Site) : Type 0 where
   pub place : Place
   pub resource : Item
   pub itself : Item
@@ -141,9 +143,18 @@ pub record IsOpenAt (s : SchemaValue) (outermost : Item) (profile : NodeRef) (si
   pub asked : Contains (asks s itself node) ask
   pub told : told_of s itself node ask ≡ Some (site.node, said)
   pub carried : Contains (ask_unread s itself ask) (unread_seen site.unread)
-  pub full : IsTrue (ask_conforms s (constant true) (around_of outermost place resource) itself ask)
-  pub empty : ask_conforms s (constant false) (around_of outermost place resource) itself ask ≡ false
+  pub holds : IsTrue (ask_conforms s (as_read texts upper) (around_of outermost place resource) itself ask)
+  pub fails : ask_conforms s (as_read texts lower) (around_of outermost place resource) itself ask ≡ false
+  pub rule_holds : IsTrue (meaning_of texts upper (unread_seen site.unread))
+  pub rule_fails : meaning_of texts lower (unread_seen site.unread) ≡ false
   pub named : IsNamed s site.node site.url.now site.id.now
 
-abbrev pub IsSite : SchemaValue → Text → Tree → Site → Type 0
-IsSite s profile t site = (n : NodeRef) × (x : Item) × (root s profile ≡ Some n) × Types s t x × IsOpenAt s x n site
+-- where a user vouches for rules by these texts: one that isn't given, and on which something hangs that fails as given
+abbrev pub IsSite : SchemaValue → List Text → Text → Tree → Site → Type 0
+IsSite s texts profile t site =
+    (n : NodeRef) × (x : Item) × (root s profile ≡ Some n) × Types s t x × IsHangingAt s texts as_given lenient x n site
+
+-- a given one, on which something rests that holds as given, and that fails where no unread rule holds
+abbrev pub IsRelied : SchemaValue → List Text → Text → Tree → Site → Type 0
+IsRelied s texts profile t site =
+    (n : NodeRef) × (x : Item) × (root s profile ≡ Some n) × Types s t x × IsHangingAt s texts strict as_given x n site

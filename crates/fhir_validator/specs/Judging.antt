@@ -3,9 +3,9 @@ use Rattle.std.specs.Prelude.{◌≡◌, ℕ, Bool, false, Some, IsTrue}
 use Rattle.std.specs.BTreeMap.{BTreeMap, get}
 use Rattle.fhir_nodes.specs.declared.node.NodeRef.{NodeRef}
 use Rattle.fhir_schema.specs.Schemas.{SchemaValue, is_root_node}
-use Rattle.fhir_facets.specs.Unread.{Meaning}
+use Rattle.fhir_facets.specs.Unread.{Meaning, Reading, meaning_of}
 use Rattle.fhir_conformance.specs.Asks.{Ask, own, types, profile, root, child}
-use Rattle.fhir_conformance.specs.Conformance.{Around, resource_at, constant, ask_conforms, conforms}
+use Rattle.fhir_conformance.specs.Conformance.{Around, resource_at, as_read, ask_conforms, conforms}
 use Rattle.fhir_validator.specs.declared.judgement.Judgement.{Judgement}
 use Rattle.fhir_validator.specs.declared.pair.ItemPair.{ItemPair}
 use Rattle.fhir_validator.specs.contracts.pair.ItemPairOrd.TheImpl.{cmp-value}
@@ -19,20 +19,20 @@ IsThere layout number around = resource_at layout.schema around (item_at layout 
 -- a judgement on what a pair asks
 abbrev pub IsRightOf : LayoutValue → ItemPair → Ask → Judgement → Type 0
 IsRightOf layout p ask a =
-    (b : Bool) (around : Around) → IsThere layout p.item around
-    → under b a ≡ ask_conforms layout.schema (constant b) around (item_at layout p.item) ask
+    (r : Reading) (around : Around) → IsThere layout p.item around
+    → under r a ≡ ask_conforms layout.schema (as_read layout.given r) around (item_at layout p.item) ask
 
 -- a judgement on a test by what unread rules mean, and by the roots that the item of a number conforms to
 abbrev pub IsRightOn : LayoutValue → ℕ → (Meaning → (NodeRef → Bool) → Bool) → Judgement → Type 0
 IsRightOn layout number test a =
-    (b : Bool) (around : Around) → IsThere layout number around
-    → under b a ≡ test (λ unread. b) (conforms layout.schema (constant b) around (item_at layout number))
+    (r : Reading) (around : Around) → IsThere layout number around
+    → under r a ≡ test (meaning_of layout.given r) (conforms layout.schema (as_read layout.given r) around (item_at layout number))
 
 -- a judgement on a pair
 abbrev pub IsRight : LayoutValue → ItemPair → Judgement → Type 0
 IsRight layout p a =
-    (b : Bool) (around : Around) → IsThere layout p.item around
-    → under b a ≡ conforms layout.schema (constant b) around (item_at layout p.item) p.node
+    (r : Reading) (around : Around) → IsThere layout p.item around
+    → under r a ≡ conforms layout.schema (as_read layout.given r) around (item_at layout p.item) p.node
 
 -- each judgement that is known is right
 abbrev pub AreRight : LayoutValue → BTreeMap ItemPair Judgement → Type 0

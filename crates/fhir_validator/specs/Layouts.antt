@@ -2,6 +2,7 @@
 use Rattle.std.specs.Prelude.{◌≡◌, ◌<◌, ◌≤◌, ◌+◌, ℕ, List, [], ◌∷◌, length, map, get_or, nat_lt, if◌then◌else◌, Option, None}
 use Rattle.std.specs.Option.{option_map}
 use Rattle.std.specs.List.{slice_get, AllByRecursion}
+use Rattle.fhir_json.specs.Tree.{Text}
 use Rattle.fhir_schema.specs.Schemas.{SchemaValue}
 use Rattle.fhir_instance.specs.Items.{Item, item, Kids, no_kids, kid, kids_of}
 use Rattle.fhir_instance.specs.View.{item_of}
@@ -34,13 +35,14 @@ nowhere = record { itself = nothing; resource = nothing }
 abbrev pub numbered : List Spot → ℕ → Spot
 numbered xs i = get_or xs i nowhere
 
--- the schema by which a resource was typed, and its items in a row
+-- the schema by which a resource was typed, the texts of the unread rules that a user vouches for, and the resource's items in a row
 pub record LayoutValue : Type 0 where
   pub schema : SchemaValue
+  pub given : List Text
   pub spots : List Spot
 
-abbrev pub laid_out : SchemaValue → List Stand → LayoutValue
-laid_out s stands = record { schema = s; spots = map spot_in stands }
+abbrev pub laid_out : SchemaValue → List Text → List Stand → LayoutValue
+laid_out s given stands = record { schema = s; given = given; spots = map spot_in stands }
 
 -- the place of a number in the row: its own, or the first where it has none
 abbrev pub place_in_row : LayoutValue → ℕ → ℕ

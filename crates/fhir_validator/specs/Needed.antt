@@ -1,6 +1,6 @@
 -- The pairs of node and item to which a resource that conforms has to conform, and their constraints (FHIR R4, ElementDefinition,
 -- constraint; FHIRPath N1).
-use Rattle.std.specs.Prelude.{◌≡◌, ◌⊎◌, ℕ, [], ◌∷◌, ◌++◌, Some, IsTrue}
+use Rattle.std.specs.Prelude.{◌≡◌, ◌⊎◌, ℕ, List, [], ◌∷◌, ◌++◌, None, Some, IsTrue}
 use Rattle.std.specs.List.{Contains}
 use Rattle.fhir_json.specs.Tree.{Text, Tree}
 use Rattle.fhir_elements.specs.Constraint.{Constraint, must_hold}
@@ -8,6 +8,7 @@ use Rattle.fhir_nodes.specs.declared.node.NodeRef.{NodeRef}
 use Rattle.fhir_nodes.specs.Expressions.{expression_of}
 use Rattle.fhir_fp_syntax.specs.Expression.{Expression}
 use Rattle.fhir_fp_eval.specs.Meaning.{is_true}
+use Rattle.fhir_facets.specs.Unread.{unread_constraint, is_given}
 use Rattle.fhir_schema.specs.Schemas.{SchemaValue, root as root_of, target}
 use Rattle.fhir_schema.specs.Expressions.{constraint_at}
 use Rattle.fhir_instance.specs.Items.{Item, Place, kids_of}
@@ -33,10 +34,22 @@ pub record IsTrueOf (s : SchemaValue) (resource x : Item) (c : Constraint) : Typ
   pub read : expression_of c ≡ Some expression
   pub holds : IsTrue (is_true (record { schema = s; resource = resource; context = x }) expression x)
 
--- Of each pair that is needed each constraint that must hold is true, be it the node's own or one of the node that this one refers to for
--- its content.
-abbrev pub ConstraintsHold : SchemaValue → Text → Tree → Type 0
-ConstraintsHold s profile t =
+-- or it isn't read, and a user vouches for it by one of these texts
+abbrev pub IsTrueOrGiven : SchemaValue → List Text → Item → Item → Constraint → Type 0
+IsTrueOrGiven s texts resource x c = IsTrueOf s resource x c ⊎ ((expression_of c ≡ None) × IsTrue (is_given texts (unread_constraint c)))
+
+-- Of each pair that is needed, that is so of each constraint that must hold, be it the node's own or one of the node that this one refers
+-- to for its content. Of an item and the nearest resource at or around it is told what is so.
+abbrev pub OfConstraints : SchemaValue → Text → Tree → (Item → Item → Constraint → Type 0) → Type 0
+OfConstraints s profile t IsSo =
     (node : NodeRef) (outermost : Item) → root_of s profile ≡ Some node → Types s t outermost
     → (place : Place) (resource x : Item) (n k : NodeRef) → Needed s outermost node place resource x n → (k ≡ n) ⊎ (target s n ≡ Some k)
-    → (position : ℕ) (c : Constraint) → constraint_at s k position ≡ Some c → IsTrue (must_hold c) → IsTrueOf s resource x c
+    → (position : ℕ) (c : Constraint) → constraint_at s k position ≡ Some c → IsTrue (must_hold c) → IsSo resource x c
+
+-- each is true
+abbrev pub ConstraintsHold : SchemaValue → Text → Tree → Type 0
+ConstraintsHold s profile t = OfConstraints s profile t (IsTrueOf s)
+
+-- each is true, or a user vouches for it
+abbrev pub ConstraintsHoldAsGiven : SchemaValue → List Text → Text → Tree → Type 0
+ConstraintsHoldAsGiven s texts profile t = OfConstraints s profile t (IsTrueOrGiven s texts)

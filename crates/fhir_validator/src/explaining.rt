@@ -1,16 +1,16 @@
-//! Explaining a verdict: what fails, or what is open, from the outermost pair on.
+//! Explaining a verdict: what fails, what is open, or what holds as given, from the outermost pair on.
 
-ghost use Rattle.std.specs.Prelude.{◌≡◌, OnOk, IfOk, IsTrue};
+ghost use Rattle.std.specs.Prelude.{◌≡◌, true, OnOk, IfOk, IsTrue};
 ghost use Rattle.fhir_conformance.specs.Asks.{types, profile, child};
 ghost use Rattle.fhir_conformance.specs.Views.{ask_seen};
 ghost use Rattle.fhir_validator.specs.Judging.{IsRight, IsRightOf};
-ghost use Rattle.fhir_validator.specs.Listing.{IsFilled, IsToList, PairIsAllowed, PairIsTold, IsAskedBy, Grown, Lists};
+ghost use Rattle.fhir_validator.specs.Listing.{IsToList, PairIsAllowed, PairIsTold, MarksAreTold, IsAskedBy, is_hanging, Grown, Lists};
 
 use crate::judgement::Judgement;
 use crate::judging::Judge;
 use crate::listing::Listing;
 use crate::pair::ItemPair;
-use fhir_conformance::Ask;
+use fhir_conformance::{Ask, hangs_on_carried, positive};
 use fhir_json::NoMemory;
 use fhir_schema::{NodeRef, roots_are_roots};
 
@@ -34,6 +34,7 @@ impl<'s, 't, 'a, 'j> Judge<'s, 't, 'a, 'j> {
         match wanted {
             Judgement::Fails => self.types_fail(pair),
             Judgement::Holds => Ok(false),
+            Judgement::Given => Ok(false),
             Judgement::Open => Ok(false),
         }
     }
@@ -48,7 +49,7 @@ impl<'s, 't, 'a, 'j> Judge<'s, 't, 'a, 'j> {
     ) -> Result<(), NoMemory>
         requires { IsRight self.old pair listing.old.wanted }
         ensures same { OnOk result (self.new ≡ self.old) }
-        ensures filled { OnOk result (IsFilled listing.new) }
+        ensures told { OnOk result (MarksAreTold self.old listing.old → PairIsTold self.old pair listing.new) }
         ensures grown { OnOk result (Grown self.old pair listing.old listing.new) }
     {
         if listing.is_marked(pair) {
@@ -62,7 +63,7 @@ impl<'s, 't, 'a, 'j> Judge<'s, 't, 'a, 'j> {
     fn list_asks(&mut self, listing: &mut Listing<'s>, pair: ItemPair) -> Result<(), NoMemory>
         requires { IsRight self.old pair listing.old.wanted }
         ensures same { OnOk result (self.new ≡ self.old) }
-        ensures filled { OnOk result (IsFilled listing.new) }
+        ensures told { OnOk result (MarksAreTold self.old listing.old → PairIsTold self.old pair listing.new) }
         ensures grown { OnOk result (Grown self.old pair listing.old listing.new) }
     {
         roots_are_roots();
@@ -107,26 +108,37 @@ impl<'s, 't, 'a, 'j> Judge<'s, 't, 'a, 'j> {
         ensures same { OnOk result (self.new ≡ self.old) }
         ensures lists { OnOk result (Lists self.old pair (types pair.node) listing.old listing.new) }
     {
+        hangs_on_carried();
+        positive();
         roots_are_roots();
         match self.types_judgement(pair)? {
             Judgement::Holds => Ok(()),
             Judgement::Fails => self.list_misfit(listing, pair),
-            Judgement::Open => self.list_hanging(listing, pair),
+            hanging => self.list_hanging(listing, pair, hanging),
         }
     }
 
-    // Lists what the types of a pair's node hang on, where sites are wanted: unread rules, and what open profiles rest on.
+    // Lists what the types of a pair's node hang on, where their judgement is wanted: unread rules, and what profiles rest on that
+    // hang on such themselves.
     #[cycle(explaining)]
-    fn list_hanging(&mut self, listing: &mut Listing<'s>, pair: ItemPair) -> Result<(), NoMemory>
-        requires asked { IsAskedBy self.old pair (types pair.node) }
-        requires hangs { IsRightOf self.old pair (types pair.node) Judgement.Open }
+    fn list_hanging(
+        &mut self,
+        listing: &mut Listing<'s>,
+        pair: ItemPair,
+        judgement: Judgement,
+    ) -> Result<(), NoMemory>
+        requires asked { IsToList self.old listing.old pair (types pair.node) }
+        requires hangs { IsRightOf self.old pair (types pair.node) judgement }
+        requires hanging { is_hanging judgement ≡ true }
         ensures same { OnOk result (self.new ≡ self.old) }
         ensures lists { OnOk result (Lists self.old pair (types pair.node) listing.old listing.new) }
     {
-        if !listing.wanted().is(Judgement::Open) {
+        hangs_on_carried();
+        positive();
+        roots_are_roots();
+        if !judgement.is(listing.wanted()) {
             return Ok(());
         }
-        roots_are_roots();
         let roots = self.open_roots(listing, pair)?;
         for root in &roots {
             self.list_root(listing, pair, *root)?;
@@ -145,7 +157,7 @@ impl<'s, 't, 'a, 'j> Judge<'s, 't, 'a, 'j> {
         requires asked { IsAskedBy self.old pair (profile root) }
         requires wanted { IsRight self.old (record { item = pair.item; node = root }) listing.old.wanted }
         ensures same { OnOk result (self.new ≡ self.old) }
-        ensures filled { OnOk result (IsFilled listing.new) }
+        ensures told { OnOk result (MarksAreTold self.old listing.old → PairIsTold self.old (record { item = pair.item; node = root }) listing.new) }
         ensures grown { OnOk result (Grown self.old pair listing.old listing.new) }
     {
         roots_are_roots();
@@ -205,9 +217,10 @@ impl<'s, 't, 'a, 'j> Judge<'s, 't, 'a, 'j> {
     fn list_same(&mut self, listing: &mut Listing<'s>, pair: ItemPair) -> Result<(), NoMemory>
         requires { PairIsAllowed self.old listing.old pair }
         ensures same { OnOk result (self.new ≡ self.old) }
-        ensures told { OnOk result (PairIsTold self.old listing.old pair listing.new) }
+        ensures told { OnOk result (MarksAreTold self.old listing.old → PairIsTold self.old pair listing.new) }
         ensures grown { OnOk result (Grown self.old pair listing.old listing.new) }
     {
+        positive();
         let judgement = self.judgement_of(pair)?;
         if judgement.is(listing.wanted()) {
             self.list_pair(listing, pair)

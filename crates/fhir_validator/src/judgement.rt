@@ -1,18 +1,20 @@
 //! Judgements.
 
-ghost use Rattle.std.specs.Prelude.{◌≡◌, ◌&&◌, ◌||◌, Bool};
-ghost use Rattle.fhir_facets.specs.Views.{holding_under};
-ghost use Rattle.fhir_validator.specs.Judgements.{under};
-ghost use Rattle.fhir_validator.specs.Listing.{same_judgement};
+ghost use Rattle.std.specs.Prelude.{◌≡◌, ◌&&◌, ◌||◌};
+ghost use Rattle.fhir_facets.specs.Unread.{Reading};
+ghost use Rattle.fhir_facets.specs.Views.{holding_at};
+ghost use Rattle.fhir_validator.specs.Judgements.{under, same_judgement};
 
 use fhir_facets::Holding;
 
-/// Whether something holds of an item, where unread rules may mean anything.
-#[derive(Clone, Copy, Debug)]
+/// Whether something holds of an item, where unread rules may mean anything and a user vouches for some of them.
+#[derive(Clone, Copy, Debug, PartialEq, Eq)]
 pub(crate) enum Judgement {
     /// It holds, whatever they mean.
     Holds,
-    /// It holds where each of them does, and fails where none does.
+    /// It holds where those do that the user vouches for, and fails where none does.
+    Given,
+    /// It holds where each of them does, and fails where those alone do that the user vouches for.
     Open,
     /// It fails, whatever they mean.
     Fails,
@@ -21,10 +23,11 @@ pub(crate) enum Judgement {
 impl Judgement {
     /// What a rule comes to.
     pub(crate) fn of(holding: Holding<'_>) -> Judgement
-        ensures { (b : Bool) → under b result ≡ holding_under b holding.entry }
+        ensures { (r : Reading) → under r result ≡ holding_at r holding.entry }
     {
         match holding {
             Holding::Holds => Judgement::Holds,
+            Holding::Given(_rule) => Judgement::Given,
             Holding::Unread(_rule) => Judgement::Open,
             Holding::Fails => Judgement::Fails,
         }
@@ -32,43 +35,25 @@ impl Judgement {
 
     /// What two come to, where both have to hold.
     pub(crate) fn and(self, other: Judgement) -> Judgement
-        ensures { (b : Bool) → under b result ≡ (under b self && under b other) }
+        ensures { (r : Reading) → under r result ≡ (under r self && under r other) }
     {
-        match self {
-            Judgement::Holds => other,
-            Judgement::Open => other.at_most_open(),
-            Judgement::Fails => Judgement::Fails,
-        }
-    }
-
-    fn at_most_open(self) -> Judgement
-        ensures { (b : Bool) → under b result ≡ (b && under b self) }
-    {
-        match self {
-            Judgement::Holds => Judgement::Open,
-            Judgement::Open => Judgement::Open,
-            Judgement::Fails => Judgement::Fails,
+        match (self, other) {
+            (Judgement::Fails, _) | (_, Judgement::Fails) => Judgement::Fails,
+            (Judgement::Open, _) | (_, Judgement::Open) => Judgement::Open,
+            (Judgement::Given, _) | (_, Judgement::Given) => Judgement::Given,
+            _ => Judgement::Holds,
         }
     }
 
     /// What two come to, where one of them has to hold.
     pub(crate) fn or(self, other: Judgement) -> Judgement
-        ensures { (b : Bool) → under b result ≡ (under b self || under b other) }
+        ensures { (r : Reading) → under r result ≡ (under r self || under r other) }
     {
-        match self {
-            Judgement::Holds => Judgement::Holds,
-            Judgement::Open => other.at_least_open(),
-            Judgement::Fails => other,
-        }
-    }
-
-    fn at_least_open(self) -> Judgement
-        ensures { (b : Bool) → under b result ≡ (b || under b self) }
-    {
-        match self {
-            Judgement::Holds => Judgement::Holds,
-            Judgement::Open => Judgement::Open,
-            Judgement::Fails => Judgement::Open,
+        match (self, other) {
+            (Judgement::Holds, _) | (_, Judgement::Holds) => Judgement::Holds,
+            (Judgement::Given, _) | (_, Judgement::Given) => Judgement::Given,
+            (Judgement::Open, _) | (_, Judgement::Open) => Judgement::Open,
+            _ => Judgement::Fails,
         }
     }
 
@@ -76,10 +61,6 @@ impl Judgement {
     pub(crate) fn is(self, other: Judgement) -> bool
         ensures { result ≡ same_judgement self other }
     {
-        match self {
-            Judgement::Holds => matches!(other, Judgement::Holds),
-            Judgement::Open => matches!(other, Judgement::Open),
-            Judgement::Fails => matches!(other, Judgement::Fails),
-        }
+        self == other
     }
 }

@@ -1,8 +1,9 @@
 //! Judging: whether an item conforms to a node, where unread rules may mean anything.
 
-ghost use Rattle.std.specs.Prelude.{◌≡◌, Bool, false, map, string_bytes, IfOk, IfSome, OnOk};
+ghost use Rattle.std.specs.Prelude.{◌≡◌, ◌∷◌, [], false, map, string_bytes, IfOk, IfSome, OnOk};
 ghost use Rattle.fhir_schema.specs.Schemas.{is_root_node};
-ghost use Rattle.fhir_facets.specs.Views.{holding_under, IsCarried};
+ghost use Rattle.fhir_facets.specs.Unread.{Reading, meaning_of, profile as unread_profile};
+ghost use Rattle.fhir_facets.specs.Views.{holding_at, IsVouched, IsCarried};
 ghost use Rattle.fhir_conformance.specs.Asks.{asks, own, types, child};
 ghost use Rattle.fhir_conformance.specs.Conformance.{rule_holds, entry_allows, entry_holds, profile_holds, profiles_hold};
 ghost use Rattle.fhir_conformance.specs.Meeting.{entry_unread, rule_unread};
@@ -15,7 +16,7 @@ use crate::layout::Layout;
 use crate::pair::ItemPair;
 use fhir_conformance::{Ask, ElementRule, asks, judge, judge_entry};
 use fhir_elements::TypeEntry;
-use fhir_facets::Holding;
+use fhir_facets::{Holding, Unread};
 use fhir_json::NoMemory;
 use fhir_schema::{NodeRef, Schema, roots_are_roots};
 use std::alloc::{AllocError, Global};
@@ -96,8 +97,9 @@ impl<'s, 't, 'a, 'j> Judge<'s, 't, 'a, 'j> {
         rule: ElementRule<'s>,
         node: NodeRef,
     ) -> Result<Holding<'s>, NoMemory>
-        ensures exact { IfOk result (λ h. (b : Bool) → holding_under b h
-            ≡ rule_holds self.now.schema (λ unread. b) (resource_of self.now pair.item) (item_at self.now pair.item) (rule_name rule.entry) node) }
+        ensures exact { IfOk result (λ h. (r : Reading) → holding_at r h
+            ≡ rule_holds self.now.schema (meaning_of self.now.given r) (resource_of self.now pair.item) (item_at self.now pair.item) (rule_name rule.entry) node) }
+        ensures vouched { IfOk result (IsVouched self.now.given) }
         ensures carried { IfOk result (IsCarried (rule_unread self.now.schema (item_at self.now pair.item) (rule_name rule.entry) node)) }
     {
         let layout = &self.layout;
@@ -111,16 +113,33 @@ impl<'s, 't, 'a, 'j> Judge<'s, 't, 'a, 'j> {
             kids_by_name,
             rule,
             node,
+            layout.given(),
         )
     }
 
     /// What the code and the targets of an entry come to there.
     pub(crate) fn entry(&self, pair: ItemPair, entry: &'s TypeEntry) -> Holding<'s>
-        ensures exact { (b : Bool) → holding_under b result
-            ≡ entry_allows self.now.schema (λ unread. b) (item_at self.now pair.item) entry.now }
+        ensures exact { (r : Reading) → holding_at r result
+            ≡ entry_allows self.now.schema (meaning_of self.now.given r) (item_at self.now pair.item) entry.now }
+        ensures vouched { IsVouched self.now.given result }
         ensures carried { IsCarried (entry_unread self.now.schema (item_at self.now pair.item) entry.now) result }
     {
-        judge_entry(self.layout.schema(), self.layout.item(pair.item), entry)
+        let layout = &self.layout;
+        judge_entry(
+            layout.schema(),
+            layout.item(pair.item),
+            entry,
+            layout.given(),
+        )
+    }
+
+    /// What a profile comes to that isn't there, or can't be used.
+    pub(crate) fn unread_profile<'p>(&self, profile: &'p str) -> Holding<'p>
+        ensures exact { (r : Reading) → holding_at r result ≡ meaning_of self.now.given r (unread_profile profile.now) }
+        ensures vouched { IsVouched self.now.given result }
+        ensures carried { IsCarried (unread_profile profile.now ∷ []) result }
+    {
+        Holding::of_rule(Unread::Profile(profile), self.layout.given())
     }
 
     // Keeps the judgement on a pair.
@@ -285,7 +304,7 @@ impl<'s, 't, 'a, 'j> Judge<'s, 't, 'a, 'j> {
         Ok(judgement)
     }
 
-    // The judgement on a profile that a type of a pair's node names. One that isn't there, or can't be used, is open.
+    // The judgement on a profile that a type of a pair's node names. One that isn't there, or can't be used, is an unread rule.
     #[cycle(judging)]
     fn profile_judgement(&mut self, pair: ItemPair, profile: &str) -> Result<Judgement, NoMemory>
         requires inner { is_root_node self.old.schema pair.node ≡ false }
@@ -299,7 +318,7 @@ impl<'s, 't, 'a, 'j> Judge<'s, 't, 'a, 'j> {
                 let item = pair.item;
                 self.judgement_of(ItemPair { item, node })
             }
-            None => Ok(Judgement::Open),
+            None => Ok(Judgement::of(self.unread_profile(profile))),
         }
     }
 }

@@ -12,6 +12,7 @@ use fhir_conformance::KidsByName;
 use fhir_instance::Typed;
 use fhir_json::NoMemory;
 use fhir_schema::Schema;
+use fhir_vouching::Vouching;
 use std::alloc::Global;
 use std::marker::Model;
 
@@ -28,10 +29,12 @@ struct Stand<'t, 'a, 'j> {
 }
 
 /// The items of a resource in a row: the outermost first, and the children of each side by side behind it. It keeps the
-/// schema by which they were typed. A number that none of them has stands for the outermost.
+/// schema by which they were typed, and the texts that a user vouches for. A number that none of them has stands for the
+/// outermost.
 #[derive(Drop)]
 pub(crate) struct Layout<'s, 't, 'a, 'j> {
     pub(crate) schema: &'s Schema,
+    given: &'t Vouching,
     stands: Vec<Stand<'t, 'a, 'j>>,
     // the number of each item's first child, or where that would stand
     firsts: Vec<usize>,
@@ -50,7 +53,7 @@ impl<'s, 't, 'a, 'j> Model for Layout<'s, 't, 'a, 'j> {
 
     ghost use Rattle.fhir_validator.specs.Layouts.{laid_out, IsLaid};
 
-    ghost view = { λ l. laid_out l.schema.now l.stands.items };
+    ghost view = { λ l. laid_out l.schema.now l.given.now l.stands.items };
 
     ghost invariant = { λ l. IsLaid l.schema.now l.stands.items l.firsts.items };
 }
@@ -124,9 +127,11 @@ impl<'s, 't, 'a, 'j> Layout<'s, 't, 'a, 'j> {
     pub(crate) fn of(
         alloc: Global,
         schema: &'s Schema,
+        given: &'t Vouching,
         outermost: &'t Typed<'a, 'j>,
     ) -> Result<Layout<'s, 't, 'a, 'j>, NoMemory>
         ensures schema { IfOk result (λ layout. layout.schema ≡ schema.now) }
+        ensures given { IfOk result (λ layout. layout.given ≡ given.now) }
         ensures item { IfOk result (λ layout. item_at layout 0 ≡ item_of outermost.now) }
         ensures resource { IfOk result (λ layout. resource_of layout 0 ≡ item_of outermost.now) }
     {
@@ -143,6 +148,7 @@ impl<'s, 't, 'a, 'j> Layout<'s, 't, 'a, 'j> {
         }
         Ok(Layout {
             schema,
+            given,
             stands,
             firsts,
         })
@@ -153,6 +159,13 @@ impl<'s, 't, 'a, 'j> Layout<'s, 't, 'a, 'j> {
         ensures { result.now ≡ self.now.schema }
     {
         self.schema
+    }
+
+    /// The texts that a user vouches for.
+    pub(crate) fn given(&self) -> &'t Vouching
+        ensures { result.now ≡ self.now.given }
+    {
+        self.given
     }
 
     // The place of a number in the row.

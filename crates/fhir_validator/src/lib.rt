@@ -14,7 +14,10 @@
 //! }
 //! ```
 //!
-//! The contract to read first is that of [`validate`]. `specs/Verdicts.antt` has what a verdict lists and what a fault means,
+//! A user may vouch for rules that aren't read, by their texts. Then a resource may conform as these hold, and the verdict lists on
+//! which of them that rests.
+//!
+//! The contracts to read first are those of [`validate`] and [`validate_given`]. `specs/Verdicts.antt` has what a verdict lists and what a fault means,
 //! and `specs/Issues.antt` when an issue is right.
 #![tactic(auto)]
 
@@ -38,5 +41,5 @@ pub use broken_rule::BrokenRule;
 pub use fault::Fault;
 pub use issue::{Breach, Issue, Site};
 pub use place::Place;
-pub use validation::validate;
-pub use verdict::Verdict;
+pub use validation::{validate, validate_given};
+pub use verdict::{Verdict, Vouched};

@@ -1,7 +1,9 @@
 //! What is listed.
 
-ghost use Rattle.std.specs.Prelude.{◌≡◌, ◌++◌, ◌∷◌, [], IfOk, IsTrue, OnOk};
-ghost use Rattle.fhir_validator.specs.Listing.{IsFilled};
+ghost use Rattle.std.specs.Prelude.{◌≡◌, ◌++◌, ◌∷◌, [], true, false, OnOk, ◌⊎◌};
+ghost use Rattle.std.specs.BTreeSet.{contains};
+ghost use Rattle.fhir_validator.specs.contracts.pair.ItemPairOrd.TheImpl.{cmp-value};
+ghost use Rattle.fhir_validator.specs.declared.pair.ItemPair.{ItemPair};
 
 use crate::issue::{Breach, Issue, Site};
 use crate::judgement::Judgement;
@@ -21,8 +23,7 @@ pub(crate) struct Listing<'s> {
 }
 
 impl<'s> Model for Listing<'s> {
-    ghost use Rattle.std.specs.Prelude.{◌<◌, length};
-    ghost use Rattle.fhir_validator.specs.Listing.{ListingValue, is_filled};
+    ghost use Rattle.fhir_validator.specs.Listing.{ListingValue};
 
     ghost Value = { ListingValue };
 
@@ -31,15 +32,16 @@ impl<'s> Model for Listing<'s> {
 
     ghost coded = { Prim.hlevel (codes, json_code) };
 
-    ghost view = { λ l. record { wanted = l.wanted; issues = l.issues.items; sites = l.sites.items } };
-
-    ghost invariant = { λ l. 0 < length l.marks.keys → is_filled l.wanted l.issues.items l.sites.items };
+    ghost view = { λ l. record { wanted = l.wanted; issues = l.issues.items; sites = l.sites.items; marks = l.marks } };
 }
 
 impl<'s> Listing<'s> {
     /// Nothing of the pairs with that judgement.
     pub(crate) fn new(alloc: Global, wanted: Judgement) -> Listing<'s>
-        ensures { result ≡ record { wanted = wanted; issues = []; sites = [] } }
+        ensures wanted { result.wanted ≡ wanted }
+        ensures issues { result.issues ≡ [] }
+        ensures sites { result.sites ≡ [] }
+        ensures marks { (p : ItemPair) → contains cmp-value.it result.marks p ≡ false }
     {
         Listing {
             wanted,
@@ -56,17 +58,20 @@ impl<'s> Listing<'s> {
         self.wanted
     }
 
-    /// Whether all is listed of a pair. Something is, then.
+    /// Whether all is listed of a pair.
     pub(crate) fn is_marked(&self, pair: ItemPair) -> bool
-        ensures { IsTrue result → IsFilled self.now }
+        ensures { result ≡ contains cmp-value.it self.now.marks pair }
     {
         self.marks.contains(&pair)
     }
 
     /// Notes that all is listed of a pair.
     pub(crate) fn mark(&mut self, pair: ItemPair) -> Result<(), NoMemory>
-        requires { IsFilled self.old }
-        ensures { self.new ≡ self.old }
+        ensures wanted { self.new.wanted ≡ self.old.wanted }
+        ensures issues { self.new.issues ≡ self.old.issues }
+        ensures sites { self.new.sites ≡ self.old.sites }
+        ensures marks { OnOk result ((p : ItemPair) → contains cmp-value.it self.new.marks p ≡ true
+            → (p ≡ pair) ⊎ (contains cmp-value.it self.old.marks p ≡ true)) }
     {
         self.marks.insert(pair)?;
         Ok(())

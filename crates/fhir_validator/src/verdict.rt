@@ -31,3 +31,15 @@ impl Verdict<'_> {
         matches!(self, Verdict::Violates(_))
     }
 }
+
+/// Whether a resource conforms to a profile, where a user vouches for some of the unread rules.
+#[derive(Debug, Drop)]
+pub enum Vouched<'s> {
+    /// It does where these of the given rules hold, whatever the others mean. There is none of them where it conforms whatever
+    /// unread rules mean.
+    Conforms(Vec<Site<'s>>),
+    /// It doesn't, whatever unread rules mean, for these reasons.
+    Violates(Vec<Issue<'s>>),
+    /// It does where each unread rule holds, and doesn't where the given ones alone do. These of the others stand in the way.
+    Open(Vec<Site<'s>>),
+}

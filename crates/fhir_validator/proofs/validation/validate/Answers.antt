@@ -1,62 +1,46 @@
-use Rattle.std.proofs.Common.{◌↔◌, true, false, IsTrue, sym}
-use Rattle.fhir_conformance.specs.Conformance.{Interpretation, Conforms, constant}
-use Rattle.fhir_validator.specs.Verdicts.{is_conforming, is_violating, IsExplained, Means}
-use Rattle.fhir_validator.specs.Listing.{IsVerdictOn, IsOfBytes}
-use Rattle.fhir_validator.specs.Needed.{ConstraintsHold}
-use Rattle.fhir_validator.proofs.Needing.{constraints_hold}
-use Rattle.fhir_validator.proofs.Concluding.{concluded, explained, of_bytes, err_weaker}
-use Rattle.fhir_validator.proofs.Judged.{weaker}
+use Rattle.std.proofs.Common.{◌↔◌, IsTrue, sym, ◌∙◌, subst}
+use Rattle.std.proofs.lemmas.Bool.{false≢true}
+use Rattle.fhir_facets.specs.Unread.{as_given, is_given}
+use Rattle.fhir_conformance.specs.Conformance.{as_read, Conforms}
+use Rattle.fhir_validator.specs.Needed.{ConstraintsHoldAsGiven}
+use Rattle.fhir_validator.specs.Verdicts.{conforms_as_given, IsVouchedFor}
+use Rattle.fhir_validator.proofs.Needing.{none_given}
 use Rattle.fhir_validator.proofs.validation.validate.Goals as goal
 
-pub returns-in-Some-clause-conforms : goal.returns-in-Some-clause-conforms
-returns-in-Some-clause-conforms c = λ t reads.
+pub returns-clause-conforms : goal.returns-clause-conforms
+returns-clause-conforms c = λ t reads.
     let s = c.args.schema.now in
     let profile = c.args.profile.now in
-    weaker (IsVerdictOn s c.in-Some.node t) (λ v. IsTrue (is_conforming v) ↔ Conforms s (constant false) profile t)
-    (λ v h. (concluded s profile t c.in-Some.node (sym c.in-Some.ensures) (c.positive.ensures.items s) v h).0) c.validate_at.result (c.validate_at.ensures.verdict t reads)
+    let same = c.verdict_of.ensures.conforms in
+    let said = subst (λ texts. IsTrue (conforms_as_given c.in_ok-vouched.vouched) ↔ Conforms s (as_read texts as_given) profile t) c.none.ensures
+    (c.in_ok-vouched.ensures.conforms t reads) in
+    (λ h. said.0 (sym same ∙ h), λ h. same ∙ said.1 h)
 
-pub returns-in-Some-clause-always : goal.returns-in-Some-clause-always
-returns-in-Some-clause-always c = λ t reads.
+pub returns-clause-always : goal.returns-clause-always
+returns-clause-always c = λ t reads h meaning.
+    c.in_ok-vouched.ensures.always t reads (sym c.verdict_of.ensures.conforms ∙ h) meaning
+    (λ u o p given. absurd (false≢true (subst (λ texts. IsTrue (is_given texts u)) c.none.ensures given)))
+
+pub returns-clause-constraints : goal.returns-clause-constraints
+returns-clause-constraints c = λ t reads h.
     let s = c.args.schema.now in
     let profile = c.args.profile.now in
-    weaker (IsVerdictOn s c.in-Some.node t) (λ v. IsTrue (is_conforming v) → (meaning : Interpretation) → Conforms s meaning profile t)
-    (λ v h. (concluded s profile t c.in-Some.node (sym c.in-Some.ensures) (c.positive.ensures.items s) v h).1) c.validate_at.result (c.validate_at.ensures.verdict t reads)
+    none_given s profile t
+    (subst (λ texts. ConstraintsHoldAsGiven s texts profile t) c.none.ensures
+    (c.in_ok-vouched.ensures.constraints t reads (sym c.verdict_of.ensures.conforms ∙ h)))
 
-pub returns-in-Some-clause-constraints : goal.returns-in-Some-clause-constraints
-returns-in-Some-clause-constraints c = λ t reads.
+pub returns-clause-violates : goal.returns-clause-violates
+returns-clause-violates c = λ t reads.
+    let same = c.verdict_of.ensures.violates in
+    let said = c.in_ok-vouched.ensures.violates t reads in
+    (λ h. said.0 (sym same ∙ h), λ h. same ∙ said.1 h)
+
+pub returns-clause-never : goal.returns-clause-never
+returns-clause-never c = λ t reads h. c.in_ok-vouched.ensures.never t reads (sym c.verdict_of.ensures.violates ∙ h)
+
+pub returns-clause-explained : goal.returns-clause-explained
+returns-clause-explained c = λ t reads.
     let s = c.args.schema.now in
     let profile = c.args.profile.now in
-    weaker (IsVerdictOn s c.in-Some.node t) (λ v. IsTrue (is_conforming v) → ConstraintsHold s profile t)
-    (λ v h conforming. constraints_hold s (c.roots_are_roots.ensures.of_type s) (c.roots_are_roots.ensures.of_canonical s) profile t
-    ((concluded s profile t c.in-Some.node (sym c.in-Some.ensures) (c.positive.ensures.items s) v h).0.0 conforming))
-    c.validate_at.result (c.validate_at.ensures.verdict t reads)
-
-pub returns-in-Some-clause-violates : goal.returns-in-Some-clause-violates
-returns-in-Some-clause-violates c = λ t reads.
-    let s = c.args.schema.now in
-    let profile = c.args.profile.now in
-    weaker (IsVerdictOn s c.in-Some.node t) (λ v. IsTrue (is_violating v) ↔ ¬ Conforms s (constant true) profile t)
-    (λ v h. (concluded s profile t c.in-Some.node (sym c.in-Some.ensures) (c.positive.ensures.items s) v h).2) c.validate_at.result (c.validate_at.ensures.verdict t reads)
-
-pub returns-in-Some-clause-never : goal.returns-in-Some-clause-never
-returns-in-Some-clause-never c = λ t reads.
-    let s = c.args.schema.now in
-    let profile = c.args.profile.now in
-    weaker (IsVerdictOn s c.in-Some.node t) (λ v. IsTrue (is_violating v) → (meaning : Interpretation) → ¬ Conforms s meaning profile t)
-    (λ v h. (concluded s profile t c.in-Some.node (sym c.in-Some.ensures) (c.positive.ensures.items s) v h).3) c.validate_at.result (c.validate_at.ensures.verdict t reads)
-
-pub returns-in-Some-clause-explained : goal.returns-in-Some-clause-explained
-returns-in-Some-clause-explained c = λ t reads.
-    let s = c.args.schema.now in
-    let profile = c.args.profile.now in
-    weaker (IsVerdictOn s c.in-Some.node t) (IsExplained s profile t)
-    (λ v h. explained s profile t c.in-Some.node (sym c.in-Some.ensures) v h) c.validate_at.result (c.validate_at.ensures.verdict t reads)
-
-pub returns-in-Some-clause-refused : goal.returns-in-Some-clause-refused
-returns-in-Some-clause-refused c =
-    let s = c.args.schema.now in
-    err_weaker (IsOfBytes c.args.bytes.now) (Means s c.args.profile.now c.args.bytes.now)
-    (λ fault h. of_bytes s c.args.profile.now c.args.bytes.now c.in-Some.node (sym c.in-Some.ensures) fault h) c.validate_at.result c.validate_at.ensures.refused
-
-pub returns-in-None-clause-refused : goal.returns-in-None-clause-refused
-returns-in-None-clause-refused c = c.root_fault.ensures c.args.bytes.now
+    c.verdict_of.ensures.explained s profile t
+    (subst (λ texts. IsVouchedFor s texts profile t c.in_ok-vouched.vouched) c.none.ensures (c.in_ok-vouched.ensures.explained t reads))

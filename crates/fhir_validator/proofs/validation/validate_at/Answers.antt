@@ -14,14 +14,14 @@ returns-in-Err-clause-refused c =
 pub returns-in-Ok-type_resource-clause-verdict : goal.returns-in-Ok-type_resource-clause-verdict
 returns-in-Ok-type_resource-clause-verdict c = λ t reads.
     let v = c.in_ok-verdict_at-in-Ok-type_resource.field-0 in
-    subst (λ t. IsVerdictOn c.args.schema.now c.args.node t v) (c.one_tree.ensures c.args.bytes.now (tree_of c.in-Ok.json) t c.in-Ok.ensures.found reads)
+    subst (λ t. IsVerdictOn c.args.schema.now c.args.given.now c.args.node t v) (c.one_tree.ensures c.args.bytes.now (tree_of c.in-Ok.json) t c.in-Ok.ensures.found reads)
     (inl (item_of c.in-Ok-type_resource.item, c.in-Ok-type_resource.ensures.item, c.in_ok-verdict_at-in-Ok-type_resource.ensures))
 
 pub returns-clause-verdict : goal.returns-clause-verdict
 returns-clause-verdict c = λ t reads.
     let v = c.in_ok-misfit_verdict-in-Err-type_resource.field-0 in
     let m = c.in-Err-type_resource.misfit in
-    subst (λ t. IsVerdictOn c.args.schema.now c.args.node t v) (c.one_tree.ensures c.args.bytes.now (tree_of c.in-Ok.json) t c.in-Ok.ensures.found reads)
+    subst (λ t. IsVerdictOn c.args.schema.now c.args.given.now c.args.node t v) (c.one_tree.ensures c.args.bytes.now (tree_of c.in-Ok.json) t c.in-Ok.ensures.found reads)
     (inr (
       not_typed (is_no_memory m) (resource c.args.schema.now (tree_of c.in-Ok.json)) c.in_ok-misfit_verdict-in-Err-type_resource.ensures.decided c.in-Err-type_resource.ensures.misfit,
       c.in_ok-misfit_verdict-in-Err-type_resource.ensures.verdict,

@@ -1,29 +1,59 @@
-use Rattle.std.proofs.Common.{◌≡◌, ◌<◌, ◌+◌, ℕ, List, [], ◌∷◌, zero, suc, length, get_or, take, true, arith, refl, sym, ap, ◌∙◌, subst, IsTrue, Some, ◌⊎◌, inl, inr}
+use Rattle.std.proofs.Common.{◌≡◌, ◌<◌, ◌+◌, ℕ, List, [], ◌∷◌, zero, suc, get_or, length, true, false, arith, refl, sym, ap, ◌∙◌, subst, Some}
 use Rattle.std.specs.Prelude.{OnOk}
-use Rattle.std.specs.List.{list_all, AllByRecursion}
+use Rattle.std.specs.List.{list_all, AllByRecursion, Contains}
 use Rattle.std.proofs.lemmas.List.Folds.{list_all-map}
-use Rattle.fhir_conformance.specs.Asks.{asks, types, profile, root, child}
-use Rattle.fhir_conformance.specs.Conformance.{constant, conforms, inside, below, ask_conforms}
+use Rattle.fhir_nodes.specs.declared.node.NodeRef.{NodeRef}
 use Rattle.fhir_instance.specs.Items.{kids_of}
+use Rattle.fhir_conformance.specs.Asks.{asks, types, profile, root, child}
+use Rattle.fhir_conformance.specs.Conformance.{as_read, conforms, inside, below, ask_conforms}
 use Rattle.fhir_conformance.specs.Positions.{kid_at}
 use Rattle.fhir_conformance.specs.Meeting.{at_item, at_profile, at_child}
 use Rattle.fhir_conformance.specs.Views.{ask_seen, asks_seen}
-use Rattle.fhir_validator.specs.declared.judgement.Judgement.TheVariants.{Open}
 use Rattle.fhir_validator.specs.declared.pair.ItemPair.{ItemPair}
-use Rattle.fhir_validator.specs.Judgements.{under}
+use Rattle.fhir_validator.specs.Judgements.{under, same_judgement}
 use Rattle.fhir_validator.specs.Layouts.{item_at}
 use Rattle.fhir_validator.specs.Judging.{IsRight, IsRightOf}
-use Rattle.fhir_validator.specs.Listing.{same_judgement, side, IsAllowed, IsFilled, IsOpenRoot, IsAskedBy, IsToList, PairIsTold, Grown, Lists}
+use Rattle.fhir_validator.specs.Listing.{upper, is_hanging, IsAllowed, IsHangingRoot, IsAskedBy, IsToList, PairIsTold, MarksAreTold, Grown, Lists}
 use Rattle.fhir_validator.proofs.Asking.{conforms_to, ordered_in}
+use Rattle.fhir_validator.proofs.Explained.{on_any, all_more, each_held, told_same, grown_marked, hangs_between, lists_held, types_told, other_told}
 use Rattle.fhir_validator.proofs.Judged.{all_answered, asked_of, of_none, kid_there, standing, stands_there}
 use Rattle.fhir_validator.proofs.Measures.{weight, lighter_root, lighter_kid}
-use Rattle.fhir_validator.proofs.Told.{on_ok, on_both, is_open, same_is, told_same, told_last, more_told, allowed_at, asked_at, grown_none, grown_more, grown_by, to_list_since, lists_held, lists_other}
+use Rattle.fhir_validator.proofs.Raising.{types_asked_raised}
+use Rattle.fhir_validator.proofs.Told.{on_ok, on_both, same_is, allowed_at, asked_at, grown_none, grown_more, grown_by, to_list_since, lists_other}
 use Rattle.fhir_validator.proofs.judging.Judge.+explaining.Goals as goal
 
 each_at : {A : Type 0} (P : A → Type 0) (xs : List A) (i : ℕ) (d : A) → i < length xs → AllByRecursion P xs → P (get_or xs i d)
 each_at P [] i d h each = absurd (omega arith)
 each_at P (x ∷ xs) zero d h each = each.0
 each_at P (x ∷ xs) (suc i) d h each = each_at P xs i d (omega arith) each.1
+
+-- ---- list_pair
+
+pub list_pair-returns-then-is_marked-clause-told : goal.list_pair-returns-then-is_marked-clause-told
+list_pair-returns-then-is_marked-clause-told t c = λ each. each c.args.pair (sym c.is_marked.ensures ∙ c.if-is_marked.true)
+
+pub list_pair-returns-then-is_marked-clause-grown : goal.list_pair-returns-then-is_marked-clause-grown
+list_pair-returns-then-is_marked-clause-grown t c = grown_none c.args.self.now c.args.pair c.args.listing.now
+
+pub list_pair-returns-clause-told : goal.list_pair-returns-clause-told
+list_pair-returns-clause-told t c =
+    let layout = c.args.self.now in
+    let p = c.args.pair in
+    let old = c.args.listing.now in
+    let new = c.mark.new.self in
+    let told = told_same layout p c.list_asks.new.listing new c.mark.ensures.wanted c.mark.ensures.issues c.mark.ensures.sites in
+    on_any (MarksAreTold layout old → PairIsTold layout p new) (λ each. told (c.in_ok-list_asks.ensures.told each)) c.mark.result
+
+pub list_pair-returns-clause-grown : goal.list_pair-returns-clause-grown
+list_pair-returns-clause-grown t c =
+    let layout = c.args.self.now in
+    let p = c.args.pair in
+    let old = c.args.listing.now in
+    let before = c.list_asks.new.listing in
+    let new = c.mark.new.self in
+    on_ok _ (Grown layout p old new)
+    (λ marks. grown_marked layout p before new c.mark.ensures.wanted c.mark.ensures.issues c.mark.ensures.sites old marks c.in_ok-list_asks.ensures.grown c.in_ok-list_asks.ensures.told)
+    c.mark.result c.mark.ensures.marks
 
 -- ---- list_asks
 
@@ -41,13 +71,14 @@ list_asks-list_ask-requires t c =
     let e : asks_seen xs ≡ asks s x n = ap asks_seen c.deref-ask-items.ensures.value ∙ c.in_ok-asked.ensures in
     let here = standing layout p.item in
     let there = stands_there layout p.item in
-    let all : under true old.wanted ≡ list_all (λ ask. ask_conforms s (constant true) here x (ask_seen ask)) xs =
-    c.requires true here there ∙ conforms_to s roots others (constant true) here x n
-    ∙ ap (list_all (ask_conforms s (constant true) here x)) (sym e) ∙ list_all-map (ask_conforms s (constant true) here x) ask_seen xs in
+    let meaning = as_read layout.given (upper old.wanted) in
+    let all : under (upper old.wanted) old.wanted ≡ list_all (λ ask. ask_conforms s meaning here x (ask_seen ask)) xs =
+    c.requires (upper old.wanted) here there ∙ conforms_to s roots others meaning here x n
+    ∙ ap (list_all (ask_conforms s meaning here x)) (sym e) ∙ list_all-map (ask_conforms s meaning here x) ask_seen xs in
     let same : weight c.loop-ask.self p ≡ weight layout p = ap (λ l. weight l p) c.loop-ask.invariant.same in
     let now : IsToList layout old p (ask_seen (get_or xs c.loop-ask.ask-index _)) = record {
       asked = asked_at s x n xs c.loop-ask.ask-index _ e c.loop-ask-test.true;
-      allowed = (here, there, allowed_at old.wanted (λ ask. ask_conforms s (constant true) here x (ask_seen ask)) xs c.loop-ask.ask-index _ c.loop-ask-test.true all);
+      allowed = (here, there, allowed_at old.wanted (λ ask. ask_conforms s meaning here x (ask_seen ask)) xs c.loop-ask.ask-index _ c.loop-ask-test.true all);
     } in (
       omega (arith, same, c.decreases),
       (
@@ -69,30 +100,22 @@ list_asks-loop-ask-preserved t c =
     record {
       same = c.in_ok-list_ask.ensures.same ∙ c.loop-ask.invariant.same;
       grown = grown_more layout p old before new c.loop-ask.invariant.grown here.grown;
-      told = λ around there.
-          more_told (IsFilled before) (IsFilled new) (λ ask. ask_conforms s (constant (side old.wanted)) around x (ask_seen ask)) c.deref-ask-items.result.now c.loop-ask.ask-index _
-          c.loop-ask-test.true here.grown.kept (c.loop-ask.invariant.told around there) (rw c.loop-ask.invariant.grown.wanted at (here.told around there));
+      told = λ marked meaning leaves around there.
+          all_more (λ ask. ask_conforms s meaning around x (ask_seen ask)) c.deref-ask-items.result.now c.loop-ask.ask-index _ c.loop-ask-test.true
+          (c.loop-ask.invariant.told marked meaning (here.grown.left meaning leaves) around there) (here.told (c.loop-ask.invariant.grown.marked marked) meaning leaves around there);
     }
 
-pub list_asks-returns-clause-filled : goal.list_asks-returns-clause-filled
-list_asks-returns-clause-filled t c =
+pub list_asks-returns-clause-told : goal.list_asks-returns-clause-told
+list_asks-returns-clause-told t c = λ marked meaning leaves around there.
     let layout = c.args.self.now in
     let s = layout.schema in
     let p = c.args.pair in
     let x = item_at layout p.item in
     let n = p.node in
-    let new = c.loop-ask.listing in
     let xs = c.deref-ask-items.result.now in
-    let around = standing layout p.item in
-    let there = stands_there layout p.item in
     let e : asks_seen xs ≡ asks s x n = ap asks_seen c.deref-ask-items.ensures.value ∙ c.in_ok-asked.ensures in
-    let right : IsRight layout p new.wanted = subst (IsRight layout p) (sym c.loop-ask.invariant.grown.wanted) c.requires in
-    let told = subst (λ w. IsTrue (list_all (λ ask. ask_conforms s (constant (side w)) around x (ask_seen ask)) (take c.loop-ask.ask-index xs)) ⊎ IsFilled new)
-    (sym c.loop-ask.invariant.grown.wanted) (c.loop-ask.invariant.told around there) in
-    told_last new.issues new.sites new.wanted _
-    (right (side new.wanted) around there
-    ∙ sym (all_answered s (c.roots_are_roots.ensures.of_type s) (c.roots_are_roots.ensures.of_canonical s) (constant (side new.wanted)) around x n xs c.loop-ask.ask-index _ e c.loop-ask-test.false refl))
-    told
+    sym (all_answered s (c.roots_are_roots.ensures.of_type s) (c.roots_are_roots.ensures.of_canonical s) meaning around x n xs c.loop-ask.ask-index true e c.loop-ask-test.false
+    (sym (c.loop-ask.invariant.told marked meaning leaves around there)))
 
 -- ---- list_ask
 
@@ -134,7 +157,7 @@ list_ask-returns-in-Profile-clause-lists t c =
     let old = c.args.listing.now in
     let new = c.list_profile.new.listing in
     subst (λ a. OnOk c.list_profile.result (Lists layout p (ask_seen a) old new)) (sym c.in-Profile.is)
-    (on_ok (Grown layout p old new) (Lists layout p (profile c.in-Profile.root) old new) (λ grown. record { grown = grown; told = λ around there. inl refl })
+    (on_ok (Grown layout p old new) (Lists layout p (profile c.in-Profile.root) old new) (λ grown. record { grown = grown; told = λ marked meaning leaves around there. refl })
     c.list_profile.result c.list_profile.ensures.grown)
 
 pub list_ask-list_same-requires : goal.list_ask-list_same-requires
@@ -157,7 +180,7 @@ list_ask-returns-in-Root-clause-lists t c =
     let new = c.list_same.new.listing in
     let asked = subst (λ a. IsAskedBy layout p (ask_seen a)) c.in-Root.is c.requires.asked.asked in
     subst (λ a. OnOk c.list_same.result (Lists layout p (ask_seen a) old new)) (sym c.in-Root.is)
-    (on_both (PairIsTold layout old q new) (Grown layout q old new) (Lists layout p (root c.in-Root.node) old new)
+    (on_both (MarksAreTold layout old → PairIsTold layout q new) (Grown layout q old new) (Lists layout p (root c.in-Root.node) old new)
     (λ told grown. record { grown = grown_by layout p q old new (λ o profile place met. (place, at_item met asked)) grown; told = told })
     c.list_same.result c.list_same.ensures.told c.list_same.ensures.grown)
 
@@ -180,49 +203,67 @@ list_types-types_judgement-requires t c =
     }
 
 pub list_types-list_misfit-requires-clause-asked : goal.list_types-list_misfit-requires-clause-asked
-list_types-list_misfit-requires-clause-asked t c = rw c.in_ok-types_judgement.ensures.same c.requires
+list_types-list_misfit-requires-clause-asked t c = rw c.in_ok-hanging.ensures.same c.requires
 
 pub list_types-list_misfit-requires-clause-fails : goal.list_types-list_misfit-requires-clause-fails
 list_types-list_misfit-requires-clause-fails t c =
-    let fails = subst (IsRightOf c.args.self.now c.args.pair (types c.args.pair.node)) c.in-Fails.is c.in_ok-types_judgement.ensures.exact in
-    rw c.in_ok-types_judgement.ensures.same fails
+    let fails = subst (IsRightOf c.args.self.now c.args.pair (types c.args.pair.node)) c.in-Fails.is c.in_ok-hanging.ensures.exact in
+    rw c.in_ok-hanging.ensures.same fails
 
 pub list_types-list_hanging-requires : goal.list_types-list_hanging-requires
 list_types-list_hanging-requires t c =
     let p = c.args.pair in
-    let hangs = subst (IsRightOf c.args.self.now p (types p.node)) c.in-Open.is c.in_ok-types_judgement.ensures.exact in
-    let same : weight c.types_judgement.new.self p ≡ weight c.args.self.now p = ap (λ l. weight l p) c.in_ok-types_judgement.ensures.same in
-    (omega (arith, same, c.decreases), (rw c.in_ok-types_judgement.ensures.same c.requires.asked, rw c.in_ok-types_judgement.ensures.same hangs))
+    let same : weight c.types_judgement.new.self p ≡ weight c.args.self.now p = ap (λ l. weight l p) c.in_ok-hanging.ensures.same in (
+      omega (arith, same, c.decreases),
+      (
+        rw c.in_ok-hanging.ensures.same c.requires,
+        (rw c.in_ok-hanging.ensures.same c.in_ok-hanging.ensures.exact, hangs_between c.in_ok-hanging.hanging c.in_default.not-Holds c.in_default.not-Fails),
+      ),
+    )
 
 pub list_types-returns-in-Holds-clause-lists : goal.list_types-returns-in-Holds-clause-lists
 list_types-returns-in-Holds-clause-lists t c =
+    let layout = c.args.self.now in
+    let s = layout.schema in
     let p = c.args.pair in
-    lists_held c.args.self.now p (types p.node) c.args.listing.now (subst (IsRightOf c.args.self.now p (types p.node)) c.in-Holds.is c.in_ok-types_judgement.ensures.exact)
+    lists_held layout p (types p.node) c.args.listing.now
+    (λ less more over around. types_asked_raised s (item_at layout p.item) (c.hangs_on_carried.ensures.entries s) (c.positive.ensures.items s) less more over around p.node)
+    (subst (IsRightOf layout p (types p.node)) c.in-Holds.is c.in_ok-hanging.ensures.exact)
 
 pub list_types-returns-in-Fails-clause-lists : goal.list_types-returns-in-Fails-clause-lists
-list_types-returns-in-Fails-clause-lists t c = rw c.in_ok-types_judgement.ensures.same at c.list_misfit.ensures
+list_types-returns-in-Fails-clause-lists t c = rw c.in_ok-hanging.ensures.same at c.list_misfit.ensures
 
-pub list_types-returns-in-Open-clause-lists : goal.list_types-returns-in-Open-clause-lists
-list_types-returns-in-Open-clause-lists t c = rw c.in_ok-types_judgement.ensures.same at c.list_hanging.ensures.lists
+pub list_types-returns-in_default-clause-lists : goal.list_types-returns-in_default-clause-lists
+list_types-returns-in_default-clause-lists t c = rw c.in_ok-hanging.ensures.same at c.list_hanging.ensures.lists
+
+-- ---- list_hanging
 
 pub list_hanging-open_roots-requires : goal.list_hanging-open_roots-requires
 list_hanging-open_roots-requires t c =
     let layout = c.args.self.now in
     let s = layout.schema in
     let p = c.args.pair in
-    let ordered = ordered_in s (c.roots_are_roots.ensures.of_type s) (c.roots_are_roots.ensures.of_canonical s) (item_at layout p.item) p.node (types p.node) c.requires.asked in
-    record { inner = ordered.0; asked = c.requires.asked; hangs = c.requires.hangs }
+    let ordered = ordered_in s (c.roots_are_roots.ensures.of_type s) (c.roots_are_roots.ensures.of_canonical s) (item_at layout p.item) p.node (types p.node) c.requires.asked.asked in
+    let is : c.args.judgement ≡ c.args.listing.now.wanted =
+    same_is c.args.judgement c.args.listing.now.wanted (ap (same_judgement c.args.judgement) (sym c.wanted.ensures) ∙ sym c.is.ensures ∙ c.if-not-is.false) in
+    record {
+      inner = ordered.0;
+      asked = c.requires.asked.asked;
+      hangs = subst (IsRightOf layout p (types p.node)) is c.requires.hangs;
+      of_hanging = subst (λ w. is_hanging w ≡ true) is c.requires.hanging;
+    }
 
 pub list_hanging-list_root-requires : goal.list_hanging-list_root-requires
 list_hanging-list_root-requires t c =
     let layout = c.args.self.now in
     let p = c.args.pair in
+    let old = c.args.listing.now in
     let xs = c.deref-root-items.result.now in
-    let wanted : c.args.listing.now.wanted ≡ Open = is_open c.args.listing.now.wanted (ap (λ w. same_judgement w Open) (sym c.wanted.ensures) ∙ sym c.is.ensures ∙ c.if-not-is.false) in
-    let now : c.loop-root.listing.wanted ≡ Open = c.loop-root.invariant.grown.wanted ∙ wanted in
-    let all : AllByRecursion (IsOpenRoot layout p) xs =
-    subst (AllByRecursion (IsOpenRoot layout p)) (sym c.deref-root-items.ensures.value) (c.in_ok-roots.ensures.grows.hanging tt) in
-    let this = each_at (IsOpenRoot layout p) xs c.loop-root.root-index _ c.loop-root-test.true all in
+    let grows = c.in_ok-roots.ensures.settles.grows in
+    let all : AllByRecursion (IsHangingRoot layout old.wanted p) xs =
+    subst (AllByRecursion (IsHangingRoot layout old.wanted p)) (sym c.deref-root-items.ensures.value) (grows.hanging tt) in
+    let this = each_at (IsHangingRoot layout old.wanted p) xs c.loop-root.root-index _ c.loop-root-test.true all in
+    let now : c.loop-root.listing.wanted ≡ old.wanted = c.loop-root.invariant.grown.wanted ∙ grows.grown.wanted in
     let same : weight c.loop-root.self p ≡ weight layout p = ap (λ l. weight l p) c.loop-root.invariant.same in
     (omega (arith, same, c.decreases), (rw c.loop-root.invariant.same this.0, rw (c.loop-root.invariant.same, now) this.1))
 
@@ -230,22 +271,46 @@ pub list_hanging-loop-root-preserved : goal.list_hanging-loop-root-preserved
 list_hanging-loop-root-preserved t c =
     let layout = c.args.self.now in
     let p = c.args.pair in
-    let here = rw c.loop-root.invariant.same at c.in_ok-list_root.ensures.grown in
+    let grown = rw c.loop-root.invariant.same at c.in_ok-list_root.ensures.grown in
+    let told = rw c.loop-root.invariant.same at c.in_ok-list_root.ensures.told in
     record {
       same = c.in_ok-list_root.ensures.same ∙ c.loop-root.invariant.same;
-      grown = grown_more layout p c.args.listing.now c.loop-root.listing c.list_root.new.listing c.loop-root.invariant.grown here;
-      filled = λ h. c.in_ok-list_root.ensures.filled;
+      grown = grown_more layout p c.open_roots.new.listing c.loop-root.listing c.list_root.new.listing c.loop-root.invariant.grown grown;
+      told = λ marked meaning leaves around there.
+          all_more (conforms layout.schema meaning around (item_at layout p.item)) c.deref-root-items.result.now c.loop-root.root-index _ c.loop-root-test.true
+          (c.loop-root.invariant.told marked meaning (grown.left meaning leaves) around there) (told (c.loop-root.invariant.grown.marked marked) meaning leaves around there);
     }
 
 pub list_hanging-returns-then-not-is-clause-lists : goal.list_hanging-returns-then-not-is-clause-lists
 list_hanging-returns-then-not-is-clause-lists t c =
-    let old = c.args.listing.now in
-    lists_other c.args.self.now c.args.pair (types c.args.pair.node) old c.requires.hangs (ap (λ w. same_judgement w Open) (sym c.wanted.ensures) ∙ sym c.is.ensures ∙ c.if-not-is.true)
+    let layout = c.args.self.now in
+    let s = layout.schema in
+    let p = c.args.pair in
+    lists_other layout p (types p.node) c.args.listing.now c.args.judgement
+    (λ less more over around. types_asked_raised s (item_at layout p.item) (c.hangs_on_carried.ensures.entries s) (c.positive.ensures.items s) less more over around p.node)
+    c.requires.asked c.requires.hangs (ap (same_judgement c.args.judgement) (sym c.wanted.ensures) ∙ sym c.is.ensures ∙ c.if-not-is.true)
 
 pub list_hanging-returns-clause-lists : goal.list_hanging-returns-clause-lists
 list_hanging-returns-clause-lists t c =
-    let filled : IsFilled c.loop-root.listing = c.loop-root.invariant.filled (omega (arith, c.in_ok-roots.ensures.led, c.loop-root-test.false, ap length c.deref-root-items.ensures.value)) in
-    record { grown = c.loop-root.invariant.grown; told = λ around there. inr filled }
+    let layout = c.args.self.now in
+    let s = layout.schema in
+    let p = c.args.pair in
+    let x = item_at layout p.item in
+    let old = c.args.listing.now in
+    let opened = c.open_roots.new.listing in
+    let xs = c.deref-root-items.result.now in
+    let settles = c.in_ok-roots.ensures.settles in
+    let since = c.loop-root.invariant in
+    let is : c.args.judgement ≡ opened.wanted =
+    same_is c.args.judgement old.wanted (ap (same_judgement c.args.judgement) (sym c.wanted.ensures) ∙ sym c.is.ensures ∙ c.if-not-is.false) ∙ sym settles.grows.grown.wanted in
+    record {
+      grown = grown_more layout p old opened c.loop-root.listing settles.grows.grown since.grown;
+      told = λ marked meaning leaves around there.
+          types_told layout p opened c.in_ok-roots.roots.items (subst (λ w. is_hanging w ≡ true) is c.requires.hanging) (subst (IsRightOf layout p (types p.node)) is c.requires.hangs)
+          settles.settled meaning (since.grown.left meaning leaves) around there
+          (λ r has. each_held (conforms s meaning around x) xs c.loop-root.root-index c.loop-root-test.false (since.told (settles.grows.grown.marked marked) meaning leaves around there) r
+          (subst (λ (rs : List NodeRef). Contains rs r) (sym c.deref-root-items.ensures.value) has));
+    }
 
 pub list_root-list_pair-requires : goal.list_root-list_pair-requires
 list_root-list_pair-requires t c =
@@ -277,7 +342,7 @@ list_profile-list_same-requires t c =
     let ordered = ordered_in s (c.roots_are_roots.ensures.of_type s) (c.roots_are_roots.ensures.of_canonical s) (item_at layout p.item) p.node (profile c.args.root) c.requires.asked in
     let h : weight layout q < weight layout p = lighter_root layout p q refl ordered.0 ordered.1 in
     let here = standing layout p.item in
-    let allowed = subst (λ w. IsAllowed w (conforms s (constant true) here (item_at layout p.item) c.args.root)) (sym (c.requires.failing c.if-explains.true)) tt in
+    let allowed = subst (λ w. IsAllowed w (conforms s (as_read layout.given (upper w)) here (item_at layout p.item) c.args.root)) (sym (c.requires.failing c.if-explains.true)) tt in
     (omega (arith, h, c.decreases), (here, stands_there layout p.item, allowed))
 
 pub list_profile-returns-then-explains-clause-grown : goal.list_profile-returns-then-explains-clause-grown
@@ -299,7 +364,7 @@ list_kid-list_same-requires t c =
     let h : weight layout q < weight layout p = lighter_kid layout p q (rw c.layout.ensures at c.in-Some.ensures.behind) (rw c.layout.ensures at c.in-Some.ensures.within) in
     let around = c.requires.allowed.0 in
     let allowed = subst (IsAllowed c.args.listing.now.wanted)
-    (asked_of layout p c.args.position c.args.node true around (Some (item_at layout q.item)) (rw c.layout.ensures at c.in-Some.ensures.kid)) c.requires.allowed.2 in
+    (asked_of layout p c.args.position c.args.node (as_read layout.given (upper c.args.listing.now.wanted)) around (Some (item_at layout q.item)) (rw c.layout.ensures at c.in-Some.ensures.kid)) c.requires.allowed.2 in
     let there = kid_there layout p c.args.position c.args.node q.item (rw c.layout.ensures at c.in-Some.ensures.near) around c.requires.allowed.1 in
     (omega (arith, h, c.decreases), (below (inside s around x) (0 + c.args.position), there, allowed))
 
@@ -314,20 +379,22 @@ list_kid-returns-in-Some-clause-lists t c =
     let new = c.list_same.new.listing in
     let kid : Some (item_at layout q.item) ≡ kid_at (kids_of x) c.args.position = rw c.layout.ensures at c.in-Some.ensures.kid in
     let near = rw c.layout.ensures at c.in-Some.ensures.near in
-    on_both (PairIsTold layout old q new) (Grown layout q old new) (Lists layout p (child c.args.position c.args.node) old new)
+    on_both (MarksAreTold layout old → PairIsTold layout q new) (Grown layout q old new) (Lists layout p (child c.args.position c.args.node) old new)
     (λ told grown. record {
       grown = grown_by layout p q old new (λ o profile place met. (_, at_child c.args.position met c.requires.asked (sym kid) refl near)) grown;
-      told = λ around there. subst (λ b. IsTrue b ⊎ IsFilled new)
-          (sym (asked_of layout p c.args.position c.args.node (side old.wanted) around (Some (item_at layout q.item)) kid))
-          (told (below (inside s around x) (0 + c.args.position)) (kid_there layout p c.args.position c.args.node q.item near around there));
+      told = λ marked meaning leaves around there.
+          asked_of layout p c.args.position c.args.node meaning around (Some (item_at layout q.item)) kid
+          ∙ told marked meaning leaves (below (inside s around x) (0 + c.args.position)) (kid_there layout p c.args.position c.args.node q.item near around there);
     }) c.list_same.result c.list_same.ensures.told c.list_same.ensures.grown
 
 pub list_kid-returns-in-None-clause-lists : goal.list_kid-returns-in-None-clause-lists
 list_kid-returns-in-None-clause-lists t c =
     let layout = c.args.self.now in
     let p = c.args.pair in
-    lists_held layout p (child c.args.position c.args.node) c.args.listing.now
-    (λ b around there. of_none layout p c.args.position c.args.node (rw c.layout.ensures at c.in-None.ensures.kid) b around)
+    record {
+      grown = grown_none layout p c.args.listing.now;
+      told = λ marked meaning leaves around there. sym (of_none layout p c.args.position c.args.node (rw c.layout.ensures at c.in-None.ensures.kid) meaning around);
+    }
 
 pub list_same-list_pair-requires : goal.list_same-list_pair-requires
 list_same-list_pair-requires t c =
@@ -338,22 +405,17 @@ list_same-list_pair-requires t c =
     (omega (arith, same, c.decreases), rw c.in_ok-judgement.ensures.same right)
 
 pub list_same-returns-then-is-clause-told : goal.list_same-returns-then-is-clause-told
-list_same-returns-then-is-clause-told t c =
-    on_ok (IsFilled c.list_pair.new.listing) (PairIsTold c.args.self.now c.args.listing.now c.args.pair c.list_pair.new.listing)
-    (λ filled around there. inr filled) c.list_pair.result c.list_pair.ensures.filled
+list_same-returns-then-is-clause-told t c = rw c.in_ok-judgement.ensures.same at c.list_pair.ensures.told
 
 pub list_same-returns-then-is-clause-grown : goal.list_same-returns-then-is-clause-grown
 list_same-returns-then-is-clause-grown t c = rw c.in_ok-judgement.ensures.same at c.list_pair.ensures.grown
 
 pub list_same-returns-else-is-clause-told : goal.list_same-returns-else-is-clause-told
-list_same-returns-else-is-clause-told t c = λ around there.
-    let s = c.args.self.now.schema in
-    let x = item_at c.args.self.now c.args.pair.item in
-    let old = c.args.listing.now in
-    told_same old.issues old.sites old.wanted c.in_ok-judgement.judgement
-    (λ b. conforms s (constant b) c.requires.0 x c.args.pair.node) (λ b. conforms s (constant b) around x c.args.pair.node)
-    (λ b. c.in_ok-judgement.ensures.exact b c.requires.0 c.requires.1) (λ b. c.in_ok-judgement.ensures.exact b around there) c.requires.2
-    (ap (same_judgement c.in_ok-judgement.judgement) (sym c.wanted.ensures) ∙ sym c.is.ensures ∙ c.if-is.false)
+list_same-returns-else-is-clause-told t c =
+    let layout = c.args.self.now in
+    let judgement = c.in_ok-judgement.judgement in
+    let other : same_judgement judgement c.args.listing.now.wanted ≡ false = ap (same_judgement judgement) (sym c.wanted.ensures) ∙ sym c.is.ensures ∙ c.if-is.false in
+    λ marked. other_told layout c.args.pair c.args.listing.now judgement (c.positive.ensures.items layout.schema) c.requires c.in_ok-judgement.ensures.exact other
 
 pub list_same-returns-else-is-clause-grown : goal.list_same-returns-else-is-clause-grown
 list_same-returns-else-is-clause-grown t c = grown_none c.args.self.now c.args.pair c.args.listing.now

@@ -1,10 +1,10 @@
-use Rattle.std.proofs.Common.{◌≡◌, ◌+◌, ◌*◌, ◌<◌, length, take, IsTrue, ◌⊎◌}
+use Rattle.std.proofs.Common.{◌≡◌, ◌+◌, ◌*◌, take, IsTrue}
 use Rattle.std.specs.List.{list_all}
 use Rattle.fhir_conformance.specs.Views.{ask_seen}
-use Rattle.fhir_conformance.specs.Conformance.{Around, constant, ask_conforms}
+use Rattle.fhir_conformance.specs.Conformance.{Interpretation, Around, ask_conforms, conforms}
 use Rattle.fhir_validator.specs.Layouts.{item_at}
 use Rattle.fhir_validator.specs.Judging.{IsThere}
-use Rattle.fhir_validator.specs.Listing.{side, IsFilled, Grown}
+use Rattle.fhir_validator.specs.Listing.{Leaves, MarksAreTold, Grown}
 use Rattle.fhir_validator.proofs.Measures.{weight}
 use Rattle.fhir_validator.proofs.judging.Judge.+explaining.Given as goal
 
@@ -39,14 +39,14 @@ abbrev pub invariant-list_asks-loop-ask : goal.invariant-list_asks-loop-ask
 invariant-list_asks-loop-ask l = record {
   same : l.self ≡ l.fn.self;
   grown : Grown l.fn.self l.pair l.fn.listing l.listing;
-  told : (around : Around) → IsThere l.fn.self l.pair.item around
-      → IsTrue (list_all (λ ask. ask_conforms l.fn.self.schema (constant (side l.fn.listing.wanted)) around (item_at l.fn.self l.pair.item) (ask_seen ask)) (take l.ask-index l.ask-items))
-      ⊎ IsFilled l.listing;
+  told : MarksAreTold l.fn.self l.fn.listing → (meaning : Interpretation) → Leaves l.fn.self l.listing meaning → (around : Around) → IsThere l.fn.self l.pair.item around
+      → IsTrue (list_all (λ ask. ask_conforms l.fn.self.schema meaning around (item_at l.fn.self l.pair.item) (ask_seen ask)) (take l.ask-index l.ask-items));
 }
 
 abbrev pub invariant-list_hanging-loop-root : goal.invariant-list_hanging-loop-root
 invariant-list_hanging-loop-root l = record {
   same : l.self ≡ l.fn.self;
-  grown : Grown l.fn.self l.pair l.fn.listing l.listing;
-  filled : 0 < length l.initial.listing.sites + l.root-index → IsFilled l.listing;
+  grown : Grown l.fn.self l.pair l.initial.listing l.listing;
+  told : MarksAreTold l.fn.self l.initial.listing → (meaning : Interpretation) → Leaves l.fn.self l.listing meaning → (around : Around) → IsThere l.fn.self l.pair.item around
+      → IsTrue (list_all (conforms l.fn.self.schema meaning around (item_at l.fn.self l.pair.item)) (take l.root-index l.root-items));
 }

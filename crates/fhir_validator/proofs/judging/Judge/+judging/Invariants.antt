@@ -1,7 +1,8 @@
-use Rattle.std.proofs.Common.{◌≡◌, ◌+◌, ◌*◌, Bool, take, string_bytes}
+use Rattle.std.proofs.Common.{◌≡◌, ◌+◌, ◌*◌, take, string_bytes}
 use Rattle.std.specs.List.{list_all, list_any}
+use Rattle.fhir_facets.specs.Unread.{Reading, meaning_of}
 use Rattle.fhir_conformance.specs.Views.{ask_seen}
-use Rattle.fhir_conformance.specs.Conformance.{Around, constant, conforms, entry_holds, profile_holds, ask_conforms}
+use Rattle.fhir_conformance.specs.Conformance.{Around, as_read, conforms, entry_holds, profile_holds, ask_conforms}
 use Rattle.fhir_validator.specs.Judgements.{under}
 use Rattle.fhir_validator.specs.Layouts.{item_at}
 use Rattle.fhir_validator.specs.Judging.{IsThere}
@@ -34,21 +35,21 @@ decreases-kid_judgement l = 8 * weight l.self.now l.pair
 
 abbrev pub invariant-judge_pair-loop-ask : goal.invariant-judge_pair-loop-ask
 invariant-judge_pair-loop-ask l = record {
-  judgement : (b : Bool) (around : Around) → IsThere l.fn.self l.pair.item around
-      → under b l.judgement ≡ list_all (λ ask. ask_conforms l.fn.self.schema (constant b) around (item_at l.fn.self l.pair.item) (ask_seen ask)) (take l.ask-index l.ask-items);
+  judgement : (r : Reading) (around : Around) → IsThere l.fn.self l.pair.item around
+      → under r l.judgement ≡ list_all (λ ask. ask_conforms l.fn.self.schema (as_read l.fn.self.given r) around (item_at l.fn.self l.pair.item) (ask_seen ask)) (take l.ask-index l.ask-items);
   same : l.self ≡ l.fn.self;
 }
 
 abbrev pub invariant-types_judgement-loop-entry : goal.invariant-types_judgement-loop-entry
 invariant-types_judgement-loop-entry l = record {
-  judgement : (b : Bool) (around : Around) → IsThere l.fn.self l.pair.item around
-      → under b l.judgement ≡ list_any (entry_holds l.fn.self.schema (λ unread. b) (conforms l.fn.self.schema (constant b) around (item_at l.fn.self l.pair.item)) (item_at l.fn.self l.pair.item)) (take l.entry-index l.entries);
+  judgement : (r : Reading) (around : Around) → IsThere l.fn.self l.pair.item around
+      → under r l.judgement ≡ list_any (entry_holds l.fn.self.schema (meaning_of l.fn.self.given r) (conforms l.fn.self.schema (as_read l.fn.self.given r) around (item_at l.fn.self l.pair.item)) (item_at l.fn.self l.pair.item)) (take l.entry-index l.entries);
   same : l.self ≡ l.fn.self;
 }
 
 abbrev pub invariant-profiles_judgement-loop-profile : goal.invariant-profiles_judgement-loop-profile
 invariant-profiles_judgement-loop-profile l = record {
-  judgement : (b : Bool) (around : Around) → IsThere l.fn.self l.pair.item around
-      → under b l.judgement ≡ list_any (λ profile. profile_holds l.fn.self.schema (λ unread. b) (conforms l.fn.self.schema (constant b) around (item_at l.fn.self l.pair.item)) (item_at l.fn.self l.pair.item) (string_bytes profile)) (take l.profile-index l.profiles);
+  judgement : (r : Reading) (around : Around) → IsThere l.fn.self l.pair.item around
+      → under r l.judgement ≡ list_any (λ profile. profile_holds l.fn.self.schema (meaning_of l.fn.self.given r) (conforms l.fn.self.schema (as_read l.fn.self.given r) around (item_at l.fn.self l.pair.item)) (item_at l.fn.self l.pair.item) (string_bytes profile)) (take l.profile-index l.profiles);
   same : l.self ≡ l.fn.self;
 }

@@ -1,55 +1,31 @@
-use Rattle.std.proofs.Common.{refl, sym, ap, ◌∙◌, subst}
-use Rattle.fhir_facets.specs.Views.{unread_seen, holding_under, IsCarried}
-use Rattle.fhir_conformance.specs.Asks.{types}
-use Rattle.fhir_conformance.specs.Conformance.{entry_holds, profiles_hold}
-use Rattle.fhir_conformance.specs.Meeting.{entry_unread}
-use Rattle.fhir_validator.specs.Issues as issues
+use Rattle.std.proofs.Common.{sym, subst}
+use Rattle.fhir_conformance.specs.Conformance.{entry_allows, entry_holds, profiles_hold}
 use Rattle.fhir_validator.specs.Layouts.{item_at}
-use Rattle.fhir_validator.specs.Listing.{Settles}
+use Rattle.fhir_validator.specs.Listing.{IsEntry, Settles}
 use Rattle.fhir_validator.proofs.Told.{on_ok}
-use Rattle.fhir_validator.proofs.Unsettled.{grows_none, settled_fails, settled_holds, carried_entry}
+use Rattle.fhir_validator.proofs.Unsettled.{grows_more, settled_since, settled_both}
 use Rattle.fhir_validator.proofs.judging.Judge.open_entry.Goals as goal
 
-pub put_site-requires : goal.put_site-requires
-put_site-requires c =
-    let layout = c.args.self.now in
-    let s = layout.schema in
-    let x = item_at layout c.args.pair.item in
-    let e = c.args.entry.now in
-    let carried = subst (IsCarried (entry_unread s x e)) c.in-Unread.is c.entry.ensures.carried in
-    record {
-      ask = types c.args.pair.node;
-      said = issues.types;
-      asked = c.requires.hanging.asked;
-      hangs = c.requires.hanging.hangs;
-      told = refl;
-      carried = carried_entry s x c.args.pair.node e (unread_seen c.in-Unread.unread) c.requires.among carried;
-    }
+pub open_hanging_profiles-requires : goal.open_hanging_profiles-requires
+open_hanging_profiles-requires c =
+    subst (λ w. IsEntry c.args.self.now w c.args.pair c.args.entry.now) (sym (c.in_ok-open_targets.ensures.settles c.args.roots.now.items).grows.grown.wanted) c.requires
 
-pub returns-in-Fails-clause-settles : goal.returns-in-Fails-clause-settles
-returns-in-Fails-clause-settles c =
-    let layout = c.args.self.now in
-    let p = c.args.pair in
-    let old = c.args.listing.now in
-    let roots = c.args.roots.now.items in
-    record {
-      grows = grows_none layout p old roots;
-      settled = settled_fails layout p.item (item_at layout p.item) c.args.entry.now old roots (λ b. ap (holding_under b) (sym c.in-Fails.is) ∙ c.entry.ensures.exact b);
-    }
-
-pub returns-in-Holds-clause-settles : goal.returns-in-Holds-clause-settles
-returns-in-Holds-clause-settles c =
+pub returns-clause-settles : goal.returns-clause-settles
+returns-clause-settles c =
     let layout = c.args.self.now in
     let s = layout.schema in
     let p = c.args.pair in
     let x = item_at layout p.item in
     let e = c.args.entry.now in
     let old = c.args.listing.now in
-    let new = c.open_unless_one_holds.new.listing in
+    let mid = c.open_targets.new.listing in
+    let new = c.open_hanging_profiles.new.listing in
     let roots = c.args.roots.now.items in
-    let more = c.open_unless_one_holds.new.roots.items in
-    on_ok (Settles layout p (λ m f. profiles_hold s m f x e.profiles) old new roots more) (Settles layout p (λ m f. entry_holds s m f x e) old new roots more)
+    let more = c.open_hanging_profiles.new.roots.items in
+    let first = c.in_ok-open_targets.ensures.settles roots in
+    on_ok (Settles layout p (λ m f. profiles_hold s m f x e.profiles) mid new roots more) (Settles layout p (λ m f. entry_holds s m f x e) old new roots more)
     (λ h. record {
-      grows = h.grows;
-      settled = settled_holds layout p.item x e new more (λ b. ap (holding_under b) (sym c.in-Holds.is) ∙ c.entry.ensures.exact b) h.settled;
-    }) c.open_unless_one_holds.result c.open_unless_one_holds.ensures.settles
+      grows = grows_more layout p old mid new roots roots more first.grows h.grows;
+      settled = settled_both layout p (λ m f. entry_allows s m x e) (λ m f. profiles_hold s m f x e.profiles) new more
+          (settled_since layout p (λ m f. entry_allows s m x e) mid new roots more h.grows first.settled) h.settled;
+    }) c.open_hanging_profiles.result c.open_hanging_profiles.ensures.settles

@@ -1,13 +1,12 @@
-use Rattle.std.proofs.Common.{string_bytes, refl, sym, ◌∙◌, subst}
-use Rattle.std.specs.List.{Contains}
+use Rattle.std.proofs.Common.{take, string_bytes, sym, ◌∙◌, subst}
+use Rattle.std.specs.List.{Contains, list_any}
 use Rattle.std.proofs.lemmas.List.Elements.{Contains-get_or}
-use Rattle.fhir_conformance.specs.Asks.{types}
+use Rattle.fhir_facets.specs.Unread.{profile as unread_profile}
 use Rattle.fhir_conformance.specs.Conformance.{profile_holds}
-use Rattle.fhir_validator.specs.Issues as issues
 use Rattle.fhir_validator.specs.Layouts.{item_at}
 use Rattle.fhir_validator.specs.Listing.{IsNamedBy, IsSettled, Settles}
 use Rattle.fhir_validator.proofs.Asking.{asked_profile, contains_mapped}
-use Rattle.fhir_validator.proofs.Unsettled.{grows_more, settled_more, settled_profiles, carried_profile}
+use Rattle.fhir_validator.proofs.Unsettled.{grows_more, settled_since, settled_more, settled_profiles, carried_profile, types_hang}
 use Rattle.fhir_validator.proofs.judging.Judge.open_profiles.Goals as goal
 
 pub open_profile-requires : goal.open_profile-requires
@@ -17,6 +16,7 @@ open_profile-requires c =
     let p = c.args.pair in
     let x = item_at layout p.item in
     let e = c.args.entry.now in
+    let w = c.args.listing.now.wanted in
     let xs = c.profiles-profiles.result.now in
     let i = c.loop-profile.profile-index in
     let profile = c.profile-item.result in
@@ -25,18 +25,14 @@ open_profile-requires c =
     subst (Contains e.profiles) (sym c.as_str.ensures.value)
     (subst (λ ps. Contains ps (string_bytes profile)) c.profiles-profiles.ensures
     (contains_mapped string_bytes xs profile (subst (Contains xs) (sym c.profile-item.is) (Contains-get_or xs i profile c.loop-profile-test.true)))) in
-    let is : IsNamedBy layout p c.as_str.result.now = record {
-      hanging = λ absent. record {
-        ask = types p.node;
-        said = issues.types;
-        asked = hanging.asked;
-        hangs = hanging.hangs;
-        told = refl;
-        carried = carried_profile s x p.node e c.as_str.result.now c.requires.among c.requires.covered named absent;
-      };
+    let is : IsNamedBy layout w p c.as_str.result.now = record {
+      hanging = λ absent.
+          types_hang layout w p (unread_profile c.as_str.result.now) hanging (carried_profile s x p.node e c.as_str.result.now c.requires.among c.requires.covered named absent);
       asked = λ root is. asked_profile s x p.node e c.as_str.result.now root hanging.inner c.requires.among c.requires.covered named is;
     } in
-    rw c.loop-profile.invariant.same is
+    let now : IsNamedBy layout c.loop-profile.listing.wanted p c.as_str.result.now =
+    subst (λ w. IsNamedBy layout w p c.as_str.result.now) (sym c.loop-profile.invariant.settles.grows.grown.wanted) is in
+    rw c.loop-profile.invariant.same now
 
 pub loop-profile-preserved : goal.loop-profile-preserved
 loop-profile-preserved c =
@@ -49,15 +45,17 @@ loop-profile-preserved c =
     let roots = c.loop-profile.roots.items in
     let more = c.open_profile.new.roots.items in
     let profile = c.profile-item.result in
+    let xs = c.profiles-profiles.result.now in
+    let i = c.loop-profile.profile-index in
     let here : Settles layout p (λ m f. profile_holds s m f x c.as_str.result.now) old new roots more = rw c.loop-profile.invariant.same at c.in_ok-open_profile.ensures.settles in
     record {
       same = c.in_ok-open_profile.ensures.same ∙ c.loop-profile.invariant.same;
       settles = record {
         grows = grows_more layout p c.args.listing.now old new c.args.roots.now.items roots more c.loop-profile.invariant.settles.grows here.grows;
         settled =
-            settled_more layout p.item (λ m f q. profile_holds s m f x (string_bytes q)) c.profiles-profiles.result.now c.loop-profile.profile-index profile old new roots more
-            c.loop-profile-test.true c.profile-item.is here.grows.led c.loop-profile.invariant.settles.settled
-            (subst (λ name. IsSettled layout p.item (λ m f. profile_holds s m f x name) new more) c.as_str.ensures.value here.settled);
+            settled_more layout p (λ m f q. profile_holds s m f x (string_bytes q)) xs i profile new more c.loop-profile-test.true c.profile-item.is
+            (settled_since layout p (λ m f. list_any (λ q. profile_holds s m f x (string_bytes q)) (take i xs)) old new roots more here.grows c.loop-profile.invariant.settles.settled)
+            (subst (λ name. IsSettled layout p (λ m f. profile_holds s m f x name) new more) c.as_str.ensures.value here.settled);
       };
     }
 
@@ -68,6 +66,6 @@ returns-clause-settles c =
     record {
       grows = c.loop-profile.invariant.settles.grows;
       settled =
-          settled_profiles layout p.item (item_at layout p.item) c.profiles-profiles.result.now c.args.entry.now.profiles c.loop-profile.profile-index c.loop-profile.listing c.loop-profile.roots.items
+          settled_profiles layout p (item_at layout p.item) c.profiles-profiles.result.now c.args.entry.now.profiles c.loop-profile.profile-index c.loop-profile.listing c.loop-profile.roots.items
           c.loop-profile-test.false c.profiles-profiles.ensures c.loop-profile.invariant.settles.settled;
     }
