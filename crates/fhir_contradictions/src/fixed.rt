@@ -51,7 +51,7 @@ fn fails(holding: Holding<'_>) -> bool
 {
     match holding {
         Holding::Fails => true,
-        Holding::Holds | Holding::Unread(_) => false,
+        Holding::Holds | Holding::Given(_) | Holding::Unread(_) => false,
     }
 }
 

@@ -5,6 +5,8 @@ use Rattle.fhir_json.specs.Fields.{text_in, items_in}
 use Rattle.fhir_validator.specs.declared.fault.Fault.{Fault}
 use Rattle.fhir_validator.specs.declared.verdict.Verdict.{Verdict}
 use Rattle.fhir_validator.specs.declared.verdict.Verdict.TheVariants.{Conforms, Violates, Open}
+use Rattle.fhir_validator.specs.declared.verdict.Vouched.{Vouched}
+use Rattle.fhir_validator.specs.declared.verdict.Vouched.TheVariants as vouched
 
 -- the severity of what is said of a validation (OperationOutcome, issue.severity)
 abbrev pub severity_of : Result Verdict Fault → Text
@@ -29,3 +31,22 @@ is_explained (Ok Conforms) = true
 is_explained (Ok (Violates issues)) = nat_lt 0 (length issues.items)
 is_explained (Ok (Open sites)) = nat_lt 0 (length sites.items)
 is_explained (Err fault) = true
+
+-- ---- the same where a user vouches for unread rules
+
+abbrev pub severity_given : Result Vouched Fault → Text
+severity_given (Ok (vouched.Conforms relied)) = codes "information"
+severity_given (Ok (vouched.Violates issues)) = codes "error"
+severity_given (Ok (vouched.Open sites)) = codes "warning"
+severity_given (Err fault) = codes "fatal"
+
+pub record IsOutcomeAsGiven (validated : Result Vouched Fault) (t : Tree) : Type 0 where
+  pub resource : text_in (codes "resourceType") t ≡ Some (codes "OperationOutcome")
+  pub issues : 0 < length (items_in (codes "issue") t)
+  pub severity : All (HasSeverity (severity_given validated)) (items_in (codes "issue") t)
+
+abbrev pub is_explained_as_given : Result Vouched Fault → Bool
+is_explained_as_given (Ok (vouched.Conforms relied)) = true
+is_explained_as_given (Ok (vouched.Violates issues)) = nat_lt 0 (length issues.items)
+is_explained_as_given (Ok (vouched.Open sites)) = nat_lt 0 (length sites.items)
+is_explained_as_given (Err fault) = true

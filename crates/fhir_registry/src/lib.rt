@@ -28,7 +28,7 @@ mod outcomes;
 mod registry;
 
 pub use certifying::derive_answer;
-pub use judging::judge;
+pub use judging::{judge, judge_given};
 pub use laws::same_replies;
-pub use outcomes::outcome;
+pub use outcomes::{outcome, outcome_given};
 pub use registry::Registry;

@@ -7,11 +7,11 @@ ghost use Rattle.fhir_json.specs.Tree.{Text, string, array, object, items_of, me
 ghost use Rattle.fhir_json.specs.Fields.{text_in, items_in};
 ghost use Rattle.fhir_json.specs.Views.{tree_of, property_of, trees_of};
 ghost use Rattle.fhir_validator.specs.declared.fault.Fault.TheVariants as faults;
-ghost use Rattle.fhir_registry.specs.Outcomes.{severity_of, HasSeverity, IsOutcome, is_explained};
+ghost use Rattle.fhir_registry.specs.Outcomes.{severity_of, HasSeverity, IsOutcome, is_explained, severity_given, IsOutcomeAsGiven, is_explained_as_given};
 
 use fhir_instance::{Misfit, MisfitKind};
 use fhir_json::{Json, Member, NoMemory, write};
-use fhir_validator::{Breach, BrokenRule, Fault, Issue, Site, Verdict};
+use fhir_validator::{Breach, BrokenRule, Fault, Issue, Site, Verdict, Vouched};
 use std::alloc::{AllocError, Global};
 use std::borrow::CowStr;
 use std::collections::BTreeSet;
@@ -168,6 +168,18 @@ fn site_issue(alloc: Global, site: &Site<'_>) -> Result<OutcomeIssue, AllocError
     })
 }
 
+// A given rule on which it rests that a resource conforms.
+fn relied_issue(alloc: Global, site: &Site<'_>) -> Result<OutcomeIssue, AllocError>
+    ensures { IfOk result (λ issue. issue.severity.now ≡ codes "information") }
+{
+    Ok(OutcomeIssue {
+        severity: "information",
+        code: "informational",
+        diagnostics: format!(in alloc; "given {} ({}#{})", site.unread, site.url, site.id)?,
+        expression: Some(format!(in alloc; "{}", site.place)?),
+    })
+}
+
 fn fatal_issue(code: &'static str, diagnostics: String) -> OutcomeIssue
     ensures { result.severity.now ≡ codes "fatal" }
 {
@@ -270,6 +282,20 @@ fn warnings(alloc: Global, sites: &Vec<Site<'_>>) -> Result<Vec<Json<'static>>, 
     Ok(all.issues)
 }
 
+// That a resource conforms, and the given rules on which that rests.
+#[tactic(auto, using(crate::proofs::Items::none_issued))]
+fn grounds(alloc: Global, relied: &Vec<Site<'_>>) -> Result<Vec<Json<'static>>, NoMemory>
+    ensures some { IfOk result (λ all. 0 < length all.items) }
+    ensures severity { IfOk result (λ all. All (HasSeverity (codes "information")) (trees_of all.items)) }
+{
+    let mut all = Issues::new(alloc);
+    all.add(alloc, conforming_issue(alloc)?)?;
+    for site in relied {
+        all.add(alloc, relied_issue(alloc, site)?)?;
+    }
+    Ok(all.issues)
+}
+
 fn issues_of(
     alloc: Global,
     profile: &str,
@@ -308,5 +334,36 @@ pub fn outcome(
     ensures memory { IfOk result (λ json. validated.now ≡ Err faults.NoMemory → ⊥) }
 {
     let issues = issues_of(alloc, profile, validated)?;
+    Ok(resource(alloc, issues)?)
+}
+
+fn issues_given(
+    alloc: Global,
+    profile: &str,
+    validated: &Result<Vouched<'_>, Fault>,
+) -> Result<Vec<Json<'static>>, NoMemory>
+    ensures some { IsTrue (is_explained_as_given validated.now) → IfOk result (λ all. 0 < length all.items) }
+    ensures severity { IfOk result (λ all. All (HasSeverity (severity_given validated.now)) (trees_of all.items)) }
+    ensures memory { IfOk result (λ all. validated.now ≡ Err faults.NoMemory → ⊥) }
+{
+    match validated {
+        Ok(Vouched::Conforms(relied)) => grounds(alloc, relied),
+        Ok(Vouched::Violates(issues)) => violations(alloc, issues),
+        Ok(Vouched::Open(sites)) => warnings(alloc, sites),
+        Err(fault) => one(alloc, fault_issue(alloc, profile, *fault)?),
+    }
+}
+
+/// The same where a user vouches for unread rules. Where the resource conforms as the given ones hold, each of those on which that
+/// rests is told: `given`, its text, and the url and the id of its element, at its place.
+pub fn outcome_given(
+    alloc: Global,
+    profile: &str,
+    validated: &Result<Vouched<'_>, Fault>,
+) -> Result<Json<'static>, NoMemory>
+    ensures outcome { IsTrue (is_explained_as_given validated.now) → IfOk result (λ json. IsOutcomeAsGiven validated.now (tree_of json)) }
+    ensures memory { IfOk result (λ json. validated.now ≡ Err faults.NoMemory → ⊥) }
+{
+    let issues = issues_given(alloc, profile, validated)?;
     Ok(resource(alloc, issues)?)
 }
