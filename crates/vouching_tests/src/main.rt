@@ -1,0 +1,134 @@
+//! Validates resources where a user vouches for unread rules. `data/package.txt` is the package: each line is a file, its name, a blank
+//! and its JSON. `data/questions.txt` has blocks of lines that an empty line ends: a line behind `+` is one of the file of given texts,
+//! and a line behind `?` is a profile, a blank and a resource. Of each question a line is printed: the verdict, and behind it each site,
+//! with its element and its place, or the number of issues. Of a line of a file that is no text its number is printed. `stdout` has what
+//! they are by hand.
+#![tactic(auto)]
+
+use fhir_package::{FolderFile, MemoryFolder, load};
+use fhir_schema::Schema;
+use fhir_validator::{Site, Vouched, validate_given};
+use fhir_vouching::{Vouching, read_given};
+use std::alloc::{AllocError, Global};
+use std::rt::Files;
+use std::{fs, io};
+
+fn file_of(alloc: Global, line: &str) -> Result<FolderFile, AllocError> {
+    let (name, text) = line.split_once(' ').unwrap_or((line, ""));
+    let bytes = Some(text.as_bytes().to_vec(alloc)?);
+    let name = String::from_str(alloc, name)?;
+    Ok(FolderFile { name, bytes })
+}
+
+fn folder_of_lines(alloc: Global, text: &str) -> Result<MemoryFolder, AllocError> {
+    let mut files = Vec::new(alloc);
+    for line in text.lines() {
+        files.push(file_of(alloc, line)?)?;
+    }
+    MemoryFolder::new(alloc, files).map_err(|_| AllocError)
+}
+
+fn put_sites(
+    alloc: Global,
+    text: &mut String,
+    word: &str,
+    sites: &[Site<'_>],
+) -> Result<(), AllocError> {
+    text.push_str(word)?;
+    for site in sites {
+        let told = format!(in alloc;
+            "; {} ({}#{}) {}",
+            site.unread, site.url, site.id, site.place
+        )?;
+        text.push_str(told.as_str())?;
+    }
+    Ok(())
+}
+
+fn text_of(alloc: Global, vouched: &Vouched<'_>) -> Result<String, AllocError> {
+    let mut text = String::new(alloc);
+    match vouched {
+        Vouched::Conforms(relied) => put_sites(alloc, &mut text, "conforms", relied)?,
+        Vouched::Open(sites) => put_sites(alloc, &mut text, "open", sites)?,
+        Vouched::Violates(issues) => {
+            let count = issues.len();
+            text.push_str(format!(in alloc; "violates: {count}")?.as_str())?;
+        }
+    }
+    Ok(text)
+}
+
+fn answer(
+    alloc: Global,
+    schema: &Schema,
+    given: &Vouching,
+    question: &str,
+) -> Result<String, AllocError> {
+    let (profile, resource) = question.split_once(' ').unwrap_or((question, ""));
+    match validate_given(alloc, schema, profile, resource.as_bytes(), given) {
+        Ok(vouched) => text_of(alloc, &vouched),
+        Err(fault) => format!(in alloc; "{fault}"),
+    }
+}
+
+// The set of the texts of a file. Of a line that is none its number is printed.
+fn set_of<R: Print + AllocGlobal + Clone + Drop>(rt: &R, file: &str) -> io::Result<Vouching> {
+    let mut texts = Vec::new(rt.alloc());
+    match read_given(rt.alloc(), file.as_bytes()) {
+        Ok(lines) => {
+            for line in lines {
+                match line.text {
+                    Some(text) => texts.push(text)?,
+                    None => println!(rt; "no text: {}", line.number)?,
+                }
+            }
+        }
+        Err(fault) => println!(rt; "{fault}")?,
+    }
+    Ok(Vouching::of(texts))
+}
+
+fn ask_line<R: Print + AllocGlobal + Clone + Drop>(
+    rt: &R,
+    schema: &Schema,
+    file: &mut String,
+    line: &str,
+) -> io::Result<()> {
+    if let Some(question) = line.strip_prefix("? ") {
+        let given = set_of(rt, file.as_str())?;
+        let told = answer(rt.alloc(), schema, &given, question)?;
+        return println!(rt; "{told}");
+    }
+    match line.strip_prefix("+ ") {
+        Some(text) => {
+            file.push_str(text)?;
+            file.push_str("\n")?;
+        }
+        None => file.clear(),
+    }
+    Ok(())
+}
+
+fn ask_all<R: Files + Print + AllocGlobal + Clone + Drop>(
+    rt: &R,
+    schema: &Schema,
+) -> io::Result<()> {
+    let questions = fs::read_to_string(rt, "questions.txt")?;
+    let mut file = String::new(rt.alloc());
+    for line in questions.lines() {
+        ask_line(rt, schema, &mut file, line)?;
+    }
+    Ok(())
+}
+
+fn main(rt: HostRuntime) -> io::Result<()> {
+    let text = fs::read_to_string(&rt, "package.txt")?;
+    let mut folder = folder_of_lines(rt.alloc(), text.as_str())?;
+    match load(rt.alloc(), &mut folder) {
+        Ok(package) => match Schema::build(rt.alloc(), &package) {
+            Ok(schema) => ask_all(&rt, &schema),
+            Err(fault) => println!(&rt; "{fault}"),
+        },
+        Err(fault) => println!(&rt; "{fault}"),
+    }
+}
