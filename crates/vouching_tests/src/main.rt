@@ -1,11 +1,13 @@
 //! Validates resources where a user vouches for unread rules. `data/package.txt` is the package: each line is a file, its name, a blank
 //! and its JSON. `data/questions.txt` has blocks of lines that an empty line ends: a line behind `+` is one of the file of given texts,
 //! and a line behind `?` is a profile, a blank and a resource. Of each question a line is printed: the verdict, and behind it each site,
-//! with its element and its place, or the number of issues. Of a line of a file that is no text its number is printed. `stdout` has what
+//! with its element and its place, or the number of issues. A line behind `!` asks for the OperationOutcome. Of a line of a file that is no text its number is printed. `stdout` has what
 //! they are by hand.
 #![tactic(auto)]
 
+use fhir_json::write;
 use fhir_package::{FolderFile, MemoryFolder, load};
+use fhir_registry::judge_given;
 use fhir_schema::Schema;
 use fhir_validator::{Site, Vouched, validate_given};
 use fhir_vouching::{Vouching, read_given};
@@ -71,6 +73,24 @@ fn answer(
     }
 }
 
+// The OperationOutcome that says how the resource stands, as one line.
+fn outcome(
+    alloc: Global,
+    schema: &Schema,
+    given: &Vouching,
+    question: &str,
+) -> Result<String, AllocError> {
+    let (profile, resource) = question.split_once(' ').unwrap_or((question, ""));
+    let Ok((_standing, json)) = judge_given(alloc, schema, profile, resource.as_bytes(), given)
+    else {
+        return Err(AllocError);
+    };
+    let Ok(bytes) = write(alloc, &json) else {
+        return Err(AllocError);
+    };
+    String::from_utf8_lossy(alloc, &bytes)
+}
+
 // The set of the texts of a file. Of a line that is none its number is printed.
 fn set_of<R: Print + AllocGlobal + Clone + Drop>(rt: &R, file: &str) -> io::Result<Vouching> {
     let mut texts = Vec::new(rt.alloc());
@@ -97,6 +117,11 @@ fn ask_line<R: Print + AllocGlobal + Clone + Drop>(
     if let Some(question) = line.strip_prefix("? ") {
         let given = set_of(rt, file.as_str())?;
         let told = answer(rt.alloc(), schema, &given, question)?;
+        return println!(rt; "{told}");
+    }
+    if let Some(question) = line.strip_prefix("! ") {
+        let given = set_of(rt, file.as_str())?;
+        let told = outcome(rt.alloc(), schema, &given, question)?;
         return println!(rt; "{told}");
     }
     match line.strip_prefix("+ ") {
