@@ -1,6 +1,6 @@
 //! Facets.
 
-ghost use Rattle.std.specs.Prelude.{◌≡◌, Bool, List};
+ghost use Rattle.std.specs.Prelude.{◌≡◌, [], Bool, List};
 ghost use Rattle.fhir_facets.specs.Unread.{Unread as Rule, Meaning, Reading, meaning_of};
 ghost use Rattle.fhir_facets.specs.Views.{holding_under, holding_at, IsVouched, IsCarried};
 
@@ -21,6 +21,7 @@ pub trait Facet<'a, Asked> {
     /// Whether it holds, whatever the unread rules mean; or the first unread rule that it hangs on.
     fn holds(&self, asked: &Asked) -> Holding<'a>
         ensures exact { (b : Bool) → holding_under b result ≡ meant (λ u. b) self.now asked.now }
+        ensures vouched { IsVouched [] result }
         ensures carried { IsCarried (unread_rules self.now asked.now) result };
 
     /// Whether it holds, whatever the unread rules mean; or whether it does where the rules hold whose texts are given, with a
