@@ -4,13 +4,13 @@ use Rattle.std.specs.Borrow.{Bor}
 use Rattle.fhir_json.specs.Tree.{Text}
 use Rattle.fhir_json.specs.Views.{text_seen}
 use Rattle.fhir_words.specs.declared.request.Request.{Request}
-use Rattle.fhir_words.specs.declared.request.Request.TheVariants.{Certify, Validate, Snapshot, Derive, Check}
+use Rattle.fhir_words.specs.declared.request.Request.TheVariants.{Certify, Validate, ValidateGiven, Snapshot, Derive, Check, Unread}
 use Rattle.fhir_words.specs.declared.request.Invocation.{Invocation}
 use Rattle.fhir_words.specs.declared.request.Invocation.TheVariants.{Request as Asked, Version}
 use Rattle.fhir_words.specs.declared.request.Task.{Task}
 use Rattle.fhir_words.specs.declared.request.Task.TheVariants.{Answer, Serve, Gather}
 use Rattle.fhir_words.specs.declared.request.WordsFault.{WordsFault}
-use Rattle.fhir_words.specs.Requests.{RequestValue, certify, validate, snapshot, derive, check, InvocationValue, request, version, TaskValue, answer, serve, gather}
+use Rattle.fhir_words.specs.Requests.{RequestValue, certify, validate, validate_given, snapshot, derive, check, unread, InvocationValue, request, version, TaskValue, answer, serve, gather}
 
 abbrev pub texts_seen : List (Bor Text) → List Text
 texts_seen texts = map (λ t. t.now) texts
@@ -18,9 +18,11 @@ texts_seen texts = map (λ t. t.now) texts
 abbrev pub request_seen : Request → RequestValue
 request_seen (Certify folder file) = certify folder.now file.now
 request_seen (Validate folder profile file) = validate folder.now profile.now file.now
+request_seen (ValidateGiven folder profile file given) = validate_given folder.now profile.now file.now given.now
 request_seen (Snapshot folder url) = snapshot folder.now url.now
 request_seen (Derive folder derived base) = derive folder.now derived.now base.now
 request_seen (Check folder certificate prefixes manner) = check folder.now (text_seen certificate) (map string_bytes prefixes.items) manner
+request_seen (Unread folder profile) = unread folder.now (text_seen profile)
 
 abbrev pub invocation_seen : Invocation → InvocationValue
 invocation_seen (Asked asked) = request (request_seen asked)
@@ -28,7 +30,7 @@ invocation_seen Version = version
 
 abbrev pub task_seen : Task → TaskValue
 task_seen (Answer asked) = answer (invocation_seen asked)
-task_seen (Serve folder) = serve folder.now
+task_seen (Serve folder given) = serve folder.now (text_seen given)
 task_seen (Gather g) = gather g.out.now (texts_seen g.folders.items) g.detail
 
 abbrev pub asked_seen : Result Invocation WordsFault → Result InvocationValue WordsFault

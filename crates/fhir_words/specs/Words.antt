@@ -6,7 +6,7 @@ use Rattle.fhir_json.specs.Tree.{Text}
 use Rattle.fhir_words.specs.declared.request.Format.TheVariants.{Text as AsText}
 use Rattle.fhir_words.specs.declared.request.Detail.TheVariants.{Once}
 use Rattle.fhir_words.specs.declared.request.Manner.{Manner}
-use Rattle.fhir_words.specs.Requests.{RequestValue, certify, validate, snapshot, derive, check, InvocationValue, request, TaskValue, answer, serve, gather}
+use Rattle.fhir_words.specs.Requests.{RequestValue, certify, validate, validate_given, snapshot, derive, check, unread, InvocationValue, request, TaskValue, answer, serve, gather}
 
 abbrev pub is_option : Text → Bool
 is_option word = starts_with nat_eq word (codes "-")
@@ -24,6 +24,11 @@ abbrev pub validate_request : Text → Text → Text → Text → Option Request
 validate_request command first second third =
     if bytes_eq command (codes "validate") && not (is_option first) && are_plain second third
     then Some (validate first second third) else None
+
+abbrev pub validate_given_request : Text → Text → Text → Text → Text → Option RequestValue
+validate_given_request command first second third fourth =
+    if bytes_eq command (codes "validate-given") && are_plain first second && are_plain third fourth
+    then Some (validate_given first second third fourth) else None
 
 abbrev pub snapshot_request : Text → Text → Text → Option RequestValue
 snapshot_request command first second =
@@ -47,17 +52,28 @@ abbrev pub check_beside : Text → Text → Text → Option RequestValue
 check_beside command folder certificate =
     if bytes_eq command (codes "check") && are_plain folder certificate then Some (check folder (Some certificate) [] plain_manner) else None
 
+-- the unread rules of a folder, and the same of a profile
+abbrev pub unread_request : Text → Text → Option RequestValue
+unread_request command folder =
+    if bytes_eq command (codes "unread") && not (is_option folder) then Some (unread folder None) else None
+
+abbrev pub unread_of_profile : Text → Text → Text → Option RequestValue
+unread_of_profile command folder profile =
+    if bytes_eq command (codes "unread") && are_plain folder profile then Some (unread folder (Some profile)) else None
+
 abbrev pub first_some : {A : Type 0} → Option A → Option A → Option A
 first_some (Some x) other = Some x
 first_some None other = other
 
 abbrev pub command_request : Text → List Text → Option RequestValue
-command_request command (first ∷ []) = check_request command first
+command_request command (first ∷ []) = first_some (check_request command first) (unread_request command first)
 command_request command (first ∷ second ∷ []) =
     first_some (certify_request command first second)
-    (first_some (snapshot_request command first second) (check_beside command first second))
+    (first_some (snapshot_request command first second)
+    (first_some (check_beside command first second) (unread_of_profile command first second)))
 command_request command (first ∷ second ∷ third ∷ []) =
     first_some (validate_request command first second third) (derive_request command first second third)
+command_request command (first ∷ second ∷ third ∷ fourth ∷ []) = validate_given_request command first second third fourth
 command_request command _ = None
 
 -- the same behind the program's name
@@ -68,14 +84,19 @@ plain_request _ = None
 abbrev pub plain_invocation : List Text → Option InvocationValue
 plain_invocation words = option_map request (plain_request words)
 
--- the folder that is to be served
-abbrev pub folder_to_serve : Text → Text → Option Text
-folder_to_serve command folder = if bytes_eq command (codes "serve") && not (is_option folder) then Some folder else None
+-- that a folder is to be served, and the same with a file
+abbrev pub serve_task : Text → Text → Option TaskValue
+serve_task command folder = if bytes_eq command (codes "serve") && not (is_option folder) then Some (serve folder None) else None
+
+abbrev pub serve_given_task : Text → Text → Text → Option TaskValue
+serve_given_task command folder file =
+    if bytes_eq command (codes "serve-given") && are_plain folder file then Some (serve folder (Some file)) else None
 
 -- the same behind the program's name
-abbrev pub served_folder : List Text → Option Text
-served_folder (program ∷ command ∷ folder ∷ []) = folder_to_serve command folder
-served_folder _ = None
+abbrev pub plain_serving : List Text → Option TaskValue
+plain_serving (program ∷ command ∷ folder ∷ []) = serve_task command folder
+plain_serving (program ∷ command ∷ folder ∷ file ∷ []) = serve_given_task command folder file
+plain_serving _ = None
 
 -- that definitions are gathered into a new folder from others, of which there is one at least
 abbrev pub gather_task : Text → Text → Text → List Text → Option TaskValue
@@ -88,4 +109,4 @@ plain_gathering (program ∷ command ∷ out ∷ first ∷ others) = gather_task
 plain_gathering _ = None
 
 abbrev pub plain_task : List Text → Option TaskValue
-plain_task words = first_some (plain_gathering words) (first_some (option_map answer (plain_invocation words)) (option_map serve (served_folder words)))
+plain_task words = first_some (plain_gathering words) (first_some (option_map answer (plain_invocation words)) (plain_serving words))

@@ -24,6 +24,14 @@ fn validate<'a>(alloc: Global) -> Result<Command<'a>, AllocError> {
         .arg(Arg::new(alloc, "RESOURCE").required(true))
 }
 
+fn validate_given<'a>(alloc: Global) -> Result<Command<'a>, AllocError> {
+    Command::new(alloc, "validate-given")
+        .arg(Arg::new(alloc, "PACKAGE").required(true))?
+        .arg(Arg::new(alloc, "PROFILE").required(true))?
+        .arg(Arg::new(alloc, "RESOURCE").required(true))?
+        .arg(Arg::new(alloc, "FILE").required(true))
+}
+
 fn snapshot<'a>(alloc: Global) -> Result<Command<'a>, AllocError> {
     Command::new(alloc, "snapshot")
         .arg(Arg::new(alloc, "PACKAGE").required(true))?
@@ -53,6 +61,12 @@ fn check<'a>(alloc: Global) -> Result<Command<'a>, AllocError> {
         .arg(flag(alloc, "json"))
 }
 
+fn unread<'a>(alloc: Global) -> Result<Command<'a>, AllocError> {
+    Command::new(alloc, "unread")
+        .arg(Arg::new(alloc, "PACKAGE").required(true))?
+        .arg(Arg::new(alloc, "PROFILE"))
+}
+
 fn gather<'a>(alloc: Global) -> Result<Command<'a>, AllocError> {
     let folders = Arg::new(alloc, "FOLDER").required(true).num_args(1..);
     Command::new(alloc, "gather")
@@ -65,16 +79,25 @@ fn serve<'a>(alloc: Global) -> Result<Command<'a>, AllocError> {
     Command::new(alloc, "serve").arg(Arg::new(alloc, "PACKAGE").required(true))
 }
 
+fn serve_given<'a>(alloc: Global) -> Result<Command<'a>, AllocError> {
+    Command::new(alloc, "serve-given")
+        .arg(Arg::new(alloc, "PACKAGE").required(true))?
+        .arg(Arg::new(alloc, "FILE").required(true))
+}
+
 fn program<'a>(alloc: Global) -> Result<Command<'a>, AllocError> {
     Command::new(alloc, "fhirprof")
         .version(VERSION)
         .subcommand_required(true)
         .subcommand(certify(alloc)?)?
         .subcommand(validate(alloc)?)?
+        .subcommand(validate_given(alloc)?)?
         .subcommand(snapshot(alloc)?)?
         .subcommand(derive(alloc)?)?
         .subcommand(check(alloc)?)?
+        .subcommand(unread(alloc)?)?
         .subcommand(serve(alloc)?)?
+        .subcommand(serve_given(alloc)?)?
         .subcommand(gather(alloc)?)
 }
 
@@ -103,7 +126,8 @@ pub(crate) fn other_task<'w>(alloc: Global, words: &'w [String]) -> Result<Task<
         return Err(WordsFault::Usage);
     };
     match name {
-        "serve" => Ok(Task::Serve(word(matches, "PACKAGE")?)),
+        "serve" => serve_matched(matches),
+        "serve-given" => serve_given_matched(matches),
         "gather" => gather_matched(alloc, matches),
         _ => Ok(Task::Answer(Invocation::Request(matched(alloc, name, matches)?))),
     }
@@ -117,9 +141,11 @@ fn matched<'w>(
     match name {
         "certify" => certify_matched(matches),
         "validate" => validate_matched(matches),
+        "validate-given" => validate_given_matched(matches),
         "snapshot" => snapshot_matched(matches),
         "derive" => derive_matched(matches),
         "check" => check_matched(alloc, matches),
+        "unread" => unread_matched(matches),
         _ => Err(WordsFault::Usage),
     }
 }
@@ -136,6 +162,15 @@ fn validate_matched<'w>(matches: &ArgMatches<'w>) -> Result<Request<'w>, WordsFa
         folder: word(matches, "PACKAGE")?,
         profile: word(matches, "PROFILE")?,
         file: word(matches, "RESOURCE")?,
+    })
+}
+
+fn validate_given_matched<'w>(matches: &ArgMatches<'w>) -> Result<Request<'w>, WordsFault> {
+    Ok(Request::ValidateGiven {
+        folder: word(matches, "PACKAGE")?,
+        profile: word(matches, "PROFILE")?,
+        file: word(matches, "RESOURCE")?,
+        given: word(matches, "FILE")?,
     })
 }
 
@@ -201,6 +236,27 @@ fn check_matched<'w>(alloc: Global, matches: &ArgMatches<'w>) -> Result<Request<
             format: format_matched(matches),
             detail: detail_matched(matches),
         },
+    })
+}
+
+fn unread_matched<'w>(matches: &ArgMatches<'w>) -> Result<Request<'w>, WordsFault> {
+    Ok(Request::Unread {
+        folder: word(matches, "PACKAGE")?,
+        profile: matches.get_str("PROFILE"),
+    })
+}
+
+fn serve_matched<'w>(matches: &ArgMatches<'w>) -> Result<Task<'w>, WordsFault> {
+    Ok(Task::Serve {
+        folder: word(matches, "PACKAGE")?,
+        given: None,
+    })
+}
+
+fn serve_given_matched<'w>(matches: &ArgMatches<'w>) -> Result<Task<'w>, WordsFault> {
+    Ok(Task::Serve {
+        folder: word(matches, "PACKAGE")?,
+        given: Some(word(matches, "FILE")?),
     })
 }
 

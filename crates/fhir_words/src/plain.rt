@@ -2,8 +2,8 @@
 
 ghost use Rattle.std.specs.Prelude.{◌≡◌, ◌∷◌, ◌++◌, [], not, map, string_bytes, option_map, IfOk, OnOk};
 ghost use Rattle.std.specs.List.{list_any};
-ghost use Rattle.fhir_words.specs.Requests.{check, answer, serve, gather};
-ghost use Rattle.fhir_words.specs.Words.{is_option, are_plain, plain_manner, certify_request, validate_request, snapshot_request, derive_request, check_request, check_beside, first_some, command_request, plain_request, plain_invocation, folder_to_serve, served_folder, gather_task, plain_gathering, plain_task};
+ghost use Rattle.fhir_words.specs.Requests.{check, answer, gather};
+ghost use Rattle.fhir_words.specs.Words.{is_option, are_plain, plain_manner, certify_request, validate_request, validate_given_request, snapshot_request, derive_request, check_request, check_beside, unread_request, unread_of_profile, first_some, command_request, plain_request, plain_invocation, serve_task, serve_given_task, plain_serving, gather_task, plain_gathering, plain_task};
 ghost use Rattle.fhir_json.specs.Views.{text_seen};
 ghost use Rattle.fhir_words.specs.Views.{texts_seen, request_seen, task_seen};
 
@@ -48,6 +48,27 @@ fn validate_request<'w>(
             folder: first,
             profile: second,
             file: third,
+        })
+    } else {
+        None
+    }
+}
+
+fn validate_given_request<'w>(
+    command: &str,
+    folder: &'w str,
+    profile: &'w str,
+    file: &'w str,
+    given: &'w str,
+) -> Option<Request<'w>>
+    ensures { option_map request_seen result ≡ validate_given_request command.now folder.now profile.now file.now given.now }
+{
+    if command == "validate-given" && are_plain(folder, profile) && are_plain(file, given) {
+        Some(Request::ValidateGiven {
+            folder,
+            profile,
+            file,
+            given,
         })
     } else {
         None
@@ -126,18 +147,68 @@ fn check_beside<'w>(
     }
 }
 
-fn snapshot_or_check<'w>(
+fn unread_request<'w>(command: &str, folder: &'w str) -> Option<Request<'w>>
+    ensures { option_map request_seen result ≡ unread_request command.now folder.now }
+{
+    if command == "unread" && !is_option(folder) {
+        Some(Request::Unread {
+            folder,
+            profile: None,
+        })
+    } else {
+        None
+    }
+}
+
+fn unread_of_profile<'w>(command: &str, folder: &'w str, profile: &'w str) -> Option<Request<'w>>
+    ensures { option_map request_seen result ≡ unread_of_profile command.now folder.now profile.now }
+{
+    if command == "unread" && are_plain(folder, profile) {
+        Some(Request::Unread {
+            folder,
+            profile: Some(profile),
+        })
+    } else {
+        None
+    }
+}
+
+fn request_of_one<'w>(alloc: Global, command: &str, first: &'w str) -> Option<Request<'w>>
+    ensures { option_map request_seen result ≡ first_some (check_request command.now first.now) (unread_request command.now first.now) }
+{
+    match check_request(alloc, command, first) {
+        Some(request) => Some(request),
+        None => unread_request(command, first),
+    }
+}
+
+fn check_or_unread<'w>(
     alloc: Global,
     command: &str,
     first: &'w str,
     second: &'w str,
 ) -> Option<Request<'w>>
     ensures { option_map request_seen result
-        ≡ first_some (snapshot_request command.now first.now second.now) (check_beside command.now first.now second.now) }
+        ≡ first_some (check_beside command.now first.now second.now) (unread_of_profile command.now first.now second.now) }
+{
+    match check_beside(alloc, command, first, second) {
+        Some(request) => Some(request),
+        None => unread_of_profile(command, first, second),
+    }
+}
+
+fn snapshot_or_other<'w>(
+    alloc: Global,
+    command: &str,
+    first: &'w str,
+    second: &'w str,
+) -> Option<Request<'w>>
+    ensures { option_map request_seen result ≡ first_some (snapshot_request command.now first.now second.now)
+        (first_some (check_beside command.now first.now second.now) (unread_of_profile command.now first.now second.now)) }
 {
     match snapshot_request(command, first, second) {
         Some(request) => Some(request),
-        None => check_beside(alloc, command, first, second),
+        None => check_or_unread(alloc, command, first, second),
     }
 }
 
@@ -148,11 +219,12 @@ fn request_of_two<'w>(
     second: &'w str,
 ) -> Option<Request<'w>>
     ensures { option_map request_seen result ≡ first_some (certify_request command.now first.now second.now)
-        (first_some (snapshot_request command.now first.now second.now) (check_beside command.now first.now second.now)) }
+        (first_some (snapshot_request command.now first.now second.now)
+        (first_some (check_beside command.now first.now second.now) (unread_of_profile command.now first.now second.now))) }
 {
     match certify_request(command, first, second) {
         Some(request) => Some(request),
-        None => snapshot_or_check(alloc, command, first, second),
+        None => snapshot_or_other(alloc, command, first, second),
     }
 }
 
@@ -175,11 +247,18 @@ fn command_request<'w>(alloc: Global, command: &str, words: &'w [String]) -> Opt
     ensures { option_map request_seen result ≡ command_request command.now (map string_bytes words.now) }
 {
     match words {
-        [first] => check_request(alloc, command, first.as_str()),
+        [first] => request_of_one(alloc, command, first.as_str()),
         [first, second] => request_of_two(alloc, command, first.as_str(), second.as_str()),
         [first, second, third] => {
             request_of_three(command, first.as_str(), second.as_str(), third.as_str())
         }
+        [first, second, third, fourth] => validate_given_request(
+            command,
+            first.as_str(),
+            second.as_str(),
+            third.as_str(),
+            fourth.as_str(),
+        ),
         _ => None,
     }
 }
@@ -193,41 +272,51 @@ fn plain_request(alloc: Global, words: &[String]) -> Option<Request<'_>>
     }
 }
 
-fn folder_to_serve<'w>(command: &str, folder: &'w str) -> Option<&'w str>
-    ensures { text_seen result ≡ folder_to_serve command.now folder.now }
+fn serve_task<'w>(command: &str, folder: &'w str) -> Option<Task<'w>>
+    ensures { option_map task_seen result ≡ serve_task command.now folder.now }
 {
     if command == "serve" && !is_option(folder) {
-        Some(folder)
+        Some(Task::Serve {
+            folder,
+            given: None,
+        })
     } else {
         None
     }
 }
 
-fn served_folder(words: &[String]) -> Option<&str>
-    ensures { text_seen result ≡ served_folder (map string_bytes words.now) }
+fn serve_given_task<'w>(command: &str, folder: &'w str, file: &'w str) -> Option<Task<'w>>
+    ensures { option_map task_seen result ≡ serve_given_task command.now folder.now file.now }
 {
-    match words {
-        [_, command, folder] => folder_to_serve(command.as_str(), folder.as_str()),
-        _ => None,
+    if command == "serve-given" && are_plain(folder, file) {
+        Some(Task::Serve {
+            folder,
+            given: Some(file),
+        })
+    } else {
+        None
     }
 }
 
-fn serve_task(words: &[String]) -> Option<Task<'_>>
-    ensures { option_map task_seen result ≡ option_map serve (served_folder (map string_bytes words.now)) }
+fn plain_serving(words: &[String]) -> Option<Task<'_>>
+    ensures { option_map task_seen result ≡ plain_serving (map string_bytes words.now) }
 {
-    match served_folder(words) {
-        Some(folder) => Some(Task::Serve(folder)),
-        None => None,
+    match words {
+        [_, command, folder] => serve_task(command.as_str(), folder.as_str()),
+        [_, command, folder, file] => {
+            serve_given_task(command.as_str(), folder.as_str(), file.as_str())
+        }
+        _ => None,
     }
 }
 
 fn request_task(alloc: Global, words: &[String]) -> Option<Task<'_>>
     ensures { option_map task_seen result
-        ≡ first_some (option_map answer (plain_invocation (map string_bytes words.now))) (option_map serve (served_folder (map string_bytes words.now))) }
+        ≡ first_some (option_map answer (plain_invocation (map string_bytes words.now))) (plain_serving (map string_bytes words.now)) }
 {
     match plain_request(alloc, words) {
         Some(request) => Some(Task::Answer(Invocation::Request(request))),
-        None => serve_task(words),
+        None => plain_serving(words),
     }
 }
 

@@ -1,12 +1,12 @@
 //! What words ask for.
 
-ghost use Rattle.std.specs.Prelude.{◌≡◌};
+ghost use Rattle.std.specs.Prelude.{◌≡◌, IfOk};
 ghost use Rattle.fhir_words.specs.declared.request.WordsFault.TheVariants as faults;
-ghost use Rattle.fhir_words.specs.Requests.{folder_of, file_of};
+ghost use Rattle.fhir_words.specs.Requests.{folder_of, one_file, files_of};
 ghost use Rattle.fhir_json.specs.Views.{text_seen};
-ghost use Rattle.fhir_words.specs.Views.{request_seen};
+ghost use Rattle.fhir_words.specs.Views.{request_seen, texts_seen};
 
-use std::alloc::AllocError;
+use std::alloc::{AllocError, Global};
 
 /// How a report is written.
 #[derive(Clone, Copy, Debug, PartialEq, Eq)]
@@ -54,6 +54,17 @@ pub enum Request<'w> {
         /// The file.
         file: &'w str,
     },
+    /// The same where the unread rules hold whose texts another file gives.
+    ValidateGiven {
+        /// The folder.
+        folder: &'w str,
+        /// The profile's url.
+        profile: &'w str,
+        /// The file of the resource.
+        file: &'w str,
+        /// The file of the texts.
+        given: &'w str,
+    },
     /// The snapshot of the definition at a url, among those in a folder.
     Snapshot {
         /// The folder.
@@ -81,6 +92,23 @@ pub enum Request<'w> {
         /// How the report is made.
         manner: Manner,
     },
+    /// The texts of the unread rules of the definitions in a folder.
+    Unread {
+        /// The folder.
+        folder: &'w str,
+        /// The url of a profile, if it is asked of that alone, and of what it reaches.
+        profile: Option<&'w str>,
+    },
+}
+
+// A file, if there is one.
+fn one_file<'w>(alloc: Global, file: Option<&'w str>) -> Result<Vec<&'w str>, AllocError>
+    ensures { IfOk result (λ files. texts_seen files.items ≡ one_file (text_seen file.entry)) }
+{
+    match file {
+        Some(file) => Ok(vec![in alloc; file]?),
+        None => Ok(Vec::new(alloc)),
+    }
 }
 
 impl<'w> Request<'w> {
@@ -91,20 +119,27 @@ impl<'w> Request<'w> {
         match self {
             Request::Certify { folder, .. }
             | Request::Validate { folder, .. }
+            | Request::ValidateGiven { folder, .. }
             | Request::Snapshot { folder, .. }
             | Request::Derive { folder, .. }
-            | Request::Check { folder, .. } => *folder,
+            | Request::Check { folder, .. }
+            | Request::Unread { folder, .. } => *folder,
         }
     }
 
-    /// The file that is asked about, if one is.
-    pub fn file(&self) -> Option<&'w str>
-        ensures { text_seen result ≡ file_of (request_seen self.now) }
+    /// The files that are asked about, in the order of the words. The one refusal is want of memory.
+    pub fn files(&self, alloc: Global) -> Result<Vec<&'w str>, AllocError>
+        ensures { IfOk result (λ files. texts_seen files.items ≡ files_of (request_seen self.now)) }
     {
         match self {
-            Request::Certify { file, .. } | Request::Validate { file, .. } => Some(*file),
-            Request::Snapshot { .. } | Request::Derive { .. } => None,
-            Request::Check { certificate, .. } => *certificate,
+            Request::Certify { file, .. } | Request::Validate { file, .. } => {
+                Ok(vec![in alloc; *file]?)
+            }
+            Request::ValidateGiven { file, given, .. } => Ok(vec![in alloc; *file, *given]?),
+            Request::Snapshot { .. } | Request::Derive { .. } | Request::Unread { .. } => {
+                Ok(Vec::new(alloc))
+            }
+            Request::Check { certificate, .. } => one_file(alloc, *certificate),
         }
     }
 }
@@ -135,7 +170,12 @@ pub enum Task<'w> {
     /// An answer.
     Answer(Invocation<'w>),
     /// That the definitions in a folder are served.
-    Serve(&'w str),
+    Serve {
+        /// The folder.
+        folder: &'w str,
+        /// The file that gives the texts of unread rules which hold, if one does.
+        given: Option<&'w str>,
+    },
     /// That the definitions in folders are gathered into a new one.
     Gather(GatherRequest<'w>),
 }
