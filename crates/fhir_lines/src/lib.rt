@@ -19,4 +19,4 @@ mod writing;
 
 pub use laws::rows_are_lines;
 pub use line::{Details, FaultNumber, Line};
-pub use writing::{push_row, push_rows};
+pub use writing::{push_escaped, push_row, push_rows};

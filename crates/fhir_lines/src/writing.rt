@@ -50,8 +50,8 @@ fn push_character(character: char, into: &mut String) -> Result<(), AllocError>
     }
 }
 
-// Puts in a text with its control characters escaped, as JSON may write them.
-fn push_escaped(text: &str, into: &mut String) -> Result<(), AllocError>
+/// Puts in a text with its control characters escaped, as JSON may write them. The one refusal is want of memory.
+pub fn push_escaped(text: &str, into: &mut String) -> Result<(), AllocError>
     ensures { OnOk result (string_bytes into.new ≡ string_bytes into.old ++ escaped text.now) }
 {
     for character in text.chars() {
