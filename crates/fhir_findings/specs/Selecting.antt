@@ -2,7 +2,7 @@
 use Rattle.std.specs.Prelude.{ℕ, List, [], ◌∷◌, ◌++◌, map, filter, Bool, true, false, not, nat_eq, Option, None, Some, Result, Ok, Err}
 use Rattle.std.specs.List.{list_any, position_from, starts_with}
 use Rattle.std.specs.Map.{keys_of}
-use Rattle.std.specs.Option.{option_map_or}
+use Rattle.std.specs.Option.{option_map, option_map_or}
 use Rattle.fhir_json.specs.Tree.{Text, Tree}
 use Rattle.fhir_package.specs.declared.kind.Kind.{Kind}
 use Rattle.fhir_package.specs.declared.kind.Kind.TheVariants.{StructureDefinition, ValueSet, CodeSystem}
@@ -56,6 +56,10 @@ selection_of prefixes p = Some (reached p (map of_url (own_urls prefixes p)))
 abbrev pub asked_selection : List Text → Definitions → SelectionValue
 asked_selection [] p = None
 asked_selection (prefix ∷ prefixes) p = selection_of (prefix ∷ prefixes) p
+
+-- the profile or the type at a url, and what it reaches; nothing where there is no such definition
+abbrev pub profile_selection : Text → Definitions → Option SelectionValue
+profile_selection url p = option_map (λ t. Some (reached p (of_url url ∷ []))) (at_url StructureDefinition url p)
 
 -- that, if each prefix begins some url
 abbrev pub select : List Text → Definitions → Result SelectionValue SelectFault

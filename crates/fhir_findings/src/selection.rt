@@ -1,6 +1,6 @@
 //! What is reported on.
 
-ghost use Rattle.std.specs.Prelude.{◌≡◌, ◌∷◌, ◌++◌, [], None, map, filter, string_bytes, OnOk, IfOk};
+ghost use Rattle.std.specs.Prelude.{◌≡◌, ◌∷◌, ◌++◌, [], None, Some, map, filter, string_bytes, OnOk, IfOk};
 ghost use Rattle.std.specs.List.{list_any};
 ghost use Rattle.std.specs.Map.{keys_of};
 ghost use Rattle.std.specs.Option.{option_map_or};
@@ -8,7 +8,8 @@ ghost use Rattle.fhir_json.specs.Memory.{Gives, GivesOr};
 ghost use Rattle.fhir_package.specs.Definitions.{of_kind, at_url};
 ghost use Rattle.fhir_reach.specs.Keys.{of_url, keys_seen};
 ghost use Rattle.fhir_reach.specs.Reach.{is_held};
-ghost use Rattle.fhir_findings.specs.Selecting.{begins_with, is_own, own_of, own_urls, all_urls, is_unknown, unknown_place, selection_of, asked_selection, select, is_no_memory, is_selected};
+ghost use Rattle.fhir_reach.specs.Search.{reached};
+ghost use Rattle.fhir_findings.specs.Selecting.{begins_with, is_own, own_of, own_urls, all_urls, is_unknown, unknown_place, selection_of, asked_selection, profile_selection, select, is_no_memory, is_selected};
 
 use crate::held::HeldKeys;
 use fhir_json::NoMemory;
@@ -141,6 +142,15 @@ fn own_keys(alloc: Global, package: &Package<'_>, prefixes: &[String]) -> Result
     Ok(keys)
 }
 
+fn reached_from(alloc: Global, package: &Package<'_>, own: &[Key]) -> Result<Selection, NoMemory>
+    ensures { Gives (λ s. s) result (Some (reached «package».now (keys_seen own.now))) }
+{
+    let keys = reach(alloc, package, own)?;
+    Ok(Selection {
+        keys: Some(HeldKeys::of(alloc, keys)?),
+    })
+}
+
 fn reached_by(
     alloc: Global,
     package: &Package<'_>,
@@ -149,10 +159,15 @@ fn reached_by(
     ensures { Gives (λ s. s) result (selection_of (map string_bytes prefixes.now) «package».now) }
 {
     let own = own_keys(alloc, package, prefixes)?;
-    let keys = reach(alloc, package, &own)?;
-    Ok(Selection {
-        keys: Some(HeldKeys::of(alloc, keys)?),
-    })
+    reached_from(alloc, package, &own)
+}
+
+fn reached_by_url(alloc: Global, package: &Package<'_>, url: &str) -> Result<Selection, NoMemory>
+    ensures { Gives (λ s. s) result (Some (reached «package».now (of_url url.now ∷ []))) }
+{
+    let url = String::from_str(alloc, url)?;
+    let start = vec![in alloc; Key::Url(url)]?;
+    reached_from(alloc, package, &start)
 }
 
 // The same, and all where there are no prefixes.
@@ -192,6 +207,21 @@ impl Selection {
         match selected_by(alloc, package, prefixes) {
             Ok(selection) => Ok(selection),
             Err(NoMemory) => Err(SelectFault::NoMemory),
+        }
+    }
+
+    /// The profile or the type at a url, and what it reaches; or none, where the package has no such definition. The one refusal is want
+    /// of memory.
+    pub fn of_profile(
+        alloc: Global,
+        package: &Package<'_>,
+        url: &str,
+    ) -> Result<Option<Selection>, NoMemory>
+        ensures { IfOk result (λ s. s ≡ profile_selection url.now «package».now) }
+    {
+        match package.at_url(Kind::StructureDefinition, url) {
+            Some(_definition) => Ok(Some(reached_by_url(alloc, package, url)?)),
+            None => Ok(None),
         }
     }
 
