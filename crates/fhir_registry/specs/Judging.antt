@@ -9,7 +9,7 @@ use Rattle.fhir_validator.specs.declared.verdict.Verdict.{Verdict}
 use Rattle.fhir_validator.specs.declared.verdict.Verdict.TheVariants as verdicts
 use Rattle.fhir_validator.specs.declared.verdict.Vouched.{Vouched}
 use Rattle.fhir_validator.specs.declared.verdict.Vouched.TheVariants as vouched
-use Rattle.fhir_registry.specs.Outcomes.{IsOutcome, IsOutcomeAsGiven}
+use Rattle.fhir_registry.specs.Outcomes.{severity_of, severity_given, IsOutcome}
 use Rattle.fhir_registry.specs.Standing.{Stands, StandsAsGiven}
 
 -- what a verdict says of it, or a fault
@@ -24,7 +24,7 @@ pub record IsJudged (s : SchemaValue) (profile bytes : Text) (standing : Standin
   pub validated : Result Verdict Fault
   pub stands : Stands s profile bytes validated
   pub stands_so : standing ≡ standing_of validated
-  pub is_outcome : IsOutcome validated outcome
+  pub is_outcome : IsOutcome (severity_of validated) outcome
 
 -- ---- the same where a user vouches for unread rules by their texts
 
@@ -38,4 +38,4 @@ pub record IsJudgedAsGiven (s : SchemaValue) (texts : List Text) (profile bytes 
   pub validated : Result Vouched Fault
   pub stands : StandsAsGiven s texts profile bytes validated
   pub stands_so : standing ≡ standing_given validated
-  pub is_outcome : IsOutcomeAsGiven validated outcome
+  pub is_outcome : IsOutcome (severity_given validated) outcome

@@ -19,11 +19,11 @@ severity_of (Err fault) = codes "fatal"
 abbrev pub HasSeverity : Text → Tree → Type 0
 HasSeverity severity issue = text_in (codes "severity") issue ≡ Some severity
 
--- the tree is the outcome of a validation, with an issue at least, each of that severity
-pub record IsOutcome (validated : Result Verdict Fault) (t : Tree) : Type 0 where
+-- the tree is an outcome with an issue at least, each of that severity
+pub record IsOutcome (severity : Text) (t : Tree) : Type 0 where
   pub resource : text_in (codes "resourceType") t ≡ Some (codes "OperationOutcome")
   pub issues : 0 < length (items_in (codes "issue") t)
-  pub severity : All (HasSeverity (severity_of validated)) (items_in (codes "issue") t)
+  pub alike : All (HasSeverity severity) (items_in (codes "issue") t)
 
 -- the verdict lists something, if it is one that lists
 abbrev pub is_explained : Result Verdict Fault → Bool
@@ -39,11 +39,6 @@ severity_given (Ok (vouched.Conforms relied)) = codes "information"
 severity_given (Ok (vouched.Violates issues)) = codes "error"
 severity_given (Ok (vouched.Open sites)) = codes "warning"
 severity_given (Err fault) = codes "fatal"
-
-pub record IsOutcomeAsGiven (validated : Result Vouched Fault) (t : Tree) : Type 0 where
-  pub resource : text_in (codes "resourceType") t ≡ Some (codes "OperationOutcome")
-  pub issues : 0 < length (items_in (codes "issue") t)
-  pub severity : All (HasSeverity (severity_given validated)) (items_in (codes "issue") t)
 
 abbrev pub is_explained_as_given : Result Vouched Fault → Bool
 is_explained_as_given (Ok (vouched.Conforms relied)) = true

@@ -21,7 +21,7 @@ use Rattle.fhir_commands.specs.declared.reply.PutAnswer.TheVariants as puts
 use Rattle.fhir_commands.specs.declared.reply.RemoveAnswer.{RemoveAnswer}
 use Rattle.fhir_commands.specs.declared.reply.RemoveAnswer.TheVariants as removes
 use Rattle.fhir_commands.specs.declared.reply.Standing.{Standing}
-use Rattle.fhir_registry.specs.Judging.{IsJudged}
+use Rattle.fhir_registry.specs.Judging.{IsJudged, IsJudgedAsGiven}
 use Rattle.fhir_registry.specs.Deriving.{IsDeriveAnswer}
 
 -- ---- definitions that are to be put in
@@ -92,6 +92,24 @@ IsReply p (put ts) reply = reply ≡ replies.put (put_answer (definitions_of ts)
 IsReply p (remove url) reply = reply ≡ replies.remove (remove_answer url p)
 IsReply p (validate profile bytes) reply = IsJudgement p profile bytes reply
 IsReply p (derive derived base) reply = IsDerivation p derived base reply
+
+-- ---- where a user vouches for unread rules by their texts
+
+-- the same of a resource, judged as the given rules hold
+pub record IsJudgementAsGiven (texts : List Text) (p : Definitions) (profile bytes : Text) (reply : ReplyValue) : Type 0 where
+  pub completed : Definitions
+  pub completes : Completes (reached_by p profile bytes) completed
+  pub standing : Standing
+  pub outcome : Tree
+  pub judged : IsJudgedAsGiven (schema_of completed) texts profile bytes standing outcome
+  pub is_reply : reply ≡ replies.validate standing outcome
+
+-- and of any other command what is replied without them
+abbrev pub IsReplyAsGiven : List Text → Definitions → CommandValue → ReplyValue → Type 0
+IsReplyAsGiven texts p (put ts) reply = IsReply p (put ts) reply
+IsReplyAsGiven texts p (remove url) reply = IsReply p (remove url) reply
+IsReplyAsGiven texts p (validate profile bytes) reply = IsJudgementAsGiven texts p profile bytes reply
+IsReplyAsGiven texts p (derive derived base) reply = IsReply p (derive derived base) reply
 
 -- ---- lists of commands, from the left
 

@@ -40,6 +40,12 @@ Stands s profile bytes (Err fault) = Means s profile bytes fault × (fault ≡ N
 
 -- ---- where a user vouches for unread rules by their texts
 
+-- it conforms by each meaning by which the given rules hold, and its constraints are true, or given
+abbrev pub ConformsAsGiven : SchemaValue → List Text → Text → Text → Type 0
+ConformsAsGiven s texts profile bytes =
+    (t : Tree) × Reads bytes t × ((meaning : Interpretation) → AreGiven texts meaning → Conforms s meaning profile t)
+    × ConstraintsHoldAsGiven s texts profile t
+
 -- A tree stands so: it conforms by each meaning by which the listed rules hold, and so by each by which the given ones do; none is listed
 -- exactly where it conforms with no unread rule holding; and its constraints are true, or given. Or it doesn't, whatever unread rules
 -- mean; or it doesn't where the given ones alone hold, and can't fail to where each holds.

@@ -22,12 +22,14 @@
 
 mod answering;
 mod certifying;
+mod given;
 mod judging;
 mod laws;
 mod outcomes;
 mod registry;
 
 pub use certifying::derive_answer;
+pub use given::GivenRegistry;
 pub use judging::{judge, judge_given};
 pub use laws::same_replies;
 pub use outcomes::{outcome, outcome_given};

@@ -7,7 +7,7 @@ ghost use Rattle.fhir_json.specs.Tree.{Text, string, array, object, items_of, me
 ghost use Rattle.fhir_json.specs.Fields.{text_in, items_in};
 ghost use Rattle.fhir_json.specs.Views.{tree_of, property_of, trees_of};
 ghost use Rattle.fhir_validator.specs.declared.fault.Fault.TheVariants as faults;
-ghost use Rattle.fhir_registry.specs.Outcomes.{severity_of, HasSeverity, IsOutcome, is_explained, severity_given, IsOutcomeAsGiven, is_explained_as_given};
+ghost use Rattle.fhir_registry.specs.Outcomes.{severity_of, HasSeverity, IsOutcome, is_explained, severity_given, is_explained_as_given};
 
 use fhir_instance::{Misfit, MisfitKind};
 use fhir_json::{Json, Member, NoMemory, write};
@@ -330,7 +330,7 @@ pub fn outcome(
     profile: &str,
     validated: &Result<Verdict<'_>, Fault>,
 ) -> Result<Json<'static>, NoMemory>
-    ensures outcome { IsTrue (is_explained validated.now) → IfOk result (λ json. IsOutcome validated.now (tree_of json)) }
+    ensures outcome { IsTrue (is_explained validated.now) → IfOk result (λ json. IsOutcome (severity_of validated.now) (tree_of json)) }
     ensures memory { IfOk result (λ json. validated.now ≡ Err faults.NoMemory → ⊥) }
 {
     let issues = issues_of(alloc, profile, validated)?;
@@ -361,7 +361,7 @@ pub fn outcome_given(
     profile: &str,
     validated: &Result<Vouched<'_>, Fault>,
 ) -> Result<Json<'static>, NoMemory>
-    ensures outcome { IsTrue (is_explained_as_given validated.now) → IfOk result (λ json. IsOutcomeAsGiven validated.now (tree_of json)) }
+    ensures outcome { IsTrue (is_explained_as_given validated.now) → IfOk result (λ json. IsOutcome (severity_given validated.now) (tree_of json)) }
     ensures memory { IfOk result (λ json. validated.now ≡ Err faults.NoMemory → ⊥) }
 {
     let issues = issues_given(alloc, profile, validated)?;

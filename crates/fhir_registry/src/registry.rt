@@ -10,16 +10,17 @@ ghost use Rattle.fhir_reach.specs.Keys.{keys_seen};
 ghost use Rattle.fhir_snapshot.specs.Completing.{Completes};
 ghost use Rattle.fhir_commands.specs.Commands.{CommandValue, command_seen};
 ghost use Rattle.fhir_commands.specs.Replies.{reply_seen};
-ghost use Rattle.fhir_registry.specs.Session.{definitions_of, put_answer, put_after, remove_answer, starts, reached_by, ends, reached_between, IsJudgement, IsDerivation, after, IsReply, after_all, AreReplies};
+ghost use Rattle.fhir_registry.specs.Session.{definitions_of, put_answer, put_after, remove_answer, starts, reached_by, ends, reached_between, IsJudgement, IsJudgementAsGiven, IsDerivation, after, IsReply, IsReplyAsGiven, after_all, AreReplies};
 
 use crate::certifying::derive_answer;
-use crate::judging::judge;
+use crate::judging::{judge, judge_given};
 use fhir_commands::{Command, PutAnswer, RemoveAnswer, Reply};
 use fhir_json::{Json, JsonFault, NoMemory, read};
 use fhir_package::{Definition, Package, has_twice};
 use fhir_reach::{Key, reach, restrict, starts_of};
 use fhir_schema::Schema;
 use fhir_snapshot::complete;
+use fhir_vouching::Vouching;
 use std::alloc::Global;
 use std::marker::Model;
 
@@ -102,6 +103,19 @@ fn completed_schema(alloc: Global, definitions: Package<'static>) -> Result<Sche
     Schema::build(alloc, &definitions)
 }
 
+// The schema of the definitions that the validation reaches, completed.
+fn schema_for(
+    alloc: Global,
+    definitions: &Package<'_>,
+    profile: &str,
+    bytes: &[u8],
+) -> Result<Schema, NoMemory>
+    ensures { IfOk result (λ s. (p : Definitions) × Completes (reached_by definitions.now profile.now bytes.now) p × (s ≡ schema_of p)) }
+{
+    let reached = reached_by(alloc, definitions, profile, bytes)?;
+    completed_schema(alloc, reached)
+}
+
 // The reply on the resource that bytes are and the profile at a url.
 fn judgement(
     alloc: Global,
@@ -111,9 +125,23 @@ fn judgement(
 ) -> Result<Reply, NoMemory>
     ensures { IfOk result (λ r. IsJudgement definitions.now profile.now bytes.now (reply_seen r)) }
 {
-    let reached = reached_by(alloc, definitions, profile, bytes)?;
-    let schema = completed_schema(alloc, reached)?;
+    let schema = schema_for(alloc, definitions, profile, bytes)?;
     let (standing, outcome) = judge(alloc, &schema, profile, bytes)?;
+    Ok(Reply::Validate(standing, outcome))
+}
+
+// The same where a user vouches for unread rules by their texts.
+fn judgement_given(
+    alloc: Global,
+    definitions: &Package<'_>,
+    profile: &str,
+    bytes: &[u8],
+    given: &Vouching,
+) -> Result<Reply, NoMemory>
+    ensures { IfOk result (λ r. IsJudgementAsGiven given.now definitions.now profile.now bytes.now (reply_seen r)) }
+{
+    let schema = schema_for(alloc, definitions, profile, bytes)?;
+    let (standing, outcome) = judge_given(alloc, &schema, profile, bytes, given)?;
     Ok(Reply::Validate(standing, outcome))
 }
 
@@ -205,6 +233,33 @@ impl Registry {
             }
             Command::Derive { derived, base } => {
                 derivation(alloc, &self.definitions, derived.as_str(), base.as_str())
+            }
+        }
+    }
+
+    /// The same where a user vouches for unread rules by their texts: a resource is judged as these hold.
+    pub fn apply_given(
+        &mut self,
+        alloc: Global,
+        command: Command<'_>,
+        given: &Vouching,
+    ) -> Result<Reply, NoMemory>
+        ensures told { IfOk result (λ r. IsReplyAsGiven given.now self.old (command_seen command.entry) (reply_seen r)) }
+        ensures after { OnOk result (self.new ≡ after (command_seen command.entry) self.old) }
+        ensures unchanged { OnErr result (self.new ≡ self.old) }
+    {
+        match command {
+            Command::Validate { profile, resource } => judgement_given(
+                alloc,
+                &self.definitions,
+                profile.as_str(),
+                &resource,
+                given,
+            ),
+            Command::Put(trees) => self.apply(alloc, Command::Put(trees)),
+            Command::Remove(url) => self.apply(alloc, Command::Remove(url)),
+            Command::Derive { derived, base } => {
+                self.apply(alloc, Command::Derive { derived, base })
             }
         }
     }

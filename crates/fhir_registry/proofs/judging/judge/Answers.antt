@@ -1,4 +1,3 @@
-use Rattle.fhir_json.specs.Views.{tree_of}
 use Rattle.fhir_registry.proofs.Standings.{IsValidated, is_listed, stands}
 use Rattle.fhir_registry.proofs.judging.judge.Goals as goal
 
