@@ -1,5 +1,3 @@
-pub mod Derived
 pub mod Ends
-pub mod Judging
+pub mod Matching
 pub mod Promises
-pub mod Sessions

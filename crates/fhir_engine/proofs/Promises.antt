@@ -12,13 +12,15 @@ use Rattle.fhir_package.specs.ReadFiles.{ReadFiles, IsFrom, all_given, pack_give
 use Rattle.fhir_package.specs.Surveying.{FileFault, Surveyed, survey, is_unreadable, told_by, packed_by}
 use Rattle.fhir_report.specs.Lacking.{numbers}
 use Rattle.fhir_words.specs.declared.request.WordsFault.{WordsFault}
-use Rattle.fhir_engine.specs.Promising.{SessionPromise, ReadPromise, WordsPromise, FolderPromise, Promise}
+use Rattle.fhir_answers.specs.Promising.{SessionPromise}
+use Rattle.fhir_engine.specs.Promising.{ReadPromise, WordsPromise, FolderPromise, Promise}
 use Rattle.fhir_words.specs.Requests.{RequestValue, InvocationValue, request, version}
-use Rattle.fhir_engine.specs.Session.{SessionValue, IsReadOf, IsSessionOf}
+use Rattle.fhir_answers.specs.Session.{SessionValue, IsSessionOf}
+use Rattle.fhir_engine.specs.Reading.{IsReadOf}
 
-pub of_read : ((files : ReadFiles) → packed_by (survey files) ≡ pack_given files) → (q : RequestValue) (files : ReadFiles) (s : SessionValue) (file : Option Text)
-    → IsSessionOf files s → SessionPromise q s file → ReadPromise q (Ok files) file
-of_read surveys q files s file of promise =
+pub of_read : ((files : ReadFiles) → packed_by (survey files) ≡ pack_given files) → (q : RequestValue) (files : ReadFiles) (s : SessionValue) (named : List (Option Text))
+    → IsSessionOf files s → SessionPromise q s named → ReadPromise q (Ok files) named
+of_read surveys q files s named of promise =
     let by_faults : List FileFault → Option (Result Definitions Refusal) =
     λ faults. told_by (option_or (find is_unreadable faults) (slice_get faults 0)) (survey files).definitions in
     let none : (survey files).faults ≡ [] = sym (ap (λ (v : Surveyed). v.faults) of.completed.survey_is) ∙ promise.0 in
@@ -41,16 +43,16 @@ packed law folder read p is_read is = by (all_given read) refl is
     by (Some files) e h =
         let whole : pack_files files ≡ Ok p = cc in ap pack_files (sym (law folder read files is_read.0 is_read.1 e)) ∙ whole
 
-of_request : AreOfFolder → (q : RequestValue) (folder : Files) (read : Result ReadFiles FolderFault) (file : Option Text) → IsReadOf folder read
-    → ReadPromise q read file → FolderPromise q folder file
-of_request law q folder (Ok read) file is_read promise = (promise.0, promise.1, packed law folder read promise.0 is_read promise.2, promise.3, promise.4)
-of_request law q folder (Err fault) file is_read promise = absurd promise
+of_request : AreOfFolder → (q : RequestValue) (folder : Files) (read : Result ReadFiles FolderFault) (named : List (Option Text)) → IsReadOf folder read
+    → ReadPromise q read named → FolderPromise q folder named
+of_request law q folder (Ok read) named is_read promise = (promise.0, promise.1, packed law folder read promise.0 is_read promise.2, promise.3, promise.4)
+of_request law q folder (Err fault) named is_read promise = absurd promise
 
-pub of_words : AreOfFolder → (asked : Result InvocationValue WordsFault) (folder : Files) (read : Result ReadFiles FolderFault) (file : Option Text)
-    → IsReadOf folder read → WordsPromise asked read file → Promise asked folder file
-of_words law (Ok (request q)) folder read file is_read promise = of_request law q folder read file is_read promise
-of_words law (Ok version) folder read file is_read promise = tt
-of_words law (Err fault) folder read file is_read promise = promise
+pub of_words : AreOfFolder → (asked : Result InvocationValue WordsFault) (folder : Files) (read : Result ReadFiles FolderFault) (named : List (Option Text))
+    → IsReadOf folder read → WordsPromise asked read named → Promise asked folder named
+of_words law (Ok (request q)) folder read named is_read promise = of_request law q folder read named is_read promise
+of_words law (Ok version) folder read named is_read promise = tt
+of_words law (Err fault) folder read named is_read promise = promise
 
 -- ---- what is served
 

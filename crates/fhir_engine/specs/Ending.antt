@@ -1,12 +1,12 @@
 -- How the program ends: which status, and what an output holds then.
 use Rattle.std.specs.Prelude.{◌≡◌, ℕ, List, false, Option, Result, Ok, Err}
 use Rattle.std.specs.Io.KnownBytes.{Appends}
-use Rattle.fhir_engine.specs.declared.reply.Status.{Status}
-use Rattle.fhir_engine.specs.declared.reply.Status.TheVariants.{Yes, No, Open, Fault, Unwritten, Usage, NoMemory}
+use Rattle.fhir_answers.specs.declared.reply.Status.{Status}
+use Rattle.fhir_answers.specs.declared.reply.Status.TheVariants.{Yes, No, Open, Fault, Unwritten, Usage, NoMemory}
 use Rattle.fhir_words.specs.declared.request.WordsFault.{WordsFault}
-use Rattle.fhir_engine.specs.Replying.{ReplyValue, status_of, out_of, is_told}
+use Rattle.fhir_answers.specs.Replying.{ReplyValue, status_of, out_of, is_told}
 use Rattle.fhir_words.specs.Requests.{InvocationValue}
-use Rattle.fhir_engine.specs.Status.{words_status}
+use Rattle.fhir_engine.specs.Reading.{words_status}
 
 -- The status is the reply's, and standard output, whose bytes before and after are these, holds what is to be written;
 -- or the output failed, of a reply that is written there; or memory ran out.

@@ -1,5 +1,5 @@
 -- What status 0 promises where folders are gathered.
-use Rattle.std.specs.Prelude.{◌≡◌, ℕ, List, map, Option}
+use Rattle.std.specs.Prelude.{ℕ, List, map, Option}
 use Rattle.std.specs.Io.KnownBytes.{Appends}
 use Rattle.fhir_package.specs.Folder.{Files}
 use Rattle.fhir_words.specs.declared.request.Detail.{Detail}

@@ -1,9 +1,4 @@
-pub mod Status
-pub mod WrongText
-pub mod Views
-pub mod Session
-pub mod Reporting
-pub mod Replying
+pub mod Reading
 pub mod Answering
 pub mod Promising
 pub mod Ending

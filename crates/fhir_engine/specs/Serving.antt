@@ -1,32 +1,57 @@
 -- How the definitions in a folder are served.
-use Rattle.std.specs.Prelude.{◌≡◌, ◌⊎◌, ℕ, List, Option, Ok, IfSome}
+use Rattle.std.specs.Prelude.{◌≡◌, ℕ, List, Option, Some, Ok, IfSome}
 use Rattle.std.specs.Io.KnownBytes.{Appends}
+use Rattle.fhir_json.specs.Tree.{Text}
 use Rattle.fhir_package.specs.Definitions.{Definitions}
 use Rattle.fhir_package.specs.Folder.{Files}
 use Rattle.fhir_package.specs.Packing.{pack}
 use Rattle.fhir_serve.specs.Lines.{lines_of, AreFirst}
 use Rattle.fhir_serve.specs.Serving.{Serves}
-use Rattle.fhir_registry.specs.Lines.{AnswersLine}
+use Rattle.fhir_registry.specs.Lines.{AnswersLine, GivenDefinitions, AnswersLineAsGiven}
+use Rattle.fhir_unread.specs.Given.{texts_given, AreSame}
 
--- Beginning with these definitions the lines were answered in turn, and the output has grown by the answers.
-pub record WereAnswered (p : Definitions) (lines : List (List ℕ)) (old new : Option (List ℕ)) : Type 0 where
-  pub last : Definitions
-  pub written : List ℕ
-  pub served : Serves AnswersLine p lines last written
-  pub appended : Appends old new written
+module _ {V : Type 0} (Answers : V → List ℕ → V → List ℕ → Type 0) where
+  -- Beginning with what a service holds the lines were answered in turn, and the output has grown by the answers.
+  pub record WereAnswered (v : V) (lines : List (List ℕ)) (old new : Option (List ℕ)) : Type 0 where
+    pub last : V
+    pub written : List ℕ
+    pub served : Serves Answers v lines last written
+    pub appended : Appends old new written
 
--- The folder's files are a package, and by it all lines of the input were answered, where the input is known.
-pub record IsServed (files : Files) (input old new : Option (List ℕ)) : Type 0 where
-  pub definitions : Definitions
-  pub packed : pack files ≡ Ok definitions
-  pub lines : List (List ℕ)
-  pub are_all : IfSome input (λ bytes. lines ≡ lines_of bytes)
-  pub answered : WereAnswered definitions lines old new
+  -- So were all lines of the input, where that is known.
+  pub record AllWereAnswered (v : V) (input old new : Option (List ℕ)) : Type 0 where
+    pub lines : List (List ℕ)
+    pub are_all : IfSome input (λ bytes. lines ≡ lines_of bytes)
+    pub answered : WereAnswered v lines old new
+
+  -- So were its first lines.
+  pub record SomeWereAnswered (v : V) (input old new : Option (List ℕ)) : Type 0 where
+    pub lines : List (List ℕ)
+    pub are_first : IfSome input (λ bytes. AreFirst lines (lines_of bytes))
+    pub answered : WereAnswered v lines old new
+
+-- The folder's files are a package, and by it all lines of the input were answered.
+abbrev pub IsServed : Files → (input old new : Option (List ℕ)) → Type 0
+IsServed files input old new = (p : Definitions) × (pack files ≡ Ok p) × AllWereAnswered AnswersLine p input old new
 
 -- The same of the first lines of the input.
-pub record IsPartlyServed (files : Files) (input old new : Option (List ℕ)) : Type 0 where
-  pub definitions : Definitions
-  pub packed : pack files ≡ Ok definitions
-  pub lines : List (List ℕ)
-  pub are_first : IfSome input (λ bytes. AreFirst lines (lines_of bytes))
-  pub answered : WereAnswered definitions lines old new
+abbrev pub IsPartlyServed : Files → (input old new : Option (List ℕ)) → Type 0
+IsPartlyServed files input old new = (p : Definitions) × (pack files ≡ Ok p) × SomeWereAnswered AnswersLine p input old new
+
+-- ---- where a user vouches for unread rules
+
+-- the file was read, and the texts are those that its lines give
+abbrev pub AreTexts : Option Text → List Text → Type 0
+AreTexts given texts = (bytes : Text) × (given ≡ Some bytes) × AreSame texts (texts_given bytes)
+
+-- the definitions are those of the folder's package, and the texts those of the file
+abbrev pub AreHeld : Files → Option Text → GivenDefinitions → Type 0
+AreHeld files given g = (pack files ≡ Ok g.definitions) × AreTexts given g.texts
+
+abbrev pub IsServedAsGiven : Files → Option Text → (input old new : Option (List ℕ)) → Type 0
+IsServedAsGiven files given input old new =
+    (g : GivenDefinitions) × AreHeld files given g × AllWereAnswered AnswersLineAsGiven g input old new
+
+abbrev pub IsPartlyServedAsGiven : Files → Option Text → (input old new : Option (List ℕ)) → Type 0
+IsPartlyServedAsGiven files given input old new =
+    (g : GivenDefinitions) × AreHeld files given g × SomeWereAnswered AnswersLineAsGiven g input old new

@@ -1,14 +1,16 @@
 //! Files of a file system.
 
-ghost use Rattle.std.specs.Prelude.{◌≡◌, ◌≢◌, ◌⊎◌, None, Some, Ok, Err, IfOk, IfErr, IsErr};
+ghost use Rattle.std.specs.Prelude.{◌≡◌, ◌≢◌, ◌⊎◌, Option, None, Some, Ok, Err, IfOk, IfErr, IsErr};
 ghost use Rattle.std.specs.IoError.{error_kind};
+ghost use Rattle.fhir_json.specs.Tree.{Text};
 ghost use Rattle.fhir_package.specs.Folder.{Files as FolderFiles};
-ghost use Rattle.fhir_engine.specs.Serving.{IsServed};
+ghost use Rattle.fhir_engine.specs.Serving.{IsServed, IsServedAsGiven};
+ghost use Rattle.fhir_answers.specs.Views.{bytes_seen};
 ghost use Rattle.fhir_words.specs.Views.{asked_seen};
 
 use crate::engine::end_with;
-use crate::reply::Status;
-use crate::serving::serve_folder;
+use crate::serving::{serve_folder, serve_folder_given};
+use fhir_answers::{NamedFile, Status};
 use fhir_json::NoMemory;
 use fhir_package::{FolderFile, MemoryFolder, Progress, Stage, is_json_name};
 use fhir_words::{Invocation, Request, WordsFault};
@@ -122,29 +124,31 @@ pub struct Opened<'w> {
     pub asked: Result<Invocation<'w>, WordsFault>,
     /// The folder.
     pub folder: MemoryFolder,
-    /// The bytes of the file, or none where none is named or it can't be read.
-    pub file: Option<Vec<u8>>,
+    /// The bytes of the files, in the order of the words; none of one that can't be read.
+    pub files: Vec<Option<Vec<u8>>>,
 }
 
-// The file that is asked about, if one is and it can be read.
-fn file_of<R: Files + AllocGlobal>(
+// The bytes of the files that are asked about, each as far as it can be read.
+fn files_of<R: Files + AllocGlobal>(
     rt: &R,
     request: &Request<'_>,
-) -> Result<Option<Vec<u8>>, NoMemory> {
-    match request.file() {
-        Some(path) => bytes_at(rt, path),
-        None => Ok(None),
+) -> Result<Vec<Option<Vec<u8>>>, NoMemory> {
+    let mut files = Vec::new(rt.alloc());
+    for path in request.files(rt.alloc())? {
+        let bytes = bytes_at(rt, path)?;
+        files.push(bytes)?;
     }
+    Ok(files)
 }
 
 fn open_request<R: Files + AllocGlobal + Clone + Drop, P: Progress>(
     rt: &R,
     request: &Request<'_>,
     progress: &mut P,
-) -> Result<(MemoryFolder, Option<Vec<u8>>), NoMemory> {
+) -> Result<(MemoryFolder, Vec<Option<Vec<u8>>>), NoMemory> {
     let folder = directory_at(rt, request.folder(), progress)?;
-    let file = file_of(rt, request)?;
-    Ok((folder, file))
+    let files = files_of(rt, request)?;
+    Ok((folder, files))
 }
 
 // What is named by what is asked, if something is.
@@ -152,10 +156,13 @@ fn open_named<R: Files + AllocGlobal + Clone + Drop, P: Progress>(
     rt: &R,
     asked: &Result<Invocation<'_>, WordsFault>,
     progress: &mut P,
-) -> Result<(MemoryFolder, Option<Vec<u8>>), NoMemory> {
+) -> Result<(MemoryFolder, Vec<Option<Vec<u8>>>), NoMemory> {
     match asked {
         Ok(Invocation::Request(request)) => open_request(rt, request, progress),
-        Ok(Invocation::Version) | Err(_) => Ok((MemoryFolder::unlisted(rt.alloc()), None)),
+        Ok(Invocation::Version) | Err(_) => Ok((
+            MemoryFolder::unlisted(rt.alloc()),
+            Vec::new(rt.alloc()),
+        )),
     }
 }
 
@@ -168,17 +175,29 @@ pub fn open_asked<'w, R: Files + AllocGlobal + Clone + Drop, P: Progress>(
     ensures { (asked_seen result.asked ≡ asked_seen asked.entry) ⊎ (asked_seen result.asked ≡ Err WordsFault.NoMemory) }
 {
     match open_named(rt, &asked, progress) {
-        Ok((folder, file)) => Opened {
+        Ok((folder, files)) => Opened {
             asked,
             folder,
-            file,
+            files,
         },
         Err(NoMemory) => Opened {
             asked: Err(WordsFault::NoMemory),
             folder: MemoryFolder::unlisted(rt.alloc()),
-            file: None,
+            files: Vec::new(rt.alloc()),
         },
     }
+}
+
+// The folder of the directory at a path, and the bytes of the file at another, where it can be read.
+fn open_served<R: Files + AllocGlobal + Clone + Drop, P: Progress>(
+    rt: &R,
+    path: &str,
+    given: &str,
+    progress: &mut P,
+) -> Result<(MemoryFolder, Option<Vec<u8>>), NoMemory> {
+    let folder = directory_at(rt, path, progress)?;
+    let bytes = bytes_at(rt, given)?;
+    Ok((folder, bytes))
 }
 
 /// Serves the definitions in the directory at a path, by the lines of an input that isn't buffered.
@@ -197,6 +216,48 @@ pub fn serve_directory<
     };
     match directory_at(rt, path, progress) {
         Ok(folder) => serve_folder(rt.alloc(), path, folder, &mut input, progress, out, err),
+        Err(NoMemory) => {
+            progress.end();
+            end_with(err, "no memory\n", Status::NoMemory)
+        }
+    }
+}
+
+fn named<'f>(name: &'f str, bytes: Option<&'f [u8]>) -> NamedFile<'f>
+    ensures name { result.name.now ≡ name.now }
+    ensures bytes { bytes_seen result.bytes ≡ bytes_seen bytes.entry }
+{
+    NamedFile { name, bytes }
+}
+
+/// The same where a user vouches for the unread rules whose texts the file at another path gives.
+pub fn serve_directory_given<
+    R: Files + AllocGlobal + Clone + Drop,
+    I: Read + Drop,
+    P: Progress,
+    W: Write,
+    E: Write,
+>(rt: &R, path: &str, given: &str, input: I, progress: &mut P, out: &mut W, err: &mut E) -> Status
+    ensures { result ≡ Status.Yes → (files : FolderFiles) × (lines : Option Text)
+        × IsServedAsGiven files lines (I.remaining input) (W.contents out.old) (W.contents out.new) }
+{
+    let Ok(mut input) = BufReader::with_capacity(rt.alloc(), INPUT_BUFFER, input) else {
+        return end_with(err, "no memory\n", Status::NoMemory);
+    };
+    match open_served(rt, path, given, progress) {
+        Ok((folder, bytes)) => {
+            let bytes = bytes.as_deref();
+            serve_folder_given(
+                rt.alloc(),
+                path,
+                folder,
+                named(given, bytes),
+                &mut input,
+                progress,
+                out,
+                err,
+            )
+        }
         Err(NoMemory) => {
             progress.end();
             end_with(err, "no memory\n", Status::NoMemory)

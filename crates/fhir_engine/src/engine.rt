@@ -7,14 +7,13 @@ ghost use Rattle.fhir_package.specs.ReadFiles.{ReadFiles};
 ghost use Rattle.fhir_engine.specs.Answering.{RepliesTo, RepliesFor};
 ghost use Rattle.fhir_engine.specs.Ending.{HasEnded, told_status};
 ghost use Rattle.fhir_engine.specs.Promising.{ReadPromise, WordsPromise, Promise};
-ghost use Rattle.fhir_engine.specs.Replying.{ReplyValue, written, reply_seen, status_of, is_told};
-ghost use Rattle.fhir_engine.specs.Session.{IsReadOf};
-ghost use Rattle.fhir_engine.specs.Status.{code_of, words_status};
-ghost use Rattle.fhir_engine.specs.Views.{bytes_seen};
+ghost use Rattle.fhir_answers.specs.Replying.{ReplyValue, written, reply_seen, status_of, is_told, is_quiet};
+ghost use Rattle.fhir_engine.specs.Reading.{words_status, IsReadOf};
+ghost use Rattle.fhir_answers.specs.Status.{code_of};
+ghost use Rattle.fhir_answers.specs.Views.{files_seen};
 ghost use Rattle.fhir_words.specs.Views.{request_seen, asked_seen};
 
-use crate::reply::{Reply, Status, fault_reply};
-use crate::session::Session;
+use fhir_answers::{Reply, Session, Status, fault_reply};
 use fhir_json::NoMemory;
 use fhir_package::{Folder, FolderFault, FolderFiles, Progress, given_files, surveys};
 use fhir_words::{Invocation, Request, VERSION, WordsFault};
@@ -51,10 +50,15 @@ fn put<W: Write>(out: &mut W, bytes: &[u8], status: Status) -> Status
 pub(crate) fn write_reply<W: Write, E: Write>(reply: &Reply, out: &mut W, err: &mut E) -> Status
     ensures ended { HasEnded result (W.contents out.old) (W.contents out.new) (reply_seen reply.now) }
     ensures fault { IsTrue (is_told (reply_seen reply.now)) → (result ≡ Status.Fault) × (out.new ≡ out.old) }
-    ensures answer { is_told (reply_seen reply.now) ≡ false → err.new ≡ err.old }
+    ensures quiet { IsTrue (is_quiet (reply_seen reply.now)) → err.new ≡ err.old }
 {
     match reply {
         Reply::Answer { status, out: bytes } => put(out, bytes, *status),
+        Reply::Noted {
+            status,
+            out: bytes,
+            notes,
+        } => end_with(err, notes.as_str(), put(out, bytes, *status)),
         Reply::Fault(text) => end_with(err, text.as_str(), Status::Fault),
     }
 }
@@ -64,15 +68,15 @@ fn answer<P: Progress>(
     alloc: Global,
     request: &Request<'_>,
     read: &Result<FolderFiles, FolderFault>,
-    file: Option<&[u8]>,
+    files: &[Option<Vec<u8>>],
     progress: &mut P,
 ) -> Result<Reply, NoMemory>
-    ensures told { IfOk result (λ r. RepliesTo (request_seen request.now) read.now (bytes_seen file.entry) (reply_seen r)) }
+    ensures told { IfOk result (λ r. RepliesTo (request_seen request.now) read.now (files_seen files.now) (reply_seen r)) }
     ensures promised { IfOk result (λ r. status_of (reply_seen r) ≡ 0
-        → ReadPromise (request_seen request.now) read.now (bytes_seen file.entry)) }
+        → ReadPromise (request_seen request.now) read.now (files_seen files.now)) }
 {
     match read {
-        Ok(files) => answer_read(alloc, request, files, file, progress),
+        Ok(read) => answer_read(alloc, request, read, files, progress),
         Err(FolderFault::Device) => Ok(fault_reply(alloc, "P1", request.folder())?),
         Err(FolderFault::NoMemory) => Err(NoMemory),
     }
@@ -82,17 +86,17 @@ fn answer<P: Progress>(
 fn answer_read<P: Progress>(
     alloc: Global,
     request: &Request<'_>,
-    files: &FolderFiles,
-    file: Option<&[u8]>,
+    read: &FolderFiles,
+    files: &[Option<Vec<u8>>],
     progress: &mut P,
 ) -> Result<Reply, NoMemory>
-    ensures told { IfOk result (λ r. RepliesTo (request_seen request.now) (Ok files.now) (bytes_seen file.entry) (reply_seen r)) }
+    ensures told { IfOk result (λ r. RepliesTo (request_seen request.now) (Ok read.now) (files_seen files.now) (reply_seen r)) }
     ensures promised { IfOk result (λ r. status_of (reply_seen r) ≡ 0
-        → ReadPromise (request_seen request.now) (Ok files.now) (bytes_seen file.entry)) }
+        → ReadPromise (request_seen request.now) (Ok read.now) (files_seen files.now)) }
 {
     surveys();
-    let session = Session::of(alloc, files, progress)?;
-    session.answer(alloc, request, file)
+    let session = Session::of(alloc, read, progress)?;
+    session.answer(alloc, request, files)
 }
 
 // Answers a request.
@@ -100,18 +104,18 @@ fn respond<W: Write, E: Write, P: Progress>(
     alloc: Global,
     request: &Request<'_>,
     read: &Result<FolderFiles, FolderFault>,
-    file: Option<&[u8]>,
+    files: &[Option<Vec<u8>>],
     progress: &mut P,
     out: &mut W,
     err: &mut E,
 ) -> Status
     ensures told { (result ≡ Status.NoMemory → ⊥) → (reply : ReplyValue)
-        × RepliesTo (request_seen request.now) read.now (bytes_seen file.entry) reply
+        × RepliesTo (request_seen request.now) read.now (files_seen files.now) reply
         × HasEnded result (W.contents out.old) (W.contents out.new) reply
-        × (IsTrue (is_told reply) → (result ≡ Status.Fault) × (out.new ≡ out.old)) × (is_told reply ≡ false → err.new ≡ err.old) }
-    ensures promised { result ≡ Status.Yes → ReadPromise (request_seen request.now) read.now (bytes_seen file.entry) }
+        × (IsTrue (is_told reply) → (result ≡ Status.Fault) × (out.new ≡ out.old)) × (IsTrue (is_quiet reply) → err.new ≡ err.old) }
+    ensures promised { result ≡ Status.Yes → ReadPromise (request_seen request.now) read.now (files_seen files.now) }
 {
-    let reply = answer(alloc, request, read, file, progress);
+    let reply = answer(alloc, request, read, files, progress);
     progress.end();
     match reply {
         Ok(reply) => write_reply(&reply, out, err),
@@ -134,22 +138,22 @@ fn answer_words<W: Write, E: Write, P: Progress>(
     alloc: Global,
     asked: &Result<Invocation<'_>, WordsFault>,
     read: &Result<FolderFiles, FolderFault>,
-    file: Option<&[u8]>,
+    files: &[Option<Vec<u8>>],
     progress: &mut P,
     out: &mut W,
     err: &mut E,
 ) -> Status
     ensures told { (result ≡ Status.NoMemory → ⊥) → (reply : ReplyValue)
-        × RepliesFor (asked_seen asked.now) read.now (bytes_seen file.entry) reply
+        × RepliesFor (asked_seen asked.now) read.now (files_seen files.now) reply
         × HasEnded result (W.contents out.old) (W.contents out.new) reply
         × (IsTrue (is_told reply) → (result ≡ told_status (asked_seen asked.now)) × (out.new ≡ out.old))
-        × (is_told reply ≡ false → err.new ≡ err.old) }
+        × (IsTrue (is_quiet reply) → err.new ≡ err.old) }
     ensures words { IfErr asked.now (λ fault. result ≡ words_status fault) }
-    ensures promised { result ≡ Status.Yes → WordsPromise (asked_seen asked.now) read.now (bytes_seen file.entry) }
+    ensures promised { result ≡ Status.Yes → WordsPromise (asked_seen asked.now) read.now (files_seen files.now) }
 {
     match asked {
         Ok(Invocation::Request(request)) => {
-            respond(alloc, request, read, file, progress, out, err)
+            respond(alloc, request, read, files, progress, out, err)
         }
         Ok(Invocation::Version) => put(out, VERSION.as_bytes(), Status::Yes),
         Err(fault) => {
@@ -169,32 +173,33 @@ pub(crate) fn files_of<F: Folder + Drop>(
     FolderFiles::read(alloc, &mut folder)
 }
 
-/// Does what words ask, of the folder and the bytes of the file that they name, and writes what is answered at once: what can't
-/// be answered to standard error, and all else to standard output. The folder is read first. A file that can't be read has no
-/// bytes. How far the work is, is told to `progress`. An output that fails is a fault; a failure of standard error changes
+/// Does what words ask, of the folder and the bytes of the files that they name, in their order, and writes what is answered at
+/// once: what can't be answered to standard error, and all else to standard output. The folder is read first. A file that can't
+/// be read has no bytes. What is told beside an answer, of lines of a file that say nothing, goes to standard error too. How far the work is, is told to `progress`. An output that fails is a fault; a failure of standard error changes
 /// nothing.
 pub fn run<F: Folder + Drop, W: Write, E: Write, P: Progress>(
     alloc: Global,
     asked: &Result<Invocation<'_>, WordsFault>,
     folder: F,
-    file: Option<&[u8]>,
+    files: &[Option<Vec<u8>>],
     progress: &mut P,
     out: &mut W,
     err: &mut E,
 ) -> Status
     // Of what was read of the folder, the reply is the one that is stated, or one of those that are. What can't be answered has
-    // its status, and nothing is written to standard output; of any other reply nothing is written to standard error.
+    // its status, and nothing is written to standard output; of any other reply nothing is written to standard error, unless
+    // something is told beside it.
     ensures told { (result ≡ Status.NoMemory → ⊥) → (read : Result ReadFiles FolderFault) × (reply : ReplyValue)
         × IsReadOf (F.files folder) read
-        × RepliesFor (asked_seen asked.now) read (bytes_seen file.entry) reply
+        × RepliesFor (asked_seen asked.now) read (files_seen files.now) reply
         × HasEnded result (W.contents out.old) (W.contents out.new) reply
         × (IsTrue (is_told reply) → (result ≡ told_status (asked_seen asked.now)) × (out.new ≡ out.old))
-        × (is_told reply ≡ false → err.new ≡ err.old) }
+        × (IsTrue (is_quiet reply) → err.new ≡ err.old) }
     ensures words { IfErr asked.now (λ fault. result ≡ words_status fault) }
     // What a yes promises.
-    ensures promised { result ≡ Status.Yes → Promise (asked_seen asked.now) (F.files folder) (bytes_seen file.entry) }
+    ensures promised { result ≡ Status.Yes → Promise (asked_seen asked.now) (F.files folder) (files_seen files.now) }
 {
     given_files();
     let read = files_of(alloc, folder);
-    answer_words(alloc, asked, &read, file, progress, out, err)
+    answer_words(alloc, asked, &read, files, progress, out, err)
 }

@@ -9,7 +9,7 @@ ghost use Rattle.fhir_engine.specs.Gathers.{printed, IsGathered};
 
 use crate::directory::directory_at;
 use crate::engine::{end_with, is_written};
-use crate::reply::Status;
+use fhir_answers::Status;
 use fhir_gather::{GatherFault, Gathered, NamedFolder, gather};
 use fhir_gather_lines::gather_text;
 use fhir_json::NoMemory;

@@ -1,4 +1,4 @@
-//! The engine of the program: from words, the files of a folder and the bytes of a file to a status and what is written.
+//! The engine of the program: from words, the files of a folder and the bytes of others to a status and what is written.
 //!
 //! ```
 //! /// Answers what is asked, and gives the status.
@@ -9,15 +9,14 @@
 //!     err: &mut E,
 //! ) -> Status
 //!     ensures { result ≡ Status.Yes → (asked : Result InvocationValue WordsFault)
-//!         × (files : Files) × (file : Option Text) × Promise asked files file }
+//!         × (folder : Files) × (files : List (Option Text)) × Promise asked folder files }
 //! {
 //!     let Opened {
 //!         asked,
 //!         folder,
-//!         file,
+//!         files,
 //!     } = open_asked(rt, asked, &mut Silent);
-//!     let bytes = file.as_deref();
-//!     run(rt.alloc(), &asked, folder, bytes, &mut Silent, out, err)
+//!     run(rt.alloc(), &asked, folder, &files, &mut Silent, out, err)
 //! }
 //! ```
 //!
@@ -25,23 +24,18 @@
 //! (`RepliesFor`), what status 0 promises in `specs/Promising.antt` (`Promise`), and what serving is in `specs/Serving.antt`.
 #![tactic(auto)]
 
-mod answering;
-mod derive_reply;
 mod directory;
 mod engine;
 mod gathering;
 mod laws;
 mod meter;
-mod reply;
 mod serving;
-mod session;
-mod wrong_reply;
 
-pub use directory::{Opened, bytes_at, directory_at, open_asked, serve_directory};
+pub use directory::{
+    Opened, bytes_at, directory_at, open_asked, serve_directory, serve_directory_given,
+};
 pub use engine::run;
 pub use gathering::{gather_directories, gather_folders};
 pub use laws::verdicts_agree;
 pub use meter::Meter;
-pub use reply::{Reply, Status};
-pub use serving::serve_folder;
-pub use session::Session;
+pub use serving::{serve_folder, serve_folder_given};

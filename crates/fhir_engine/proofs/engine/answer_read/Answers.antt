@@ -1,5 +1,5 @@
 use Rattle.std.proofs.lemmas.Result.{IfOk-weaker}
-use Rattle.fhir_engine.specs.Views.{bytes_seen}
+use Rattle.fhir_answers.specs.Views.{files_seen}
 use Rattle.fhir_words.specs.Views.{request_seen}
 use Rattle.fhir_engine.proofs.Promises.{of_read}
 use Rattle.fhir_engine.proofs.engine.answer_read.Goals as goal
@@ -12,5 +12,5 @@ pub returns-clause-promised : goal.returns-clause-promised
 returns-clause-promised g c =
     IfOk-weaker c.answer.result _ _
     (λ r promise zero.
-    of_read c.surveys.ensures.packed (request_seen c.args.request.now) c.args.files.now c.in_ok-session.session (bytes_seen c.args.file) c.in_ok-session.ensures (promise zero))
+    of_read c.surveys.ensures.packed (request_seen c.args.request.now) c.args.read.now c.in_ok-session.session (files_seen c.args.files.now) c.in_ok-session.ensures (promise zero))
     c.answer.ensures.promised

@@ -1,6 +1,5 @@
 use Rattle.std.proofs.Common.{sym, subst}
 use Rattle.fhir_gather.specs.Making.{folders_of, IsMade, LoadsFirst}
-use Rattle.fhir_engine.specs.Gathers.{IsGathered}
 use Rattle.fhir_engine.proofs.gathering.gather_folders.Goals as goal
 
 pub returns-in-Ok-clause-made : goal.returns-in-Ok-clause-made

@@ -1,0 +1,72 @@
+-- What a reply on a resource says, from how the resource stands.
+use Rattle.std.proofs.Common.{◌≡◌, ◌++◌, ℕ, List, [], ◌∷◌, None, Result, Ok, Err, codes, refl, sym, ap, subst, ◌∙◌, inl}
+use Rattle.fhir_json.specs.Tree.{Text, Tree}
+use Rattle.fhir_json.specs.Compact.{compact}
+use Rattle.fhir_schema.specs.Schemas.{SchemaValue}
+use Rattle.fhir_commands.specs.declared.reply.Standing.{Standing}
+use Rattle.fhir_validator.specs.declared.fault.Fault.{Fault}
+use Rattle.fhir_validator.specs.declared.verdict.Verdict.{Verdict}
+use Rattle.fhir_validator.specs.declared.verdict.Verdict.TheVariants as verdicts
+use Rattle.fhir_validator.specs.declared.verdict.Vouched.{Vouched}
+use Rattle.fhir_validator.specs.declared.verdict.Vouched.TheVariants as vouched
+use Rattle.fhir_registry.specs.Judging.{standing_of, IsJudged, standing_given, IsJudgedAsGiven}
+use Rattle.fhir_registry.specs.Standing.{AlwaysConforms, Stands, ConformsAsGiven, StandsAsGiven}
+use Rattle.fhir_answers.specs.declared.reply.Status.{Status}
+use Rattle.fhir_unread.specs.Given.{texts_given, AreSame, notes}
+use Rattle.fhir_unread.specs.Unread.{unread_texts}
+use Rattle.fhir_answers.specs.Answering.{IsJudgedReply, IsGivenReply}
+use Rattle.fhir_answers.specs.Replying.{ReplyValue, status_of, written, answer_noted}
+use Rattle.fhir_answers.specs.Session.{SessionValue, schema_in}
+use Rattle.fhir_answers.specs.Status.{code_of, standing_status}
+
+conforms_by : (s : SchemaValue) (profile bytes : Text) (v : Result Verdict Fault) → Stands s profile bytes v
+    → code_of (standing_status (standing_of v)) ≡ 0 → AlwaysConforms s profile bytes
+conforms_by s profile bytes (Ok verdicts.Conforms) so zero = (so.0, so.1, so.2.0, so.2.1)
+conforms_by s profile bytes (Ok (verdicts.Violates issues)) so zero = absurd cc
+conforms_by s profile bytes (Ok (verdicts.Open sites)) so zero = absurd cc
+conforms_by s profile bytes (Err fault) so zero = absurd cc
+
+-- where the status of the reply is 0, the resource conforms
+pub always_by : (s : SchemaValue) (profile bytes : Text) (standing : Standing) (outcome : Tree) → IsJudged s profile bytes standing outcome
+    → code_of (standing_status standing) ≡ 0 → AlwaysConforms s profile bytes
+always_by s profile bytes standing outcome judged zero =
+    conforms_by s profile bytes judged.validated judged.stands (ap (λ (it : Standing). code_of (standing_status it)) (sym judged.stands_so) ∙ zero)
+
+-- the reply is written with the status of the resource, and the text of the outcome
+pub written_so : (status : Status) (standing : Standing) (out : Text) (outcome : Tree) → status ≡ standing_status standing
+    → out ≡ compact outcome ++ codes "\n" → written (code_of status) out ≡ written (code_of (standing_status standing)) (compact outcome ++ codes "\n")
+written_so status standing out outcome is text =
+    ap (λ s. written (code_of s) out) is ∙ ap (λ bytes. written (code_of (standing_status standing)) bytes) text
+
+-- ---- where a user vouches for unread rules
+
+conforms_by_given : (s : SchemaValue) (texts : List Text) (profile bytes : Text) (v : Result Vouched Fault) → StandsAsGiven s texts profile bytes v
+    → code_of (standing_status (standing_given v)) ≡ 0 → ConformsAsGiven s texts profile bytes
+conforms_by_given s texts profile bytes (Ok (vouched.Conforms relied)) so zero = (so.0, so.1, so.2.1, so.2.3)
+conforms_by_given s texts profile bytes (Ok (vouched.Violates issues)) so zero = absurd cc
+conforms_by_given s texts profile bytes (Ok (vouched.Open sites)) so zero = absurd cc
+conforms_by_given s texts profile bytes (Err fault) so zero = absurd cc
+
+status_noted : (told out : Text) (n : ℕ) → status_of (answer_noted told n out) ≡ n
+status_noted [] out n = refl
+status_noted (b ∷ told) out n = refl
+
+-- where the status of the reply is 0, the resource conforms as the given rules hold
+pub given_by : (s : SchemaValue) (texts : List Text) (profile bytes told out : Text) (standing : Standing) (outcome : Tree)
+    → IsJudgedAsGiven s texts profile bytes standing outcome → status_of (answer_noted told (code_of (standing_status standing)) out) ≡ 0
+    → ConformsAsGiven s texts profile bytes
+given_by s texts profile bytes told out standing outcome judged zero =
+    conforms_by_given s texts profile bytes judged.validated judged.stands
+    (ap (λ (it : Standing). code_of (standing_status it)) (sym judged.stands_so) ∙ sym (status_noted told out (code_of (standing_status standing))) ∙ zero)
+
+-- the reply is the one where a user vouches for what the lines of a file give, from what is known of the set and of the notes
+pub answered_by : (s : SessionValue) (schema : SchemaValue) (texts : List Text) (told profile bytes name lines : Text) (reply : ReplyValue)
+    → schema ≡ schema_in s → AreSame texts (texts_given lines) → told ≡ notes name (unread_texts None (schema_in s) s.survey) lines
+    → IsJudgedReply schema texts told profile bytes reply → IsGivenReply s profile bytes name lines reply
+answered_by s schema texts told profile bytes name lines reply same are is judged =
+    inl (
+      texts,
+      are,
+      subst (λ x. IsJudgedReply x texts (notes name (unread_texts None (schema_in s) s.survey) lines) profile bytes reply) same
+          (subst (λ n. IsJudgedReply schema texts n profile bytes reply) is judged),
+    )

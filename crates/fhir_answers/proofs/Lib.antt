@@ -1,0 +1,3 @@
+pub mod Derived
+pub mod Judging
+pub mod Sessions
