@@ -11,16 +11,23 @@
 //!   there as it is, without its line feed.
 #![tactic(auto)]
 
-ghost use Rattle.std.specs.Prelude.{◌≡◌, Option, Result};
+ghost use Rattle.std.specs.Prelude.{◌≡◌, IfOk, List, Option, Result};
 ghost use Rattle.fhir_json.specs.Tree.{Text};
 ghost use Rattle.fhir_package.specs.Folder.{Files};
 ghost use Rattle.fhir_words.specs.declared.request.WordsFault.{WordsFault};
 ghost use Rattle.fhir_engine.specs.Promising.{Promise};
 ghost use Rattle.fhir_words.specs.Requests.{InvocationValue};
+ghost use Rattle.fhir_words.specs.Views.{request_seen};
+ghost use Rattle.fhir_answers.specs.Answering.{IsReply, answer_by};
+ghost use Rattle.fhir_answers.specs.Replying.{reply_seen};
+ghost use Rattle.fhir_answers.specs.Session.{SessionValue, IsSessionOf};
+ghost use Rattle.fhir_answers.specs.Views.{files_seen};
 
-use fhir_engine::{Opened, Status, open_asked, run, serve_directory};
-use fhir_package::Silent;
-use fhir_words::{Invocation, Task, WordsFault, task_of};
+use fhir_answers::{Reply, Session, Status};
+use fhir_engine::{Opened, open_asked, run, serve_directory, serve_directory_given};
+use fhir_json::NoMemory;
+use fhir_package::{FolderFiles, Silent};
+use fhir_words::{Invocation, Request, Task, WordsFault, task_of};
 use std::alloc::{AllocError, Global};
 use std::io::{Write, empty};
 use std::rt::Files;
@@ -64,7 +71,18 @@ fn task_status<R: Files + AllocGlobal + Clone + Drop, W: Write, E: Write>(
 ) -> Status {
     match task_of(rt.alloc(), words) {
         Ok(Task::Answer(asked)) => status_of(rt, Ok(asked), out, err),
-        Ok(Task::Serve(folder)) => serve_directory(rt, folder, empty(), &mut Silent, out, err),
+        Ok(
+            Task::Serve {
+                folder,
+                given: None,
+            },
+        ) => serve_directory(rt, folder, empty(), &mut Silent, out, err),
+        Ok(
+            Task::Serve {
+                folder,
+                given: Some(given),
+            },
+        ) => serve_directory_given(rt, folder, given, empty(), &mut Silent, out, err),
         Ok(Task::Gather(_)) => Status::Usage,
         Err(fault) => status_of(rt, Err(fault), out, err),
     }
@@ -78,15 +96,28 @@ pub fn status_of<R: Files + AllocGlobal + Clone + Drop, W: Write, E: Write>(
     err: &mut E,
 ) -> Status
     ensures { result ≡ Status.Yes → (asked : Result InvocationValue WordsFault)
-        × (files : Files) × (file : Option Text) × Promise asked files file }
+        × (folder : Files) × (files : List (Option Text)) × Promise asked folder files }
 {
     let Opened {
         asked,
         folder,
-        file,
+        files,
     } = open_asked(rt, asked, &mut Silent);
-    let bytes = file.as_deref();
-    run(rt.alloc(), &asked, folder, bytes, &mut Silent, out, err)
+    run(rt.alloc(), &asked, folder, &files, &mut Silent, out, err)
+}
+
+/// What is answered to a request, by files that were read.
+pub fn reply_to(
+    alloc: Global,
+    read: &FolderFiles,
+    request: &Request<'_>,
+    files: &[Option<Vec<u8>>],
+) -> Result<Reply, NoMemory>
+    ensures { IfOk result (λ r. (s : SessionValue) × IsSessionOf read.now s
+        × IsReply (answer_by (request_seen request.now) s (files_seen files.now)) (reply_seen r)) }
+{
+    let session = Session::of(alloc, read, &mut Silent)?;
+    session.answer(alloc, request, files)
 }
 
 fn line_of(alloc: Global, status: Status, out: &[u8], err: &[u8]) -> Result<String, AllocError> {

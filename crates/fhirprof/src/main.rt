@@ -6,12 +6,14 @@ ghost use Rattle.std.specs.Process.{exit_status};
 ghost use Rattle.fhir_package.specs.ReadFiles.{ReadFiles};
 ghost use Rattle.fhir_engine.specs.Answering.{RepliesFor};
 ghost use Rattle.fhir_engine.specs.Promising.{Promise};
-ghost use Rattle.fhir_engine.specs.Replying.{ReplyValue, status_of};
-ghost use Rattle.fhir_engine.specs.Session.{IsReadOf};
-ghost use Rattle.fhir_engine.specs.Views.{bytes_seen};
+ghost use Rattle.fhir_answers.specs.Replying.{ReplyValue, status_of};
+ghost use Rattle.fhir_engine.specs.Reading.{IsReadOf};
+ghost use Rattle.fhir_answers.specs.Views.{files_seen};
 ghost use Rattle.fhir_words.specs.Views.{asked_seen};
 
-use fhir_engine::{Meter, Opened, gather_directories, open_asked, run, serve_directory};
+use fhir_engine::{
+    Meter, Opened, gather_directories, open_asked, run, serve_directory, serve_directory_given,
+};
 use fhir_package::{Folder, FolderFault, Progress};
 use fhir_words::{Invocation, Task, WordsFault, task_of};
 use std::alloc::Global;
@@ -33,9 +35,25 @@ fn main(rt: HostRuntime) -> ExitCode {
     };
     match task {
         Ok(Task::Answer(asked)) => answer(&rt, Ok(asked), &mut meter, &mut out, &mut err),
-        Ok(Task::Serve(folder)) => {
+        Ok(
+            Task::Serve {
+                folder,
+                given: None,
+            },
+        ) => {
             let input = rt.stdin();
             ExitCode::from(serve_directory(&rt, folder, input, &mut meter, &mut out, &mut err))
+        }
+        Ok(
+            Task::Serve {
+                folder,
+                given: Some(given),
+            },
+        ) => {
+            let input = rt.stdin();
+            ExitCode::from(serve_directory_given(
+                &rt, folder, given, input, &mut meter, &mut out, &mut err,
+            ))
         }
         Ok(Task::Gather(gathering)) => {
             ExitCode::from(gather_directories(&rt, &gathering, &mut meter, &mut out, &mut err))
@@ -55,10 +73,9 @@ fn answer<R: Files + AllocGlobal + Clone + Drop, P: Progress, W: Write, E: Write
     let Opened {
         asked,
         folder,
-        file,
+        files,
     } = open_asked(rt, asked, progress);
-    let bytes = file.as_deref();
-    code_of(rt.alloc(), &asked, folder, bytes, progress, out, err)
+    code_of(rt.alloc(), &asked, folder, &files, progress, out, err)
 }
 
 // The words. One that isn't UTF-8 asks for nothing.
@@ -75,15 +92,15 @@ fn code_of<F: Folder + Drop, W: Write, E: Write, P: Progress>(
     alloc: Global,
     asked: &Result<Invocation<'_>, WordsFault>,
     folder: F,
-    file: Option<&[u8]>,
+    files: &[Option<Vec<u8>>],
     progress: &mut P,
     out: &mut W,
     err: &mut E,
 ) -> ExitCode
-    ensures promised { exit_status result ≡ 0 → Promise (asked_seen asked.now) (F.files folder) (bytes_seen file.entry) }
+    ensures promised { exit_status result ≡ 0 → Promise (asked_seen asked.now) (F.files folder) (files_seen files.now) }
     ensures no { exit_status result ≡ 1 → (read : Result ReadFiles FolderFault) × (reply : ReplyValue)
         × IsReadOf (F.files folder) read
-        × RepliesFor (asked_seen asked.now) read (bytes_seen file.entry) reply × (status_of reply ≡ 1) }
+        × RepliesFor (asked_seen asked.now) read (files_seen files.now) reply × (status_of reply ≡ 1) }
 {
-    ExitCode::from(run(alloc, asked, folder, file, progress, out, err))
+    ExitCode::from(run(alloc, asked, folder, files, progress, out, err))
 }
