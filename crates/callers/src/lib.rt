@@ -1,5 +1,6 @@
 //! A caller of each library, as the front page of the library shows it. Here they are proved, and `tests/rules` holds the two
-//! against each other. That of `fhir_engine` stands in `engine_tests`, which stands on it in any case.
+//! against each other. Those of `fhir_answers` and `fhir_engine` stand in `engine_tests`, which stands on them
+//! in any case.
 #![tactic(auto)]
 
 ghost use Rattle.std.specs.Prelude.{◌≡◌, ◌∷◌, ◌++◌, ◌↔◌, ◌||◌, [], map, Some, length, get_or, false, None, Ok, OnOk, OnErr, is_ok, is_some, List, Option, Result, if◌then◌else◌, IsTrue, IfOk, codes, string_bytes, option_map};
@@ -52,6 +53,8 @@ ghost use Rattle.fhir_cert_check.specs.Checking.{SpellsCertificate};
 ghost use Rattle.fhir_entail.specs.Entailment.{entails};
 ghost use Rattle.fhir_derive_check.specs.Reaching.{HasCertificate};
 ghost use Rattle.fhir_findings.specs.Finding.{selected_unusable};
+ghost use Rattle.fhir_vouching.specs.Given.{given_lines};
+ghost use Rattle.fhir_unread.specs.Unread.{unread_texts};
 ghost use Rattle.fhir_contradictions.specs.Listing.{contradictions};
 ghost use Rattle.fhir_report.specs.Faultless.{IsRightBy, certificate_seen};
 ghost use Rattle.fhir_commands.specs.Commands.{command_seen, line_command};
@@ -396,6 +399,14 @@ pub fn are_usable<'r>(
 {
     let found = fhir_findings::findings(alloc, survey, schema, selection)?;
     Ok(!fhir_findings::has_faults(&found))
+}
+
+/// The list of the unread rules of all definitions, by the survey of their files and their schema.
+pub fn list_all(alloc: Global, survey: &Survey<'_>, schema: &Schema) -> Result<String, NoMemory>
+    ensures { IfOk result (λ t. map (λ l. l.1) (given_lines (string_bytes t))
+        ≡ map (λ text. Some text) (unread_texts None schema.now survey.now)) }
+{
+    fhir_unread::unread_listing(alloc, survey, schema, &Selection::all())
 }
 
 /// Whether no element of the definition at a place asks for what can never hold.

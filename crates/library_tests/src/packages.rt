@@ -188,7 +188,11 @@ fn answer_of_survey(
     call: Call,
 ) -> Result<String, AllocError> {
     let files = FolderFiles::read(alloc, folder).map_err(|_| AllocError)?;
-    let survey = Survey::of(alloc, &files, &mut Silent).map_err(|_| AllocError)?;
+    survey_text(alloc, &files, call)
+}
+
+fn survey_text(alloc: Global, files: &FolderFiles, call: Call) -> Result<String, AllocError> {
+    let survey = Survey::of(alloc, files, &mut Silent).map_err(|_| AllocError)?;
     match call {
         Call::Refusal => refusal_text(alloc, &survey),
         _ => faults_text(alloc, &survey),
