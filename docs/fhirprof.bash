@@ -3,9 +3,10 @@
 
 _fhirprof() {
     local current=${COMP_WORDS[COMP_CWORD]} options='' places=() place=0 is_value='' is_rest='' i word
+    local commands='check derive certify validate validate-given unread snapshot serve serve-given gather'
     COMPREPLY=()
     if ((COMP_CWORD == 1)); then
-        mapfile -t COMPREPLY < <(compgen -W 'check derive certify validate snapshot serve gather --version' -- "$current")
+        mapfile -t COMPREPLY < <(compgen -W "$commands --version" -- "$current")
         return
     fi
     case ${COMP_WORDS[1]} in
@@ -13,8 +14,10 @@ _fhirprof() {
     derive) places=(folder url url) ;;
     certify) places=(folder file) ;;
     validate) places=(folder url file) ;;
-    snapshot) places=(folder url) ;;
+    validate-given) places=(folder url file file) ;;
+    unread | snapshot) places=(folder url) ;;
     serve) places=(folder) ;;
+    serve-given) places=(folder file) ;;
     gather) options='--each' places=(folder folder) ;;
     *) return ;;
     esac
