@@ -18,3 +18,4 @@ mod TypedRoots
 mod Holding
 mod SoundItems
 mod SoundParts
+mod AsGiven

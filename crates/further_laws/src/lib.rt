@@ -16,7 +16,7 @@ pub use bases::{chains_of_bases, covered_codes};
 pub use children::{all_asks, children_by_name, one_of_several_profiles};
 pub use collections::{positions, shared_values, united_values};
 pub use contradictions::never_held;
-pub use given::given_inclusion;
+pub use given::{given_inclusion, standings_as_given};
 pub use lists::{lists_take_effect_whole, removed_urls};
 pub use parts::sound_parts;
 pub use slices::{criteria_of_slices, items_in_two_slices};
