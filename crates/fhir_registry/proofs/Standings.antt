@@ -1,9 +1,10 @@
 -- How a resource stands, from what is known of its validation.
 use Rattle.std.proofs.Common.{◌≡◌, ◌<◌, ◌↔◌, true, false, List, length, Result, Ok, Err, IfOk, IfErr, IsTrue, refl, ap, rules}
+use Rattle.std.specs.Prelude.{IsSome}
 use Rattle.std.proofs.lemmas.Bool.{false≢true}
 use Rattle.fhir_json.specs.Tree.{Text, Tree}
 use Rattle.fhir_json.specs.Grammar.{Reads}
-use Rattle.fhir_schema.specs.Schemas.{SchemaValue}
+use Rattle.fhir_schema.specs.Schemas.{SchemaValue, root}
 use Rattle.fhir_facets.specs.Unread.{as_given}
 use Rattle.fhir_conformance.specs.Conformance.{Interpretation, Conforms, constant, as_read}
 use Rattle.fhir_validator.specs.declared.fault.Fault.{Fault}
@@ -25,6 +26,7 @@ pub record IsValidated (s : SchemaValue) (profile bytes : Text) (v : Result Verd
   pub violates : (t : Tree) → Reads bytes t → IfOk v (λ v. IsTrue (is_violating v) ↔ (Conforms s (constant true) profile t → ⊥))
   pub never : (t : Tree) → Reads bytes t → IfOk v (λ v. IsTrue (is_violating v) → (meaning : Interpretation) → Conforms s meaning profile t → ⊥)
   pub explained : (t : Tree) → Reads bytes t → IfOk v (λ v. IsExplained s profile t v)
+  pub there : IfOk v (λ v. IsSome (root s profile))
   pub read : IfOk v (λ v. (t : Tree) × Reads bytes t)
   pub refused : IfErr v (λ fault. Means s profile bytes fault)
 
@@ -33,10 +35,10 @@ pub stands : (s : SchemaValue) (profile bytes : Text) (v : Result Verdict Fault)
     → Stands s profile bytes v
 stands s profile bytes (Ok verdicts.Conforms) known memory =
     let t = known.read.0 in
-    let reads = known.read.1 in (t, reads, (known.always t reads refl, known.constraints t reads refl), known.explained t reads)
+    let reads = known.read.1 in (t, reads, (known.always t reads refl, known.constraints t reads refl), known.explained t reads, known.there)
 stands s profile bytes (Ok (verdicts.Violates issues)) known memory =
     let t = known.read.0 in
-    let reads = known.read.1 in (t, reads, known.never t reads refl, known.explained t reads)
+    let reads = known.read.1 in (t, reads, known.never t reads refl, known.explained t reads, known.there)
 stands s profile bytes (Ok (verdicts.Open sites)) known memory =
     let t = known.read.0 in
     let reads = known.read.1 in (
@@ -44,6 +46,7 @@ stands s profile bytes (Ok (verdicts.Open sites)) known memory =
       reads,
       ((λ holds. false≢true ((known.conforms t reads).1 holds)), (λ fails. false≢true ((known.violates t reads).1 fails))),
       known.explained t reads,
+      known.there,
     )
 stands s profile bytes (Err fault) known memory = (known.refused, λ same. memory (ap Err same))
 
@@ -69,6 +72,7 @@ pub record IsValidatedAsGiven (s : SchemaValue) (texts : List Text) (profile byt
   pub violates : (t : Tree) → Reads bytes t → IfOk v (λ v. IsTrue (violates_anyway v) ↔ (Conforms s (constant true) profile t → ⊥))
   pub never : (t : Tree) → Reads bytes t → IfOk v (λ v. IsTrue (violates_anyway v) → (meaning : Interpretation) → Conforms s meaning profile t → ⊥)
   pub explained : (t : Tree) → Reads bytes t → IfOk v (λ v. IsVouchedFor s texts profile t v)
+  pub there : IfOk v (λ v. IsSome (root s profile))
   pub read : IfOk v (λ v. (t : Tree) × Reads bytes t)
   pub refused : IfErr v (λ fault. Means s profile bytes fault)
 
@@ -81,10 +85,11 @@ stands_as_given s texts profile bytes (Ok (vouched.Conforms relied)) known memor
       reads,
       (known.rests t reads, known.always t reads refl, known.anyway t reads, known.constraints t reads refl),
       known.explained t reads,
+      known.there,
     )
 stands_as_given s texts profile bytes (Ok (vouched.Violates issues)) known memory =
     let t = known.read.0 in
-    let reads = known.read.1 in (t, reads, known.never t reads refl, known.explained t reads)
+    let reads = known.read.1 in (t, reads, known.never t reads refl, known.explained t reads, known.there)
 stands_as_given s texts profile bytes (Ok (vouched.Open sites)) known memory =
     let t = known.read.0 in
     let reads = known.read.1 in (
@@ -92,6 +97,7 @@ stands_as_given s texts profile bytes (Ok (vouched.Open sites)) known memory =
       reads,
       ((λ holds. false≢true ((known.conforms t reads).1 holds)), (λ fails. false≢true ((known.violates t reads).1 fails))),
       known.explained t reads,
+      known.there,
     )
 stands_as_given s texts profile bytes (Err fault) known memory = (known.refused, λ same. memory (ap Err same))
 

@@ -1,10 +1,10 @@
 -- How the resource that bytes are stands with a profile.
-use Rattle.std.specs.Prelude.{◌≡◌, ◌↔◌, List, true, false, Result, Ok, Err, IsTrue}
+use Rattle.std.specs.Prelude.{◌≡◌, ◌↔◌, List, true, false, Result, Ok, Err, IsTrue, IsSome}
 use Rattle.std.specs.List.{AllByRecursion}
 use Rattle.fhir_json.specs.Tree.{Text, Tree}
 use Rattle.fhir_json.specs.Bytes.{is_empty}
 use Rattle.fhir_json.specs.Grammar.{Reads}
-use Rattle.fhir_schema.specs.Schemas.{SchemaValue}
+use Rattle.fhir_schema.specs.Schemas.{SchemaValue, root}
 use Rattle.fhir_facets.specs.Unread.{as_given}
 use Rattle.fhir_conformance.specs.Conformance.{Interpretation, Conforms, constant, as_read}
 use Rattle.fhir_validator.specs.declared.fault.Fault.{Fault}
@@ -32,10 +32,11 @@ StandsSo s profile t Conforming = ((meaning : Interpretation) → Conforms s mea
 StandsSo s profile t (Violates issues) = (meaning : Interpretation) → ¬ Conforms s meaning profile t
 StandsSo s profile t (Open sites) = (¬ Conforms s (constant false) profile t) × (¬ ¬ Conforms s (constant true) profile t)
 
--- The bytes are a tree that stands as the verdict says, which lists what it should; or there is nothing to judge, or nothing to
--- judge it by, as the fault says.
+-- The bytes are a tree that stands as the verdict says, which lists what it should, and the profile can be used; or there is nothing
+-- to judge, or nothing to judge it by, as the fault says.
 abbrev pub Stands : SchemaValue → Text → Text → Result Verdict Fault → Type 0
-Stands s profile bytes (Ok verdict) = (t : Tree) × Reads bytes t × StandsSo s profile t verdict × IsExplained s profile t verdict
+Stands s profile bytes (Ok verdict) =
+    (t : Tree) × Reads bytes t × StandsSo s profile t verdict × IsExplained s profile t verdict × IsSome (root s profile)
 Stands s profile bytes (Err fault) = Means s profile bytes fault × (fault ≡ NoMemory → ⊥)
 
 -- ---- where a user vouches for unread rules by their texts
@@ -62,5 +63,5 @@ StandsSoAsGiven s texts profile t (vouched.Open sites) =
 -- the same of bytes
 abbrev pub StandsAsGiven : SchemaValue → List Text → Text → Text → Result Vouched Fault → Type 0
 StandsAsGiven s texts profile bytes (Ok verdict) =
-    (t : Tree) × Reads bytes t × StandsSoAsGiven s texts profile t verdict × IsVouchedFor s texts profile t verdict
+    (t : Tree) × Reads bytes t × StandsSoAsGiven s texts profile t verdict × IsVouchedFor s texts profile t verdict × IsSome (root s profile)
 StandsAsGiven s texts profile bytes (Err fault) = Means s profile bytes fault × (fault ≡ NoMemory → ⊥)

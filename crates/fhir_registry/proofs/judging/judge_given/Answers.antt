@@ -17,6 +17,7 @@ returns c =
       violates = said.violates;
       never = said.never;
       explained = said.explained;
+      there = said.there;
       read = said.read;
       refused = said.refused;
     } in
