@@ -100,16 +100,16 @@ module _ (one : OneTree) (s : SchemaValue) (profile bytes : Text) where
 
   -- where it is told to violate, it does, with and without given rules
   never : (v : Result Verdict Fault) → Stands s profile bytes v → standings.Violates ≡ standing_of v
-      → (t : Tree) × Reads bytes t × ((meaning : Interpretation) → ¬ Conforms s meaning profile t)
+      → (t : Tree) × Reads bytes t × ((meaning : Interpretation) → ¬ Conforms s meaning profile t) × IsSome (root s profile)
   never (Ok verdicts.Conforms) h is = absurd (false≢true (ap violating (sym is)))
-  never (Ok (verdicts.Violates issues)) h is = (h.0, h.1, h.2)
+  never (Ok (verdicts.Violates issues)) h is = (h.0, h.1, h.2, h.4)
   never (Ok (verdicts.Open sites)) h is = absurd (false≢true (ap violating (sym is)))
   never (Err fault) h is = absurd (false≢true (ap violating (sym is)))
 
   never_given : (texts : List Text) (v : Result Vouched Fault) → StandsAsGiven s texts profile bytes v → standings.Violates ≡ standing_given v
-      → (t : Tree) × Reads bytes t × ((meaning : Interpretation) → ¬ Conforms s meaning profile t)
+      → (t : Tree) × Reads bytes t × ((meaning : Interpretation) → ¬ Conforms s meaning profile t) × IsSome (root s profile)
   never_given texts (Ok (vouched.Conforms relied)) h is = absurd (false≢true (ap violating (sym is)))
-  never_given texts (Ok (vouched.Violates issues)) h is = (h.0, h.1, h.2)
+  never_given texts (Ok (vouched.Violates issues)) h is = (h.0, h.1, h.2, h.4)
   never_given texts (Ok (vouched.Open sites)) h is = absurd (false≢true (ap violating (sym is)))
   never_given texts (Err fault) h is = absurd (false≢true (ap violating (sym is)))
 
@@ -167,36 +167,34 @@ conforms_by_more one s some more profile bytes standing outcome other raised jud
     given.stands_so ∙ told_conforming one s profile bytes it.0 it.1 more given.validated given.stands (raised it.0 it.2)
 
 pub violates_still : (one : OneTree) (s : SchemaValue) (texts : List Text) (profile bytes : Text) (standing : Standing) (outcome other : Tree)
-    → IsSome (root s profile) → IsJudged s profile bytes standings.Violates outcome → IsJudgedAsGiven s texts profile bytes standing other
-    → standing ≡ standings.Violates
-violates_still one s texts profile bytes standing outcome other usable judged given =
+    → IsJudged s profile bytes standings.Violates outcome → IsJudgedAsGiven s texts profile bytes standing other → standing ≡ standings.Violates
+violates_still one s texts profile bytes standing outcome other judged given =
     let it = never one s profile bytes judged.validated judged.stands judged.stands_so in
-    given.stands_so ∙ told_violating_given one s profile bytes it.0 it.1 texts given.validated given.stands (rooted s profile usable) it.2
+    given.stands_so ∙ told_violating_given one s profile bytes it.0 it.1 texts given.validated given.stands (rooted s profile it.3) it.2
 
 pub violated_before : (one : OneTree) (s : SchemaValue) (texts : List Text) (profile bytes : Text) (standing : Standing) (outcome other : Tree)
-    → IsSome (root s profile) → IsJudgedAsGiven s texts profile bytes standings.Violates outcome → IsJudged s profile bytes standing other
-    → standing ≡ standings.Violates
-violated_before one s texts profile bytes standing outcome other usable given judged =
+    → IsJudgedAsGiven s texts profile bytes standings.Violates outcome → IsJudged s profile bytes standing other → standing ≡ standings.Violates
+violated_before one s texts profile bytes standing outcome other given judged =
     let it = never_given one s profile bytes texts given.validated given.stands given.stands_so in
-    judged.stands_so ∙ told_violating one s profile bytes it.0 it.1 judged.validated judged.stands (rooted s profile usable) it.2
+    judged.stands_so ∙ told_violating one s profile bytes it.0 it.1 judged.validated judged.stands (rooted s profile it.3) it.2
 
 -- where nothing is given, the same is told
-same_told : (one : OneTree) (s : SchemaValue) (profile bytes : Text) → IsRooted s profile → (u : Result Verdict Fault) (v : Result Vouched Fault)
+same_told : (one : OneTree) (s : SchemaValue) (profile bytes : Text) (u : Result Verdict Fault) (v : Result Vouched Fault)
     → Stands s profile bytes u → StandsAsGiven s [] profile bytes v → standing_given v ≡ standing_of u
-same_told one s profile bytes has_root (Ok verdicts.Conforms) v judged given =
+same_told one s profile bytes (Ok verdicts.Conforms) v judged given =
     told_conforming one s profile bytes judged.0 judged.1 [] v given (judged.2.0 (as_read [] as_given))
-same_told one s profile bytes has_root (Ok (verdicts.Violates issues)) v judged given =
-    told_violating_given one s profile bytes judged.0 judged.1 [] v given has_root judged.2
-same_told one s profile bytes has_root (Ok (verdicts.Open sites)) v judged given =
+same_told one s profile bytes (Ok (verdicts.Violates issues)) v judged given =
+    told_violating_given one s profile bytes judged.0 judged.1 [] v given (rooted s profile judged.4) judged.2
+same_told one s profile bytes (Ok (verdicts.Open sites)) v judged given =
     told_open one s profile bytes judged.0 judged.1 v given judged.2.0 judged.2.1
-same_told one s profile bytes has_root (Err fault) v judged given = faulted v given
+same_told one s profile bytes (Err fault) v judged given = faulted v given
   where
     faulted : (v : Result Vouched Fault) → StandsAsGiven s [] profile bytes v → standing_given v ≡ standings.Fault
-    faulted (Ok verdict) h = absurd (no_fault s profile bytes h.0 fault h.1 has_root judged)
+    faulted (Ok verdict) h = absurd (no_fault s profile bytes h.0 fault h.1 (rooted s profile h.4) judged)
     faulted (Err other) h = refl
 
 pub nothing_given : (one : OneTree) (s : SchemaValue) (profile bytes : Text) (standing given : Standing) (outcome other : Tree)
-    → IsSome (root s profile) → IsJudged s profile bytes standing outcome → IsJudgedAsGiven s [] profile bytes given other → given ≡ standing
-nothing_given one s profile bytes standing given outcome other usable judged vouched =
-    vouched.stands_so ∙ (same_told one s profile bytes (rooted s profile usable) judged.validated vouched.validated judged.stands vouched.stands
+    → IsJudged s profile bytes standing outcome → IsJudgedAsGiven s [] profile bytes given other → given ≡ standing
+nothing_given one s profile bytes standing given outcome other judged vouched =
+    vouched.stands_so ∙ (same_told one s profile bytes judged.validated vouched.validated judged.stands vouched.stands
     ∙ sym judged.stands_so)

@@ -1,10 +1,10 @@
 //! What a user vouches for.
 
-ghost use Rattle.std.specs.Prelude.{◌≡◌, ◌↔◌, ◌++◌, List, [], false, IsSome, IsTrue, codes};
+ghost use Rattle.std.specs.Prelude.{◌≡◌, ◌↔◌, ◌++◌, List, [], false, IsTrue, codes};
 ghost use Rattle.std.specs.List.{list_any, Contains};
 ghost use Rattle.std.specs.Str.{bytes_eq};
 ghost use Rattle.fhir_json.specs.Tree.{Text, Tree};
-ghost use Rattle.fhir_schema.specs.Schemas.{SchemaValue, concepts_at, root};
+ghost use Rattle.fhir_schema.specs.Schemas.{SchemaValue, concepts_at};
 ghost use Rattle.fhir_facets.specs.Bindings.{lies_within, IsFair};
 ghost use Rattle.fhir_facets.specs.Unread.{as_given, meaning_of};
 ghost use Rattle.fhir_conformance.specs.Conformance.{as_read, constant, Conforms};
@@ -34,9 +34,9 @@ pub fn given_inclusion()
     given_rules();
 }
 
-/// How a resource stands where a user vouches for unread rules by their texts. Where it conforms without, it conforms (`conforms`). Where
-/// it conforms with some of the texts, it does with more (`more`). Where the profile can be used, it violates with them exactly where it
-/// violates without (`violates`, `violated`); and without any text it stands as it does without (`nothing`).
+/// How a resource stands where a user vouches for unread rules by their texts. Where it conforms without, it conforms (`conforms`), and it
+/// violates exactly where it violates without (`violates`, `violated`). Where it conforms with some of the texts, it does with more
+/// (`more`). Without any text it stands as it does without (`nothing`).
 pub fn standings_as_given()
     ensures conforms { (s : SchemaValue) (texts : List Text) (profile bytes : Text) (standing : Standing) (outcome other : Tree)
         → IsJudged s profile bytes standings.Conforms outcome → IsJudgedAsGiven s texts profile bytes standing other
@@ -46,13 +46,13 @@ pub fn standings_as_given()
         → IsJudgedAsGiven s some profile bytes standings.Conforms outcome → IsJudgedAsGiven s more profile bytes standing other
         → standing ≡ standings.Conforms }
     ensures violates { (s : SchemaValue) (texts : List Text) (profile bytes : Text) (standing : Standing) (outcome other : Tree)
-        → IsSome (root s profile) → IsJudged s profile bytes standings.Violates outcome → IsJudgedAsGiven s texts profile bytes standing other
+        → IsJudged s profile bytes standings.Violates outcome → IsJudgedAsGiven s texts profile bytes standing other
         → standing ≡ standings.Violates }
     ensures violated { (s : SchemaValue) (texts : List Text) (profile bytes : Text) (standing : Standing) (outcome other : Tree)
-        → IsSome (root s profile) → IsJudgedAsGiven s texts profile bytes standings.Violates outcome → IsJudged s profile bytes standing other
+        → IsJudgedAsGiven s texts profile bytes standings.Violates outcome → IsJudged s profile bytes standing other
         → standing ≡ standings.Violates }
     ensures nothing { (s : SchemaValue) (profile bytes : Text) (standing given : Standing) (outcome other : Tree)
-        → IsSome (root s profile) → IsJudged s profile bytes standing outcome → IsJudgedAsGiven s [] profile bytes given other
+        → IsJudged s profile bytes standing outcome → IsJudgedAsGiven s [] profile bytes given other
         → given ≡ standing }
 {
     one_tree();

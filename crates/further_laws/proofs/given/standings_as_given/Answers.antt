@@ -12,13 +12,13 @@ returns-clause-more c s some more profile bytes standing outcome other within ju
     (λ t. c.given_texts.ensures.more s some more (λ u has. within (unread_text u) has) profile t) judged given
 
 pub returns-clause-violates : goal.returns-clause-violates
-returns-clause-violates c s texts profile bytes standing outcome other usable judged given =
-    violates_still c.one_tree.ensures s texts profile bytes standing outcome other usable judged given
+returns-clause-violates c s texts profile bytes standing outcome other judged given =
+    violates_still c.one_tree.ensures s texts profile bytes standing outcome other judged given
 
 pub returns-clause-violated : goal.returns-clause-violated
-returns-clause-violated c s texts profile bytes standing outcome other usable given judged =
-    violated_before c.one_tree.ensures s texts profile bytes standing outcome other usable given judged
+returns-clause-violated c s texts profile bytes standing outcome other given judged =
+    violated_before c.one_tree.ensures s texts profile bytes standing outcome other given judged
 
 pub returns-clause-nothing : goal.returns-clause-nothing
-returns-clause-nothing c s profile bytes standing given outcome other usable judged vouched =
-    nothing_given c.one_tree.ensures s profile bytes standing given outcome other usable judged vouched
+returns-clause-nothing c s profile bytes standing given outcome other judged vouched =
+    nothing_given c.one_tree.ensures s profile bytes standing given outcome other judged vouched
