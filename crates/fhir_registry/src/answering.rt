@@ -3,13 +3,15 @@
 ghost use Rattle.std.specs.Prelude.{◌≡◌, IfOk, OnErr};
 ghost use Rattle.fhir_commands.specs.Commands.{line_command};
 ghost use Rattle.fhir_commands.specs.Replies.{line_seen};
-ghost use Rattle.fhir_registry.specs.Lines.{AnswersCommand};
+ghost use Rattle.fhir_registry.specs.Lines.{AnswersCommand, AnswersLine};
 
 use crate::registry::Registry;
 use fhir_commands::{Command, LINE_FAULT, Line, MEMORY_FAULT, fixed_lines};
 use fhir_json::NoMemory;
 use fhir_serve::Service;
 use std::alloc::Global;
+use std::io;
+use std::io::Write;
 
 // The answer to a line, unless memory runs out.
 fn answer_line(registry: &mut Registry, alloc: Global, line: &[u8]) -> Result<Line, NoMemory>
@@ -23,21 +25,29 @@ fn answer_line(registry: &mut Registry, alloc: Global, line: &[u8]) -> Result<Li
     }
 }
 
+// The same, which is told where memory runs out.
+fn answered(registry: &mut Registry, alloc: Global, line: &[u8]) -> Line
+    ensures { AnswersLine registry.old line.now registry.new (line_seen result) }
+{
+    fixed_lines();
+    match answer_line(registry, alloc, line) {
+        Ok(line) => line,
+        Err(NoMemory) => Line::Fixed(MEMORY_FAULT),
+    }
+}
+
 impl Service for Registry {
     ghost use Rattle.fhir_registry.specs.Lines.{AnswersLine};
 
     ghost answers = { λ p line q written. AnswersLine p line q written };
 
-    fn answer(&mut self, alloc: Global, line: &[u8]) -> Line {
-        fixed_lines();
-        match answer_line(self, alloc, line) {
-            Ok(line) => line,
-            Err(NoMemory) => Line::Fixed(MEMORY_FAULT),
-        }
+    fn answer<W: Write>(&mut self, alloc: Global, line: &[u8], out: &mut W) -> io::Result<()> {
+        let line = answered(self, alloc, line);
+        out.write_all(line.as_bytes())
     }
 
-    fn unheld(&self) -> Line {
+    fn unheld<W: Write>(&mut self, out: &mut W) -> io::Result<()> {
         fixed_lines();
-        Line::Fixed(MEMORY_FAULT)
+        out.write_all(MEMORY_FAULT.as_bytes())
     }
 }

@@ -1,9 +1,9 @@
 //! A registry where a user vouches for unread rules by their texts.
 
-ghost use Rattle.std.specs.Prelude.{◌≡◌, IfOk, OnErr};
+ghost use Rattle.std.specs.Prelude.{◌≡◌, ◌⊎◌, IfOk, OnErr};
 ghost use Rattle.fhir_commands.specs.Commands.{line_command};
 ghost use Rattle.fhir_commands.specs.Replies.{line_seen};
-ghost use Rattle.fhir_registry.specs.Lines.{AnswersBy};
+ghost use Rattle.fhir_registry.specs.Lines.{WantsMemory, AnswersBy};
 ghost use Rattle.fhir_registry.specs.Session.{IsReplyAsGiven};
 
 use crate::registry::Registry;
@@ -12,6 +12,8 @@ use fhir_json::NoMemory;
 use fhir_serve::Service;
 use fhir_vouching::Vouching;
 use std::alloc::Global;
+use std::io;
+use std::io::Write;
 use std::marker::Model;
 
 /// Definitions that commands change and ask about, and the unread rules for which a user vouches. These stay as they are.
@@ -63,21 +65,30 @@ fn answer_line(
     }
 }
 
+// The same, which is told where memory runs out.
+fn answered(registry: &mut Registry, alloc: Global, line: &[u8], given: &Vouching) -> Line
+    ensures { WantsMemory registry.old registry.new (line_seen result)
+        ⊎ AnswersBy (IsReplyAsGiven given.now registry.old) registry.old (line_command line.now) registry.new (line_seen result) }
+{
+    fixed_lines();
+    match answer_line(registry, alloc, line, given) {
+        Ok(line) => line,
+        Err(NoMemory) => Line::Fixed(MEMORY_FAULT),
+    }
+}
+
 impl Service for GivenRegistry {
     ghost use Rattle.fhir_registry.specs.Lines.{AnswersLineAsGiven};
 
     ghost answers = { λ g line h written. AnswersLineAsGiven g line h written };
 
-    fn answer(&mut self, alloc: Global, line: &[u8]) -> Line {
-        fixed_lines();
-        match answer_line(&mut self.registry, alloc, line, &self.given) {
-            Ok(line) => line,
-            Err(NoMemory) => Line::Fixed(MEMORY_FAULT),
-        }
+    fn answer<W: Write>(&mut self, alloc: Global, line: &[u8], out: &mut W) -> io::Result<()> {
+        let line = answered(&mut self.registry, alloc, line, &self.given);
+        out.write_all(line.as_bytes())
     }
 
-    fn unheld(&self) -> Line {
+    fn unheld<W: Write>(&mut self, out: &mut W) -> io::Result<()> {
         fixed_lines();
-        Line::Fixed(MEMORY_FAULT)
+        out.write_all(MEMORY_FAULT.as_bytes())
     }
 }

@@ -1,4 +1,5 @@
 pub mod Lines
 pub mod Reading
+pub mod Answered
 pub mod Serving
 pub mod Ending

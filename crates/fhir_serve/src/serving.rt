@@ -1,14 +1,12 @@
 //! The loop.
 
-ghost use Rattle.std.specs.Prelude.{◌≡◌, ℕ, List, MatchOption, OnOk};
+ghost use Rattle.std.specs.Prelude.{◌≡◌, ℕ, List, Option, MatchOption, OnOk};
 ghost use Rattle.std.specs.Io.KnownBytes.{Appends};
-ghost use Rattle.fhir_commands.specs.Replies.{line_seen};
 ghost use Rattle.fhir_serve.specs.Serving.{Serves};
 ghost use Rattle.fhir_serve.specs.Ending.{AreRead, AreWritten, GoesOn, HasEnded};
 
 use crate::reading::{Reading, next_line};
 use crate::service::Service;
-use fhir_commands::Line;
 use std::alloc::Global;
 use std::io;
 use std::io::{BufRead, Write};
@@ -24,21 +22,17 @@ pub enum Ending {
     Unwritten,
 }
 
-// Writes an answer, and has it leave every buffer.
-fn write_answer<W: Write>(out: &mut W, answer: &Line) -> io::Result<()>
-    ensures { OnOk result (Appends (W.contents out.old) (W.contents out.new) (line_seen answer.now)) }
-{
-    out.write_all(answer.as_bytes())?;
-    out.flush()
-}
-
-// How serving ends with the answer, if it does.
-fn ended_by<W: Write>(out: &mut W, answer: &Line) -> Option<Ending>
-    ensures { MatchOption result
-        (Appends (W.contents out.old) (W.contents out.new) (line_seen answer.now))
+// Has what was written leave every buffer. How serving ends with it, if it does.
+fn ended_by<W: Write>(out: &mut W, written: io::Result<()>) -> Option<Ending>
+    ensures { (old : Option (List ℕ)) (answer : List ℕ) → OnOk written (Appends old (W.contents out.old) answer) → MatchOption result
+        (Appends old (W.contents out.new) answer)
         (λ ending. ending ≡ Ending.Unwritten) }
 {
-    match write_answer(out, answer) {
+    let flushed = match written {
+        Ok(()) => out.flush(),
+        Err(error) => Err(error),
+    };
+    match flushed {
         Ok(()) => None,
         Err(_) => Some(Ending::Unwritten),
     }
@@ -56,8 +50,14 @@ fn serve_next<S: Service, R: BufRead, W: Write>(
         (λ ending. HasEnded S.answers ending service.old service.new (R.remaining reader.old) (W.contents out.old) (W.contents out.new)) }
 {
     match next_line(alloc, reader) {
-        Reading::Held(line) => ended_by(out, &service.answer(alloc, &line)),
-        Reading::Unheld => ended_by(out, &service.unheld()),
+        Reading::Held(line) => {
+            let written = service.answer(alloc, &line, out);
+            ended_by(out, written)
+        }
+        Reading::Unheld => {
+            let written = service.unheld(out);
+            ended_by(out, written)
+        }
         Reading::End => Some(Ending::Done),
         Reading::Failure => Some(Ending::Unread),
     }
