@@ -1,7 +1,8 @@
 -- What is asked, and what words ask for.
-use Rattle.std.specs.Prelude.{ℕ, List, [], ◌∷◌, Option, None, Some}
+use Rattle.std.specs.Prelude.{ℕ, List, [], ◌∷◌, Bool, Option, None, Some}
 use Rattle.fhir_json.specs.Tree.{Text}
 use Rattle.fhir_words.specs.declared.request.Detail.{Detail}
+use Rattle.fhir_words.specs.declared.request.Format.{Format}
 use Rattle.fhir_words.specs.declared.request.Manner.{Manner}
 
 pub data RequestValue : Type 0 where
@@ -50,9 +51,25 @@ pub data InvocationValue : Type 0 where
   request : RequestValue → InvocationValue
   version : InvocationValue
 
--- what words ask for: an answer; that the definitions in a folder are served, where the unread rules may hold whose texts a file gives; or
--- that those in folders are gathered into a new one
+-- that all resources of some inputs are validated
+pub record BulkValue : Type 0 where
+  pub folder : List ℕ
+  -- the url of the profile; or each resource is judged by the definition of its type, and by the profiles that it names itself
+  pub profile : Option (List ℕ)
+  -- the inputs, in turn, by their names; none in place of one is standard input
+  pub inputs : List (Option (List ℕ))
+  -- the file that gives the texts of unread rules which hold, if one does
+  pub given : Option (List ℕ)
+  pub format : Format
+  -- it isn't told that a resource conforms
+  pub only_bad : Bool
+  -- a profile that a resource names, and that isn't there, is passed over
+  pub skip_unknown : Bool
+
+-- what words ask for: an answer; that the definitions in a folder are served, where the unread rules may hold whose texts a file gives; that
+-- those in folders are gathered into a new one; or that all resources of some inputs are validated
 pub data TaskValue : Type 0 where
   answer : InvocationValue → TaskValue
   serve : (folder : List ℕ) → (given : Option (List ℕ)) → TaskValue
   gather : (out : List ℕ) → (folders : List (List ℕ)) → Detail → TaskValue
+  validate_all : BulkValue → TaskValue

@@ -8,9 +8,10 @@ use Rattle.fhir_words.specs.declared.request.Request.TheVariants.{Certify, Valid
 use Rattle.fhir_words.specs.declared.request.Invocation.{Invocation}
 use Rattle.fhir_words.specs.declared.request.Invocation.TheVariants.{Request as Asked, Version}
 use Rattle.fhir_words.specs.declared.request.Task.{Task}
-use Rattle.fhir_words.specs.declared.request.Task.TheVariants.{Answer, Serve, Gather}
+use Rattle.fhir_words.specs.declared.request.Task.TheVariants.{Answer, Serve, Gather, ValidateAll}
+use Rattle.fhir_words.specs.declared.request.BulkRequest.{BulkRequest}
 use Rattle.fhir_words.specs.declared.request.WordsFault.{WordsFault}
-use Rattle.fhir_words.specs.Requests.{RequestValue, certify, validate, validate_given, snapshot, derive, check, unread, InvocationValue, request, version, TaskValue, answer, serve, gather}
+use Rattle.fhir_words.specs.Requests.{RequestValue, certify, validate, validate_given, snapshot, derive, check, unread, InvocationValue, request, version, BulkValue, TaskValue, answer, serve, gather, validate_all}
 
 abbrev pub texts_seen : List (Bor Text) → List Text
 texts_seen texts = map (λ t. t.now) texts
@@ -28,10 +29,22 @@ abbrev pub invocation_seen : Invocation → InvocationValue
 invocation_seen (Asked asked) = request (request_seen asked)
 invocation_seen Version = version
 
+abbrev pub bulk_seen : BulkRequest → BulkValue
+bulk_seen b = record {
+  folder = b.folder.now;
+  profile = text_seen b.profile;
+  inputs = map text_seen b.inputs.items;
+  given = text_seen b.given;
+  format = b.format;
+  only_bad = b.only_bad;
+  skip_unknown = b.skip_unknown;
+}
+
 abbrev pub task_seen : Task → TaskValue
 task_seen (Answer asked) = answer (invocation_seen asked)
 task_seen (Serve folder given) = serve folder.now (text_seen given)
 task_seen (Gather g) = gather g.out.now (texts_seen g.folders.items) g.detail
+task_seen (ValidateAll b) = validate_all (bulk_seen b)
 
 abbrev pub asked_seen : Result Invocation WordsFault → Result InvocationValue WordsFault
 asked_seen (Ok asked) = Ok (invocation_seen asked)

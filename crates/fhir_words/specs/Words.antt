@@ -1,12 +1,12 @@
 -- Words that ask for something as they stand. What other words ask, `clap` says.
-use Rattle.std.specs.Prelude.{List, [], ◌∷◌, Bool, not, ◌&&◌, nat_eq, Option, None, Some, if◌then◌else◌, codes, option_map}
+use Rattle.std.specs.Prelude.{List, [], ◌∷◌, Bool, false, not, ◌&&◌, map, nat_eq, Option, None, Some, if◌then◌else◌, codes, option_map}
 use Rattle.std.specs.List.{starts_with, list_any}
 use Rattle.std.specs.Str.{bytes_eq}
 use Rattle.fhir_json.specs.Tree.{Text}
 use Rattle.fhir_words.specs.declared.request.Format.TheVariants.{Text as AsText}
 use Rattle.fhir_words.specs.declared.request.Detail.TheVariants.{Once}
 use Rattle.fhir_words.specs.declared.request.Manner.{Manner}
-use Rattle.fhir_words.specs.Requests.{RequestValue, certify, validate, validate_given, snapshot, derive, check, unread, InvocationValue, request, TaskValue, answer, serve, gather}
+use Rattle.fhir_words.specs.Requests.{RequestValue, certify, validate, validate_given, snapshot, derive, check, unread, InvocationValue, request, BulkValue, TaskValue, answer, serve, gather, validate_all}
 
 abbrev pub is_option : Text → Bool
 is_option word = starts_with nat_eq word (codes "-")
@@ -108,5 +108,40 @@ abbrev pub plain_gathering : List Text → Option TaskValue
 plain_gathering (program ∷ command ∷ out ∷ first ∷ others) = gather_task command out first others
 plain_gathering _ = None
 
+-- an option; a dash alone is none
+abbrev pub is_flag : Text → Bool
+is_flag word = is_option word && not (bytes_eq word (codes "-"))
+
+-- what a word names; a dash names nothing
+abbrev pub named : Text → Option Text
+named word = if bytes_eq word (codes "-") then None else Some word
+
+-- that all resources of inputs are validated, and all is told in texts
+abbrev pub plain_bulk_of : (folder profile : Text) → (inputs : List Text) → BulkValue
+plain_bulk_of folder profile inputs = record {
+  folder = folder;
+  profile = named profile;
+  inputs = map named inputs;
+  given = None;
+  format = AsText;
+  only_bad = false;
+  skip_unknown = false;
+}
+
+-- the same where there is one input at least
+abbrev pub bulk_task : Text → Text → Text → Text → List Text → Option TaskValue
+bulk_task command folder profile first others =
+    if bytes_eq command (codes "validate-all") && not (list_any is_flag (folder ∷ profile ∷ first ∷ others))
+    then Some (validate_all (plain_bulk_of folder profile (first ∷ others))) else None
+
+-- the same of the words behind the command, and behind the program's name
+abbrev pub command_bulk : Text → List Text → Option TaskValue
+command_bulk command (folder ∷ profile ∷ first ∷ others) = bulk_task command folder profile first others
+command_bulk command _ = None
+
+abbrev pub plain_bulk : List Text → Option TaskValue
+plain_bulk (program ∷ command ∷ others) = command_bulk command others
+plain_bulk _ = None
+
 abbrev pub plain_task : List Text → Option TaskValue
-plain_task words = first_some (plain_gathering words) (first_some (option_map answer (plain_invocation words)) (plain_serving words))
+plain_task words = first_some (plain_gathering words) (first_some (plain_bulk words) (first_some (option_map answer (plain_invocation words)) (plain_serving words)))

@@ -16,6 +16,7 @@
 //! The contract to read first is that of [`task_of`]. What words without options ask for stands in `specs/Words.antt` (`plain_task`).
 #![tactic(auto)]
 
+mod bulk;
 mod options;
 mod plain;
 mod reading;
@@ -23,5 +24,7 @@ mod request;
 mod version;
 
 pub use reading::task_of;
-pub use request::{Detail, Format, GatherRequest, Invocation, Manner, Request, Task, WordsFault};
+pub use request::{
+    BulkRequest, Detail, Format, GatherRequest, Invocation, Manner, Request, Task, WordsFault,
+};
 pub use version::VERSION;

@@ -3,8 +3,9 @@
 ghost use Rattle.std.specs.Prelude.{◌≡◌, ◌↔◌, IfErr};
 ghost use Rattle.clap.specs.declared.error.kind.ErrorKind.TheVariants as kind;
 
+use crate::bulk::named;
 use crate::request::{
-    Detail, Format, GatherRequest, Invocation, Manner, Request, Task, WordsFault,
+    BulkRequest, Detail, Format, GatherRequest, Invocation, Manner, Request, Task, WordsFault,
 };
 use crate::version::VERSION;
 use clap::error::ErrorKind;
@@ -75,6 +76,18 @@ fn gather<'a>(alloc: Global) -> Result<Command<'a>, AllocError> {
         .arg(flag(alloc, "each"))
 }
 
+fn validate_all<'a>(alloc: Global) -> Result<Command<'a>, AllocError> {
+    let inputs = Arg::new(alloc, "INPUT").required(true).num_args(1..);
+    Command::new(alloc, "validate-all")
+        .arg(Arg::new(alloc, "PACKAGE").required(true))?
+        .arg(Arg::new(alloc, "PROFILE").required(true))?
+        .arg(inputs)?
+        .arg(Arg::new(alloc, "given").long("given"))?
+        .arg(flag(alloc, "json"))?
+        .arg(flag(alloc, "only-bad"))?
+        .arg(flag(alloc, "skip-unknown"))
+}
+
 fn serve<'a>(alloc: Global) -> Result<Command<'a>, AllocError> {
     Command::new(alloc, "serve").arg(Arg::new(alloc, "PACKAGE").required(true))
 }
@@ -98,7 +111,8 @@ fn program<'a>(alloc: Global) -> Result<Command<'a>, AllocError> {
         .subcommand(unread(alloc)?)?
         .subcommand(serve(alloc)?)?
         .subcommand(serve_given(alloc)?)?
-        .subcommand(gather(alloc)?)
+        .subcommand(gather(alloc)?)?
+        .subcommand(validate_all(alloc)?)
 }
 
 // What words ask for that `clap` gives back with an error of a kind.
@@ -129,6 +143,7 @@ pub(crate) fn other_task<'w>(alloc: Global, words: &'w [String]) -> Result<Task<
         "serve" => serve_matched(matches),
         "serve-given" => serve_given_matched(matches),
         "gather" => gather_matched(alloc, matches),
+        "validate-all" => validate_all_matched(alloc, matches),
         _ => Ok(Task::Answer(Invocation::Request(matched(alloc, name, matches)?))),
     }
 }
@@ -265,5 +280,32 @@ fn gather_matched<'w>(alloc: Global, matches: &ArgMatches<'w>) -> Result<Task<'w
         out: word(matches, "OUT")?,
         folders: words_at(alloc, matches, "FOLDER")?,
         detail: detail_matched(matches),
+    }))
+}
+
+// The inputs, of which a dash is standard input.
+fn inputs_matched<'w>(
+    alloc: Global,
+    matches: &ArgMatches<'w>,
+) -> Result<Vec<Option<&'w str>>, AllocError> {
+    let mut inputs = Vec::new(alloc);
+    for word in words_at(alloc, matches, "INPUT")? {
+        inputs.push(named(word))?;
+    }
+    Ok(inputs)
+}
+
+fn validate_all_matched<'w>(
+    alloc: Global,
+    matches: &ArgMatches<'w>,
+) -> Result<Task<'w>, WordsFault> {
+    Ok(Task::ValidateAll(BulkRequest {
+        folder: word(matches, "PACKAGE")?,
+        profile: named(word(matches, "PROFILE")?),
+        inputs: inputs_matched(alloc, matches)?,
+        given: matches.get_str("given"),
+        format: format_matched(matches),
+        only_bad: matches.get_flag("only-bad"),
+        skip_unknown: matches.get_flag("skip-unknown"),
     }))
 }

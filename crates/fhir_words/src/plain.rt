@@ -3,14 +3,16 @@
 ghost use Rattle.std.specs.Prelude.{◌≡◌, ◌∷◌, ◌++◌, [], not, map, string_bytes, option_map, IfOk, OnOk};
 ghost use Rattle.std.specs.List.{list_any};
 ghost use Rattle.fhir_words.specs.Requests.{check, answer, gather};
-ghost use Rattle.fhir_words.specs.Words.{is_option, are_plain, plain_manner, certify_request, validate_request, validate_given_request, snapshot_request, derive_request, check_request, check_beside, unread_request, unread_of_profile, first_some, command_request, plain_request, plain_invocation, serve_task, serve_given_task, plain_serving, gather_task, plain_gathering, plain_task};
+ghost use Rattle.fhir_words.specs.Words.{is_option, are_plain, plain_manner, certify_request, validate_request, validate_given_request, snapshot_request, derive_request, check_request, check_beside, unread_request, unread_of_profile, first_some, command_request, plain_request, plain_invocation, serve_task, serve_given_task, plain_serving, gather_task, plain_gathering, plain_bulk, plain_task};
 ghost use Rattle.fhir_json.specs.Views.{text_seen};
 ghost use Rattle.fhir_words.specs.Views.{texts_seen, request_seen, task_seen};
 
+use crate::bulk::plain_bulk;
 use crate::request::{Detail, Format, GatherRequest, Invocation, Manner, Request, Task};
 use std::alloc::{AllocError, Global};
 
-fn is_option(word: &str) -> bool
+/// Whether a word is an option, or a dash.
+pub(crate) fn is_option(word: &str) -> bool
     ensures { result ≡ is_option word.now }
 {
     word.as_bytes().starts_with(b"-")
@@ -396,6 +398,16 @@ fn plain_gathering<'w>(alloc: Global, words: &'w [String]) -> Result<Option<Task
     }
 }
 
+fn bulk_or_request<'w>(alloc: Global, words: &'w [String]) -> Result<Option<Task<'w>>, AllocError>
+    ensures { IfOk result (λ task. option_map task_seen task ≡ first_some (plain_bulk (map string_bytes words.now))
+        (first_some (option_map answer (plain_invocation (map string_bytes words.now))) (plain_serving (map string_bytes words.now)))) }
+{
+    match plain_bulk(alloc, words)? {
+        Some(task) => Ok(Some(task)),
+        None => Ok(request_task(alloc, words)),
+    }
+}
+
 /// What words without options ask for.
 pub(crate) fn plain_task<'w>(
     alloc: Global,
@@ -405,6 +417,6 @@ pub(crate) fn plain_task<'w>(
 {
     match plain_gathering(alloc, words)? {
         Some(task) => Ok(Some(task)),
-        None => Ok(request_task(alloc, words)),
+        None => bulk_or_request(alloc, words),
     }
 }

@@ -164,6 +164,26 @@ pub struct GatherRequest<'w> {
     pub detail: Detail,
 }
 
+/// That all resources of some inputs are validated.
+#[derive(Debug, Drop)]
+pub struct BulkRequest<'w> {
+    /// The folder of the definitions.
+    pub folder: &'w str,
+    /// The url of the profile. Where there is none, each resource is judged by the definition of its type, and by the profiles that it
+    /// names itself.
+    pub profile: Option<&'w str>,
+    /// The inputs, in turn: folders, and files of resources. None in place of one is standard input.
+    pub inputs: Vec<Option<&'w str>>,
+    /// The file that gives the texts of unread rules which hold, if one does.
+    pub given: Option<&'w str>,
+    /// How what is told is written.
+    pub format: Format,
+    /// Whether it isn't told that a resource conforms.
+    pub only_bad: bool,
+    /// Whether a profile that a resource names, and that isn't there, is passed over.
+    pub skip_unknown: bool,
+}
+
 /// What words ask for.
 #[derive(Debug, Drop)]
 pub enum Task<'w> {
@@ -178,6 +198,8 @@ pub enum Task<'w> {
     },
     /// That the definitions in folders are gathered into a new one.
     Gather(GatherRequest<'w>),
+    /// That all resources of some inputs are validated.
+    ValidateAll(BulkRequest<'w>),
 }
 
 /// Why words ask for nothing.
