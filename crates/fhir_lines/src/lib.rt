@@ -17,6 +17,6 @@ mod laws;
 mod line;
 mod writing;
 
-pub use laws::rows_are_lines;
+pub use laws::{escaped_texts, rows_are_lines};
 pub use line::{Details, FaultNumber, Line};
-pub use writing::{push_escaped, push_row, push_rows};
+pub use writing::{push_escaped, push_json, push_row, push_rows};

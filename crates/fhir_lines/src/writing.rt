@@ -2,11 +2,13 @@
 
 ghost use Rattle.std.specs.Prelude.{◌≡◌, ◌<◌, ◌++◌, [], IfOk, OnOk, IsTrue, string_bytes};
 ghost use Rattle.std.specs.Char.{is_control, digit_char};
+ghost use Rattle.fhir_json.specs.Compact.{compact};
 ghost use Rattle.fhir_json.specs.Memory.{Gives};
+ghost use Rattle.fhir_json.specs.Views.{tree_of};
 ghost use Rattle.fhir_lines.specs.Lines.{escaped_character, escaped, row_text, row, rows, line_seen, lines_seen};
 
 use crate::line::Line;
-use fhir_json::{NoMemory, write};
+use fhir_json::{Json, NoMemory, write};
 use fhir_words::Format;
 use std::alloc::{AllocError, Global};
 
@@ -58,6 +60,15 @@ pub fn push_escaped(text: &str, into: &mut String) -> Result<(), AllocError>
         push_character(character, into)?;
     }
     Ok(())
+}
+
+/// Puts in the compact text of a tree, with its control characters escaped. The one refusal is want of memory.
+pub fn push_json(alloc: Global, json: &Json<'_>, into: &mut String) -> Result<(), NoMemory>
+    ensures { OnOk result (string_bytes into.new ≡ string_bytes into.old ++ escaped (compact (tree_of json.now))) }
+{
+    let bytes = write(alloc, json)?;
+    let text = String::from_utf8_lossy(alloc, &bytes)?;
+    Ok(push_escaped(text.as_str(), into)?)
 }
 
 /// Puts in a line: escaped, and with a line feed behind it. The one refusal is want of memory.
