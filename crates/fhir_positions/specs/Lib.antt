@@ -1,0 +1,4 @@
+pub mod Positions
+pub mod Lexing
+pub mod Values
+pub mod Among
