@@ -1,5 +1,5 @@
 -- What a reply on a resource says, from how the resource stands.
-use Rattle.std.proofs.Common.{◌≡◌, ◌++◌, ℕ, List, [], ◌∷◌, None, Result, Ok, Err, codes, refl, sym, ap, subst, ◌∙◌, inl}
+use Rattle.std.proofs.Common.{◌≡◌, ◌++◌, ℕ, List, [], ◌∷◌, None, Result, Ok, Err, codes, refl, sym, ap, subst, ◌∙◌, inl, IsUtf8}
 use Rattle.fhir_json.specs.Tree.{Text, Tree}
 use Rattle.fhir_json.specs.Compact.{compact}
 use Rattle.fhir_schema.specs.Schemas.{SchemaValue}
@@ -61,12 +61,15 @@ given_by s texts profile bytes told out standing outcome judged zero =
 
 -- the reply is the one where a user vouches for what the lines of a file give, from what is known of the set and of the notes
 pub answered_by : (s : SessionValue) (schema : SchemaValue) (texts : List Text) (told profile bytes name lines : Text) (reply : ReplyValue)
-    → schema ≡ schema_in s → AreSame texts (texts_given lines) → told ≡ notes name (unread_texts None (schema_in s) s.survey) lines
+    → schema ≡ schema_in s → (¬ ¬ IsUtf8 lines) → AreSame texts (texts_given lines) → told ≡ notes name (unread_texts None (schema_in s) s.survey) lines
     → IsJudgedReply schema texts told profile bytes reply → IsGivenReply s profile bytes name lines reply
-answered_by s schema texts told profile bytes name lines reply same are is judged =
+answered_by s schema texts told profile bytes name lines reply same utf8 are is judged =
     inl (
-      texts,
-      are,
-      subst (λ x. IsJudgedReply x texts (notes name (unread_texts None (schema_in s) s.survey) lines) profile bytes reply) same
-          (subst (λ n. IsJudgedReply schema texts n profile bytes reply) is judged),
+      utf8,
+      (
+        texts,
+        are,
+        subst (λ x. IsJudgedReply x texts (notes name (unread_texts None (schema_in s) s.survey) lines) profile bytes reply) same
+            (subst (λ n. IsJudgedReply schema texts n profile bytes reply) is judged),
+      ),
     )

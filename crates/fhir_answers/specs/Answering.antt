@@ -63,10 +63,10 @@ IsAnsweredAsGiven s profile bytes name given reply =
     (texts : List Text) × AreSame texts (texts_given given)
     × IsJudgedReply (schema_in s) texts (notes name (unread_texts None (schema_in s) s.survey) given) profile bytes reply
 
--- That file is read; or it can't be, where it isn't UTF-8.
+-- That file is read, unless it isn't UTF-8; or it can't be, and then it isn't.
 abbrev pub IsGivenReply : SessionValue → (profile bytes name given : Text) → ReplyValue → Type 0
 IsGivenReply s profile bytes name given reply =
-    IsAnsweredAsGiven s profile bytes name given reply ⊎ ((¬ IsUtf8 given) × (reply ≡ unreadable_reply name))
+    ((¬ ¬ IsUtf8 given) × IsAnsweredAsGiven s profile bytes name given reply) ⊎ ((¬ IsUtf8 given) × (reply ≡ unreadable_reply name))
 
 -- whether the number is that of want of memory
 abbrev pub is_of_memory : SnapNumber → Bool
@@ -144,6 +144,11 @@ check_answer manner prefixes s name file =
 -- the list of the unread rules that selected definitions carry
 abbrev pub list_reply : SessionValue → SelectionValue → ReplyValue
 list_reply s selection = written 0 (listing selection (schema_in s) s.survey)
+
+-- that there is no definition at a url, or that it can't be used
+abbrev pub profile_fault : SchemaValue → Text → ReplyValue
+profile_fault s url =
+    option_map_or (λ reason. fault_reply (codes "V2") (url ++ codes " " ++ reason_number reason)) (unusable s url) (fault_reply (codes "V1") url)
 
 -- that of a profile and of what it reaches; or why it can't be used, or that it isn't there
 abbrev pub profile_reply : SessionValue → Text → Option Reason → ReplyValue

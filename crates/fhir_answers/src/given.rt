@@ -1,13 +1,14 @@
 //! What is answered where a user vouches for unread rules, and the list of these rules.
 
-ghost use Rattle.std.specs.Prelude.{◌≡◌, ◌++◌, None, Some, IfOk, IsSome, codes, string_bytes};
+ghost use Rattle.std.specs.Prelude.{◌≡◌, ◌++◌, None, Some, IfOk, IfSome, IfNone, IsSome, codes, string_bytes};
 ghost use Rattle.fhir_json.specs.Tree.{Text};
 ghost use Rattle.fhir_json.specs.Views.{text_seen};
 ghost use Rattle.fhir_registry.specs.Standing.{ConformsAsGiven};
 ghost use Rattle.fhir_package.specs.declared.kind.Kind.TheVariants.{StructureDefinition};
 ghost use Rattle.fhir_package.specs.Definitions.{at_url};
 ghost use Rattle.fhir_elements.specs.Numbers.{reason_number};
-ghost use Rattle.fhir_answers.specs.Answering.{judged_as_given, IsJudgedReply, IsGivenReply, IsReply, file_answer, given_answer, list_reply, profile_reply, unread_reply};
+ghost use Rattle.fhir_answers.specs.Answering.{judged_as_given, IsJudgedReply, IsGivenReply, IsReply, file_answer, given_answer, list_reply, profile_fault, profile_reply, unread_reply};
+ghost use Rattle.fhir_schema.specs.Schemas.{root};
 ghost use Rattle.fhir_answers.specs.Promising.{ConformsByLines, ValidatedAsGiven, CanBeListed};
 ghost use Rattle.fhir_answers.specs.Replying.{reply_seen, status_of, fault_reply};
 ghost use Rattle.fhir_answers.specs.Session.{schema_in};
@@ -137,6 +138,31 @@ fn unusable_reply(alloc: Global, url: &str, reason: Reason) -> Result<Reply, All
 {
     let subject = format!(in alloc; "{url} {}", reason.number())?;
     fault_reply(alloc, "V2", subject.as_str())
+}
+
+// That the definition at a url isn't there or can't be used.
+fn profile_fault(alloc: Global, schema: &Schema, url: &str) -> Result<Reply, AllocError>
+    ensures { IfOk result (λ r. reply_seen r ≡ profile_fault schema.now url.now) }
+{
+    match schema.unusable(url) {
+        Some(reason) => unusable_reply(alloc, url, reason),
+        None => fault_reply(alloc, "V1", url),
+    }
+}
+
+/// What is answered where the definition at a url isn't there or can't be used, if that is so. The one refusal is want of memory.
+pub fn profile_refusal(
+    alloc: Global,
+    schema: &Schema,
+    url: &str,
+) -> Result<Option<Reply>, AllocError>
+    ensures usable { IfOk result (λ r. IfNone r (IsSome (root schema.now url.now))) }
+    ensures refused { IfOk result (λ r. IfSome r (λ reply. (root schema.now url.now ≡ None) × (reply_seen reply ≡ profile_fault schema.now url.now))) }
+{
+    match schema.root(url) {
+        Some(_) => Ok(None),
+        None => Ok(Some(profile_fault(alloc, schema, url)?)),
+    }
 }
 
 // Of a profile that isn't one of those that can't be used.

@@ -27,6 +27,6 @@ mod reply;
 mod session;
 mod wrong_reply;
 
-pub use given::NamedFile;
+pub use given::{NamedFile, profile_refusal};
 pub use reply::{Reply, Status, fault_reply, unreadable_reply};
 pub use session::{Session, refused_reply};

@@ -122,14 +122,14 @@ impl<'f> Session<'f> {
     }
 
     /// The schema of the package of all that is right, completed.
-    pub(crate) fn schema(&self) -> &Schema
+    pub fn schema(&self) -> &Schema
         ensures { result.now ≡ schema_in self.now }
     {
         &self.schema
     }
 
-    // The schema of the package that the files are, or the fault for which they are none.
-    fn package(&self) -> Result<&Schema, &FileFault<'f>>
+    /// The schema of the package that the files are, or the fault for which they are none.
+    pub fn package(&self) -> Result<&Schema, &FileFault<'f>>
         ensures found { IfOk result (λ s. (refusal self.now.survey ≡ None) × (s.now ≡ schema_in self.now)) }
         ensures refused { IfErr result (λ fault. refusal self.now.survey ≡ Some (fault_seen fault.now)) }
     {

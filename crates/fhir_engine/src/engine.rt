@@ -21,14 +21,14 @@ use std::alloc::Global;
 use std::io::Write;
 
 /// Whether an output takes bytes.
-pub(crate) fn is_written<W: Write>(end: &mut W, bytes: &[u8]) -> bool
+pub fn is_written<W: Write>(end: &mut W, bytes: &[u8]) -> bool
     ensures { IsTrue result → Appends (W.contents end.old) (W.contents end.new) bytes.now }
 {
     end.write_all(bytes).is_ok()
 }
 
 /// Says something to standard error, which may fail, and ends with that status.
-pub(crate) fn end_with<E: Write>(err: &mut E, text: &str, status: Status) -> Status
+pub fn end_with<E: Write>(err: &mut E, text: &str, status: Status) -> Status
     ensures { result ≡ status }
 {
     let _ = is_written(err, text.as_bytes());
@@ -47,7 +47,7 @@ fn put<W: Write>(out: &mut W, bytes: &[u8], status: Status) -> Status
 }
 
 /// Writes a reply to the output that is its own.
-pub(crate) fn write_reply<W: Write, E: Write>(reply: &Reply, out: &mut W, err: &mut E) -> Status
+pub fn write_reply<W: Write, E: Write>(reply: &Reply, out: &mut W, err: &mut E) -> Status
     ensures ended { HasEnded result (W.contents out.old) (W.contents out.new) (reply_seen reply.now) }
     ensures fault { IsTrue (is_told (reply_seen reply.now)) → (result ≡ Status.Fault) × (out.new ≡ out.old) }
     ensures quiet { IsTrue (is_quiet (reply_seen reply.now)) → err.new ≡ err.old }
@@ -164,10 +164,7 @@ fn answer_words<W: Write, E: Write, P: Progress>(
 }
 
 /// The files of a folder, which is dropped then.
-pub(crate) fn files_of<F: Folder + Drop>(
-    alloc: Global,
-    mut folder: F,
-) -> Result<FolderFiles, FolderFault>
+pub fn files_of<F: Folder + Drop>(alloc: Global, mut folder: F) -> Result<FolderFiles, FolderFault>
     ensures { IsReadOf (F.files folder) result }
 {
     FolderFiles::read(alloc, &mut folder)

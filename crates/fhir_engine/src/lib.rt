@@ -34,8 +34,8 @@ mod serving;
 pub use directory::{
     Opened, bytes_at, directory_at, open_asked, serve_directory, serve_directory_given,
 };
-pub use engine::run;
+pub use engine::{end_with, files_of, is_written, run, write_reply};
 pub use gathering::{gather_directories, gather_folders};
 pub use laws::verdicts_agree;
 pub use meter::Meter;
-pub use serving::{serve_folder, serve_folder_given};
+pub use serving::{serve_folder, serve_folder_given, vouched};

@@ -130,8 +130,8 @@ fn vouched_by(
     }
 }
 
-// What a user vouches for by a file, or that it can't be read.
-fn vouched(
+/// What a user vouches for by a file, with what is told of its lines; or that it can't be read. The one refusal is want of memory.
+pub fn vouched(
     alloc: Global,
     session: &Session<'_>,
     file: NamedFile<'_>,

@@ -11,7 +11,7 @@ returns-in-Ok-clause-told c =
     IfOk-weaker c.judged_reply.result _ _
     (λ r told.
     answered_by c.args.session.now c.schema.result.now given.vouching (string_bytes given.notes) c.args.profile.now c.args.bytes.now c.args.name.now
-    c.args.lines.now (reply_seen r) c.schema.ensures c.in-Ok.ensures.given c.in-Ok.ensures.told told)
+    c.args.lines.now (reply_seen r) c.schema.ensures (λ not_utf8. let is = c.in-Ok.ensures.not_utf8.1 not_utf8 in absurd cc) c.in-Ok.ensures.given c.in-Ok.ensures.told told)
     c.judged_reply.ensures.told
 
 pub returns-in-Ok-clause-promised : goal.returns-in-Ok-clause-promised
