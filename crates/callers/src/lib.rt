@@ -3,7 +3,7 @@
 //! in any case.
 #![tactic(auto)]
 
-ghost use Rattle.std.specs.Prelude.{◌≡◌, ◌∷◌, ◌++◌, ◌↔◌, ◌||◌, [], map, Some, length, get_or, false, None, Ok, OnOk, OnErr, is_ok, is_some, List, Option, Result, if◌then◌else◌, IsTrue, IfOk, codes, string_bytes, option_map};
+ghost use Rattle.std.specs.Prelude.{◌≡◌, ◌∷◌, ◌++◌, ◌↔◌, ◌||◌, [], map, Some, length, get_or, false, None, Ok, OnOk, OnErr, All, is_ok, is_some, List, Option, Result, if◌then◌else◌, IsTrue, IfOk, codes, string_bytes, option_map};
 ghost use Rattle.std.specs.FinSet as set;
 ghost use Rattle.std.specs.List.{list_any};
 ghost use Rattle.std.specs.Option.{option_map_or};
@@ -53,6 +53,7 @@ ghost use Rattle.fhir_cert_check.specs.Checking.{SpellsCertificate};
 ghost use Rattle.fhir_entail.specs.Entailment.{entails};
 ghost use Rattle.fhir_derive_check.specs.Reaching.{HasCertificate};
 ghost use Rattle.fhir_findings.specs.Finding.{selected_unusable};
+ghost use Rattle.fhir_positions.specs.Positions.{IsOfValue};
 ghost use Rattle.fhir_vouching.specs.Given.{given_lines};
 ghost use Rattle.fhir_unread.specs.Unread.{unread_texts};
 ghost use Rattle.fhir_contradictions.specs.Listing.{contradictions};
@@ -92,7 +93,7 @@ use fhir_fp_syntax::{Expr, Parsed, parse};
 use fhir_gather::{GatherFault, Gathered, NamedFolder, gather};
 use fhir_inheritance::Sources;
 use fhir_instance::{Misfit, Typed, type_resource};
-use fhir_json::{Json, JsonFault, NoMemory};
+use fhir_json::{Json, JsonFault, NoMemory, Position};
 use fhir_lines::Line;
 use fhir_matching::{json_eq, matches};
 use fhir_names::{ElementId, front_of};
@@ -399,6 +400,17 @@ pub fn are_usable<'r>(
 {
     let found = fhir_findings::findings(alloc, survey, schema, selection)?;
     Ok(!fhir_findings::has_faults(&found))
+}
+
+/// Where a patient's names and birth date begin in the bytes of the patient: each at one of the values that the bytes spell.
+pub fn patient_positions(
+    alloc: Global,
+    schema: &Schema,
+    bytes: &[u8],
+) -> Result<Vec<Position>, NoMemory>
+    ensures { IfOk result (λ all. (t : Tree) → Reads bytes.now t → All (IsOfValue bytes.now t) all.items) }
+{
+    fhir_positions::positions_of(alloc, schema, bytes, &["Patient.name", "Patient.birthDate"])
 }
 
 /// The list of the unread rules of all definitions, by the survey of their files and their schema.

@@ -1,0 +1,66 @@
+-- What a run is of.
+use Rattle.std.specs.Prelude.{◌≡◌, ℕ, List, None, Option, Some, Ok, IsSome, ◌++◌, option_map}
+use Rattle.std.specs.Io.KnownBytes.{Appends}
+use Rattle.fhir_json.specs.Tree.{Text}
+use Rattle.fhir_package.specs.Folder.{Files}
+use Rattle.fhir_package.specs.ReadFiles.{ReadFiles}
+use Rattle.fhir_package.specs.Surveying.{refusal}
+use Rattle.fhir_schema.specs.Schemas.{SchemaValue, root}
+use Rattle.fhir_unread.specs.Given.{texts_given, AreSame}
+use Rattle.fhir_answers.specs.declared.given.NamedFile.{NamedFile}
+use Rattle.fhir_answers.specs.Views.{bytes_seen}
+use Rattle.fhir_answers.specs.Session.{SessionValue, IsSessionOf, schema_in}
+use Rattle.fhir_engine.specs.Reading.{IsReadOf}
+use Rattle.fhir_inputs.specs.Inputs.{InputValue}
+use Rattle.fhir_bulk.specs.declared.tally.Tally.{Tally}
+use Rattle.fhir_bulk.specs.Questions.{QuestionValue}
+use Rattle.fhir_bulk.specs.Running.{IsRun, summary}
+use Rattle.fhir_bulk_engine.specs.declared.asked.Asked.{Asked}
+use Rattle.fhir_bulk_engine.specs.declared.plan.InputFile.{InputFile}
+
+-- what is known of a file of a device: what it holds, and not its bytes
+abbrev pub input_of : InputFile → InputValue
+input_of file = record { kind = file.kind; bytes = None }
+
+-- No rules are vouched for where no file is named; else those are whose texts the lines of the file give, which was read.
+abbrev pub AreTexts : Option (Option Text) → Option (List Text) → Type 0
+AreTexts None texts = texts ≡ None
+AreTexts (Some file) texts =
+    (bytes : Text) × (given : List Text) × (file ≡ Some bytes) × (texts ≡ Some given) × AreSame given (texts_given bytes)
+
+-- the bytes of a file that is named, where it can be read
+abbrev pub file_seen : Option NamedFile → Option (Option Text)
+file_seen file = option_map (λ f. bytes_seen f.bytes) file
+
+-- what is asked by a schema, and by the texts that are given, if any are
+abbrev pub asked_question : SchemaValue → Asked → Option (List Text) → QuestionValue
+asked_question s asked texts =
+    record { schema = s; profile = asked.profile.now; texts = texts; format = asked.format; only_bad = asked.only_bad }
+
+-- All lines of the inputs were told, with these counts, and the output has grown by that.
+pub record IsToldOf (q : QuestionValue) (names : List Text) (inputs : List InputValue) (passed_over : ℕ) (tally : Tally) (old new : Option (List ℕ)) : Type 0 where
+  pub written : Text
+  pub run : IsRun q names inputs tally written
+  pub appended : Appends old new (written ++ summary q.format tally passed_over)
+
+-- So it was of a session whose files are a package, in which the profile can be used.
+pub record IsToldOfSession (session : SessionValue) (asked : Asked) (names : List Text) (inputs : List InputValue) (passed_over : ℕ) (tally : Tally) (old new : Option (List ℕ)) : Type 0 where
+  pub is_package : refusal session.survey ≡ None
+  pub usable : IsSome (root (schema_in session) asked.profile.now)
+  pub texts : Option (List Text)
+  pub are_texts : AreTexts (file_seen asked.given) texts
+  pub told : IsToldOf (asked_question (schema_in session) asked texts) names inputs passed_over tally old new
+
+-- The same of what was read of a folder's files.
+pub record IsBulk (folder : Files) (asked : Asked) (names : List Text) (inputs : List InputValue) (passed_over : ℕ) (tally : Tally) (old new : Option (List ℕ)) : Type 0 where
+  pub read : ReadFiles
+  pub is_read : IsReadOf folder (Ok read)
+  pub session : SessionValue
+  pub is_session : IsSessionOf read session
+  pub told : IsToldOfSession session asked names inputs passed_over tally old new
+
+-- The same of the files of some folder, and of some inputs.
+abbrev pub IsSomeBulk : (old new : Option (List ℕ)) → Tally → Type 0
+IsSomeBulk old new tally =
+    (folder : Files) × (asked : Asked) × (names : List Text) × (inputs : List InputValue) × (passed_over : ℕ)
+    × IsBulk folder asked names inputs passed_over tally old new

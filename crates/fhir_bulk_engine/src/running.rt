@@ -1,0 +1,310 @@
+//! A run over the definitions in a folder.
+
+ghost use Rattle.std.specs.Prelude.{◌≡◌, Option, IfOk, IfSome, IsOkAnd, IsTrue, map};
+ghost use Rattle.fhir_engine.specs.Reading.{IsReadOf};
+ghost use Rattle.fhir_bulk.specs.declared.tally.Tally.{Tally};
+ghost use Rattle.fhir_bulk_engine.specs.Bulk.{IsBulk, IsSomeBulk};
+ghost use Rattle.fhir_bulk_engine.specs.Ending.{tally_status, is_refused, Ends};
+
+use crate::asked::{Asked, Planned, Refusal, run_session};
+use crate::file_inputs::FileInputs;
+use crate::plan::{InputFile, Plan, PlanFault, plan_inputs};
+use fhir_answers::{NamedFile, Session, Status, fault_reply};
+use fhir_bulk::Tally;
+use fhir_engine::{bytes_at, directory_at, end_with, files_of, write_reply};
+use fhir_inputs::Inputs;
+use fhir_json::NoMemory;
+use fhir_package::{Folder, FolderFault, MemoryFolder, Progress};
+use fhir_words::{BulkRequest, Format};
+use std::alloc::{AllocError, Global};
+use std::io::{Read, Write};
+use std::rt::Files;
+
+fn tally_status(tally: Tally) -> Status
+    ensures { result ≡ tally_status tally }
+{
+    if tally.violates > 0 {
+        Status::No
+    } else if tally.no_memory > 0 {
+        Status::NoMemory
+    } else if tally.faults > 0 {
+        Status::Fault
+    } else if tally.opens > 0 {
+        Status::Open
+    } else {
+        Status::Yes
+    }
+}
+
+fn run_folder<F: Folder + Drop, I: Inputs, P: Progress, W: Write, E: Write>(
+    alloc: Global,
+    name: &str,
+    folder: F,
+    asked: Asked<'_>,
+    planned: Result<Planned<'_, I>, &str>,
+    progress: &mut P,
+    out: &mut W,
+    err: &mut E,
+) -> Result<Result<Tally, Refusal>, NoMemory>
+    ensures { IfOk result (λ r. IfOk r (λ tally. IsOkAnd planned.entry (λ p. IsBulk (F.files folder) asked.entry (map (λ n. n.now) p.names.now)
+        (I.inputs p.inputs.now) p.passed_over tally (W.contents out.old) (W.contents out.new)))) }
+{
+    match files_of(alloc, folder) {
+        Ok(files) => {
+            let session = Session::of(alloc, &files, progress)?;
+            progress.end();
+            run_session(alloc, &session, asked, planned, out, err)
+        }
+        Err(FolderFault::Device) => Ok(Err(Refusal::Fault(fault_reply(alloc, "P1", name)?))),
+        Err(FolderFault::NoMemory) => Err(NoMemory),
+    }
+}
+
+// Tells why nothing is asked.
+fn refuse<W: Write, E: Write>(refusal: &Refusal, out: &mut W, err: &mut E) -> Status
+    ensures { IsTrue (is_refused result) }
+{
+    match refusal {
+        Refusal::Fault(reply) => {
+            let _ = write_reply(reply, out, err);
+            Status::Fault
+        }
+        Refusal::Unwritten => Status::Unwritten,
+    }
+}
+
+/// Asks of all resources of inputs how they stand with a profile, by the definitions in a folder of that name. The folder is read first, and then the file
+/// of the texts, if one is named. What is wrong with them, and a profile that isn't there or can't be used, is told on standard error before
+/// any input is opened; and so is a folder of inputs that has none, whose name is in place of the inputs. How far the work is, is told to
+/// `progress`. The status is the worst of what is told of the resources.
+pub fn validate_folder<F: Folder + Drop, I: Inputs, P: Progress, W: Write, E: Write>(
+    alloc: Global,
+    name: &str,
+    folder: F,
+    asked: Asked<'_>,
+    planned: Result<Planned<'_, I>, &str>,
+    progress: &mut P,
+    out: &mut W,
+    err: &mut E,
+) -> Status
+    ensures { (told : Option Tally) × Ends result told × IfSome told (λ tally. IsOkAnd planned.entry (λ p. IsBulk (F.files folder) asked.entry
+        (map (λ n. n.now) p.names.now) (I.inputs p.inputs.now) p.passed_over tally (W.contents out.old) (W.contents out.new))) }
+{
+    let ended = run_folder(alloc, name, folder, asked, planned, progress, out, err);
+    progress.end();
+    match ended {
+        Ok(run) => match run {
+            Ok(tally) => tally_status(tally),
+            Err(refusal) => refuse(&refusal, out, err),
+        },
+        Err(NoMemory) => end_with(err, "no memory\n", Status::NoMemory),
+    }
+}
+
+// What a request names: the folder of the definitions, the bytes of the file of texts, where it can be read, and the files of the run, or the
+// name of a folder that has none.
+#[derive(Drop)]
+struct Opened {
+    folder: MemoryFolder,
+    given: Option<Vec<u8>>,
+    plan: Result<Plan, String>,
+}
+
+fn given_bytes<R: Files + AllocGlobal>(
+    rt: &R,
+    given: Option<&str>,
+) -> Result<Option<Vec<u8>>, NoMemory> {
+    match given {
+        Some(path) => bytes_at(rt, path),
+        None => Ok(None),
+    }
+}
+
+fn make_plan<R: Files + AllocGlobal + Clone + Drop>(
+    rt: &R,
+    inputs: &[Option<&str>],
+) -> Result<Result<Plan, String>, NoMemory> {
+    match plan_inputs(rt, inputs) {
+        Ok(plan) => Ok(Ok(plan)),
+        Err(PlanFault::Nothing(name)) => Ok(Err(name)),
+        Err(PlanFault::NoMemory) => Err(NoMemory),
+    }
+}
+
+fn open_request<R: Files + AllocGlobal + Clone + Drop, P: Progress>(
+    rt: &R,
+    request: &BulkRequest<'_>,
+    progress: &mut P,
+) -> Result<Opened, NoMemory> {
+    let folder = directory_at(rt, request.folder, progress)?;
+    let given = given_bytes(rt, request.given)?;
+    let plan = make_plan(rt, &request.inputs)?;
+    Ok(Opened {
+        folder,
+        given,
+        plan,
+    })
+}
+
+fn names_of(alloc: Global, files: &[InputFile]) -> Result<Vec<&str>, AllocError> {
+    let mut names = Vec::with_capacity(alloc, files.len())?;
+    for file in files {
+        names.push(file.name.as_str())?;
+    }
+    Ok(names)
+}
+
+fn named_file<'a>(name: &'a str, bytes: Option<&'a [u8]>) -> NamedFile<'a> {
+    NamedFile { name, bytes }
+}
+
+// The file of the texts, if one is named.
+fn given_file<'a>(request: &'a BulkRequest<'_>, bytes: Option<&'a [u8]>) -> Option<NamedFile<'a>> {
+    match request.given {
+        Some(name) => Some(named_file(name, bytes)),
+        None => None,
+    }
+}
+
+fn asked_with<'a>(
+    profile: &'a str,
+    given: Option<NamedFile<'a>>,
+    format: Format,
+    only_bad: bool,
+) -> Asked<'a> {
+    Asked {
+        profile,
+        given,
+        format,
+        only_bad,
+    }
+}
+
+fn asked_of<'a>(request: &'a BulkRequest<'_>, bytes: Option<&'a [u8]>) -> Asked<'a> {
+    let given = given_file(request, bytes);
+    match request.profile {
+        Some(profile) => asked_with(profile, given, request.format, request.only_bad),
+        None => asked_with("-", given, request.format, request.only_bad),
+    }
+}
+
+// Of the files of a plan.
+fn run_plan<R: Files + AllocGlobal + Clone + Drop, S: Read + Copy, P: Progress, W: Write, E: Write>(
+    rt: &R,
+    name: &str,
+    folder: MemoryFolder,
+    asked: Asked<'_>,
+    plan: &Plan,
+    standard: S,
+    progress: &mut P,
+    out: &mut W,
+    err: &mut E,
+) -> Status
+    ensures { (told : Option Tally) × Ends result told × IfSome told (IsSomeBulk (W.contents out.old) (W.contents out.new)) }
+{
+    let Ok(names) = names_of(rt.alloc(), &plan.files) else {
+        return end_with(err, "no memory\n", Status::NoMemory);
+    };
+    let inputs = FileInputs::new(rt, &plan.files, standard);
+    let planned = Planned {
+        inputs: &inputs,
+        names: &names,
+        passed_over: plan.passed_over,
+    };
+    validate_folder(
+        rt.alloc(),
+        name,
+        folder,
+        asked,
+        Ok(planned),
+        progress,
+        out,
+        err,
+    )
+}
+
+// Of no files, since the folder of a name has none: what else is wrong is told first.
+fn run_nothing<
+    R: Files + AllocGlobal + Clone + Drop,
+    S: Read + Copy,
+    P: Progress,
+    W: Write,
+    E: Write,
+>(
+    rt: &R,
+    name: &str,
+    folder: MemoryFolder,
+    asked: Asked<'_>,
+    nothing: &str,
+    standard: S,
+    progress: &mut P,
+    out: &mut W,
+    err: &mut E,
+) -> Status
+    ensures { (told : Option Tally) × Ends result told × IfSome told (IsSomeBulk (W.contents out.old) (W.contents out.new)) }
+{
+    let none = [];
+    let inputs = FileInputs::new(rt, &none, standard);
+    validate_folder(
+        rt.alloc(),
+        name,
+        folder,
+        asked,
+        unplanned(&inputs, nothing),
+        progress,
+        out,
+        err,
+    )
+}
+
+fn unplanned<'p, I>(_inputs: &'p I, name: &'p str) -> Result<Planned<'p, I>, &'p str> {
+    Err(name)
+}
+
+/// Does what `validate-all` asks: the definitions are those in the directory that the request names, the inputs are opened one at a time,
+/// and `standard` reads standard input.
+pub fn validate_directory<
+    R: Files + AllocGlobal + Clone + Drop,
+    S: Read + Copy,
+    P: Progress,
+    W: Write,
+    E: Write,
+>(
+    rt: &R,
+    request: &BulkRequest<'_>,
+    standard: S,
+    progress: &mut P,
+    out: &mut W,
+    err: &mut E,
+) -> Status
+    ensures { (told : Option Tally) × Ends result told × IfSome told (IsSomeBulk (W.contents out.old) (W.contents out.new)) }
+{
+    let Ok(
+        Opened {
+            folder,
+            given,
+            plan,
+        },
+    ) = open_request(rt, request, progress)
+    else {
+        progress.end();
+        return end_with(err, "no memory\n", Status::NoMemory);
+    };
+    let given = given.as_deref();
+    let asked = asked_of(request, given);
+    let name = request.folder;
+    match &plan {
+        Ok(plan) => run_plan(rt, name, folder, asked, plan, standard, progress, out, err),
+        Err(nothing) => run_nothing(
+            rt,
+            name,
+            folder,
+            asked,
+            nothing.as_str(),
+            standard,
+            progress,
+            out,
+            err,
+        ),
+    }
+}
