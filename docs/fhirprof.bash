@@ -3,7 +3,7 @@
 
 _fhirprof() {
     local current=${COMP_WORDS[COMP_CWORD]} options='' places=() place=0 is_value='' is_rest='' i word
-    local commands='check derive certify validate validate-given unread snapshot serve serve-given gather'
+    local commands='check derive certify validate validate-given validate-all unread snapshot serve serve-given gather'
     COMPREPLY=()
     if ((COMP_CWORD == 1)); then
         mapfile -t COMPREPLY < <(compgen -W "$commands --version" -- "$current")
@@ -15,6 +15,7 @@ _fhirprof() {
     certify) places=(folder file) ;;
     validate) places=(folder url file) ;;
     validate-given) places=(folder url file file) ;;
+    validate-all) options='--json --given --only-bad' places=(folder url file) ;;
     unread | snapshot) places=(folder url) ;;
     serve) places=(folder) ;;
     serve-given) places=(folder file) ;;
@@ -32,22 +33,25 @@ _fhirprof() {
         elif [[ $is_value ]]; then
             is_value=''
         elif [[ $word == --only ]]; then
-            is_value=1
+            is_value=url
+        elif [[ $word == --given ]]; then
+            is_value=file
         elif [[ $word != -* ]]; then
             ((place++))
         fi
     done
     [[ $is_rest || $current =~ ^[:=]+$ ]] && return
     # A PREFIX is the front of a url.
-    [[ $is_value ]] && return
-    if [[ $current == -* ]]; then
+    [[ $is_value == url ]] && return
+    if [[ ! $is_value && $current == -* ]]; then
         mapfile -t COMPREPLY < <(compgen -W "$options" -- "$current")
         return
     fi
 
-    # All further words of `gather` are folders.
+    # All further words of `gather` are folders, and those of `validate-all` are files and folders.
     [[ ${COMP_WORDS[1]} == gather && $place -gt 1 ]] && place=1
-    case ${places[place]-} in
+    [[ ${COMP_WORDS[1]} == validate-all && $place -gt 2 ]] && place=2
+    case ${is_value:-${places[place]-}} in
     folder) mapfile -t COMPREPLY < <(compgen -d -- "$current") ;;
     file) mapfile -t COMPREPLY < <(compgen -f -- "$current") ;;
     *) return ;;
