@@ -36,6 +36,9 @@ fn walk_over(
 /// down to the item, as `Patient.name[0].given[1]`, without the `[x]` of a choice, or with the name of a property as the
 /// last one, as `Patient._birthDate`.
 ///
+/// A property that the type doesn't have comes before all else that its place may mean, as the item of a choice of that name. Its
+/// name may have dots and brackets: a place isn't read by them where it ends with such a name.
+///
 /// Where the place of an array has no index, it is the array that is meant. An item that has no value of its own, or null, has
 /// that of its companion. Of an item that isn't there, it is the position of the nearest one above it which is; and where
 /// `read` refuses the bytes, that of the first value, or of the first byte where there is none. What stands in front of the

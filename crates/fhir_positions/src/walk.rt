@@ -50,7 +50,7 @@ fn typing_of_companion(content: Content) -> Typing {
 }
 
 impl<'s> Meaning<'s> {
-    // That of a property that no form has.
+    // That of a property in an object that no node types.
     fn as_written(name: &'s str) -> Meaning<'s> {
         Meaning {
             name,
@@ -75,22 +75,33 @@ impl<'s> Meaning<'s> {
         }
     }
 
-    fn at(schema: &'s Schema, node: NodeRef, name: &'s str) -> Meaning<'s> {
-        let Some(property) = schema.property(node, name) else {
-            return Meaning::as_written(name);
-        };
-        match schema.forms(node).get(property.form) {
-            Some(form) if property.is_companion => Meaning::of_companion(form),
-            Some(form) => Meaning::of_value(form),
-            None => Meaning::as_written(name),
+    // That of a property at a node, if the node has it.
+    fn at(schema: &'s Schema, node: NodeRef, name: &str) -> Option<Meaning<'s>> {
+        let property = schema.property(node, name)?;
+        let form = schema.forms(node).get(property.form)?;
+        if property.is_companion {
+            Some(Meaning::of_companion(form))
+        } else {
+            Some(Meaning::of_value(form))
         }
     }
 
-    // That of a property in an object, which a node may type.
-    fn of(schema: &'s Schema, node: Option<NodeRef>, name: &'s str) -> Meaning<'s> {
+    // That of a property in an object, which a node may type: none where the type doesn't have it.
+    fn of(schema: &'s Schema, node: Option<NodeRef>, name: &'s str) -> Option<Meaning<'s>> {
         match node {
             Some(node) => Meaning::at(schema, node, name),
-            None => Meaning::as_written(name),
+            None => Some(Meaning::as_written(name)),
+        }
+    }
+}
+
+impl Way {
+    // That of a property that the type doesn't have: no items stand in it.
+    fn nowhere() -> Way {
+        Way {
+            stop: None,
+            typing: Typing::Node(None),
+            standing: Standing::Unknown,
         }
     }
 }
@@ -164,8 +175,30 @@ impl Walk {
         self.passed = self.passed.saturating_add(count_of(json));
     }
 
-    // Where the property of a member leads. It leads to the stop of its element, and else to one that is named as it is written,
-    // for which its value stands in any case.
+    // Notes that the property that comes next stands for a stop, if there is one.
+    fn note_written(&mut self, stop: Option<usize>, standing: Standing) {
+        if let Some(stop) = stop {
+            self.wanted.note(stop, self.passed, standing);
+        }
+    }
+
+    // Where a property of a meaning leads: to the stop of its element, and else to the one that is named as it is written.
+    fn way_by(
+        &mut self,
+        meaning: Meaning<'_>,
+        stop: usize,
+        written: Option<usize>,
+    ) -> Result<Way, NoMemory> {
+        let named = self.wanted.named(stop, meaning.name)?;
+        Ok(Way {
+            stop: named.or(written),
+            typing: meaning.typing,
+            standing: meaning.standing,
+        })
+    }
+
+    // Where the property of a member leads. Whatever it means, its value stands for the stop that is named as it is written. Null
+    // does so only where the type doesn't have the property, since else it gives way to the companion.
     fn way(
         &mut self,
         schema: &Schema,
@@ -174,18 +207,17 @@ impl Walk {
         node: Option<NodeRef>,
     ) -> Result<Way, NoMemory> {
         let name = member.name.as_str();
-        let meaning = Meaning::of(schema, node, name);
-        let written = self.wanted.named(stop, name)?;
-        if let Some(there) = written {
-            let standing = standing_of(&member.value, Standing::Value);
-            self.wanted.note(there, self.passed, standing);
+        let written = self.wanted.written(stop, name)?;
+        match Meaning::of(schema, node, name) {
+            Some(meaning) => {
+                self.note_written(written, standing_of(&member.value, Standing::Named));
+                self.way_by(meaning, stop, written)
+            }
+            None => {
+                self.note_written(written, Standing::Unknown);
+                Ok(Way::nowhere())
+            }
         }
-        let named = self.wanted.named(stop, meaning.name)?;
-        Ok(Way {
-            stop: named.or(written),
-            typing: meaning.typing,
-            standing: meaning.standing,
-        })
     }
 
     /// Walks over the outermost resource.

@@ -16,6 +16,10 @@ pub(crate) enum Standing {
     Companion,
     /// The item's own value.
     Value,
+    /// The property that is named as the place is.
+    Named,
+    /// Such a one that the type doesn't have.
+    Unknown,
 }
 
 /// The value that stands for a stop: its number, in the order of the text.
@@ -115,6 +119,34 @@ impl Wanted {
         self.key.clear();
         write!(self.key, "{stop}[{index}]")?;
         Ok(self.steps.get(self.key.as_str()))
+    }
+
+    fn indexed_as_written(&mut self, stop: usize, index: &str) -> Result<Option<usize>, NoMemory> {
+        self.write_index(stop, index)?;
+        Ok(self.steps.get(self.key.as_str()))
+    }
+
+    fn by_segment(&mut self, stop: usize, segment: &str) -> Result<Option<usize>, NoMemory> {
+        match cut_at_bracket(segment) {
+            Some((name, index)) => match self.named(stop, name)? {
+                Some(stop) => self.indexed_as_written(stop, index),
+                None => Ok(None),
+            },
+            None => self.named(stop, segment),
+        }
+    }
+
+    /// The stop to which the name of a property leads as it is written. Dots and brackets in it are read as those of a place
+    /// are, since a place that ends with the name was cut there.
+    pub(crate) fn written(&mut self, stop: usize, name: &str) -> Result<Option<usize>, NoMemory> {
+        let mut there = stop;
+        'segments: for segment in name.split('.') {
+            match self.by_segment(there, segment)? {
+                Some(next) => there = next,
+                None => return Ok(None),
+            }
+        }
+        Ok(Some(there))
     }
 
     // The stop to which the step leads whose key is written.
