@@ -1,0 +1,3 @@
+pub mod EachOnce
+pub mod Judged
+pub mod Loaded
