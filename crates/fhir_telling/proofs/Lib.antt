@@ -1,0 +1,5 @@
+pub mod Issues
+pub mod Owned
+pub mod Parts
+pub mod Pushed
+pub mod Said

@@ -1,0 +1,166 @@
+//! Warnings of profiles that a resource claims to conform to, and that are passed over.
+
+ghost use Rattle.std.specs.Prelude.{◌≡◌, ◌++◌, length, map, codes, All, IfOk, OnOk};
+ghost use Rattle.fhir_json.specs.Fields.{text_in, items_in};
+ghost use Rattle.fhir_json.specs.Tree.{Text, string, array, object, items_of, members_of};
+ghost use Rattle.fhir_json.specs.Views.{tree_of, trees_of, property_of};
+ghost use Rattle.fhir_registry.specs.Outcomes.{HasSeverity};
+ghost use Rattle.fhir_telling.specs.Judgements.{issues_of};
+ghost use Rattle.fhir_telling.specs.Telling.{IsWarned};
+
+use fhir_json::{Json, Member, NoMemory};
+use fhir_schema::Schema;
+use std::alloc::{AllocError, Global};
+use std::borrow::CowStr;
+
+fn member(name: &'static str, value: Json<'static>) -> Member<'static>
+    ensures { property_of result ≡ (name.now, tree_of value.entry) }
+{
+    Member {
+        name: CowStr::Borrowed(name),
+        value,
+    }
+}
+
+fn word(text: &'static str) -> Json<'static>
+    ensures { tree_of result ≡ string text.now }
+{
+    Json::Str(CowStr::Borrowed(text))
+}
+
+fn text(text: String) -> Json<'static> {
+    Json::Str(CowStr::Owned(text))
+}
+
+fn array(items: Vec<Json<'static>>) -> Json<'static>
+    ensures { tree_of result ≡ array (items_of (trees_of items.entry.items)) }
+{
+    Json::Arr(items)
+}
+
+fn object(members: Vec<Member<'static>>) -> Json<'static>
+    ensures { tree_of result ≡ object (members_of (map property_of members.entry.items)) }
+{
+    Json::Obj(members)
+}
+
+// The code (FHIR R4, OperationOutcome, issue.code) and the text of what is wrong with a profile at a url.
+fn fault_at(
+    alloc: Global,
+    schema: &Schema,
+    url: &str,
+) -> Result<(&'static str, String), AllocError> {
+    match schema.unusable(url) {
+        Some(reason) => Ok(("not-supported", format!(in alloc; "V2 {url} {reason}")?)),
+        None => Ok(("not-found", format!(in alloc; "V1 {url}")?)),
+    }
+}
+
+// The warning that a profile is passed over.
+fn warning_of(
+    alloc: Global,
+    schema: &Schema,
+    place: &str,
+    url: &str,
+) -> Result<Json<'static>, AllocError>
+    ensures { IfOk result (λ json. HasSeverity (codes "warning") (tree_of json)) }
+{
+    let (code, diagnostics) = fault_at(alloc, schema, url)?;
+    let place = String::from_str(alloc, place)?;
+    let places = vec![in alloc; text(place)]?;
+    let mut members: Vec<Member<'static>> = Vec::with_capacity(alloc, 4)?;
+    members.push(member("severity", word("warning")))?;
+    members.push(member("code", word(code)))?;
+    members.push(member("diagnostics", text(diagnostics)))?;
+    members.push(member("expression", array(places)))?;
+    Ok(object(members))
+}
+
+// The warnings of several, whose place is where the resource claims to conform to them.
+fn warnings_of(
+    alloc: Global,
+    schema: &Schema,
+    place: &str,
+    urls: &[&str],
+) -> Result<Vec<Json<'static>>, AllocError>
+    ensures counted { IfOk result (λ all. length (trees_of all.items) ≡ length urls.now) }
+    ensures severe { IfOk result (λ all. All (HasSeverity (codes "warning")) (trees_of all.items)) }
+{
+    let mut warnings: Vec<Json<'static>> = Vec::with_capacity(alloc, urls.len())?;
+    for url in urls {
+        warnings.push(warning_of(alloc, schema, place, *url)?)?;
+    }
+    Ok(warnings)
+}
+
+fn push_copies(
+    alloc: Global,
+    issues: &[Json<'static>],
+    into: &mut Vec<Json<'static>>,
+) -> Result<(), NoMemory>
+    ensures { OnOk result (trees_of into.new.items ≡ trees_of into.old.items ++ trees_of issues.now) }
+{
+    for issue in issues {
+        into.push(issue.detach(alloc)?)?;
+    }
+    Ok(())
+}
+
+fn outcome_of(alloc: Global, issues: Vec<Json<'static>>) -> Result<Json<'static>, AllocError>
+    ensures { IfOk result (λ json. issues_of (tree_of json) ≡ trees_of issues.entry.items) }
+{
+    let kind = member("resourceType", word("OperationOutcome"));
+    let issues = member("issue", array(issues));
+    Ok(object(vec![in alloc; kind, issues]?))
+}
+
+// The issues of an outcome, and warnings behind them.
+fn joined(
+    alloc: Global,
+    outcome: &Json<'static>,
+    warnings: &[Json<'static>],
+) -> Result<Json<'static>, NoMemory>
+    ensures { IfOk result (λ json. issues_of (tree_of json) ≡ issues_of (tree_of outcome.now) ++ trees_of warnings.now) }
+{
+    let mut issues: Vec<Json<'static>> = Vec::new(alloc);
+    push_copies(alloc, outcome.items_in("issue"), &mut issues)?;
+    push_copies(alloc, warnings, &mut issues)?;
+    Ok(outcome_of(alloc, issues)?)
+}
+
+// The place where a resource claims to conform to profiles.
+fn claims_place(alloc: Global, resource: &Json<'_>) -> Result<String, AllocError> {
+    let kind = resource.text_in("resourceType").unwrap_or("Resource");
+    format!(in alloc; "{kind}.meta.profile")
+}
+
+fn warned_of(
+    alloc: Global,
+    schema: &Schema,
+    resource: &Json<'_>,
+    outcome: &Json<'static>,
+    urls: &[&str],
+) -> Result<Json<'static>, NoMemory>
+    ensures { IfOk result (λ json. IsWarned (map (λ u. u.now) urls.now) (tree_of outcome.now) (tree_of json)) }
+{
+    let place = claims_place(alloc, resource)?;
+    let warnings = warnings_of(alloc, schema, place.as_str(), urls)?;
+    joined(alloc, outcome, &warnings)
+}
+
+/// The outcome of a resource, with a warning for each of these profiles, which are passed over. The one refusal is want of memory.
+pub(crate) fn warned(
+    alloc: Global,
+    schema: &Schema,
+    resource: &Json<'_>,
+    outcome: Json<'static>,
+    urls: &[&str],
+) -> Result<Json<'static>, NoMemory>
+    ensures { IfOk result (λ json. IsWarned (map (λ u. u.now) urls.now) (tree_of outcome.entry) (tree_of json)) }
+{
+    if urls.is_empty() {
+        Ok(outcome)
+    } else {
+        warned_of(alloc, schema, resource, &outcome, urls)
+    }
+}
