@@ -279,6 +279,20 @@ impl<'f> Session<'f> {
         unread_listing(alloc, &self.survey, &self.schema, selection)
     }
 
+    /// The survey of the folder's files, with the package of all that is right completed.
+    pub fn survey(&self) -> &Survey<'f>
+        ensures { result.now ≡ self.now.survey }
+    {
+        &self.survey
+    }
+
+    /// Why definitions of the package have no snapshot.
+    pub fn lacking(&self) -> &LackingTable
+        ensures { result.now ≡ self.now.lacking }
+    {
+        &self.lacking
+    }
+
     /// The package of all that is right, completed.
     pub(crate) fn definitions(&self) -> &Package<'f>
         ensures { result.now ≡ self.now.survey.definitions }

@@ -3,7 +3,7 @@ use Rattle.std.proofs.Common.{◌≡◌, ◌<◌, ◌≤◌, ◌+◌, ◌/◌, �
 use Rattle.std.proofs.lemmas.Bool.Decides.{nat_tests}
 use Rattle.std.proofs.lemmas.Fmt.{decimal_by_steps}
 use Rattle.std.proofs.lemmas.List.{length-append, replicate-append-replicate}
-use Rattle.std.proofs.lemmas.List.Elements.{filter-append, All-head, All-tail, All-nil, All-cons}
+use Rattle.std.proofs.lemmas.List.Elements.{filter-append, All-head, All-tail}
 use Rattle.std.proofs.lemmas.Str.{IsUtf8-append, IsUtf8-nil, chars-nil, chars-append, chars-encodes, encode_ascii, inside_one}
 use Rattle.std.specs.Char.{is_control}
 use Rattle.std.specs.Fmt.{decimal}
@@ -17,13 +17,13 @@ use Rattle.fhir_json.specs.declared.position.Position.{Position}
 use Rattle.fhir_lines.specs.Lines.{escaped}
 use Rattle.fhir_words.specs.declared.request.Format.{Format}
 use Rattle.fhir_words.specs.declared.request.Format.TheVariants.{Text as AsText, Json as AsJson}
-use Rattle.fhir_bulk.specs.declared.verdict.LineVerdict.{LineVerdict}
-use Rattle.fhir_bulk.specs.declared.verdict.LineVerdict.TheVariants.{Conforms, Violates, Open, Fault, NoMemory, Empty}
-use Rattle.fhir_bulk.specs.Counting.{verdict_of}
-use Rattle.fhir_bulk.specs.Judgements.{JudgementValue, ToldValue, issues_of}
-use Rattle.fhir_bulk.specs.Rows.{verdict_word, heading, place_of, place_text, diagnostics_of, issue_text, line_of, issue_row, is_conforming, judgement_rows}
+use Rattle.fhir_telling.specs.declared.verdict.LineVerdict.{LineVerdict}
+use Rattle.fhir_telling.specs.declared.verdict.LineVerdict.TheVariants.{Conforms, Violates, Open, Fault, NoMemory, Empty}
+use Rattle.fhir_telling.specs.Verdicts.{verdict_of}
+use Rattle.fhir_telling.specs.Judgements.{NoteValue, JudgementValue, ToldValue, issues_of, place_of, diagnostics_of}
+use Rattle.fhir_bulk.specs.Rows.{verdict_word, heading, place_text, words_text, issue_text, line_of, issue_row, is_told, row_if_told, judgement_rows}
 use Rattle.fhir_bulk.specs.Rows.{profile_start, verdict_start, outcome_start, at_start, outcomes_start, separated, position_json, profile_json, verdict_json, at_json, judgement_json, tail, rows}
-use Rattle.fhir_bulk.specs.Texts.{told_issues, rows_in, IsIssueText, IsJudgementText, AreTexts, IsSmallPosition, AreSmall}
+use Rattle.fhir_bulk.specs.Texts.{told_issues, rows_in, IsIssueText, IsNoteText, IsJudgementText, AreTexts, IsSmallPosition, AreSmall}
 
 -- a text of UTF-8 whose control characters are so many line feeds
 record Clean (n : ℕ) (text : Text) : Type 0 where
@@ -212,7 +212,7 @@ one_each f (x ∷ xs) all =
 abbrev Escapes : Type 0
 Escapes = (text : Text) → IsUtf8 text → Clean 0 (escaped text)
 
-line_small : (number : ℕ) (at : Position) → number < 2 ^ 64 → IsSmallPosition at → line_of number at < 2 ^ 64
+line_small : (number : ℕ) (at : Position) → number < 2 ^ 64 → at.line < 2 ^ 64 → line_of number at < 2 ^ 64
 line_small number at small of_at = grind (arith, nat_tests)
 
 word_clean : (format : Format) (v : LineVerdict) → Clean 0 (verdict_word format v)
@@ -241,49 +241,56 @@ place_clean : Escapes → (b : Bool) (place : Text) → IsUtf8 place → Clean 0
 place_clean esc true place is = nothing
 place_clean esc false place is = join_none (escaped place) (codes ": ") (esc place is) (printed (codes ": ") refl)
 
-issue_clean : Escapes → (issue : Tree) → IsIssueText issue → Clean 0 (issue_text issue)
-issue_clean esc issue is =
-    join_none (place_text (place_of issue)) (escaped (diagnostics_of issue)) (place_clean esc (is_empty (place_of issue)) (place_of issue) is.0)
-    (esc (diagnostics_of issue) is.1)
+words_clean : Escapes → (b : Bool) (words : Text) → IsUtf8 words → Clean 0 (cond b [] (codes ": " ++ escaped words))
+words_clean esc true words is = nothing
+words_clean esc false words is = join_none (codes ": ") (escaped words) (printed (codes ": ") refl) (esc words is)
 
-row_clean : Escapes → (head : Text) (number : ℕ) → Clean 0 head → number < 2 ^ 64 → (issue : Tree) (at : Position) → IsIssueText issue
-    → IsSmallPosition at → Clean 1 (issue_row head number (issue, at))
-row_clean esc head number of_head small issue at is of_at =
-    let line = decimal (line_of number at) in
-    let column = decimal at.column in
-    let text = issue_text issue in
-    let c1 = join_none head line of_head (decimal_clean (line_of number at) (line_small number at small of_at)) in
+issue_clean : Escapes → (issue : Tree) (note : NoteValue) → IsIssueText issue → IsNoteText note → Clean 0 (issue_text issue note)
+issue_clean esc issue note is of_note =
+    let place = place_text (place_of issue) in
+    let wrong = escaped (diagnostics_of issue) in
+    join_none (place ++ wrong) (words_text note.words)
+    (join_none place wrong (place_clean esc (is_empty (place_of issue)) (place_of issue) is.0) (esc (diagnostics_of issue) is.1))
+    (words_clean esc (is_empty note.words) note.words of_note)
+
+row_clean : Escapes → (head : Text) (number : ℕ) → Clean 0 head → number < 2 ^ 64 → (issue : Tree) (note : NoteValue) → IsIssueText issue
+    → IsNoteText note → IsSmallPosition note → Clean 1 (issue_row head number (issue, note))
+row_clean esc head number of_head small issue note is of_note of_at =
+    let line = decimal (line_of number note.at) in
+    let column = decimal note.at.column in
+    let text = issue_text issue note in
+    let c1 = join_none head line of_head (decimal_clean (line_of number note.at) (line_small number note.at small of_at.0)) in
     let c2 = join_none (head ++ line) (codes ":") c1 (printed (codes ":") refl) in
-    let c3 = join_none (head ++ line ++ codes ":") column c2 (decimal_clean at.column of_at.1) in
+    let c3 = join_none (head ++ line ++ codes ":") column c2 (decimal_clean note.at.column of_at.1) in
     let c4 = join_none (head ++ line ++ codes ":" ++ column) (codes ": ") c3 (printed (codes ": ") refl) in
-    let c5 = join_none (head ++ line ++ codes ":" ++ column ++ codes ": ") text c4 (issue_clean esc issue is) in
+    let c5 = join_none (head ++ line ++ codes ":" ++ column ++ codes ": ") text c4 (issue_clean esc issue note is of_note) in
     join 0 1 (head ++ line ++ codes ":" ++ column ++ codes ": " ++ text) (codes "\n") c5 line_end
 
-each_issue : Escapes → (head : Text) (number : ℕ) → Clean 0 head → number < 2 ^ 64 → (issues : List Tree) (at : List Position) → All IsIssueText issues
-    → All IsSmallPosition at → All (λ p. Clean 1 (issue_row head number p)) (zip issues at)
-each_issue esc head number of_head small [] at is of_at = All-nil (λ p. Clean 1 (issue_row head number p))
-each_issue esc head number of_head small (x ∷ xs) [] is of_at = All-nil (λ p. Clean 1 (issue_row head number p))
-each_issue esc head number of_head small (x ∷ xs) (p ∷ ps) is of_at =
-    All-cons (λ p. Clean 1 (issue_row head number p)) (x, p) (zip xs ps)
-    (row_clean esc head number of_head small x p (All-head IsIssueText x xs is) (All-head IsSmallPosition p ps of_at))
-    (each_issue esc head number of_head small xs ps (All-tail IsIssueText x xs is) (All-tail IsSmallPosition p ps of_at))
+-- an issue in front of others, if it has a row
+one_more : (b : Bool) {X : Type 0} (x : X) (xs : List X) (row rest : Text) → Clean 1 row → Clean (length xs) rest
+    → Clean (length (cond b (x ∷ xs) xs)) (cond b row [] ++ rest)
+one_more true x xs row rest of_row of_rest = as_many (1 + length xs) (suc (length xs)) (row ++ rest) (omega arith) (join 1 (length xs) row rest of_row of_rest)
+one_more false x xs row rest of_row of_rest = of_rest
 
-issues_by : Escapes → (b : Bool) (head : Text) (number : ℕ) → Clean 0 head → number < 2 ^ 64 → (issues : List Tree) (at : List Position) → All IsIssueText issues
-    → All IsSmallPosition at
-    → Clean (length (cond b [] (zip issues at))) (cond b [] (flat_map (issue_row head number) (zip issues at)))
-issues_by esc true head number of_head small issues at is of_at = nothing
-issues_by esc false head number of_head small issues at is of_at =
-    one_each (issue_row head number) (zip issues at) (each_issue esc head number of_head small issues at is of_at)
+issues_clean : Escapes → (head : Text) (number : ℕ) → Clean 0 head → number < 2 ^ 64 → (issues : List Tree) (notes : List NoteValue) → All IsIssueText issues
+    → All IsNoteText notes → All IsSmallPosition notes
+    → Clean (length (filter (λ p. is_told p.0) (zip issues notes))) (flat_map (row_if_told head number) (zip issues notes))
+issues_clean esc head number of_head small [] notes is of_notes of_at = nothing
+issues_clean esc head number of_head small (x ∷ xs) [] is of_notes of_at = nothing
+issues_clean esc head number of_head small (x ∷ xs) (n ∷ ns) is of_notes of_at =
+    one_more (is_told x) (x, n) (filter (λ p. is_told p.0) (zip xs ns)) (issue_row head number (x, n)) (flat_map (row_if_told head number) (zip xs ns))
+    (row_clean esc head number of_head small x n (All-head IsIssueText x xs is) (All-head IsNoteText n ns of_notes) (All-head IsSmallPosition n ns of_at))
+    (issues_clean esc head number of_head small xs ns (All-tail IsIssueText x xs is) (All-tail IsNoteText n ns of_notes) (All-tail IsSmallPosition n ns of_at))
 
 abbrev OfPositions : JudgementValue → Type 0
-OfPositions j = All IsSmallPosition j.at
+OfPositions j = All IsSmallPosition j.notes
 
 judgements_clean : Escapes → (head : Text) (number : ℕ) → Clean 0 head → number < 2 ^ 64 → (js : List JudgementValue) → All (IsJudgementText AsText) js
     → All OfPositions js → Clean (length (flat_map told_issues js)) (flat_map (judgement_rows head number) js)
 judgements_clean esc head number of_head small [] is of_at = nothing
 judgements_clean esc head number of_head small (j ∷ js) is of_at =
-    let first = issues_by esc (is_conforming j.standing) head number of_head small (issues_of j.outcome) j.at (All-head (IsJudgementText AsText) j js is)
-    (All-head OfPositions j js of_at) in
+    let texts = All-head (IsJudgementText AsText) j js is in
+    let first = issues_clean esc head number of_head small (issues_of j.outcome) j.notes texts.0 texts.1 (All-head OfPositions j js of_at) in
     let rest = judgements_clean esc head number of_head small js (All-tail (IsJudgementText AsText) j js is) (All-tail OfPositions j js of_at) in
     as_many (length (told_issues j) + length (flat_map told_issues js)) (length (told_issues j ++ flat_map told_issues js))
     (judgement_rows head number j ++ flat_map (judgement_rows head number) js)
@@ -305,24 +312,24 @@ profile_start_clean = printed profile_start refl
 profile_clean : Escapes → (profile : Text) → IsUtf8 profile → Clean 0 (profile_json profile)
 profile_clean esc profile is = join_none profile_start (escaped (compact (string profile))) profile_start_clean (esc (compact (string profile)) (string_text profile is))
 
-position_clean : (number : ℕ) → number < 2 ^ 64 → (at : Position) → IsSmallPosition at → Clean 0 (position_json number at)
-position_clean number small at of_at =
-    let line = decimal (line_of number at) in
-    let column = decimal at.column in
-    let c1 = join_none (codes "[") line (printed (codes "[") refl) (decimal_clean (line_of number at) (line_small number at small of_at)) in
+position_clean : (number : ℕ) → number < 2 ^ 64 → (note : NoteValue) → IsSmallPosition note → Clean 0 (position_json number note.at)
+position_clean number small note of_at =
+    let line = decimal (line_of number note.at) in
+    let column = decimal note.at.column in
+    let c1 = join_none (codes "[") line (printed (codes "[") refl) (decimal_clean (line_of number note.at) (line_small number note.at small of_at.0)) in
     let c2 = join_none (codes "[" ++ line) (codes ",") c1 (printed (codes ",") refl) in
-    let c3 = join_none (codes "[" ++ line ++ codes ",") column c2 (decimal_clean at.column of_at.1) in
+    let c3 = join_none (codes "[" ++ line ++ codes ",") column c2 (decimal_clean note.at.column of_at.1) in
     join_none (codes "[" ++ line ++ codes "," ++ column) (codes "]") c3 (printed (codes "]") refl)
 
 at_start_clean : Clean 0 at_start
 unfolding at_start
 at_start_clean = printed at_start refl
 
-at_clean : (number : ℕ) → number < 2 ^ 64 → (at : List Position) → All IsSmallPosition at → Clean 0 (at_json number at)
-at_clean number small at of_at =
-    let inner = separated_of (position_json number) at (each (position_clean number small) at of_at) in
-    join_none (at_start ++ separated (map (position_json number) at)) (codes "]}")
-    (join_none at_start (separated (map (position_json number) at)) at_start_clean inner) (printed (codes "]}") refl)
+at_clean : (number : ℕ) → number < 2 ^ 64 → (notes : List NoteValue) → All IsSmallPosition notes → Clean 0 (at_json number notes)
+at_clean number small notes of_at =
+    let all = separated (map (λ note. position_json number note.at) notes) in
+    let inner = separated_of (λ note. position_json number note.at) notes (each (position_clean number small) notes of_at) in
+    join_none (at_start ++ all) (codes "]}") (join_none at_start all at_start_clean inner) (printed (codes "]}") refl)
 
 outcome_start_clean : Clean 0 outcome_start
 unfolding outcome_start
@@ -340,7 +347,7 @@ judgement_clean esc number small j is of_at =
     let o = escaped (compact j.outcome) in
     let c1 = join_none p v (profile_clean esc j.profile is.0) (verdict_clean (verdict_of j.standing) outcome_start outcome_start_clean) in
     let c2 = join_none (p ++ v) o c1 (esc (compact j.outcome) is.1) in
-    join_none (p ++ v ++ o) (at_json number j.at) c2 (at_clean number small j.at of_at)
+    join_none (p ++ v ++ o) (at_json number j.notes) c2 (at_clean number small j.notes of_at)
 
 each_judgement : Escapes → (number : ℕ) → number < 2 ^ 64 → (js : List JudgementValue) → All (IsJudgementText AsJson) js → All OfPositions js
     → All (λ j. Clean 0 (judgement_json number j)) js

@@ -1,9 +1,7 @@
 -- How often each verdict was told.
 use Rattle.std.specs.Prelude.{ℕ, ◌+◌, ◌==◌, if◌then◌else◌}
-use Rattle.fhir_commands.specs.declared.reply.Standing.{Standing}
-use Rattle.fhir_commands.specs.declared.reply.Standing.TheVariants as standings
-use Rattle.fhir_bulk.specs.declared.verdict.LineVerdict.{LineVerdict}
-use Rattle.fhir_bulk.specs.declared.verdict.LineVerdict.TheVariants.{Conforms, Violates, Open, Fault, NoMemory, Empty}
+use Rattle.fhir_telling.specs.declared.verdict.LineVerdict.{LineVerdict}
+use Rattle.fhir_telling.specs.declared.verdict.LineVerdict.TheVariants.{Conforms, Violates, Open, Fault, NoMemory, Empty}
 use Rattle.fhir_bulk.specs.declared.tally.Tally.{Tally}
 
 -- the greatest count
@@ -25,9 +23,3 @@ tallied Open t = record t { opens = more t.opens }
 tallied Fault t = record t { faults = more t.faults }
 tallied NoMemory t = record t { no_memory = more t.no_memory }
 tallied Empty t = record t { empties = more t.empties }
-
-abbrev pub verdict_of : Standing → LineVerdict
-verdict_of standings.Conforms = Conforms
-verdict_of standings.Violates = Violates
-verdict_of standings.Open = Open
-verdict_of standings.Fault = Fault

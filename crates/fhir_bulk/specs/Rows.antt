@@ -1,21 +1,19 @@
 -- The rows on a line.
-use Rattle.std.specs.Prelude.{ℕ, List, [], ◌∷◌, ◌++◌, ◌&&◌, Bool, true, false, max, map, flat_map, zip, if◌then◌else◌, codes, slice_get}
+use Rattle.std.specs.Prelude.{ℕ, List, [], ◌∷◌, ◌++◌, ◌&&◌, Bool, true, false, not, max, map, flat_map, zip, if◌then◌else◌, codes, bytes_eq}
 use Rattle.std.specs.Fmt.{decimal}
-use Rattle.std.specs.Option.{option_map_or, option_and_then}
+use Rattle.std.specs.Option.{option_map_or}
 use Rattle.fhir_json.specs.Compact.{compact}
 use Rattle.fhir_json.specs.Bytes.{is_empty}
-use Rattle.fhir_json.specs.Fields.{as_text, items_in, text_in}
+use Rattle.fhir_json.specs.Fields.{text_in}
 use Rattle.fhir_json.specs.Tree.{Text, Tree, string}
 use Rattle.fhir_json.specs.declared.position.Position.{Position}
-use Rattle.fhir_commands.specs.declared.reply.Standing.{Standing}
-use Rattle.fhir_commands.specs.declared.reply.Standing.TheVariants as standings
 use Rattle.fhir_lines.specs.Lines.{escaped}
 use Rattle.fhir_words.specs.declared.request.Format.{Format}
 use Rattle.fhir_words.specs.declared.request.Format.TheVariants.{Text as AsText, Json as AsJson}
-use Rattle.fhir_bulk.specs.declared.verdict.LineVerdict.{LineVerdict}
-use Rattle.fhir_bulk.specs.declared.verdict.LineVerdict.TheVariants.{Conforms, Violates, Open, Fault, NoMemory, Empty}
-use Rattle.fhir_bulk.specs.Counting.{verdict_of}
-use Rattle.fhir_bulk.specs.Judgements.{JudgementValue, ToldValue, issues_of}
+use Rattle.fhir_telling.specs.declared.verdict.LineVerdict.{LineVerdict}
+use Rattle.fhir_telling.specs.declared.verdict.LineVerdict.TheVariants.{Conforms, Violates, Open, Fault, NoMemory, Empty}
+use Rattle.fhir_telling.specs.Verdicts.{verdict_of}
+use Rattle.fhir_telling.specs.Judgements.{NoteValue, JudgementValue, ToldValue, issues_of, place_of, diagnostics_of}
 
 abbrev pub verdict_word : Format → LineVerdict → Text
 verdict_word format Conforms = codes "conforms"
@@ -33,37 +31,35 @@ heading AsJson file = codes "{\"file\":" ++ escaped (compact (string file)) ++ c
 
 -- ---- texts
 
--- where an issue of an outcome is, if that is said, and the empty text else
-abbrev pub place_of : Tree → Text
-place_of issue = option_map_or (λ place. place) (option_and_then as_text (slice_get (items_in (codes "expression") issue) 0)) []
-
 -- a place, and a colon behind it, where there is one
 abbrev pub place_text : Text → Text
 place_text place = if is_empty place then [] else escaped place ++ codes ": "
 
--- what is wrong
-abbrev pub diagnostics_of : Tree → Text
-diagnostics_of issue = option_map_or (λ text. text) (text_in (codes "diagnostics") issue) []
+-- what an issue says in plain words, where it does, and a colon in front
+abbrev pub words_text : Text → Text
+words_text words = if is_empty words then [] else codes ": " ++ escaped words
 
-abbrev pub issue_text : Tree → Text
-issue_text issue = place_text (place_of issue) ++ escaped (diagnostics_of issue)
+abbrev pub issue_text : Tree → NoteValue → Text
+issue_text issue note = place_text (place_of issue) ++ escaped (diagnostics_of issue) ++ words_text note.words
 
 -- the line of a file on which something is that is at a position of a text which begins on that one: only the text of a document has several lines
 abbrev pub line_of : ℕ → Position → ℕ
 line_of number at = max number at.line
 
--- FILE:LINE:COLUMN: PLACE: RULE
-abbrev pub issue_row : Text → ℕ → Tree × Position → Text
-issue_row heading number (issue, at) =
-    heading ++ decimal (line_of number at) ++ codes ":" ++ decimal at.column ++ codes ": " ++ issue_text issue ++ codes "\n"
+-- FILE:LINE:COLUMN: PLACE: RULE: WORDS
+abbrev pub issue_row : Text → ℕ → Tree × NoteValue → Text
+issue_row heading number (issue, note) =
+    heading ++ decimal (line_of number note.at) ++ codes ":" ++ decimal note.at.column ++ codes ": " ++ issue_text issue note ++ codes "\n"
 
-abbrev pub is_conforming : Standing → Bool
-is_conforming standings.Conforms = true
-is_conforming _ = false
+-- an issue has a row, unless it only says why the resource conforms
+abbrev pub is_told : Tree → Bool
+is_told issue = not (bytes_eq (option_map_or (λ text. text) (text_in (codes "severity") issue) []) (codes "information"))
 
--- of a resource that doesn't conform
+abbrev pub row_if_told : Text → ℕ → Tree × NoteValue → Text
+row_if_told heading number (issue, note) = if is_told issue then issue_row heading number (issue, note) else []
+
 abbrev pub judgement_rows : Text → ℕ → JudgementValue → Text
-judgement_rows heading number j = if is_conforming j.standing then [] else flat_map (issue_row heading number) (zip (issues_of j.outcome) j.at)
+judgement_rows heading number j = flat_map (row_if_told heading number) (zip (issues_of j.outcome) j.notes)
 
 -- ---- JSON
 
@@ -97,12 +93,12 @@ profile_json profile = profile_start ++ escaped (compact (string profile))
 abbrev pub verdict_json : LineVerdict → Text → Text
 verdict_json verdict next = verdict_start ++ verdict_word AsJson verdict ++ next
 
-abbrev pub at_json : ℕ → List Position → Text
-at_json number at = at_start ++ separated (map (position_json number) at) ++ codes "]}"
+abbrev pub at_json : ℕ → List NoteValue → Text
+at_json number notes = at_start ++ separated (map (λ note. position_json number note.at) notes) ++ codes "]}"
 
 abbrev pub judgement_json : ℕ → JudgementValue → Text
 judgement_json number j =
-    profile_json j.profile ++ verdict_json (verdict_of j.standing) outcome_start ++ escaped (compact j.outcome) ++ at_json number j.at
+    profile_json j.profile ++ verdict_json (verdict_of j.standing) outcome_start ++ escaped (compact j.outcome) ++ at_json number j.notes
 
 -- ---- the rows
 

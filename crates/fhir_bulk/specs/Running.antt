@@ -1,5 +1,5 @@
 -- The run over all lines of inputs.
-use Rattle.std.specs.Prelude.{◌≡◌, ℕ, suc, List, [], ◌∷◌, ◌++◌, slice_get, flat_map, codes}
+use Rattle.std.specs.Prelude.{◌≡◌, ℕ, suc, List, [], ◌∷◌, ◌++◌, Option, None, Some, slice_get, flat_map, codes}
 use Rattle.std.specs.Fmt.{decimal}
 use Rattle.std.specs.Option.{option_map_or}
 use Rattle.std.specs.Prelude.{string_bytes}
@@ -14,12 +14,12 @@ use Rattle.fhir_words.specs.declared.request.Format.{Format}
 use Rattle.fhir_words.specs.declared.request.Format.TheVariants.{Text as AsText, Json as AsJson}
 use Rattle.fhir_bulk.specs.declared.heading.Heading.{Heading}
 use Rattle.fhir_bulk.specs.declared.tally.Tally.{Tally}
-use Rattle.fhir_bulk.specs.declared.verdict.LineVerdict.{LineVerdict}
-use Rattle.fhir_bulk.specs.declared.verdict.LineVerdict.TheVariants.{Fault, NoMemory}
+use Rattle.fhir_telling.specs.declared.verdict.LineVerdict.{LineVerdict}
+use Rattle.fhir_telling.specs.declared.verdict.LineVerdict.TheVariants.{Fault, NoMemory}
 use Rattle.fhir_bulk.specs.Counting.{more, no_tally, tallied}
-use Rattle.fhir_bulk.specs.Questions.{QuestionValue}
-use Rattle.fhir_bulk.specs.Judgements.{ToldValue, told_memory}
-use Rattle.fhir_bulk.specs.Telling.{IsTold}
+use Rattle.fhir_telling.specs.Questions.{QuestionValue}
+use Rattle.fhir_telling.specs.Judgements.{ToldValue, told_memory}
+use Rattle.fhir_telling.specs.Telling.{IsTold}
 use Rattle.fhir_bulk.specs.Rows.{heading, tail, shown, unread_tail}
 
 -- how the rows on an input begin, and what it holds
@@ -98,6 +98,11 @@ counts tally passed_over =
 abbrev pub summary : Format → Tally → ℕ → Text
 summary AsJson tally passed_over = []
 summary AsText tally passed_over = flat_map count_text (counts tally passed_over) ++ codes "\n"
+
+-- Rows on given rules are told only where a user vouches for some.
+abbrev pub AreRelied : Option (List Text) → List ℕ → Type 0
+AreRelied None rows = rows ≡ []
+AreRelied (Some texts) rows = Unit {0}
 
 -- The lines of all inputs were told in turn, with these counts, and this is all that was written.
 pub record IsRun (q : QuestionValue) (names : List Text) (inputs : List InputValue) (tally : Tally) (written : Text) : Type 0 where

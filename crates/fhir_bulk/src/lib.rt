@@ -1,23 +1,19 @@
 //! Validation of many resources, of files and lines in turn.
 //!
-//! The contract to read first is that of [`validate_inputs`]. What a run is stands in `specs/Running.antt`, what is told of a line in
-//! `specs/Telling.antt`, and how it is written in `specs/Rows.antt`.
+//! The contract to read first is that of [`validate_inputs`]. What a run is stands in `specs/Running.antt`, how what is told of a
+//! line is written in `specs/Rows.antt`; what that is says `fhir_telling`.
 #![tactic(auto)]
 
 mod heading;
-mod judgement;
-mod judging;
 mod laws;
-mod question;
+mod relied;
 mod rows;
 mod running;
 mod tally;
 mod teller;
-mod told;
-mod verdict;
+mod watch;
 
-pub use laws::{rows_are_lines, told_lines};
-pub use question::Question;
+pub use laws::rows_are_lines;
 pub use running::{RunFault, validate_inputs};
 pub use tally::Tally;
-pub use verdict::LineVerdict;
+pub use watch::Watch;

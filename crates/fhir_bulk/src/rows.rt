@@ -6,15 +6,13 @@ ghost use Rattle.fhir_json.specs.Compact.{compact};
 ghost use Rattle.fhir_json.specs.Tree.{string};
 ghost use Rattle.fhir_json.specs.Views.{tree_of, trees_of};
 ghost use Rattle.fhir_lines.specs.Lines.{escaped};
-ghost use Rattle.fhir_bulk.specs.Rows.{verdict_word, heading, place_text, diagnostics_of, issue_text, line_of, issue_row, is_conforming, judgement_rows, separated, position_json, profile_start, verdict_start, outcome_start, at_start, outcomes_start, profile_json, verdict_json, at_json, judgement_json, tail, rows, is_good, unread_tail};
-ghost use Rattle.fhir_bulk.specs.Judgements.{told_memory};
-ghost use Rattle.fhir_bulk.specs.Views.{judgement_seen, told_seen};
+ghost use Rattle.fhir_bulk.specs.Rows.{verdict_word, heading, place_text, words_text, issue_text, line_of, issue_row, is_told, row_if_told, judgement_rows, separated, position_json, profile_start, verdict_start, outcome_start, at_start, outcomes_start, profile_json, verdict_json, at_json, judgement_json, tail, rows, is_good, unread_tail};
+ghost use Rattle.fhir_telling.specs.Judgements.{told_memory};
+ghost use Rattle.fhir_telling.specs.Views.{note_seen, judgement_seen, told_seen};
 
-use crate::judgement::{Judgement, Told, place_of};
-use crate::verdict::{LineVerdict, verdict_of};
-use fhir_commands::Standing;
 use fhir_json::{Json, NoMemory, Position};
 use fhir_lines::{push_escaped, push_json};
+use fhir_telling::{Judgement, LineVerdict, Note, Told, diagnostics_of, place_of};
 use fhir_words::Format;
 use itoa::Buffer;
 use std::alloc::{AllocError, Global};
@@ -59,17 +57,23 @@ fn push_place(place: &str, into: &mut String) -> Result<(), AllocError>
     }
 }
 
-fn diagnostics_of<'j>(issue: &'j Json<'static>) -> &'j str
-    ensures { result.now ≡ diagnostics_of (tree_of issue.now) }
+fn push_words(words: &str, into: &mut String) -> Result<(), AllocError>
+    ensures { OnOk result (string_bytes into.new ≡ string_bytes into.old ++ words_text words.now) }
 {
-    issue.text_in("diagnostics").unwrap_or("")
+    if words.is_empty() {
+        Ok(())
+    } else {
+        into.push_str(": ")?;
+        push_escaped(words, into)
+    }
 }
 
-fn push_issue(issue: &Json<'static>, into: &mut String) -> Result<(), AllocError>
-    ensures { OnOk result (string_bytes into.new ≡ string_bytes into.old ++ issue_text (tree_of issue.now)) }
+fn push_issue(issue: &Json<'static>, note: &Note, into: &mut String) -> Result<(), AllocError>
+    ensures { OnOk result (string_bytes into.new ≡ string_bytes into.old ++ issue_text (tree_of issue.now) (note_seen note.now)) }
 {
     push_place(place_of(issue), into)?;
-    push_escaped(diagnostics_of(issue), into)
+    push_escaped(diagnostics_of(issue), into)?;
+    push_words(note.words.as_str(), into)
 }
 
 fn line_of(number: usize, at: Position) -> usize
@@ -82,61 +86,75 @@ fn push_issue_row(
     heading: &str,
     number: usize,
     issue: &Json<'static>,
-    at: Position,
+    note: &Note,
     into: &mut String,
 ) -> Result<(), AllocError>
-    ensures { OnOk result (string_bytes into.new ≡ string_bytes into.old ++ issue_row heading.now number (tree_of issue.now, at)) }
+    ensures { OnOk result (string_bytes into.new ≡ string_bytes into.old ++ issue_row heading.now number (tree_of issue.now, note_seen note.now)) }
 {
     into.push_str(heading)?;
-    push_number(line_of(number, at), into)?;
+    push_number(line_of(number, note.at), into)?;
     into.push_str(":")?;
-    push_number(at.column, into)?;
+    push_number(note.at.column, into)?;
     into.push_str(": ")?;
-    push_issue(issue, into)?;
+    push_issue(issue, note, into)?;
     into.push_str("\n")
+}
+
+// Whether an issue has a row: what says why a resource conforms has none.
+fn is_told(issue: &Json<'static>) -> bool
+    ensures { result ≡ is_told (tree_of issue.now) }
+{
+    issue.text_in("severity").unwrap_or("") != "information"
+}
+
+fn push_row_if_told(
+    heading: &str,
+    number: usize,
+    issue: &Json<'static>,
+    note: &Note,
+    into: &mut String,
+) -> Result<(), AllocError>
+    ensures { OnOk result (string_bytes into.new ≡ string_bytes into.old ++ row_if_told heading.now number (tree_of issue.now, note_seen note.now)) }
+{
+    if is_told(issue) {
+        push_issue_row(heading, number, issue, note, into)
+    } else {
+        Ok(())
+    }
 }
 
 fn push_issue_rows(
     heading: &str,
     number: usize,
     issues: &[Json<'static>],
-    at: &[Position],
+    notes: &[Note],
     into: &mut String,
 ) -> Result<(), AllocError>
-    ensures { OnOk result (string_bytes into.new ≡ string_bytes into.old ++ flat_map (issue_row heading.now number) (zip (trees_of issues.now) at.now)) }
+    ensures { OnOk result (string_bytes into.new ≡ string_bytes into.old
+        ++ flat_map (row_if_told heading.now number) (zip (trees_of issues.now) (map note_seen notes.now))) }
 {
-    for (issue, at) in issues.iter().zip(at) {
-        push_issue_row(heading, number, issue, *at, into)?;
+    for (issue, note) in issues.iter().zip(notes) {
+        push_row_if_told(heading, number, issue, note, into)?;
     }
     Ok(())
-}
-
-fn is_conforming(standing: Standing) -> bool
-    ensures { result ≡ is_conforming standing }
-{
-    matches!(standing, Standing::Conforms)
 }
 
 fn push_judgement_rows(
     heading: &str,
     number: usize,
-    judgement: &Judgement<'_>,
+    judgement: &Judgement,
     into: &mut String,
 ) -> Result<(), AllocError>
     ensures { OnOk result (string_bytes into.new ≡ string_bytes into.old ++ judgement_rows heading.now number (judgement_seen judgement.now)) }
 {
-    if is_conforming(judgement.standing) {
-        Ok(())
-    } else {
-        let issues = judgement.outcome.items_in("issue");
-        push_issue_rows(heading, number, issues, &judgement.at, into)
-    }
+    let issues = judgement.outcome.items_in("issue");
+    push_issue_rows(heading, number, issues, &judgement.notes, into)
 }
 
 fn push_texts(
     heading: &str,
     number: usize,
-    judgements: &[Judgement<'_>],
+    judgements: &[Judgement],
     into: &mut String,
 ) -> Result<(), AllocError>
     ensures { OnOk result (string_bytes into.new ≡ string_bytes into.old ++ flat_map (judgement_rows heading.now number) (map judgement_seen judgements.now)) }
@@ -159,23 +177,24 @@ fn push_position(number: usize, at: Position, into: &mut String) -> Result<(), A
     into.push_str("]")
 }
 
-fn push_more_positions(number: usize, at: &[Position], into: &mut String) -> Result<(), AllocError>
-    ensures { OnOk result (string_bytes into.new ≡ string_bytes into.old ++ flat_map (λ u. codes "," ++ u) (map (position_json number) at.now)) }
+fn push_more_positions(number: usize, notes: &[Note], into: &mut String) -> Result<(), AllocError>
+    ensures { OnOk result (string_bytes into.new ≡ string_bytes into.old
+        ++ flat_map (λ u. codes "," ++ u) (map (λ note. position_json number note.at) (map note_seen notes.now))) }
 {
-    for at in at {
+    for note in notes {
         into.push_str(",")?;
-        push_position(number, *at, into)?;
+        push_position(number, note.at, into)?;
     }
     Ok(())
 }
 
-fn push_positions(number: usize, at: &[Position], into: &mut String) -> Result<(), AllocError>
-    ensures { OnOk result (string_bytes into.new ≡ string_bytes into.old ++ separated (map (position_json number) at.now)) }
+fn push_positions(number: usize, notes: &[Note], into: &mut String) -> Result<(), AllocError>
+    ensures { OnOk result (string_bytes into.new ≡ string_bytes into.old ++ separated (map (λ note. position_json number note.at) (map note_seen notes.now))) }
 {
-    match at {
+    match notes {
         [] => Ok(()),
         [first, others @ ..] => {
-            push_position(number, *first, into)?;
+            push_position(number, first.at, into)?;
             push_more_positions(number, others, into)
         }
     }
@@ -232,32 +251,32 @@ fn push_verdict(verdict: LineVerdict, next: &str, into: &mut String) -> Result<(
     into.push_str(next)
 }
 
-fn push_at(number: usize, at: &[Position], into: &mut String) -> Result<(), AllocError>
-    ensures { OnOk result (string_bytes into.new ≡ string_bytes into.old ++ at_json number at.now) }
+fn push_at(number: usize, notes: &[Note], into: &mut String) -> Result<(), AllocError>
+    ensures { OnOk result (string_bytes into.new ≡ string_bytes into.old ++ at_json number (map note_seen notes.now)) }
 {
     into.push_str(at_start())?;
-    push_positions(number, at, into)?;
+    push_positions(number, notes, into)?;
     into.push_str("]}")
 }
 
 fn push_judgement_json(
     alloc: Global,
     number: usize,
-    judgement: &Judgement<'_>,
+    judgement: &Judgement,
     into: &mut String,
 ) -> Result<(), NoMemory>
     ensures { OnOk result (string_bytes into.new ≡ string_bytes into.old ++ judgement_json number (judgement_seen judgement.now)) }
 {
-    push_profile(alloc, judgement.profile, into)?;
-    push_verdict(verdict_of(judgement.standing), outcome_start(), into)?;
+    push_profile(alloc, judgement.profile.as_str(), into)?;
+    push_verdict(LineVerdict::of(judgement.standing), outcome_start(), into)?;
     push_json(alloc, &judgement.outcome, into)?;
-    Ok(push_at(number, &judgement.at, into)?)
+    Ok(push_at(number, &judgement.notes, into)?)
 }
 
 fn push_more_json(
     alloc: Global,
     number: usize,
-    judgements: &[Judgement<'_>],
+    judgements: &[Judgement],
     into: &mut String,
 ) -> Result<(), NoMemory>
     ensures { OnOk result (string_bytes into.new ≡ string_bytes into.old
@@ -273,7 +292,7 @@ fn push_more_json(
 fn push_outcomes(
     alloc: Global,
     number: usize,
-    judgements: &[Judgement<'_>],
+    judgements: &[Judgement],
     into: &mut String,
 ) -> Result<(), NoMemory>
     ensures { OnOk result (string_bytes into.new ≡ string_bytes into.old ++ separated (map (judgement_json number) (map judgement_seen judgements.now))) }
@@ -292,7 +311,7 @@ fn push_outcomes(
 fn push_text_tail(
     heading: &str,
     number: usize,
-    told: &Told<'_>,
+    told: &Told,
     into: &mut String,
 ) -> Result<(), AllocError>
     ensures { OnOk result (string_bytes into.new ≡ string_bytes into.old ++ tail Format.Text heading.now number (told_seen told.now)) }
@@ -307,7 +326,7 @@ fn push_json_tail(
     alloc: Global,
     heading: &str,
     number: usize,
-    told: &Told<'_>,
+    told: &Told,
     into: &mut String,
 ) -> Result<(), NoMemory>
     ensures { OnOk result (string_bytes into.new ≡ string_bytes into.old ++ tail Format.Json heading.now number (told_seen told.now)) }
@@ -322,7 +341,7 @@ fn push_tail(
     format: Format,
     heading: &str,
     number: usize,
-    told: &Told<'_>,
+    told: &Told,
     into: &mut String,
 ) -> Result<(), NoMemory>
     ensures { OnOk result (string_bytes into.new ≡ string_bytes into.old ++ tail format heading.now number (told_seen told.now)) }
@@ -339,7 +358,7 @@ pub(crate) fn rows_on(
     format: Format,
     heading: &str,
     number: usize,
-    told: &Told<'_>,
+    told: &Told,
 ) -> Result<String, NoMemory>
     ensures { IfOk result (λ text. string_bytes text ≡ rows format heading.now number (told_seen told.now)) }
 {

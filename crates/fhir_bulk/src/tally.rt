@@ -3,7 +3,7 @@
 ghost use Rattle.std.specs.Prelude.{◌≡◌};
 ghost use Rattle.fhir_bulk.specs.Counting.{more, no_tally, tallied};
 
-use crate::verdict::LineVerdict;
+use fhir_telling::LineVerdict;
 
 /// How often each verdict was told. A count stays where it is the greatest number.
 #[derive(Clone, Copy, Debug, PartialEq, Eq)]

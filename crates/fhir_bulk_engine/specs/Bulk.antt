@@ -13,8 +13,8 @@ use Rattle.fhir_answers.specs.Session.{SessionValue, IsSessionOf, schema_in}
 use Rattle.fhir_engine.specs.Reading.{IsReadOf}
 use Rattle.fhir_inputs.specs.Inputs.{InputValue}
 use Rattle.fhir_bulk.specs.declared.tally.Tally.{Tally}
-use Rattle.fhir_bulk.specs.Questions.{QuestionValue}
-use Rattle.fhir_bulk.specs.Running.{IsRun, summary}
+use Rattle.fhir_telling.specs.Questions.{QuestionValue, profile_asked, skips}
+use Rattle.fhir_bulk.specs.Running.{IsRun, AreRelied, summary}
 use Rattle.fhir_bulk_engine.specs.declared.asked.Asked.{Asked}
 use Rattle.fhir_bulk_engine.specs.declared.plan.InputFile.{InputFile}
 
@@ -34,19 +34,32 @@ file_seen file = option_map (λ f. bytes_seen f.bytes) file
 
 -- what is asked by a schema, and by the texts that are given, if any are
 abbrev pub asked_question : SchemaValue → Asked → Option (List Text) → QuestionValue
-asked_question s asked texts =
-    record { schema = s; profile = asked.profile.now; texts = texts; format = asked.format; only_bad = asked.only_bad }
+asked_question s asked texts = record {
+  schema = s;
+  profile = profile_asked asked.profiles;
+  skips_unknown = skips asked.profiles;
+  texts = texts;
+  format = asked.format;
+  only_bad = asked.only_bad;
+}
+
+-- a profile that is asked for is there, and can be used
+abbrev pub CanBeUsed : SchemaValue → Option Text → Type 0
+CanBeUsed s None = Unit {0}
+CanBeUsed s (Some url) = IsSome (root s url)
 
 -- All lines of the inputs were told, with these counts, and the output has grown by that.
 pub record IsToldOf (q : QuestionValue) (names : List Text) (inputs : List InputValue) (passed_over : ℕ) (tally : Tally) (old new : Option (List ℕ)) : Type 0 where
   pub written : Text
   pub run : IsRun q names inputs tally written
-  pub appended : Appends old new (written ++ summary q.format tally passed_over)
+  pub relied : Text
+  pub are_relied : AreRelied q.texts relied
+  pub appended : Appends old new (written ++ (relied ++ summary q.format tally passed_over))
 
 -- So it was of a session whose files are a package, in which the profile can be used.
 pub record IsToldOfSession (session : SessionValue) (asked : Asked) (names : List Text) (inputs : List InputValue) (passed_over : ℕ) (tally : Tally) (old new : Option (List ℕ)) : Type 0 where
   pub is_package : refusal session.survey ≡ None
-  pub usable : IsSome (root (schema_in session) asked.profile.now)
+  pub usable : CanBeUsed (schema_in session) (profile_asked asked.profiles)
   pub texts : Option (List Text)
   pub are_texts : AreTexts (file_seen asked.given) texts
   pub told : IsToldOf (asked_question (schema_in session) asked texts) names inputs passed_over tally old new

@@ -7,11 +7,13 @@
 mod asked;
 mod file_inputs;
 mod plan;
+mod rate_meter;
 mod running;
 mod source;
 
 pub use asked::{Asked, Planned};
 pub use file_inputs::FileInputs;
 pub use plan::{InputFile, Origin, Plan, PlanFault, plan_inputs};
+pub use rate_meter::RateMeter;
 pub use running::{validate_directory, validate_folder};
 pub use source::Source;

@@ -36,14 +36,14 @@ pub struct InputFile {
 pub struct Plan {
     /// The files.
     pub files: Vec<InputFile>,
-    /// How many entries of folders are passed over: folders, and files with other endings.
+    /// How many entries of folders are passed over: what is no regular file, and files with other endings.
     pub passed_over: usize,
 }
 
 /// Why there is no plan.
 #[derive(Debug, Drop)]
 pub enum PlanFault {
-    /// The folder of that name isn't listed, or has no file whose name ends in `.json` or `.ndjson`.
+    /// The folder of that name isn't listed, or has no regular file whose name ends in `.json` or `.ndjson`.
     Nothing(String),
     /// A growth of memory was refused.
     NoMemory,
@@ -85,13 +85,22 @@ fn is_folder<R: Files>(rt: &R, path: &str) -> bool {
     }
 }
 
+// Whether it is a regular file, or a link to one. What can't be looked at is taken for one, so that it is told as a file that can't
+// be read.
+fn is_regular<R: Files>(rt: &R, path: &str) -> bool {
+    match fs::metadata(rt, path) {
+        Ok(metadata) => metadata.is_file(),
+        Err(_) => true,
+    }
+}
+
 fn put_named<R: Files + AllocGlobal + Clone + Drop>(
     rt: &R,
     entry: &DirEntry<R, Global>,
     entries: &mut Entries,
 ) -> io::Result<()> {
     let path = entry.path();
-    if kind_of(entry.file_name()).is_none() || is_folder(rt, path.as_str()) {
+    if kind_of(entry.file_name()).is_none() || !is_regular(rt, path.as_str()) {
         entries.passed_over = entries.passed_over.saturating_add(1);
         return Ok(());
     }
@@ -147,6 +156,7 @@ fn put_unnamed(
     count: usize,
     plan: &mut Plan,
 ) -> Result<(), AllocError> {
+    let folder = folder.strip_suffix("/").unwrap_or(folder);
     for _ in 0..count {
         plan.files.push(InputFile {
             name: format!(in alloc; "{folder}/(a name that isn't UTF-8)")?,
@@ -227,8 +237,8 @@ fn put_input<R: Files + AllocGlobal + Clone + Drop>(
     }
 }
 
-/// The files of inputs, in turn. An input is a folder, of which those files are read whose names end in `.json` or `.ndjson`, in the order
-/// of these names; a file; or standard input, where there is no name. A file whose name ends in `.json` is a document, and any other
+/// The files of inputs, in turn. An input is a folder, of which those regular files are read whose names end in `.json` or `.ndjson`, in
+/// the order of these names; a file; or standard input, where there is no name. A file whose name ends in `.json` is a document, and any other
 /// has a text on each line.
 pub fn plan_inputs<R: Files + AllocGlobal + Clone + Drop>(
     rt: &R,

@@ -1,20 +1,21 @@
 //! A run over the definitions in a folder.
 
-ghost use Rattle.std.specs.Prelude.{◌≡◌, Option, IfOk, IfSome, IsOkAnd, IsTrue, map};
+ghost use Rattle.std.specs.Prelude.{◌≡◌, ◌⊎◌, Option, IfOk, IfSome, IfNone, IsOkAnd, map};
 ghost use Rattle.fhir_engine.specs.Reading.{IsReadOf};
 ghost use Rattle.fhir_bulk.specs.declared.tally.Tally.{Tally};
 ghost use Rattle.fhir_bulk_engine.specs.Bulk.{IsBulk, IsSomeBulk};
-ghost use Rattle.fhir_bulk_engine.specs.Ending.{tally_status, is_refused, Ends};
+ghost use Rattle.fhir_bulk_engine.specs.Ending.{tally_status, refusal_status, Ends, IsUntouched};
 
 use crate::asked::{Asked, Planned, Refusal, run_session};
 use crate::file_inputs::FileInputs;
 use crate::plan::{InputFile, Plan, PlanFault, plan_inputs};
-use fhir_answers::{NamedFile, Session, Status, fault_reply};
-use fhir_bulk::Tally;
-use fhir_engine::{bytes_at, directory_at, end_with, files_of, write_reply};
+use fhir_answers::{NamedFile, Session, Status};
+use fhir_bulk::{Tally, Watch};
+use fhir_engine::{bytes_at, directory_at, end_with, files_of};
 use fhir_inputs::Inputs;
 use fhir_json::NoMemory;
 use fhir_package::{Folder, FolderFault, MemoryFolder, Progress};
+use fhir_telling::{Profiles, Unknown};
 use fhir_words::{BulkRequest, Format};
 use std::alloc::{AllocError, Global};
 use std::io::{Read, Write};
@@ -36,39 +37,43 @@ fn tally_status(tally: Tally) -> Status
     }
 }
 
-fn run_folder<F: Folder + Drop, I: Inputs, P: Progress, W: Write, E: Write>(
+// That a folder can't be listed, or a file in it not be read.
+fn unlisted(alloc: Global, name: &str) -> Result<Refusal, AllocError> {
+    Ok(Refusal::Fault(format!(in alloc; "P1 {name}\n")?))
+}
+
+fn run_folder<F: Folder + Drop, I: Inputs, P: Progress, V: Watch, W: Write, E: Write>(
     alloc: Global,
     name: &str,
     folder: F,
     asked: Asked<'_>,
     planned: Result<Planned<'_, I>, &str>,
     progress: &mut P,
+    watch: &mut V,
     out: &mut W,
     err: &mut E,
 ) -> Result<Result<Tally, Refusal>, NoMemory>
-    ensures { IfOk result (λ r. IfOk r (λ tally. IsOkAnd planned.entry (λ p. IsBulk (F.files folder) asked.entry (map (λ n. n.now) p.names.now)
+    ensures told { IfOk result (λ r. IfOk r (λ tally. IsOkAnd planned.entry (λ p. IsBulk (F.files folder) asked.entry (map (λ n. n.now) p.names.now)
         (I.inputs p.inputs.now) p.passed_over tally (W.contents out.old) (W.contents out.new)))) }
+    ensures untouched { IsUntouched result out.old out.new }
 {
     match files_of(alloc, folder) {
         Ok(files) => {
             let session = Session::of(alloc, &files, progress)?;
             progress.end();
-            run_session(alloc, &session, asked, planned, out, err)
+            run_session(alloc, &session, asked, planned, watch, out, err)
         }
-        Err(FolderFault::Device) => Ok(Err(Refusal::Fault(fault_reply(alloc, "P1", name)?))),
+        Err(FolderFault::Device) => Ok(Err(unlisted(alloc, name)?)),
         Err(FolderFault::NoMemory) => Err(NoMemory),
     }
 }
 
 // Tells why nothing is asked.
-fn refuse<W: Write, E: Write>(refusal: &Refusal, out: &mut W, err: &mut E) -> Status
-    ensures { IsTrue (is_refused result) }
+fn refuse<E: Write>(refusal: &Refusal, err: &mut E) -> Status
+    ensures { result ≡ refusal_status refusal.now }
 {
     match refusal {
-        Refusal::Fault(reply) => {
-            let _ = write_reply(reply, out, err);
-            Status::Fault
-        }
+        Refusal::Fault(text) => end_with(err, text.as_str(), Status::Fault),
         Refusal::Unwritten => Status::Unwritten,
     }
 }
@@ -76,26 +81,31 @@ fn refuse<W: Write, E: Write>(refusal: &Refusal, out: &mut W, err: &mut E) -> St
 /// Asks of all resources of inputs how they stand with a profile, by the definitions in a folder of that name. The folder is read first, and then the file
 /// of the texts, if one is named. What is wrong with them, and a profile that isn't there or can't be used, is told on standard error before
 /// any input is opened; and so is a folder of inputs that has none, whose name is in place of the inputs. How far the work is, is told to
-/// `progress`. The status is the worst of what is told of the resources.
-pub fn validate_folder<F: Folder + Drop, I: Inputs, P: Progress, W: Write, E: Write>(
+/// `progress`, and how many resources were told, to `watch`. The status is the worst of what is told of the resources. Where nothing is asked
+/// the output is as it was.
+pub fn validate_folder<F: Folder + Drop, I: Inputs, P: Progress, V: Watch, W: Write, E: Write>(
     alloc: Global,
     name: &str,
     folder: F,
     asked: Asked<'_>,
     planned: Result<Planned<'_, I>, &str>,
     progress: &mut P,
+    watch: &mut V,
     out: &mut W,
     err: &mut E,
 ) -> Status
     ensures { (told : Option Tally) × Ends result told × IfSome told (λ tally. IsOkAnd planned.entry (λ p. IsBulk (F.files folder) asked.entry
-        (map (λ n. n.now) p.names.now) (I.inputs p.inputs.now) p.passed_over tally (W.contents out.old) (W.contents out.new))) }
+        (map (λ n. n.now) p.names.now) (I.inputs p.inputs.now) p.passed_over tally (W.contents out.old) (W.contents out.new)))
+        × IfNone told ((result ≡ Status.Unwritten) ⊎ (out.new ≡ out.old)) }
 {
-    let ended = run_folder(alloc, name, folder, asked, planned, progress, out, err);
+    let ended = run_folder(
+        alloc, name, folder, asked, planned, progress, watch, out, err,
+    );
     progress.end();
     match ended {
         Ok(run) => match run {
             Ok(tally) => tally_status(tally),
-            Err(refusal) => refuse(&refusal, out, err),
+            Err(refusal) => refuse(&refusal, err),
         },
         Err(NoMemory) => end_with(err, "no memory\n", Status::NoMemory),
     }
@@ -167,29 +177,46 @@ fn given_file<'a>(request: &'a BulkRequest<'_>, bytes: Option<&'a [u8]>) -> Opti
 }
 
 fn asked_with<'a>(
-    profile: &'a str,
+    profiles: Profiles<'a>,
     given: Option<NamedFile<'a>>,
     format: Format,
     only_bad: bool,
 ) -> Asked<'a> {
     Asked {
-        profile,
+        profiles,
         given,
         format,
         only_bad,
     }
 }
 
-fn asked_of<'a>(request: &'a BulkRequest<'_>, bytes: Option<&'a [u8]>) -> Asked<'a> {
-    let given = given_file(request, bytes);
+fn profiles_of<'a>(request: &'a BulkRequest<'_>) -> Profiles<'a> {
     match request.profile {
-        Some(profile) => asked_with(profile, given, request.format, request.only_bad),
-        None => asked_with("-", given, request.format, request.only_bad),
+        Some(url) => Profiles::At(url),
+        None if request.skip_unknown => Profiles::Own(Unknown::Warnings),
+        None => Profiles::Own(Unknown::Faults),
     }
 }
 
+fn asked_of<'a>(request: &'a BulkRequest<'_>, bytes: Option<&'a [u8]>) -> Asked<'a> {
+    let given = given_file(request, bytes);
+    asked_with(
+        profiles_of(request),
+        given,
+        request.format,
+        request.only_bad,
+    )
+}
+
 // Of the files of a plan.
-fn run_plan<R: Files + AllocGlobal + Clone + Drop, S: Read + Copy, P: Progress, W: Write, E: Write>(
+fn run_plan<
+    R: Files + AllocGlobal + Clone + Drop,
+    S: Read + Copy,
+    P: Progress,
+    V: Watch,
+    W: Write,
+    E: Write,
+>(
     rt: &R,
     name: &str,
     folder: MemoryFolder,
@@ -197,10 +224,12 @@ fn run_plan<R: Files + AllocGlobal + Clone + Drop, S: Read + Copy, P: Progress, 
     plan: &Plan,
     standard: S,
     progress: &mut P,
+    watch: &mut V,
     out: &mut W,
     err: &mut E,
 ) -> Status
-    ensures { (told : Option Tally) × Ends result told × IfSome told (IsSomeBulk (W.contents out.old) (W.contents out.new)) }
+    ensures { (told : Option Tally) × Ends result told × IfSome told (IsSomeBulk (W.contents out.old) (W.contents out.new))
+        × IfNone told ((result ≡ Status.Unwritten) ⊎ (out.new ≡ out.old)) }
 {
     let Ok(names) = names_of(rt.alloc(), &plan.files) else {
         return end_with(err, "no memory\n", Status::NoMemory);
@@ -218,6 +247,7 @@ fn run_plan<R: Files + AllocGlobal + Clone + Drop, S: Read + Copy, P: Progress, 
         asked,
         Ok(planned),
         progress,
+        watch,
         out,
         err,
     )
@@ -228,6 +258,7 @@ fn run_nothing<
     R: Files + AllocGlobal + Clone + Drop,
     S: Read + Copy,
     P: Progress,
+    V: Watch,
     W: Write,
     E: Write,
 >(
@@ -238,10 +269,12 @@ fn run_nothing<
     nothing: &str,
     standard: S,
     progress: &mut P,
+    watch: &mut V,
     out: &mut W,
     err: &mut E,
 ) -> Status
-    ensures { (told : Option Tally) × Ends result told × IfSome told (IsSomeBulk (W.contents out.old) (W.contents out.new)) }
+    ensures { (told : Option Tally) × Ends result told × IfSome told (IsSomeBulk (W.contents out.old) (W.contents out.new))
+        × IfNone told ((result ≡ Status.Unwritten) ⊎ (out.new ≡ out.old)) }
 {
     let none = [];
     let inputs = FileInputs::new(rt, &none, standard);
@@ -252,6 +285,7 @@ fn run_nothing<
         asked,
         unplanned(&inputs, nothing),
         progress,
+        watch,
         out,
         err,
     )
@@ -262,11 +296,12 @@ fn unplanned<'p, I>(_inputs: &'p I, name: &'p str) -> Result<Planned<'p, I>, &'p
 }
 
 /// Does what `validate-all` asks: the definitions are those in the directory that the request names, the inputs are opened one at a time,
-/// and `standard` reads standard input.
+/// and `standard` reads standard input. How far the work is, is told to `progress` and to `watch`.
 pub fn validate_directory<
     R: Files + AllocGlobal + Clone + Drop,
     S: Read + Copy,
     P: Progress,
+    V: Watch,
     W: Write,
     E: Write,
 >(
@@ -274,10 +309,12 @@ pub fn validate_directory<
     request: &BulkRequest<'_>,
     standard: S,
     progress: &mut P,
+    watch: &mut V,
     out: &mut W,
     err: &mut E,
 ) -> Status
-    ensures { (told : Option Tally) × Ends result told × IfSome told (IsSomeBulk (W.contents out.old) (W.contents out.new)) }
+    ensures { (told : Option Tally) × Ends result told × IfSome told (IsSomeBulk (W.contents out.old) (W.contents out.new))
+        × IfNone told ((result ≡ Status.Unwritten) ⊎ (out.new ≡ out.old)) }
 {
     let Ok(
         Opened {
@@ -294,7 +331,9 @@ pub fn validate_directory<
     let asked = asked_of(request, given);
     let name = request.folder;
     match &plan {
-        Ok(plan) => run_plan(rt, name, folder, asked, plan, standard, progress, out, err),
+        Ok(plan) => run_plan(
+            rt, name, folder, asked, plan, standard, progress, watch, out, err,
+        ),
         Err(nothing) => run_nothing(
             rt,
             name,
@@ -303,6 +342,7 @@ pub fn validate_directory<
             nothing.as_str(),
             standard,
             progress,
+            watch,
             out,
             err,
         ),

@@ -1,6 +1,6 @@
 use Rattle.std.proofs.Common.{◌≡◌, ◌++◌, flat_map, map, drop, string_bytes}
 use Rattle.fhir_bulk.specs.Rows.{judgement_rows}
-use Rattle.fhir_bulk.specs.Views.{judgement_seen}
+use Rattle.fhir_telling.specs.Views.{judgement_seen}
 use Rattle.fhir_bulk.proofs.rows.push_texts.Given as goal
 
 abbrev pub invariant-loop-judgement : goal.invariant-loop-judgement
