@@ -11,7 +11,7 @@ ghost use Rattle.fhir_engine.specs.Reading.{IsReadOf};
 ghost use Rattle.fhir_answers.specs.Views.{files_seen};
 ghost use Rattle.fhir_words.specs.Views.{asked_seen};
 
-use fhir_bulk_engine::validate_directory;
+use fhir_bulk_engine::{RateMeter, validate_directory};
 use fhir_engine::{
     Meter, Opened, gather_directories, open_asked, run, serve_directory, serve_directory_given,
 };
@@ -59,13 +59,17 @@ fn main(rt: HostRuntime) -> ExitCode {
         Ok(Task::Gather(gathering)) => {
             ExitCode::from(gather_directories(&rt, &gathering, &mut meter, &mut out, &mut err))
         }
-        // No profiles that a resource names are looked at yet, so none can be skipped.
-        Ok(Task::ValidateAll(request)) if request.skip_unknown => {
+        // Where a profile is asked for, none that a resource claims is looked at.
+        Ok(Task::ValidateAll(request)) if request.skip_unknown && request.profile.is_some() => {
             answer(&rt, Err(WordsFault::Usage), &mut meter, &mut out, &mut err)
         }
         Ok(Task::ValidateAll(request)) => {
             let input = rt.stdin();
-            ExitCode::from(validate_directory(&rt, &request, input, &mut meter, &mut out, &mut err))
+            let mut terminal = rt.stderr();
+            let mut watch = RateMeter::new(&rt, &mut terminal, is_terminal);
+            ExitCode::from(validate_directory(
+                &rt, &request, input, &mut meter, &mut watch, &mut out, &mut err,
+            ))
         }
         Err(fault) => answer(&rt, Err(fault), &mut meter, &mut out, &mut err),
     }
