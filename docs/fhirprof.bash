@@ -15,7 +15,7 @@ _fhirprof() {
     certify) places=(folder file) ;;
     validate) places=(folder url file) ;;
     validate-given) places=(folder url file file) ;;
-    validate-all) options='--json --given --only-bad' places=(folder url file) ;;
+    validate-all) options='--json --given --only-bad --skip-unknown' places=(folder url file) ;;
     unread | snapshot) places=(folder url) ;;
     serve) places=(folder) ;;
     serve-given) places=(folder file) ;;
@@ -36,7 +36,8 @@ _fhirprof() {
             is_value=url
         elif [[ $word == --given ]]; then
             is_value=file
-        elif [[ $word != -* ]]; then
+        elif [[ $word == - || $word != -* ]]; then
+            # A dash alone is a word, and no option.
             ((place++))
         fi
     done

@@ -40,19 +40,19 @@ def judged(command, path, start, size):
 
 
 def tell(path, before, answer):
-    """Prints the rows that `validate-all` prints of a line without --json. So many lines stand before the part."""
+    """Prints the rows that `validate-all` prints of a line without --json, but for plain words. So many lines stand before the part."""
     rows = [f"{before + answer['line']}: {answer['verdict'].replace('memory', 'no memory')}"]
     for outcome in answer["outcomes"]:
         for issue, (line, column) in zip(outcome["outcome"]["issue"], outcome["at"]):
-            rows.append(": ".join([f"{before + line}:{column}", *issue.get("expression", []), issue["diagnostics"]]))
+            row = [f"{before + line}:{column}", *issue.get("expression", []), issue["diagnostics"]]
+            rows += [": ".join(row)] * (issue["severity"] != "information")
     for row in rows:
         print(re.sub(r"[\0-\x1f\x7f-\x9f]", lambda it: f"\\u{ord(it[0]):04x}", f"{path}:{row}"), flush=True)
 
 
 def run(client, package, profile, path, program="fhirprof", megabytes="8"):
     command, size = [program, "validate-all", package, profile, "-", "--json"], int(float(megabytes) * 1_000_000)
-    with open(path, "rb") as file:
-        starts = range(0, file.seek(0, os.SEEK_END), size)
+    starts = range(0, os.path.getsize(path), size)
     parts = [client.submit(judged, command, path, start, size, pure=False, retries=2) for start in starts]
     results, counts, number, before = {}, Counter(), 0, 0
     for part, result in as_completed(parts, with_results=True):
