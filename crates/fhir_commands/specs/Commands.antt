@@ -1,5 +1,5 @@
 -- Commands of a session, and how one is written on a line: as a JSON object of one member, whose name says which command it is.
-use Rattle.std.specs.Prelude.{ℕ, List, [], ◌∷◌, Option, None, Some, string_bytes, codes, if◌then◌else◌}
+use Rattle.std.specs.Prelude.{ℕ, List, [], ◌∷◌, Option, None, Some, Bool, false, ◌&&◌, string_bytes, codes, if◌then◌else◌}
 use Rattle.std.specs.Option.{option_map, option_and_then}
 use Rattle.std.specs.Result.{result_ok}
 use Rattle.std.specs.Str.{bytes_eq}
@@ -9,7 +9,9 @@ use Rattle.fhir_json.specs.Views.{trees_of}
 use Rattle.fhir_json.specs.Compact.{compact}
 use Rattle.fhir_json.specs.Reading.{reading}
 use Rattle.fhir_commands.specs.declared.command.Command.{Command}
-use Rattle.fhir_commands.specs.declared.command.Command.TheVariants.{Put, Remove, Validate, Derive}
+use Rattle.fhir_commands.specs.declared.command.Command.TheVariants.{Put, Remove, Ask}
+use Rattle.fhir_commands.specs.declared.question.Question.{Question}
+use Rattle.fhir_commands.specs.declared.question.Question.TheVariants.{Validate, Derive}
 
 pub data CommandValue : Type 0 where
   put : List Tree → CommandValue
@@ -19,11 +21,20 @@ pub data CommandValue : Type 0 where
   -- the urls of a derived profile and of its base
   derive : (derived base : List ℕ) → CommandValue
 
+abbrev pub question_seen : Question → CommandValue
+question_seen (Validate profile resource) = validate (string_bytes profile) resource.items
+question_seen (Derive derived base) = derive (string_bytes derived) (string_bytes base)
+
 abbrev pub command_seen : Command → CommandValue
 command_seen (Put trees) = put (trees_of trees.items)
 command_seen (Remove url) = remove (string_bytes url)
-command_seen (Validate profile resource) = validate (string_bytes profile) resource.items
-command_seen (Derive derived base) = derive (string_bytes derived) (string_bytes base)
+command_seen (Ask question) = question_seen question
+
+-- two commands ask the same: they are of one kind, and have the same words
+abbrev pub asks_same : CommandValue → CommandValue → Bool
+asks_same (validate profile bytes) (validate other others) = bytes_eq profile other && bytes_eq bytes others
+asks_same (derive derived base) (derive other others) = bytes_eq derived other && bytes_eq base others
+asks_same _ _ = false
 
 -- ---- how one is written
 

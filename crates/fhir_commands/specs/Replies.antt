@@ -107,6 +107,15 @@ is_refusal (refuted at rule) = false
 is_refusal missing = true
 is_refusal unusable = true
 
+-- definitions weren't put in, a resource can't be judged, or two profiles can't be compared
+abbrev pub refuses : ReplyValue → Bool
+refuses (put puts.Done) = false
+refuses (put _) = true
+refuses (remove answer) = false
+refuses (validate Fault outcome) = true
+refuses (validate _ outcome) = false
+refuses (derive answer) = is_refusal answer
+
 -- the reply to a command that changes definitions, or the refusal of one that derives
 abbrev pub is_short : ReplyValue → Bool
 is_short (put answer) = true

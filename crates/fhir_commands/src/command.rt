@@ -8,6 +8,7 @@ ghost use Rattle.fhir_json.specs.Tree.{list_of};
 ghost use Rattle.fhir_json.specs.Views.{tree_of, trees_of, property_of};
 ghost use Rattle.fhir_commands.specs.Commands.{remove, validate, derive, command_seen, only_of, only_member, put_in, validate_in, derive_in, command_of_member, command_of, line_command};
 
+use crate::question::Question;
 use fhir_json::{Json, JsonFault, Member, NoMemory, lists, read, write};
 use std::alloc::Global;
 
@@ -18,20 +19,8 @@ pub enum Command<'a> {
     Put(Vec<Json<'a>>),
     /// The definitions of a url are taken out.
     Remove(String),
-    /// The bytes of a resource are judged against the profile of a url.
-    Validate {
-        /// The url of the profile.
-        profile: String,
-        /// The bytes.
-        resource: Vec<u8>,
-    },
-    /// The certificate that a profile narrows its base is derived.
-    Derive {
-        /// The url of the derived profile.
-        derived: String,
-        /// The url of the base.
-        base: String,
-    },
+    /// Something is asked about them.
+    Ask(Question),
 }
 
 // The member, where there is one alone.
@@ -85,7 +74,7 @@ fn validate_with<'o>(
     };
     let profile = String::from_str(alloc, profile)?;
     let resource = write(alloc, resource)?;
-    Ok(Some(Command::Validate { profile, resource }))
+    Ok(Some(Command::Ask(Question::Validate { profile, resource })))
 }
 
 fn validate_in<'o>(alloc: Global, items: &[Json<'_>]) -> Result<Option<Command<'o>>, NoMemory>
@@ -115,7 +104,7 @@ fn derive_with<'o>(
 {
     let derived = String::from_str(alloc, derived)?;
     let base = String::from_str(alloc, base)?;
-    Ok(Some(Command::Derive { derived, base }))
+    Ok(Some(Command::Ask(Question::Derive { derived, base })))
 }
 
 fn derive_between<'o>(

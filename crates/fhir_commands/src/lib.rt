@@ -16,8 +16,10 @@
 
 mod command;
 mod line;
+mod question;
 mod reply;
 
 pub use command::Command;
 pub use line::{LINE_FAULT, Line, MEMORY_FAULT, fixed_lines};
+pub use question::{Question, equal_questions};
 pub use reply::{DeriveAnswer, PutAnswer, RemoveAnswer, Reply, Standing};

@@ -5,7 +5,7 @@ ghost use Rattle.std.specs.Fmt.{decimal};
 ghost use Rattle.fhir_json.specs.Tree.{number, string};
 ghost use Rattle.fhir_json.specs.Views.{tree_of, property_of};
 ghost use Rattle.fhir_json.specs.Memory.{Gives};
-ghost use Rattle.fhir_commands.specs.Replies.{put, remove, validate, derive, refuted, put_text, remove_text, standing_text, derive_text, derive_seen, reply_seen, reply_tree, line_of, line_seen, is_refusal, is_short, fields};
+ghost use Rattle.fhir_commands.specs.Replies.{put, remove, validate, derive, refuted, put_text, remove_text, standing_text, derive_text, derive_seen, reply_seen, reply_tree, line_of, line_seen, is_refusal, refuses, is_short, fields};
 
 use crate::line::{
     DERIVE_MISSING, DERIVE_UNUSABLE, Line, PUT_DONE, PUT_NO_DEFINITION, PUT_TWICE, REMOVE_ABSENT,
@@ -209,6 +209,32 @@ impl DeriveAnswer {
         }
     }
 
+    fn is_refusal(&self) -> bool
+        ensures { result ≡ is_refusal (derive_seen self.now) }
+    {
+        match self {
+            DeriveAnswer::Derived { .. } | DeriveAnswer::Refuted { .. } => false,
+            DeriveAnswer::Missing | DeriveAnswer::Unusable => true,
+        }
+    }
+
+    fn copy(&self, alloc: Global) -> Result<DeriveAnswer, NoMemory>
+        ensures { IfOk result (λ a. derive_seen a ≡ derive_seen self.now) }
+    {
+        match self {
+            DeriveAnswer::Derived { certificate, pairs } => Ok(DeriveAnswer::Derived {
+                certificate: Vec::from_slice(alloc, certificate)?,
+                pairs: *pairs,
+            }),
+            DeriveAnswer::Refuted { at, rule } => Ok(DeriveAnswer::Refuted {
+                at: at.clone()?,
+                rule: rule.clone()?,
+            }),
+            DeriveAnswer::Missing => Ok(DeriveAnswer::Missing),
+            DeriveAnswer::Unusable => Ok(DeriveAnswer::Unusable),
+        }
+    }
+
     fn into_line(self, alloc: Global) -> Result<Line, NoMemory>
         ensures line { Gives line_seen result (line_of (reply_tree (derive (derive_seen self)))) }
         ensures always { is_refusal (derive_seen self) ≡ true → IsOk result }
@@ -282,6 +308,32 @@ fn refuted_line(alloc: Global, at: String, rule: String) -> Result<Line, NoMemor
 }
 
 impl Reply {
+    /// Whether it refuses: definitions weren't put in, a resource can't be judged, or two profiles can't be compared.
+    pub fn is_refusal(&self) -> bool
+        ensures { result ≡ refuses (reply_seen self.now) }
+    {
+        match self {
+            Reply::Put(answer) => *answer != PutAnswer::Done,
+            Reply::Remove(_) => false,
+            Reply::Validate(standing, _) => *standing == Standing::Fault,
+            Reply::Derive(answer) => answer.is_refusal(),
+        }
+    }
+
+    /// The same reply in memory of its own. The one refusal is want of memory.
+    pub fn copy(&self, alloc: Global) -> Result<Reply, NoMemory>
+        ensures { IfOk result (λ r. reply_seen r ≡ reply_seen self.now) }
+    {
+        match self {
+            Reply::Put(answer) => Ok(Reply::Put(*answer)),
+            Reply::Remove(answer) => Ok(Reply::Remove(*answer)),
+            Reply::Validate(standing, outcome) => {
+                Ok(Reply::Validate(*standing, outcome.detach(alloc)?))
+            }
+            Reply::Derive(answer) => Ok(Reply::Derive(answer.copy(alloc)?)),
+        }
+    }
+
     /// The line on which the reply is written. Where definitions were to be changed it takes no memory, so that what was done is always
     /// told, nor does a refusal to derive; else want of memory is the one refusal.
     pub fn into_line(self, alloc: Global) -> Result<Line, NoMemory>
