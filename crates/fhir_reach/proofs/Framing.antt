@@ -14,11 +14,11 @@ use Rattle.fhir_package.specs.declared.kind.Kind.{Kind}
 use Rattle.fhir_package.specs.declared.kind.Kind.TheVariants.{StructureDefinition, ValueSet, CodeSystem}
 use Rattle.fhir_package.specs.Definitions.{ByUrl, Definitions, of_kind, with_kind}
 use Rattle.fhir_package.specs.Packing.{Definition}
-use Rattle.fhir_package.specs.Changing.{put_at, without_url, put_in, without}
+use Rattle.fhir_package.specs.Changing.{put_at, without_url, put_in, put_each, without}
 use Rattle.fhir_definition.specs.Head.{is_type_definition}
 use Rattle.fhir_reach.specs.Keys.{KeyValue, of_url, of_code, has_key, with_keys}
 use Rattle.fhir_reach.specs.Naming.{structure_keys, value_set_keys}
-use Rattle.fhir_reach.specs.Reach.{is_type_of, types_of, named_by, type_code_keys, keys_of, is_held, held_of, restrict, keys_at, put_keys, removed_keys}
+use Rattle.fhir_reach.specs.Reach.{is_type_of, types_of, named_by, type_code_keys, keys_of, is_held, held_of, restrict, keys_at, first_keys, put_keys, all_put_keys, removed_keys}
 use Rattle.fhir_reach.specs.Search.{found_after, reached}
 use Rattle.fhir_reach.proofs.Reached.{within_reached, reached_found, found_reached}
 use Rattle.fhir_reach.proofs.Keys.{key_there}
@@ -115,9 +115,13 @@ module _ (p other : Definitions) (start : List KeyValue) (same : restrict p (rea
 abbrev all_keys : Kind → ByUrl → List KeyValue
 all_keys kind es = flat_map (λ e. keys_of kind e.0 e.1) es
 
+-- and those that stand for the tree under a url, if one is there
+abbrev keys_under : Kind → Text → Option Tree → List KeyValue
+keys_under kind url o = option_map_or (λ t. keys_of kind url t) o []
+
 module _ (keys : List KeyValue) (kind : Kind) where
   held_put : (url : Text) (t : Tree) (es : ByUrl) → is_held keys kind url t ≡ false
-      → list_any (has_key keys) (all_keys kind (filter (λ e. bytes_eq url e.0) es)) ≡ false
+      → list_any (has_key keys) (keys_under kind url (lookup (bytes_eq url) es)) ≡ false
       → held_of keys kind (put_at url t es) ≡ held_of keys kind es
   held_put url t [] off _ = ap (λ (b : Bool). cond b ((url, t) ∷ []) []) off
   held_put url t (e ∷ es) off none = by (bytes_eq url e.0) refl none (held_put url t es off)
@@ -126,14 +130,16 @@ module _ (keys : List KeyValue) (kind : Kind) where
       dropped x true is off = cc
       dropped x false is off = ap (λ (b : Bool). cond b (x ∷ held_of keys kind es) (held_of keys kind es)) is
 
+      under : bytes_eq url e.0 ≡ true → (tree : Tree) → is_held keys kind url tree ≡ false → is_held keys kind e.0 tree ≡ false
+      under is tree off = ap (λ (u : Text). is_held keys kind u tree) (sym ((bytes_eq-Decides url e.0).0 is)) ∙ off
+
       by : (b : Bool) → bytes_eq url e.0 ≡ b
-          → list_any (has_key keys) (all_keys kind (cond b (e ∷ filter (λ e. bytes_eq url e.0) es) (filter (λ e. bytes_eq url e.0) es))) ≡ false
-          → (list_any (has_key keys) (all_keys kind (filter (λ e. bytes_eq url e.0) es)) ≡ false → held_of keys kind (put_at url t es) ≡ held_of keys kind es)
+          → list_any (has_key keys) (keys_under kind url (cond b (Some e.1) (lookup (bytes_eq url) es))) ≡ false
+          → (list_any (has_key keys) (keys_under kind url (lookup (bytes_eq url) es)) ≡ false → held_of keys kind (put_at url t es) ≡ held_of keys kind es)
           → held_of keys kind (cond b ((e.0, t) ∷ es) (e ∷ put_at url t es)) ≡ held_of keys kind (e ∷ es)
       by true is none rest =
-          let parts = neither (is_held keys kind e.0 e.1) _ (rw (list_any-append (has_key keys) (keys_of kind e.0 e.1) (all_keys kind (filter (λ e. bytes_eq url e.0) es))) at none) in
-          dropped (e.0, t) (is_held keys kind e.0 t) refl (ap (λ (u : Text). is_held keys kind u t) (sym ((bytes_eq-Decides url e.0).0 is)) ∙ off)
-          ∙ sym (dropped e (is_held keys kind e.0 e.1) refl parts.0)
+          dropped (e.0, t) (is_held keys kind e.0 t) refl (under is t off)
+          ∙ sym (dropped e (is_held keys kind e.0 e.1) refl (under is e.1 none))
       by false is none rest = ap (λ (l : ByUrl). cond (is_held keys kind e.0 e.1) (e ∷ l) l) (rest none)
 
   held_without : (url : Text) (es : ByUrl)
@@ -156,8 +162,8 @@ module _ (keys : List KeyValue) where
   held_parts : (d : Definition) (p : Definitions) → list_any (has_key keys) (put_keys d p) ≡ false
       → held_of keys d.kind (put_at d.url d.tree (of_kind d.kind p)) ≡ held_of keys d.kind (of_kind d.kind p)
   held_parts d p none =
-      let parts = neither (is_held keys d.kind d.url d.tree) (list_any (has_key keys) (keys_at d.kind d.url p))
-      (rw (list_any-append (has_key keys) (keys_of d.kind d.url d.tree) (keys_at d.kind d.url p)) at none) in
+      let parts = neither (is_held keys d.kind d.url d.tree) (list_any (has_key keys) (first_keys d.kind d.url p))
+      (rw (list_any-append (has_key keys) (keys_of d.kind d.url d.tree) (first_keys d.kind d.url p)) at none) in
       held_put keys d.kind d.url d.tree (of_kind d.kind p) parts.0 parts.1
 
   restricted : (kind : Kind) (es : ByUrl) (p : Definitions) → held_of keys kind es ≡ held_of keys kind (of_kind kind p) → restrict (with_kind kind es p) keys ≡ restrict p keys
@@ -167,6 +173,69 @@ module _ (keys : List KeyValue) where
 
   pub put_same : (d : Definition) (p : Definitions) → list_any (has_key keys) (put_keys d p) ≡ false → restrict (put_in d p) keys ≡ restrict p keys
   put_same d p none = restricted d.kind (put_at d.url d.tree (of_kind d.kind p)) p (held_parts d p none)
+
+  -- a definition that is put in stands for the keys that are its own, so that what is free of it and of another is free of that other still
+  looked_put : (kind : Kind) (url : Text) (t : Tree) (other : Text) (es : ByUrl) → is_held keys kind url t ≡ false
+      → list_any (has_key keys) (keys_under kind other (lookup (bytes_eq other) es)) ≡ false
+      → list_any (has_key keys) (keys_under kind other (lookup (bytes_eq other) (put_at url t es))) ≡ false
+  looked_put kind url t other [] off none = at (bytes_eq other url) refl
+    where
+      at : (b : Bool) → bytes_eq other url ≡ b → list_any (has_key keys) (keys_under kind other (cond b (Some t) None)) ≡ false
+      at true is = ap (λ (u : Text). is_held keys kind u t) ((bytes_eq-Decides other url).0 is) ∙ off
+      at false is = refl
+  looked_put kind url t other (e ∷ es) off none = by (bytes_eq url e.0) refl (bytes_eq other e.0) refl none (looked_put kind url t other es off)
+    where
+      by : (b : Bool) → bytes_eq url e.0 ≡ b → (c : Bool) → bytes_eq other e.0 ≡ c
+          → list_any (has_key keys) (keys_under kind other (cond c (Some e.1) (lookup (bytes_eq other) es))) ≡ false
+          → (list_any (has_key keys) (keys_under kind other (lookup (bytes_eq other) es)) ≡ false
+          → list_any (has_key keys) (keys_under kind other (lookup (bytes_eq other) (put_at url t es))) ≡ false)
+          → list_any (has_key keys) (keys_under kind other (lookup (bytes_eq other) (cond b ((e.0, t) ∷ es) (e ∷ put_at url t es)))) ≡ false
+      by true is true same none rest =
+          ap (λ (d : Bool). list_any (has_key keys) (keys_under kind other (cond d (Some t) (lookup (bytes_eq other) es)))) same
+          ∙ ap (λ (u : Text). is_held keys kind u t) ((bytes_eq-Decides other e.0).0 same ∙ sym ((bytes_eq-Decides url e.0).0 is))
+          ∙ off
+      by true is false same none rest =
+          ap (λ (d : Bool). list_any (has_key keys) (keys_under kind other (cond d (Some t) (lookup (bytes_eq other) es)))) same ∙ none
+      by false is true same none rest =
+          ap (λ (d : Bool). list_any (has_key keys) (keys_under kind other (cond d (Some e.1) (lookup (bytes_eq other) (put_at url t es))))) same ∙ none
+      by false is false same none rest =
+          ap (λ (d : Bool). list_any (has_key keys) (keys_under kind other (cond d (Some e.1) (lookup (bytes_eq other) (put_at url t es))))) same ∙ rest none
+
+  first_put : (d : Definition) (kind : Kind) (url : Text) (p : Definitions) → is_held keys d.kind d.url d.tree ≡ false
+      → list_any (has_key keys) (first_keys kind url p) ≡ false → list_any (has_key keys) (first_keys kind url (put_in d p)) ≡ false
+  first_put d kind url p off none = by kind d.kind off none
+    where
+      by : (kind own : Kind) → is_held keys own d.url d.tree ≡ false
+          → list_any (has_key keys) (first_keys kind url p) ≡ false
+          → list_any (has_key keys) (first_keys kind url (with_kind own (put_at d.url d.tree (of_kind own p)) p)) ≡ false
+      by StructureDefinition StructureDefinition off none = looked_put StructureDefinition d.url d.tree url p.structure_definitions off none
+      by StructureDefinition ValueSet off none = none
+      by StructureDefinition CodeSystem off none = none
+      by ValueSet StructureDefinition off none = none
+      by ValueSet ValueSet off none = looked_put ValueSet d.url d.tree url p.value_sets off none
+      by ValueSet CodeSystem off none = none
+      by CodeSystem StructureDefinition off none = none
+      by CodeSystem ValueSet off none = none
+      by CodeSystem CodeSystem off none = looked_put CodeSystem d.url d.tree url p.code_systems off none
+
+  keys_put : (d : Definition) (ds : List Definition) (p : Definitions) → is_held keys d.kind d.url d.tree ≡ false
+      → list_any (has_key keys) (all_put_keys ds p) ≡ false → list_any (has_key keys) (all_put_keys ds (put_in d p)) ≡ false
+  keys_put d [] p off none = refl
+  keys_put d (e ∷ ds) p off none =
+      let parts = neither (list_any (has_key keys) (put_keys e p)) _ (sym (list_any-append (has_key keys) (put_keys e p) (all_put_keys ds p)) ∙ none) in
+      let own = neither (is_held keys e.kind e.url e.tree) _ (sym (list_any-append (has_key keys) (keys_of e.kind e.url e.tree) (first_keys e.kind e.url p)) ∙ parts.0) in
+      list_any-append (has_key keys) (put_keys e (put_in d p)) (all_put_keys ds (put_in d p))
+      ∙ ap₂ (λ (a b : Bool). a || b)
+      (list_any-append (has_key keys) (keys_of e.kind e.url e.tree) (first_keys e.kind e.url (put_in d p))
+      ∙ ap₂ (λ (a b : Bool). a || b) own.0 (first_put d e.kind e.url p off own.1))
+      (keys_put d ds p off parts.1)
+
+  pub all_put_same : (ds : List Definition) (p : Definitions) → list_any (has_key keys) (all_put_keys ds p) ≡ false → restrict (put_each ds p) keys ≡ restrict p keys
+  all_put_same [] p none = refl
+  all_put_same (d ∷ ds) p none =
+      let parts = neither (list_any (has_key keys) (put_keys d p)) _ (sym (list_any-append (has_key keys) (put_keys d p) (all_put_keys ds p)) ∙ none) in
+      let own = neither (is_held keys d.kind d.url d.tree) _ (sym (list_any-append (has_key keys) (keys_of d.kind d.url d.tree) (first_keys d.kind d.url p)) ∙ parts.0) in
+      all_put_same ds (put_in d p) (keys_put d ds p own.0 parts.1) ∙ put_same d p parts.0
 
   pub removed_same : (url : Text) (p : Definitions) → list_any (has_key keys) (removed_keys url p) ≡ false → restrict (without url p) keys ≡ restrict p keys
   removed_same url p none =

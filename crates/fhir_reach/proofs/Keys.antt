@@ -1,13 +1,14 @@
 -- The test of equal keys, and lists in which each key stands once.
-use Rattle.std.proofs.Common.{◌≡◌, ℕ, zero, suc, ◌≤◌, Bool, true, false, cond, List, [], ◌∷◌, ◌++◌, length, Some, refl, sym, ap, ◌∙◌, IsTrue, ◌||◌, inl, inr, ◌⊎◌, subst, arith, append_assoc, length-append}
-use Rattle.std.specs.List.{list_any, slice_get, AllByRecursion, IsDistinct}
+use Rattle.std.proofs.Common.{◌≡◌, ℕ, zero, suc, ◌≤◌, Bool, true, false, cond, List, [], ◌∷◌, ◌++◌, length, Some, refl, sym, ap, ◌∙◌, IsTrue, ◌&&◌, ◌||◌, inl, inr, ◌⊎◌, subst, arith, append_assoc, length-append}
+use Rattle.std.specs.List.{list_any, list_all, slice_get, AllByRecursion, IsDistinct}
 use Rattle.std.specs.Cmp.{IsEquivalence}
 use Rattle.std.proofs.lemmas.Bool.{or_cases, or_left, or_right, false≢true}
 use Rattle.std.proofs.lemmas.List.{append-nil}
 use Rattle.std.proofs.lemmas.List.Folds.{list_any-append}
 use Rattle.std.proofs.lemmas.Option.{none-some, same_Some}
 use Rattle.std.proofs.lemmas.Slice.Eq.{bytes_eq-Decides}
-use Rattle.fhir_reach.specs.Keys.{KeyValue, of_url, of_code, key_eq, has_key, with_key, with_keys}
+use Rattle.fhir_reach.specs.declared.key.Key.{Key}
+use Rattle.fhir_reach.specs.Keys.{KeyValue, of_url, of_code, key_eq, key_seen, keys_seen, has_key, with_key, with_keys}
 
 -- ---- equal keys
 
@@ -180,3 +181,9 @@ distinct_all (x ∷ xs) ks h = distinct_all xs (with_key ks x) (distinct_key ks 
 pub none_twice : IsDistinct key_eq []
 unfolding IsDistinct
 none_twice = tt
+
+-- ---- keys as they are seen
+
+pub all_seen : (holds : KeyValue → Bool) (keys : List Key) → list_all (λ (key : Key). holds (key_seen key)) keys ≡ list_all holds (keys_seen keys)
+all_seen holds [] = refl
+all_seen holds (k ∷ keys) = ap (λ (b : Bool). holds (key_seen k) && b) (all_seen holds keys)

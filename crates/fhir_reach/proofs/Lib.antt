@@ -6,3 +6,4 @@ pub mod Placed
 pub mod Adding
 pub mod Grouped
 pub mod Restricted
+pub mod Changed

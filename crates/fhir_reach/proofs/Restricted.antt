@@ -1,18 +1,18 @@
 -- The definitions for which keys stand, one entry more at a time.
-use Rattle.std.proofs.Common.{◌≡◌, ◌⊎◌, ◌+◌, ℕ, Option, Some, None, Bool, true, false, IsTrue, List, [], ◌∷◌, ◌++◌, length, take, filter, ⊎_elim, refl, sym, ap, ap₂, ◌∙◌, append_assoc, if◌then◌else◌}
-use Rattle.std.specs.List.{list_any, slice_get}
+use Rattle.std.proofs.Common.{◌≡◌, ◌⊎◌, ◌+◌, ℕ, Option, Some, None, Bool, true, false, IsTrue, ◌&&◌, List, [], ◌∷◌, ◌++◌, length, take, filter, ⊎_elim, inl, inr, refl, sym, subst, ap, ap₂, ◌∙◌, append_assoc, if◌then◌else◌}
+use Rattle.std.specs.List.{list_any, list_all, slice_get}
 use Rattle.std.specs.Option.{option_map_or}
-use Rattle.std.proofs.lemmas.Bool.{false≢true}
+use Rattle.std.proofs.lemmas.Bool.{false≢true, or_cases, or_left, or_right, and_parts}
 use Rattle.std.proofs.lemmas.List.{append-nil}
 use Rattle.fhir_json.specs.Tree.{Text, Tree}
 use Rattle.fhir_package.specs.declared.kind.Kind.{Kind}
 use Rattle.fhir_package.specs.declared.kind.Kind.TheVariants.{StructureDefinition, ValueSet, CodeSystem}
 use Rattle.fhir_package.specs.Definitions.{ByUrl, Definitions, no_definitions, of_kind, with_kind}
 use Rattle.fhir_inheritance.proofs.Sourced.{take-some, take-none}
-use Rattle.fhir_reach.specs.Keys.{KeyValue, has_key, with_keys}
+use Rattle.fhir_reach.specs.Keys.{KeyValue, key_eq, has_key, same_keys, with_keys}
 use Rattle.fhir_reach.specs.Reach.{keys_of, is_held, held_of, restrict}
 use Rattle.fhir_reach.specs.Places.{with_entry}
-use Rattle.fhir_reach.proofs.Keys.{same_tests, added_by_all, only_by_all}
+use Rattle.fhir_reach.proofs.Keys.{same_tests, key_eq-true, key_eq-refl, added_by_all, only_by_all}
 
 -- ---- keys that are kept once
 
@@ -26,14 +26,43 @@ same_any : (f g : KeyValue → Bool) (ks : List KeyValue) → ((k : KeyValue) �
 same_any f g [] same = refl
 same_any f g (k ∷ ks) same = rw (same k, same_any f g ks same) refl
 
-same_held : (keys : List KeyValue) (kind : Kind) (es : ByUrl) → held_of (with_keys [] keys) kind es ≡ held_of keys kind es
-same_held keys kind [] = refl
-same_held keys kind (e ∷ es) =
-    rw (same_any (has_key (with_keys [] keys)) (has_key keys) (keys_of kind e.0 e.1) (same_key keys), same_held keys kind es) refl
+-- lists with the same keys hold the same definitions
+module _ (keys others : List KeyValue) (same : (k : KeyValue) → has_key keys k ≡ has_key others k) where
+  held_as : (kind : Kind) (es : ByUrl) → held_of keys kind es ≡ held_of others kind es
+  held_as kind [] = refl
+  held_as kind (e ∷ es) = rw (same_any (has_key keys) (has_key others) (keys_of kind e.0 e.1) same, held_as kind es) refl
+
+  restrict_as : (p : Definitions) → restrict p keys ≡ restrict p others
+  restrict_as p =
+      rw (held_as StructureDefinition p.structure_definitions, held_as ValueSet p.value_sets, held_as CodeSystem p.code_systems) refl
 
 pub same_restrict : (keys : List KeyValue) (p : Definitions) → restrict p (with_keys [] keys) ≡ restrict p keys
-same_restrict keys p =
-    rw (same_held keys StructureDefinition p.structure_definitions, same_held keys ValueSet p.value_sets, same_held keys CodeSystem p.code_systems) refl
+same_restrict keys p = restrict_as (with_keys [] keys) keys (same_key keys) p
+
+has_if_all : (keys others : List KeyValue) → IsTrue (list_all (has_key keys) others) → (k : KeyValue) → IsTrue (has_key others k) → IsTrue (has_key keys k)
+has_if_all keys [] all k h = absurd (false≢true h)
+has_if_all keys (x ∷ others) all k h =
+    elim (or_cases (key_eq k x) (has_key others k) h) [
+      | inl here ↦ subst (λ (j : KeyValue). IsTrue (has_key keys j)) (sym (key_eq-true k x here)) (and_parts (has_key keys x) _ all).0
+      | inr there ↦ has_if_all keys others (and_parts (has_key keys x) _ all).1 k there
+    ]
+
+pub tests_as : (keys others : List KeyValue) → same_keys keys others ≡ true → (k : KeyValue) → has_key keys k ≡ has_key others k
+tests_as keys others same k =
+    let both = and_parts (list_all (has_key keys) others) (list_all (has_key others) keys) same in
+    same_tests _ _ (has_if_all others keys both.1 k) (has_if_all keys others both.0 k)
+
+pub restricts_as : (p : Definitions) (keys others : List KeyValue) → same_keys keys others ≡ true → restrict p keys ≡ restrict p others
+restricts_as p keys others same = restrict_as keys others (tests_as keys others same) p
+
+pub same_itself : (keys : List KeyValue) → same_keys keys keys ≡ true
+same_itself keys = ap₂ (λ (a b : Bool). a && b) (all_of keys (λ k h. h)) (all_of keys (λ k h. h))
+  where
+    all_of : (ks : List KeyValue) → ((k : KeyValue) → IsTrue (has_key ks k) → IsTrue (has_key keys k)) → list_all (has_key keys) ks ≡ true
+    all_of [] within = refl
+    all_of (x ∷ ks) within =
+        ap₂ (λ (a b : Bool). a && b) (within x (or_left (key_eq x x) (has_key ks x) (key_eq-refl x)))
+        (all_of ks (λ k h. within k (or_right (key_eq k x) (has_key ks k) h)))
 
 -- ---- entries of a kind
 

@@ -1,6 +1,6 @@
 -- Keys: what stands for definitions. Lists in which each key stands once.
-use Rattle.std.specs.Prelude.{List, [], ◌∷◌, ◌++◌, map, Bool, false, string_bytes, if◌then◌else◌}
-use Rattle.std.specs.List.{list_any}
+use Rattle.std.specs.Prelude.{List, [], ◌∷◌, ◌++◌, map, Bool, false, ◌&&◌, string_bytes, if◌then◌else◌}
+use Rattle.std.specs.List.{list_any, list_all}
 use Rattle.std.specs.Str.{bytes_eq}
 use Rattle.fhir_json.specs.Tree.{Text}
 use Rattle.fhir_reach.specs.declared.key.Key.{Key}
@@ -26,6 +26,10 @@ key_eq (of_code a) (of_code b) = bytes_eq a b
 -- the key is one of them
 abbrev pub has_key : List KeyValue → KeyValue → Bool
 has_key keys k = list_any (key_eq k) keys
+
+-- each of the one list is one of the other
+abbrev pub same_keys : List KeyValue → List KeyValue → Bool
+same_keys keys others = list_all (has_key keys) others && list_all (has_key others) keys
 
 -- a key behind others, unless it is one of them
 abbrev pub with_key : List KeyValue → KeyValue → List KeyValue

@@ -70,9 +70,17 @@ restrict p keys = record {
 abbrev pub keys_at : Kind → Text → Definitions → List KeyValue
 keys_at kind url p = flat_map (λ e. keys_of kind e.0 e.1) (filter (λ e. bytes_eq url e.0) (of_kind kind p))
 
--- those of a definition that is put in, and of what it takes the place of
+-- those of the first definition of a kind at a url
+abbrev pub first_keys : Kind → Text → Definitions → List KeyValue
+first_keys kind url p = option_map_or (λ t. keys_of kind url t) (at_url kind url p) []
+
+-- those of a definition that is put in, and of the one whose place it takes
 abbrev pub put_keys : Definition → Definitions → List KeyValue
-put_keys d p = keys_of d.kind d.url d.tree ++ keys_at d.kind d.url p
+put_keys d p = keys_of d.kind d.url d.tree ++ first_keys d.kind d.url p
+
+-- those of all that are put in
+abbrev pub all_put_keys : List Definition → Definitions → List KeyValue
+all_put_keys ds p = flat_map (λ d. put_keys d p) ds
 
 -- those of the definitions of a url, of each kind
 abbrev pub removed_keys : Text → Definitions → List KeyValue

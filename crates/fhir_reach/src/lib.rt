@@ -20,8 +20,9 @@
 //! keys reach and stand for in `specs/Reach.antt`.
 #![tactic(auto)]
 
-mod found;
+mod changing;
 mod key;
+mod key_set;
 mod laws;
 mod naming;
 mod places;
@@ -29,8 +30,10 @@ mod reaching;
 mod restricting;
 mod starting;
 
+pub use changing::{keys_put, keys_removed};
 pub use key::Key;
-pub use laws::{changes_elsewhere, frame};
-pub use reaching::reach;
+pub use key_set::KeySet;
+pub use laws::{changes_elsewhere, frame, same_sets};
+pub use reaching::{reach, reached_set};
 pub use restricting::restrict;
 pub use starting::starts_of;

@@ -9,12 +9,12 @@ ghost use Rattle.fhir_names.specs.Texts.{cut_at_first};
 ghost use Rattle.fhir_reach.specs.Keys.{of_url, with_keys};
 ghost use Rattle.fhir_reach.specs.Naming.{hash, canonical_keys, type_keys, content_keys, binding_keys, element_keys, part_keys, structure_keys, include_keys, compose_keys, value_set_keys};
 
-use crate::found::Found;
+use crate::key_set::KeySet;
 use fhir_json::{Json, NoMemory};
 use fhir_names::Canonical;
 use std::alloc::Global;
 
-fn add_canonical(alloc: Global, found: &mut Found, text: &str) -> Result<(), NoMemory>
+fn add_canonical(alloc: Global, found: &mut KeySet, text: &str) -> Result<(), NoMemory>
     ensures { OnOk result (found.new ≡ with_keys found.old (canonical_keys text.now)) }
 {
     match Canonical::parse(text) {
@@ -23,7 +23,7 @@ fn add_canonical(alloc: Global, found: &mut Found, text: &str) -> Result<(), NoM
     }
 }
 
-fn add_canonicals(alloc: Global, found: &mut Found, texts: &[Json<'_>]) -> Result<(), NoMemory>
+fn add_canonicals(alloc: Global, found: &mut KeySet, texts: &[Json<'_>]) -> Result<(), NoMemory>
     ensures { OnOk result (found.new ≡ with_keys found.old (flat_map canonical_keys (map text_or_empty (trees_of texts.now)))) }
 {
     for text in texts {
@@ -32,7 +32,7 @@ fn add_canonicals(alloc: Global, found: &mut Found, texts: &[Json<'_>]) -> Resul
     Ok(())
 }
 
-fn add_type(alloc: Global, found: &mut Found, entry: &Json<'_>) -> Result<(), NoMemory>
+fn add_type(alloc: Global, found: &mut KeySet, entry: &Json<'_>) -> Result<(), NoMemory>
     ensures { OnOk result (found.new ≡ with_keys found.old (type_keys (tree_of entry.now))) }
 {
     found.add_code(alloc, entry.text_at("code"))?;
@@ -40,7 +40,7 @@ fn add_type(alloc: Global, found: &mut Found, entry: &Json<'_>) -> Result<(), No
     add_canonicals(alloc, found, entry.items_in("targetProfile"))
 }
 
-fn add_types(alloc: Global, found: &mut Found, entries: &[Json<'_>]) -> Result<(), NoMemory>
+fn add_types(alloc: Global, found: &mut KeySet, entries: &[Json<'_>]) -> Result<(), NoMemory>
     ensures { OnOk result (found.new ≡ with_keys found.old (flat_map type_keys (trees_of entries.now))) }
 {
     for entry in entries {
@@ -55,7 +55,7 @@ fn cut_at_hash(text: &str) -> Option<(&str, &str)>
     text.split_once('#')
 }
 
-fn add_content(alloc: Global, found: &mut Found, text: &str) -> Result<(), NoMemory>
+fn add_content(alloc: Global, found: &mut KeySet, text: &str) -> Result<(), NoMemory>
     ensures { OnOk result (found.new ≡ with_keys found.old (content_keys text.now)) }
 {
     match cut_at_hash(text) {
@@ -64,7 +64,11 @@ fn add_content(alloc: Global, found: &mut Found, text: &str) -> Result<(), NoMem
     }
 }
 
-fn add_binding(alloc: Global, found: &mut Found, binding: Option<&Json<'_>>) -> Result<(), NoMemory>
+fn add_binding(
+    alloc: Global,
+    found: &mut KeySet,
+    binding: Option<&Json<'_>>,
+) -> Result<(), NoMemory>
     ensures { OnOk result (found.new ≡ with_keys found.old (option_map_or binding_keys (tree_seen binding.entry) [])) }
 {
     match binding {
@@ -73,7 +77,7 @@ fn add_binding(alloc: Global, found: &mut Found, binding: Option<&Json<'_>>) -> 
     }
 }
 
-fn add_element(alloc: Global, found: &mut Found, element: &Json<'_>) -> Result<(), NoMemory>
+fn add_element(alloc: Global, found: &mut KeySet, element: &Json<'_>) -> Result<(), NoMemory>
     ensures { OnOk result (found.new ≡ with_keys found.old (element_keys (tree_of element.now))) }
 {
     add_types(alloc, found, element.items_in("type"))?;
@@ -81,7 +85,7 @@ fn add_element(alloc: Global, found: &mut Found, element: &Json<'_>) -> Result<(
     add_binding(alloc, found, element.field("binding"))
 }
 
-fn add_elements(alloc: Global, found: &mut Found, elements: &[Json<'_>]) -> Result<(), NoMemory>
+fn add_elements(alloc: Global, found: &mut KeySet, elements: &[Json<'_>]) -> Result<(), NoMemory>
     ensures { OnOk result (found.new ≡ with_keys found.old (flat_map element_keys (trees_of elements.now))) }
 {
     for element in elements {
@@ -92,7 +96,7 @@ fn add_elements(alloc: Global, found: &mut Found, elements: &[Json<'_>]) -> Resu
 
 fn add_part(
     alloc: Global,
-    found: &mut Found,
+    found: &mut KeySet,
     part: &str,
     definition: &Json<'_>,
 ) -> Result<(), NoMemory>
@@ -104,7 +108,7 @@ fn add_part(
     }
 }
 
-fn add_parts(alloc: Global, found: &mut Found, definition: &Json<'_>) -> Result<(), NoMemory>
+fn add_parts(alloc: Global, found: &mut KeySet, definition: &Json<'_>) -> Result<(), NoMemory>
     ensures { OnOk result (found.new ≡ with_keys found.old (part_keys (codes "snapshot") (tree_of definition.now) ++ part_keys (codes "differential") (tree_of definition.now))) }
 {
     add_part(alloc, found, "snapshot", definition)?;
@@ -114,7 +118,7 @@ fn add_parts(alloc: Global, found: &mut Found, definition: &Json<'_>) -> Result<
 /// Adds the keys that a StructureDefinition names.
 pub(crate) fn add_structure(
     alloc: Global,
-    found: &mut Found,
+    found: &mut KeySet,
     definition: &Json<'_>,
 ) -> Result<(), NoMemory>
     ensures { OnOk result (found.new ≡ with_keys found.old (structure_keys (tree_of definition.now))) }
@@ -124,7 +128,7 @@ pub(crate) fn add_structure(
     add_parts(alloc, found, definition)
 }
 
-fn add_system(alloc: Global, found: &mut Found, include: &Json<'_>) -> Result<(), NoMemory>
+fn add_system(alloc: Global, found: &mut KeySet, include: &Json<'_>) -> Result<(), NoMemory>
     ensures { OnOk result (found.new ≡ with_keys found.old (option_map_or (λ system. of_url system ∷ []) (text_in (codes "system") (tree_of include.now)) [])) }
 {
     match include.text_in("system") {
@@ -133,14 +137,14 @@ fn add_system(alloc: Global, found: &mut Found, include: &Json<'_>) -> Result<()
     }
 }
 
-fn add_include(alloc: Global, found: &mut Found, include: &Json<'_>) -> Result<(), NoMemory>
+fn add_include(alloc: Global, found: &mut KeySet, include: &Json<'_>) -> Result<(), NoMemory>
     ensures { OnOk result (found.new ≡ with_keys found.old (include_keys (tree_of include.now))) }
 {
     add_system(alloc, found, include)?;
     add_canonicals(alloc, found, include.items_in("valueSet"))
 }
 
-fn add_includes(alloc: Global, found: &mut Found, includes: &[Json<'_>]) -> Result<(), NoMemory>
+fn add_includes(alloc: Global, found: &mut KeySet, includes: &[Json<'_>]) -> Result<(), NoMemory>
     ensures { OnOk result (found.new ≡ with_keys found.old (flat_map include_keys (trees_of includes.now))) }
 {
     for include in includes {
@@ -149,7 +153,7 @@ fn add_includes(alloc: Global, found: &mut Found, includes: &[Json<'_>]) -> Resu
     Ok(())
 }
 
-fn add_compose(alloc: Global, found: &mut Found, compose: &Json<'_>) -> Result<(), NoMemory>
+fn add_compose(alloc: Global, found: &mut KeySet, compose: &Json<'_>) -> Result<(), NoMemory>
     ensures { OnOk result (found.new ≡ with_keys found.old (compose_keys (tree_of compose.now))) }
 {
     add_includes(alloc, found, compose.items_in("include"))?;
@@ -159,7 +163,7 @@ fn add_compose(alloc: Global, found: &mut Found, compose: &Json<'_>) -> Result<(
 /// Adds the keys that a value set names.
 pub(crate) fn add_value_set(
     alloc: Global,
-    found: &mut Found,
+    found: &mut KeySet,
     definition: &Json<'_>,
 ) -> Result<(), NoMemory>
     ensures { OnOk result (found.new ≡ with_keys found.old (value_set_keys (tree_of definition.now))) }

@@ -10,8 +10,8 @@ ghost use Rattle.fhir_reach.specs.Reach.{named_by, IsReach};
 ghost use Rattle.fhir_reach.specs.Search.{visited, reached, IsFound};
 ghost use Rattle.fhir_reach.specs.Places.{HasPlaces, keys_at_place};
 
-use crate::found::Found;
 use crate::key::Key;
+use crate::key_set::KeySet;
 use crate::naming::{add_structure, add_value_set};
 use crate::places::TypePlaces;
 use fhir_json::{Json, NoMemory};
@@ -20,7 +20,7 @@ use std::alloc::Global;
 
 fn visit_structure(
     alloc: Global,
-    found: &mut Found,
+    found: &mut KeySet,
     definition: Option<&Json<'_>>,
 ) -> Result<(), NoMemory>
     ensures { OnOk result (found.new ≡ with_keys found.old (option_map_or structure_keys (tree_seen definition.entry) [])) }
@@ -33,7 +33,7 @@ fn visit_structure(
 
 fn visit_value_set(
     alloc: Global,
-    found: &mut Found,
+    found: &mut KeySet,
     definition: Option<&Json<'_>>,
 ) -> Result<(), NoMemory>
     ensures { OnOk result (found.new ≡ with_keys found.old (option_map_or value_set_keys (tree_seen definition.entry) [])) }
@@ -47,7 +47,7 @@ fn visit_value_set(
 // What the definitions of a url name.
 fn visit_url(
     alloc: Global,
-    found: &mut Found,
+    found: &mut KeySet,
     package: &Package<'_>,
     url: &str,
 ) -> Result<(), NoMemory>
@@ -59,7 +59,7 @@ fn visit_url(
 
 fn visit_place(
     alloc: Global,
-    found: &mut Found,
+    found: &mut KeySet,
     package: &Package<'_>,
     place: usize,
 ) -> Result<(), NoMemory>
@@ -73,7 +73,7 @@ fn visit_place(
 
 fn visit_places(
     alloc: Global,
-    found: &mut Found,
+    found: &mut KeySet,
     package: &Package<'_>,
     places: &[usize],
 ) -> Result<(), NoMemory>
@@ -88,7 +88,7 @@ fn visit_places(
 // What the definitions of a type name.
 fn visit_code(
     alloc: Global,
-    found: &mut Found,
+    found: &mut KeySet,
     package: &Package<'_>,
     types: &TypePlaces,
     code: &str,
@@ -101,7 +101,7 @@ fn visit_code(
 
 fn visit(
     alloc: Global,
-    found: &mut Found,
+    found: &mut KeySet,
     package: &Package<'_>,
     types: &TypePlaces,
     key: &Key,
@@ -116,7 +116,7 @@ fn visit(
 }
 
 // The key at a place, in memory of its own.
-fn copy_at(found: &Found, place: usize) -> Result<Option<Key>, NoMemory>
+fn copy_at(found: &KeySet, place: usize) -> Result<Option<Key>, NoMemory>
     ensures { IfOk result (λ k. option_map key_seen k ≡ slice_get found.now place) }
 {
     match found.at(place) {
@@ -127,7 +127,7 @@ fn copy_at(found: &Found, place: usize) -> Result<Option<Key>, NoMemory>
 
 fn visit_at(
     alloc: Global,
-    found: &mut Found,
+    found: &mut KeySet,
     package: &Package<'_>,
     types: &TypePlaces,
     place: usize,
@@ -147,11 +147,11 @@ fn find(
     package: &Package<'_>,
     types: &TypePlaces,
     start: &[Key],
-) -> Result<Found, NoMemory>
+) -> Result<KeySet, NoMemory>
     requires { HasPlaces types.now «package».now.structure_definitions }
     ensures { IfOk result (λ found. IsFound «package».now (keys_seen start.now) found) }
 {
-    let mut found = Found::of(alloc, start)?;
+    let mut found = KeySet::of(alloc, start)?;
     let mut at = 0;
     while at < found.len() {
         visit_at(alloc, &mut found, package, types, at)?;
@@ -162,12 +162,22 @@ fn find(
 
 /// The keys that some reach in a package: these, and what is named by the definitions for which they stand, and so on; each once,
 /// in the order in which they are found.
+pub fn reached_set(alloc: Global, package: &Package<'_>, start: &[Key]) -> Result<KeySet, NoMemory>
+    ensures least { IfOk result (λ keys. IsReach «package».now (keys_seen start.now) keys) }
+    ensures in_order { IfOk result (λ keys. keys ≡ reached «package».now (keys_seen start.now)) }
+    ensures once { IfOk result (λ keys. IsDistinct key_eq keys) }
+{
+    let types = TypePlaces::of(alloc, package)?;
+    let found = find(alloc, package, &types, start)?;
+    Ok(found)
+}
+
+/// The same as a list.
 pub fn reach(alloc: Global, package: &Package<'_>, start: &[Key]) -> Result<Vec<Key>, NoMemory>
     ensures least { IfOk result (λ keys. IsReach «package».now (keys_seen start.now) (keys_seen keys.items)) }
     ensures in_order { IfOk result (λ keys. keys_seen keys.items ≡ reached «package».now (keys_seen start.now)) }
     ensures once { IfOk result (λ keys. IsDistinct key_eq (keys_seen keys.items)) }
 {
-    let types = TypePlaces::of(alloc, package)?;
-    let found = find(alloc, package, &types, start)?;
+    let found = reached_set(alloc, package, start)?;
     Ok(found.into_keys())
 }

@@ -12,14 +12,14 @@ ghost use Rattle.fhir_reach.specs.Keys.{keys_seen, has_key, with_keys};
 ghost use Rattle.fhir_reach.specs.Reach.{type_code_keys, is_held, held_of, restrict};
 ghost use Rattle.fhir_reach.specs.Places.{with_entry};
 
-use crate::found::Found;
 use crate::key::Key;
+use crate::key_set::KeySet;
 use fhir_definition::is_type_definition;
 use fhir_json::{Json, NoMemory};
 use fhir_package::{Kind, Package};
 use std::alloc::Global;
 
-fn type_is_held(found: &Found, definition: &Json<'_>) -> bool
+fn type_is_held(found: &KeySet, definition: &Json<'_>) -> bool
     ensures { result ≡ list_any (has_key found.now) (type_code_keys StructureDefinition (tree_of definition.now)) }
 {
     if !is_type_definition(definition) {
@@ -28,7 +28,7 @@ fn type_is_held(found: &Found, definition: &Json<'_>) -> bool
     found.has_code(definition.text_at("type"))
 }
 
-fn code_is_held(found: &Found, kind: Kind, definition: &Json<'_>) -> bool
+fn code_is_held(found: &KeySet, kind: Kind, definition: &Json<'_>) -> bool
     ensures { result ≡ list_any (has_key found.now) (type_code_keys kind (tree_of definition.now)) }
 {
     match kind {
@@ -38,7 +38,7 @@ fn code_is_held(found: &Found, kind: Kind, definition: &Json<'_>) -> bool
     }
 }
 
-fn is_held(found: &Found, kind: Kind, url: &str, definition: &Json<'_>) -> bool
+fn is_held(found: &KeySet, kind: Kind, url: &str, definition: &Json<'_>) -> bool
     ensures { result ≡ is_held found.now kind url.now (tree_of definition.now) }
 {
     found.has_url(url) || code_is_held(found, kind, definition)
@@ -47,7 +47,7 @@ fn is_held(found: &Found, kind: Kind, url: &str, definition: &Json<'_>) -> bool
 // Puts in a definition, if a key stands for it.
 fn add_entry(
     alloc: Global,
-    found: &Found,
+    found: &KeySet,
     kind: Kind,
     entry: (&str, &Json<'_>),
     into: &mut Package<'static>,
@@ -64,7 +64,7 @@ fn add_entry(
 
 fn add_at(
     alloc: Global,
-    found: &Found,
+    found: &KeySet,
     package: &Package<'_>,
     kind: Kind,
     place: usize,
@@ -82,7 +82,7 @@ fn add_at(
 // Puts in those of a kind behind the others.
 fn add_kind(
     alloc: Global,
-    found: &Found,
+    found: &KeySet,
     package: &Package<'_>,
     kind: Kind,
     into: &mut Package<'static>,
@@ -105,7 +105,7 @@ pub fn restrict(
 ) -> Result<Package<'static>, NoMemory>
     ensures { Gives (λ p. p) result (restrict «package».now (keys_seen keys.now)) }
 {
-    let found = Found::of(alloc, keys)?;
+    let found = KeySet::of(alloc, keys)?;
     let mut into = Package::new(alloc);
     add_kind(alloc, &found, package, Kind::StructureDefinition, &mut into)?;
     add_kind(alloc, &found, package, Kind::ValueSet, &mut into)?;

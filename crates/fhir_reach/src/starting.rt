@@ -7,13 +7,13 @@ ghost use Rattle.fhir_json.specs.Fields.{as_text};
 ghost use Rattle.fhir_reach.specs.Keys.{of_url, of_code, keys_seen, with_keys};
 ghost use Rattle.fhir_reach.specs.Starting.{target_keys, resource_keys, tree_keys, items_keys, members_keys, starts_of};
 
-use crate::found::Found;
 use crate::key::Key;
+use crate::key_set::KeySet;
 use fhir_json::{Json, Member, NoMemory};
 use fhir_names::relative_target;
 use std::alloc::Global;
 
-fn add_target(alloc: Global, found: &mut Found, text: &str) -> Result<(), NoMemory>
+fn add_target(alloc: Global, found: &mut KeySet, text: &str) -> Result<(), NoMemory>
     ensures { OnOk result (found.new ≡ with_keys found.old (target_keys text.now)) }
 {
     match relative_target(text) {
@@ -22,7 +22,7 @@ fn add_target(alloc: Global, found: &mut Found, text: &str) -> Result<(), NoMemo
     }
 }
 
-fn add_text(alloc: Global, found: &mut Found, value: &Json<'_>) -> Result<(), NoMemory>
+fn add_text(alloc: Global, found: &mut KeySet, value: &Json<'_>) -> Result<(), NoMemory>
     ensures { OnOk result (found.new ≡ with_keys found.old (option_map_or (λ code. of_code code ∷ []) (as_text (tree_of value.now)) [])) }
 {
     match value.as_text() {
@@ -33,7 +33,7 @@ fn add_text(alloc: Global, found: &mut Found, value: &Json<'_>) -> Result<(), No
 
 fn add_resource_type(
     alloc: Global,
-    found: &mut Found,
+    found: &mut KeySet,
     name: &str,
     value: &Json<'_>,
 ) -> Result<(), NoMemory>
@@ -46,7 +46,7 @@ fn add_resource_type(
 }
 
 #[cycle(tree)]
-fn add_tree(alloc: Global, found: &mut Found, tree: &Json<'_>) -> Result<(), NoMemory>
+fn add_tree(alloc: Global, found: &mut KeySet, tree: &Json<'_>) -> Result<(), NoMemory>
     ensures { OnOk result (found.new ≡ with_keys found.old (tree_keys (tree_of tree.now))) }
 {
     match tree {
@@ -60,7 +60,7 @@ fn add_tree(alloc: Global, found: &mut Found, tree: &Json<'_>) -> Result<(), NoM
 }
 
 #[cycle(tree)]
-fn add_items(alloc: Global, found: &mut Found, items: &Vec<Json<'_>>) -> Result<(), NoMemory>
+fn add_items(alloc: Global, found: &mut KeySet, items: &Vec<Json<'_>>) -> Result<(), NoMemory>
     ensures { OnOk result (found.new ≡ with_keys found.old (items_keys (items_view items.now.items))) }
 {
     for item in items {
@@ -70,7 +70,7 @@ fn add_items(alloc: Global, found: &mut Found, items: &Vec<Json<'_>>) -> Result<
 }
 
 #[cycle(tree)]
-fn add_members(alloc: Global, found: &mut Found, members: &Vec<Member<'_>>) -> Result<(), NoMemory>
+fn add_members(alloc: Global, found: &mut KeySet, members: &Vec<Member<'_>>) -> Result<(), NoMemory>
     ensures { OnOk result (found.new ≡ with_keys found.old (members_keys (members_view members.now.items))) }
 {
     for member in members {
@@ -85,7 +85,7 @@ fn add_members(alloc: Global, found: &mut Found, members: &Vec<Member<'_>>) -> R
 pub fn starts_of(alloc: Global, profile: &str, resource: &Json<'_>) -> Result<Vec<Key>, NoMemory>
     ensures { IfOk result (λ keys. keys_seen keys.items ≡ starts_of profile.now (tree_of resource.now)) }
 {
-    let mut found = Found::new(alloc);
+    let mut found = KeySet::new(alloc);
     found.add_url(alloc, profile)?;
     add_tree(alloc, &mut found, resource)?;
     Ok(found.into_keys())

@@ -2,7 +2,7 @@ use Rattle.std.proofs.Common.{◌≡◌, length, ap, arith}
 use Rattle.std.proofs.lemmas.List.{length-map}
 use Rattle.fhir_reach.specs.Keys.{of_code, keys_seen}
 use Rattle.fhir_reach.proofs.Marks.{puts_code, marks_kept, marks_more, seen_snoc}
-use Rattle.fhir_reach.proofs.found.Found.push_code.Goals as goal
+use Rattle.fhir_reach.proofs.key_set.KeySet.push_code.Goals as goal
 
 pub invariant_of-self-in_err-push : goal.invariant_of-self-in_err-push
 invariant_of-self-in_err-push c =

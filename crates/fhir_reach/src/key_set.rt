@@ -1,9 +1,9 @@
 //! Keys that are found, each once.
 
 ghost use Rattle.std.specs.Prelude.{◌≡◌, [], false, length, IfOk, OnOk};
-ghost use Rattle.std.specs.List.{slice_get};
+ghost use Rattle.std.specs.List.{slice_get, list_all};
 ghost use Rattle.std.specs.Option.{option_map, option_map_or, option_copied};
-ghost use Rattle.fhir_reach.specs.Keys.{of_url, of_code, key_eq, key_seen, keys_seen, has_key, with_key, with_keys};
+ghost use Rattle.fhir_reach.specs.Keys.{of_url, of_code, key_eq, key_seen, keys_seen, has_key, same_keys, with_key, with_keys};
 
 use crate::key::Key;
 use fhir_json::NoMemory;
@@ -14,13 +14,13 @@ use std::marker::Model;
 /// Keys, each once, in the order in which they were added. A key is looked up in time logarithmic in their number, whatever they
 /// are. A place may be kept of a key that isn't there, so what stands at a place is looked at.
 #[derive(Drop)]
-pub(crate) struct Found {
+pub struct KeySet {
     keys: Vec<Key>,
     urls: Index,
     codes: Index,
 }
 
-impl Model for Found {
+impl Model for KeySet {
     ghost use Rattle.std.specs.Prelude.{List};
     ghost use Rattle.fhir_reach.specs.Keys.{KeyValue, keys_seen};
     ghost use Rattle.fhir_reach.specs.Places.{MarksKeys};
@@ -74,7 +74,7 @@ fn code_stands_at(keys: &[Key], place: usize, code: &str) -> bool
     }
 }
 
-fn add_keys(alloc: Global, found: &mut Found, keys: &[Key]) -> Result<(), NoMemory>
+fn add_keys(alloc: Global, found: &mut KeySet, keys: &[Key]) -> Result<(), NoMemory>
     ensures { OnOk result (found.new ≡ with_keys found.old (keys_seen keys.now)) }
 {
     for key in keys {
@@ -83,12 +83,12 @@ fn add_keys(alloc: Global, found: &mut Found, keys: &[Key]) -> Result<(), NoMemo
     Ok(())
 }
 
-impl Found {
+impl KeySet {
     /// No keys, which allocates nothing.
-    pub(crate) fn new(alloc: Global) -> Found
+    pub(crate) fn new(alloc: Global) -> KeySet
         ensures { result ≡ [] }
     {
-        Found {
+        KeySet {
             keys: Vec::new(alloc),
             urls: Index::new(alloc),
             codes: Index::new(alloc),
@@ -96,10 +96,10 @@ impl Found {
     }
 
     /// Some keys, each once.
-    pub(crate) fn of(alloc: Global, keys: &[Key]) -> Result<Found, NoMemory>
+    pub fn of(alloc: Global, keys: &[Key]) -> Result<KeySet, NoMemory>
         ensures { IfOk result (λ found. found ≡ with_keys [] (keys_seen keys.now)) }
     {
-        let mut found = Found::new(alloc);
+        let mut found = KeySet::new(alloc);
         add_keys(alloc, &mut found, keys)?;
         Ok(found)
     }
@@ -119,11 +119,41 @@ impl Found {
     }
 
     /// The keys.
+    pub fn keys(&self) -> &[Key]
+        ensures { keys_seen result.now ≡ self.now }
+    {
+        &self.keys
+    }
+
+    /// The keys.
     pub(crate) fn into_keys(self) -> Vec<Key>
         ensures { keys_seen result.items ≡ self }
     {
-        let Found { keys, .. } = self;
+        let KeySet { keys, .. } = self;
         keys
+    }
+
+    /// Whether a key is there.
+    pub fn has(&self, key: &Key) -> bool
+        ensures { result ≡ has_key self.now (key_seen key.now) }
+    {
+        match key {
+            Key::Url(url) => self.has_url(url.as_str()),
+            Key::Code(code) => self.has_code(code.as_str()),
+        }
+    }
+
+    fn has_all(&self, keys: &[Key]) -> bool
+        ensures { result ≡ list_all (λ key. has_key self.now (key_seen key)) keys.now }
+    {
+        keys.iter().all(|key| self.has(key))
+    }
+
+    /// Whether another one has the same keys, in whatever order.
+    pub fn has_same(&self, other: &KeySet) -> bool
+        ensures { result ≡ same_keys self.now other.now }
+    {
+        self.has_all(&other.keys) && other.has_all(&self.keys)
     }
 
     /// Whether a url is there.

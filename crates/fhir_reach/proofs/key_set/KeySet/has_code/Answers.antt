@@ -3,7 +3,7 @@ use Rattle.std.specs.List.{slice_get}
 use Rattle.std.specs.Option.{option_map_or}
 use Rattle.fhir_reach.specs.Keys.{of_code, key_eq, keys_seen, has_key}
 use Rattle.fhir_reach.proofs.Marks.{has_marked, has_unmarked}
-use Rattle.fhir_reach.proofs.found.Found.has_code.Goals as goal
+use Rattle.fhir_reach.proofs.key_set.KeySet.has_code.Goals as goal
 
 pub returns-in-Some : goal.returns-in-Some
 returns-in-Some c =

@@ -2,7 +2,7 @@ use Rattle.std.proofs.Common.{List, [], ◌∷◌, refl}
 use Rattle.fhir_reach.specs.declared.key.Key.{Key}
 use Rattle.fhir_reach.specs.Keys.{key_seen, keys_seen}
 use Rattle.fhir_reach.proofs.Adding.{next}
-use Rattle.fhir_reach.proofs.found.add_keys.Goals as goal
+use Rattle.fhir_reach.proofs.key_set.add_keys.Goals as goal
 
 pub loop-key-preserved : goal.loop-key-preserved
 loop-key-preserved c =
