@@ -2,7 +2,7 @@
 
 ghost use Rattle.std.specs.Prelude.{◌≡◌, IfOk};
 ghost use Rattle.fhir_json.specs.Views.{tree_of};
-ghost use Rattle.fhir_registry.specs.Judging.{standing_of, IsJudged, standing_given, IsJudgedAsGiven};
+ghost use Rattle.fhir_replies.specs.Judging.{standing_of, IsJudged, standing_given, IsJudgedAsGiven};
 
 use crate::outcomes::{outcome, outcome_given};
 use fhir_commands::Standing;

@@ -15,8 +15,8 @@ use Rattle.fhir_validator.specs.declared.verdict.Vouched.{Vouched}
 use Rattle.fhir_validator.specs.declared.verdict.Vouched.TheVariants as vouched
 use Rattle.fhir_validator.specs.Needed.{ConstraintsHold, ConstraintsHoldAsGiven}
 use Rattle.fhir_validator.specs.Verdicts.{is_conforming, is_violating, IsExplained, conforms_as_given, conforms_anyway, violates_anyway, AreGiven, IsUpheld, IsVouchedFor, Means}
-use Rattle.fhir_registry.specs.Outcomes.{is_explained, is_explained_as_given}
-use Rattle.fhir_registry.specs.Standing.{Stands, StandsAsGiven}
+use Rattle.fhir_replies.specs.Outcomes.{is_explained, is_explained_as_given}
+use Rattle.fhir_replies.specs.Standing.{Stands, StandsAsGiven}
 
 -- what is known of a validation
 pub record IsValidated (s : SchemaValue) (profile bytes : Text) (v : Result Verdict Fault) : Type 0 where

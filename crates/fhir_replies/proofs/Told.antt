@@ -22,7 +22,7 @@ use Rattle.fhir_derive_check.specs.Reaching.{HasCertificate}
 use Rattle.fhir_derive_check.specs.Views.{certificate_of, failing_of}
 use Rattle.fhir_commands.specs.Replies.{DeriveValue}
 use Rattle.fhir_commands.specs.Replies as replies
-use Rattle.fhir_registry.specs.Deriving.{derives, fails, missing, unusable, IsDeriveAnswer}
+use Rattle.fhir_replies.specs.Deriving.{derives, fails, missing, unusable, IsDeriveAnswer}
 
 pub derives_so : (s : SchemaValue) (derived base : Text) (o : Outcome) (c : CertificateValue) (answer : DeriveValue) → o ≡ Derives c
     → IfSome (certificate_of o) (IsDerived s derived base) → IfSome (certificate_of o) (IsCertificate s)

@@ -7,7 +7,7 @@ ghost use Rattle.fhir_json.specs.Tree.{Text, string, array, object, items_of, me
 ghost use Rattle.fhir_json.specs.Fields.{text_in, items_in};
 ghost use Rattle.fhir_json.specs.Views.{tree_of, property_of, trees_of};
 ghost use Rattle.fhir_validator.specs.declared.fault.Fault.TheVariants as faults;
-ghost use Rattle.fhir_registry.specs.Outcomes.{severity_of, HasSeverity, IsOutcome, is_explained, severity_given, is_explained_as_given};
+ghost use Rattle.fhir_replies.specs.Outcomes.{severity_of, HasSeverity, IsOutcome, is_explained, severity_given, is_explained_as_given};
 
 use fhir_instance::{Misfit, MisfitKind};
 use fhir_json::{Json, Member, NoMemory, write};

@@ -1,5 +1,5 @@
-use Rattle.fhir_registry.proofs.Standings.{IsValidated, is_listed, stands}
-use Rattle.fhir_registry.proofs.judging.judge.Goals as goal
+use Rattle.fhir_replies.proofs.Standings.{IsValidated, is_listed, stands}
+use Rattle.fhir_replies.proofs.judging.judge.Goals as goal
 
 pub returns : goal.returns
 returns c =

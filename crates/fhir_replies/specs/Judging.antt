@@ -9,8 +9,8 @@ use Rattle.fhir_validator.specs.declared.verdict.Verdict.{Verdict}
 use Rattle.fhir_validator.specs.declared.verdict.Verdict.TheVariants as verdicts
 use Rattle.fhir_validator.specs.declared.verdict.Vouched.{Vouched}
 use Rattle.fhir_validator.specs.declared.verdict.Vouched.TheVariants as vouched
-use Rattle.fhir_registry.specs.Outcomes.{severity_of, severity_given, IsOutcome}
-use Rattle.fhir_registry.specs.Standing.{Stands, StandsAsGiven}
+use Rattle.fhir_replies.specs.Outcomes.{severity_of, severity_given, IsOutcome}
+use Rattle.fhir_replies.specs.Standing.{Stands, StandsAsGiven}
 
 -- what a verdict says of it, or a fault
 abbrev pub standing_of : Result Verdict Fault → Standing

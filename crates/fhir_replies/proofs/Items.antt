@@ -7,7 +7,7 @@ use Rattle.fhir_json.specs.declared.json.Member.{Member}
 use Rattle.fhir_json.specs.Tree.{Text, Tree, string, object, array, items_of, list_of, members_of}
 use Rattle.fhir_json.specs.Views.{tree_of, trees_of, property_of}
 use Rattle.fhir_json.specs.Fields.{items_in}
-use Rattle.fhir_registry.specs.Outcomes.{HasSeverity}
+use Rattle.fhir_replies.specs.Outcomes.{HasSeverity}
 
 listed : (ts : List Tree) → list_of (items_of ts) ≡ ts
 listed [] = refl

@@ -1,5 +1,5 @@
-use Rattle.fhir_registry.proofs.Standings.{IsValidatedAsGiven, is_listed_as_given, stands_as_given}
-use Rattle.fhir_registry.proofs.judging.judge_given.Goals as goal
+use Rattle.fhir_replies.proofs.Standings.{IsValidatedAsGiven, is_listed_as_given, stands_as_given}
+use Rattle.fhir_replies.proofs.judging.judge_given.Goals as goal
 
 pub returns : goal.returns
 returns c =

@@ -3,8 +3,8 @@ use Rattle.std.proofs.lemmas.Result.{IfOk-weaker}
 use Rattle.fhir_commands.specs.Replies.{derive_seen}
 use Rattle.fhir_derive_check.specs.declared.fault.DeriveFault.TheVariants.{Missing, Unusable}
 use Rattle.fhir_derive_check.specs.declared.outcome.Outcome.TheVariants.{Derives, NoCertificate}
-use Rattle.fhir_registry.proofs.Told.{derives_so, fails_so, missing_so, unusable_so}
-use Rattle.fhir_registry.proofs.certifying.derive_answer.Goals as goal
+use Rattle.fhir_replies.proofs.Told.{derives_so, fails_so, missing_so, unusable_so}
+use Rattle.fhir_replies.proofs.certifying.derive_answer.Goals as goal
 
 pub returns-in-Ok-Derives : goal.returns-in-Ok-Derives
 returns-in-Ok-Derives c =

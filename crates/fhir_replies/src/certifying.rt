@@ -7,7 +7,7 @@ ghost use Rattle.fhir_cert_check.specs.Rule.{rule_text};
 ghost use Rattle.fhir_cert_check.specs.Texts.{pair_text};
 ghost use Rattle.fhir_cert_check.specs.Views.{rule_name};
 ghost use Rattle.fhir_commands.specs.Replies.{derived, refuted, derive_seen};
-ghost use Rattle.fhir_registry.specs.Deriving.{IsDeriveAnswer};
+ghost use Rattle.fhir_replies.specs.Deriving.{IsDeriveAnswer};
 
 use fhir_cert_check::{Rule, pair_text, rule_text};
 use fhir_certificate::{Certificate, Pair, write};

@@ -1,0 +1,4 @@
+pub mod Standing
+pub mod Judging
+pub mod Outcomes
+pub mod Deriving
