@@ -1,6 +1,4 @@
-pub mod Outcomes
-pub mod Standing
-pub mod Judging
-pub mod Deriving
 pub mod Session
+pub mod Keeping
 pub mod Lines
+pub mod Sound

@@ -8,7 +8,7 @@ use Rattle.fhir_package.specs.Definitions.{Definitions}
 use Rattle.fhir_package.specs.Packing.{Definition}
 use Rattle.fhir_package.specs.Changing.{sound_definition, has_twice, put_each, without, has_url}
 use Rattle.fhir_reach.specs.Keys.{KeyValue, of_url}
-use Rattle.fhir_reach.specs.Reach.{restrict}
+use Rattle.fhir_reach.specs.Reach.{restrict, all_put_keys, removed_keys}
 use Rattle.fhir_reach.specs.Search.{reached}
 use Rattle.fhir_reach.specs.Starting.{starts_of}
 use Rattle.fhir_snapshot.specs.Completing.{Completes}
@@ -21,8 +21,8 @@ use Rattle.fhir_commands.specs.declared.reply.PutAnswer.TheVariants as puts
 use Rattle.fhir_commands.specs.declared.reply.RemoveAnswer.{RemoveAnswer}
 use Rattle.fhir_commands.specs.declared.reply.RemoveAnswer.TheVariants as removes
 use Rattle.fhir_commands.specs.declared.reply.Standing.{Standing}
-use Rattle.fhir_registry.specs.Judging.{IsJudged, IsJudgedAsGiven}
-use Rattle.fhir_registry.specs.Deriving.{IsDeriveAnswer}
+use Rattle.fhir_replies.specs.Judging.{IsJudged, IsJudgedAsGiven}
+use Rattle.fhir_replies.specs.Deriving.{IsDeriveAnswer}
 
 -- ---- definitions that are to be put in
 
@@ -111,6 +111,43 @@ IsReplyAsGiven texts p (remove url) reply = IsReply p (remove url) reply
 IsReplyAsGiven texts p (validate profile bytes) reply = IsJudgementAsGiven texts p profile bytes reply
 IsReplyAsGiven texts p (derive derived base) reply = IsReply p (derive derived base) reply
 
+-- by the texts of the unread rules for which a user vouches, if one does
+abbrev pub IsReplyBy : Option (List Text) → Definitions → CommandValue → ReplyValue → Type 0
+IsReplyBy None p c reply = IsReply p c reply
+IsReplyBy (Some texts) p c reply = IsReplyAsGiven texts p c reply
+
+-- ---- on what a reply rests
+
+-- the command asks for what definitions say, and leaves them as they are
+abbrev pub IsQuestion : CommandValue → Type 0
+IsQuestion (put ts) = ⊥
+IsQuestion (remove url) = ⊥
+IsQuestion (validate profile bytes) = Unit {0}
+IsQuestion (derive derived base) = Unit {0}
+
+-- the keys with which a question begins
+abbrev pub starts_by : CommandValue → List KeyValue
+starts_by (put ts) = []
+starts_by (remove url) = []
+starts_by (validate profile bytes) = starts profile bytes
+starts_by (derive derived base) = ends derived base
+
+-- the keys that it reaches
+abbrev pub reach_of : Definitions → CommandValue → List KeyValue
+reach_of p c = reached p (starts_by c)
+
+-- the definitions that are put in, which are all of them or none
+abbrev pub accepted : Option (List Definition) → List Definition
+accepted None = []
+accepted (Some ds) = if has_twice ds then [] else ds
+
+-- the keys of the definitions that a command changes, old and new
+abbrev pub changed_by : Definitions → CommandValue → List KeyValue
+changed_by p (put ts) = all_put_keys (accepted (definitions_of ts)) p
+changed_by p (remove url) = removed_keys url p
+changed_by p (validate profile bytes) = []
+changed_by p (derive derived base) = []
+
 -- ---- lists of commands, from the left
 
 abbrev pub after_all : List CommandValue → Definitions → Definitions
@@ -118,6 +155,7 @@ after_all [] p = p
 after_all (c ∷ cs) p = after_all cs (after c p)
 
 -- each reply is one to its command, by the definitions that those before it leave
-abbrev pub AreReplies : Definitions → List CommandValue → List ReplyValue → Type 0
-AreReplies p [] rs = rs ≡ []
-AreReplies p (c ∷ cs) rs = (r : ReplyValue) × (others : List ReplyValue) × (rs ≡ r ∷ others) × IsReply p c r × AreReplies (after c p) cs others
+abbrev pub AreRepliesBy : Option (List Text) → Definitions → List CommandValue → List ReplyValue → Type 0
+AreRepliesBy texts p [] rs = rs ≡ []
+AreRepliesBy texts p (c ∷ cs) rs =
+    (r : ReplyValue) × (others : List ReplyValue) × (rs ≡ r ∷ others) × IsReplyBy texts p c r × AreRepliesBy texts (after c p) cs others

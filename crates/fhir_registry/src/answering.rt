@@ -16,7 +16,8 @@ use std::io::Write;
 // The answer to a line, unless memory runs out.
 fn answer_line(registry: &mut Registry, alloc: Global, line: &[u8]) -> Result<Line, NoMemory>
     ensures told { IfOk result (λ written. AnswersCommand registry.old (line_command line.now) registry.new (line_seen written)) }
-    ensures unchanged { OnErr result (registry.new ≡ registry.old) }
+    ensures unchanged { OnErr result (registry.new.definitions ≡ registry.old.definitions) }
+    ensures texts { registry.new.texts ≡ registry.old.texts }
 {
     fixed_lines();
     match Command::of_line(alloc, line)? {

@@ -1,42 +1,29 @@
 //! Laws of replies.
 
-ghost use Rattle.std.specs.Prelude.{◌≡◌, false};
+ghost use Rattle.std.specs.Prelude.{◌≡◌, List, Option, false};
 ghost use Rattle.std.specs.List.{list_any};
 ghost use Rattle.fhir_json.specs.Tree.{Text};
 ghost use Rattle.fhir_package.specs.Definitions.{Definitions};
 ghost use Rattle.fhir_package.specs.Packing.{Definition};
-ghost use Rattle.fhir_package.specs.Changing.{put_in, without};
+ghost use Rattle.fhir_package.specs.Changing.{put_each, without};
 ghost use Rattle.fhir_reach.specs.Keys.{has_key};
-ghost use Rattle.fhir_reach.specs.Reach.{restrict, put_keys, removed_keys};
-ghost use Rattle.fhir_reach.specs.Search.{reached};
+ghost use Rattle.fhir_reach.specs.Reach.{restrict, all_put_keys, removed_keys};
+ghost use Rattle.fhir_commands.specs.Commands.{CommandValue};
 ghost use Rattle.fhir_commands.specs.Replies.{ReplyValue};
-ghost use Rattle.fhir_registry.specs.Session.{starts, ends, IsJudgement, IsDerivation};
+ghost use Rattle.fhir_registry.specs.Session.{IsQuestion, IsReplyBy, reach_of};
 
 use fhir_reach::{changes_elsewhere, frame};
 
-/// What is replied on a resource rests on nothing but the definitions that it reaches: other definitions that have the same restriction to
-/// them give the same (`judged`). So a definition that is put in (`put_elsewhere`), or taken out (`removed_elsewhere`), changes no reply that
-/// reaches none of its keys. The same of what is replied on two profiles of which a certificate is to be derived (`derived`,
-/// `derived_put_elsewhere`, `derived_removed_elsewhere`).
+/// The reply to a question rests on nothing but the definitions that it reaches: other definitions that have the same restriction to them
+/// give the same (`asked`). So definitions that are put in (`put_elsewhere`), or those of a url that are taken out (`removed_elsewhere`), change
+/// no reply that reaches none of their keys.
 pub fn same_replies()
-    ensures judged { (p other : Definitions) (profile bytes : Text) (reply : ReplyValue)
-        → restrict p (reached p (starts profile bytes)) ≡ restrict other (reached p (starts profile bytes))
-        → IsJudgement p profile bytes reply → IsJudgement other profile bytes reply }
-    ensures put_elsewhere { (d : Definition) (p : Definitions) (profile bytes : Text) (reply : ReplyValue)
-        → list_any (has_key (reached p (starts profile bytes))) (put_keys d p) ≡ false
-        → IsJudgement p profile bytes reply → IsJudgement (put_in d p) profile bytes reply }
-    ensures removed_elsewhere { (url : Text) (p : Definitions) (profile bytes : Text) (reply : ReplyValue)
-        → list_any (has_key (reached p (starts profile bytes))) (removed_keys url p) ≡ false
-        → IsJudgement p profile bytes reply → IsJudgement (without url p) profile bytes reply }
-    ensures derived { (p other : Definitions) (derived base : Text) (reply : ReplyValue)
-        → restrict p (reached p (ends derived base)) ≡ restrict other (reached p (ends derived base))
-        → IsDerivation p derived base reply → IsDerivation other derived base reply }
-    ensures derived_put_elsewhere { (d : Definition) (p : Definitions) (derived base : Text) (reply : ReplyValue)
-        → list_any (has_key (reached p (ends derived base))) (put_keys d p) ≡ false
-        → IsDerivation p derived base reply → IsDerivation (put_in d p) derived base reply }
-    ensures derived_removed_elsewhere { (url : Text) (p : Definitions) (derived base : Text) (reply : ReplyValue)
-        → list_any (has_key (reached p (ends derived base))) (removed_keys url p) ≡ false
-        → IsDerivation p derived base reply → IsDerivation (without url p) derived base reply }
+    ensures asked { (texts : Option (List Text)) (p other : Definitions) (c : CommandValue) (reply : ReplyValue) → IsQuestion c
+        → restrict p (reach_of p c) ≡ restrict other (reach_of p c) → IsReplyBy texts p c reply → IsReplyBy texts other c reply }
+    ensures put_elsewhere { (texts : Option (List Text)) (ds : List Definition) (p : Definitions) (c : CommandValue) (reply : ReplyValue) → IsQuestion c
+        → list_any (has_key (reach_of p c)) (all_put_keys ds p) ≡ false → IsReplyBy texts p c reply → IsReplyBy texts (put_each ds p) c reply }
+    ensures removed_elsewhere { (texts : Option (List Text)) (url : Text) (p : Definitions) (c : CommandValue) (reply : ReplyValue) → IsQuestion c
+        → list_any (has_key (reach_of p c)) (removed_keys url p) ≡ false → IsReplyBy texts p c reply → IsReplyBy texts (without url p) c reply }
 {
     frame();
     changes_elsewhere();

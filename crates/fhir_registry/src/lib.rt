@@ -1,4 +1,5 @@
-//! Definitions that commands change and ask about, and what is said of resources in FHIR's own terms: the OperationOutcome of a validation.
+//! Definitions that commands change and ask about: each reply is the one that the definitions give as they stand. Replies are kept, so that a
+//! question which is asked again is answered at once, and none is kept that a change may have made wrong.
 //!
 //! ```
 //! /// The reply to a command about a package.
@@ -17,20 +18,18 @@
 //! ```
 //!
 //! The contract to read first is that of [`Registry::apply`]. What commands leave and what replies are right stands in
-//! `specs/Session.antt`, what an outcome is in `specs/Outcomes.antt`, and what is told of two profiles in `specs/Deriving.antt`.
+//! `specs/Session.antt`, and what is kept in `specs/Keeping.antt`.
 #![tactic(auto)]
 
 mod answering;
-mod certifying;
-mod given;
-mod judging;
+mod asking;
+mod forgetting;
+mod kept;
 mod laws;
-mod outcomes;
 mod registry;
+mod replies;
+mod schemas;
+mod shared;
 
-pub use certifying::derive_answer;
-pub use given::GivenRegistry;
-pub use judging::{judge, judge_given};
 pub use laws::same_replies;
-pub use outcomes::{outcome, outcome_given};
 pub use registry::Registry;

@@ -1,46 +1,57 @@
 //! Definitions that commands change and ask about.
 
-ghost use Rattle.std.specs.Prelude.{◌≡◌, ◌++◌, List, IfOk, IfErr, OnOk, OnErr, map};
-ghost use Rattle.fhir_schema.specs.Schemas.{schema_of};
+ghost use Rattle.std.specs.Prelude.{◌≡◌, ◌++◌, [], List, None, Some, false, IfOk, IfErr, IfSome, OnOk, OnErr, map, is_some};
 ghost use Rattle.std.specs.Option.{option_map};
 ghost use Rattle.fhir_json.specs.Views.{trees_of};
-ghost use Rattle.fhir_package.specs.Definitions.{Definitions};
-ghost use Rattle.fhir_package.specs.Changing.{without};
-ghost use Rattle.fhir_reach.specs.Keys.{keys_seen};
-ghost use Rattle.fhir_snapshot.specs.Completing.{Completes};
-ghost use Rattle.fhir_commands.specs.Commands.{CommandValue, command_seen};
-ghost use Rattle.fhir_commands.specs.Replies.{reply_seen};
-ghost use Rattle.fhir_registry.specs.Session.{definitions_of, put_answer, put_after, remove_answer, starts, reached_by, ends, reached_between, IsJudgement, IsJudgementAsGiven, IsDerivation, after, IsReply, IsReplyAsGiven, after_all, AreReplies};
+ghost use Rattle.fhir_package.specs.Changing.{put_each, without, has_url};
+ghost use Rattle.fhir_reach.specs.Reach.{all_put_keys};
+ghost use Rattle.lru.specs.LruCache.{lru_cache};
+ghost use Rattle.fhir_commands.specs.Commands.{CommandValue, put, remove, command_seen, question_seen};
+ghost use Rattle.fhir_commands.specs.Replies.{ReplyValue, reply_seen, refuses};
+ghost use Rattle.fhir_registry.specs.Session.{definitions_of, put_answer, put_after, remove_answer, after, IsReplyBy, after_all, AreRepliesBy};
+ghost use Rattle.fhir_registry.specs.Keeping.{reply_kept, ForgetsAll, Forgets, KeepsFor, Keeps};
 
-use crate::certifying::derive_answer;
-use crate::judging::{judge, judge_given};
-use fhir_commands::{Command, PutAnswer, RemoveAnswer, Reply};
-use fhir_json::{Json, JsonFault, NoMemory, read};
+use crate::asking::compute;
+use crate::forgetting::{forget_put, forget_removed};
+use crate::replies::{Replies, recall};
+use crate::schemas::Schemas;
+use fhir_commands::{Command, PutAnswer, Question, RemoveAnswer, Reply, equal_questions};
+use fhir_json::{Json, NoMemory};
 use fhir_package::{Definition, Package, has_twice};
-use fhir_reach::{Key, reach, restrict, starts_of};
-use fhir_schema::Schema;
-use fhir_snapshot::complete;
+use fhir_reach::{changes_elsewhere, same_sets};
 use fhir_vouching::Vouching;
+use lru::LruCache;
 use std::alloc::Global;
 use std::marker::Model;
+use std::num::NonZeroUsize;
 
-/// The definitions of a package, which commands change and ask about. Each reply is the one that the definitions give as they stand.
+/// Definitions that commands change and ask about. Each reply is the one that the definitions give as they stand.
+///
+/// The replies to the last 256 questions are kept, but for refusals: a question that is asked again is answered at once. So are the last 16
+/// schemas: a question that reaches the same keys is answered by the same schema. What reaches a key that a command changes is forgotten.
 #[derive(Drop)]
 pub struct Registry {
     definitions: Package<'static>,
+    given: Option<Vouching>,
+    schemas: Schemas,
+    replies: Replies,
 }
 
 impl Model for Registry {
-    ghost use Rattle.fhir_package.specs.Definitions.{Definitions};
+    ghost use Rattle.std.specs.Prelude.{map};
+    ghost use Rattle.fhir_registry.specs.Keeping.{RegistryValue};
+    ghost use Rattle.fhir_registry.specs.Sound.{entry_seen, IsSound};
 
-    ghost Value = { Definitions };
+    ghost Value = { RegistryValue };
 
     ghost use Rattle.fhir_json.specs.Coding.{tree_code};
     ghost use Rattle.std.specs.Coded.{codes};
 
     ghost coded = { Prim.hlevel (codes, tree_code) };
 
-    ghost view = { λ r. r.definitions };
+    ghost view = { λ r. record { definitions = r.definitions; texts = r.given; replies = map entry_seen r.replies.entries } };
+
+    ghost invariant = { λ r. IsSound r.given r.definitions r.schemas r.replies };
 }
 
 // The sound definitions that trees are, in memory of their own, where each is one.
@@ -60,142 +71,101 @@ fn definitions_of(
     Ok(Some(all))
 }
 
-// The keys with which the validation of the resource that bytes are begins.
-fn starts(alloc: Global, profile: &str, bytes: &[u8]) -> Result<Vec<Key>, NoMemory>
-    ensures { IfOk result (λ keys. keys_seen keys.items ≡ starts profile.now bytes.now) }
+// No schemas, and room for 16.
+fn no_schemas(alloc: Global) -> Result<Schemas, NoMemory>
+    ensures { IfOk result (λ s. s ≡ lru_cache [] 16) }
 {
-    match read(alloc, bytes) {
-        Ok(resource) => starts_of(alloc, profile, &resource),
-        Err(JsonFault::NoMemory) => Err(NoMemory),
-        Err(_) => starts_of(alloc, profile, &Json::Null),
-    }
+    Ok(LruCache::new(alloc, NonZeroUsize::new(16).unwrap())?)
 }
 
-// The keys with which the derivation between two profiles begins.
-fn ends(alloc: Global, derived: &str, base: &str) -> Result<Vec<Key>, NoMemory>
-    ensures { IfOk result (λ keys. keys_seen keys.items ≡ ends derived.now base.now) }
+// No replies, and room for 256.
+fn no_replies(alloc: Global) -> Result<Replies, NoMemory>
+    ensures { IfOk result (λ s. s ≡ lru_cache [] 256) }
 {
-    let derived = String::from_str(alloc, derived)?;
-    let base = String::from_str(alloc, base)?;
-    Ok(vec![in alloc; Key::Url(derived), Key::Url(base)]?)
+    Ok(LruCache::new(alloc, NonZeroUsize::new(256).unwrap())?)
 }
 
-// The definitions that the validation reaches.
-fn reached_by(
-    alloc: Global,
-    definitions: &Package<'_>,
-    profile: &str,
-    bytes: &[u8],
-) -> Result<Package<'static>, NoMemory>
-    ensures { IfOk result (λ p. p ≡ reached_by definitions.now profile.now bytes.now) }
+fn registry_of(alloc: Global, package: &Package<'_>) -> Result<Registry, NoMemory>
+    ensures { IfOk result (λ r. r ≡ record { definitions = «package».now; texts = None; replies = [] }) }
 {
-    let starts = starts(alloc, profile, bytes)?;
-    let keys = reach(alloc, definitions, &starts)?;
-    restrict(alloc, definitions, &keys)
-}
-
-// The schema of definitions, completed.
-fn completed_schema(alloc: Global, definitions: Package<'static>) -> Result<Schema, NoMemory>
-    ensures { IfOk result (λ s. (p : Definitions) × Completes definitions.entry p × (s ≡ schema_of p)) }
-{
-    let mut definitions = definitions;
-    complete(alloc, &mut definitions)?;
-    Schema::build(alloc, &definitions)
-}
-
-// The schema of the definitions that the validation reaches, completed.
-fn schema_for(
-    alloc: Global,
-    definitions: &Package<'_>,
-    profile: &str,
-    bytes: &[u8],
-) -> Result<Schema, NoMemory>
-    ensures { IfOk result (λ s. (p : Definitions) × Completes (reached_by definitions.now profile.now bytes.now) p × (s ≡ schema_of p)) }
-{
-    let reached = reached_by(alloc, definitions, profile, bytes)?;
-    completed_schema(alloc, reached)
-}
-
-// The reply on the resource that bytes are and the profile at a url.
-fn judgement(
-    alloc: Global,
-    definitions: &Package<'_>,
-    profile: &str,
-    bytes: &[u8],
-) -> Result<Reply, NoMemory>
-    ensures { IfOk result (λ r. IsJudgement definitions.now profile.now bytes.now (reply_seen r)) }
-{
-    let schema = schema_for(alloc, definitions, profile, bytes)?;
-    let (standing, outcome) = judge(alloc, &schema, profile, bytes)?;
-    Ok(Reply::Validate(standing, outcome))
-}
-
-// The same where a user vouches for unread rules by their texts.
-fn judgement_given(
-    alloc: Global,
-    definitions: &Package<'_>,
-    profile: &str,
-    bytes: &[u8],
-    given: &Vouching,
-) -> Result<Reply, NoMemory>
-    ensures { IfOk result (λ r. IsJudgementAsGiven given.now definitions.now profile.now bytes.now (reply_seen r)) }
-{
-    let schema = schema_for(alloc, definitions, profile, bytes)?;
-    let (standing, outcome) = judge_given(alloc, &schema, profile, bytes, given)?;
-    Ok(Reply::Validate(standing, outcome))
-}
-
-// The definitions that two profiles reach.
-fn reached_between(
-    alloc: Global,
-    definitions: &Package<'_>,
-    derived: &str,
-    base: &str,
-) -> Result<Package<'static>, NoMemory>
-    ensures { IfOk result (λ p. p ≡ reached_between definitions.now derived.now base.now) }
-{
-    let ends = ends(alloc, derived, base)?;
-    let keys = reach(alloc, definitions, &ends)?;
-    restrict(alloc, definitions, &keys)
-}
-
-// The reply on two profiles of which a certificate is to be derived.
-fn derivation(
-    alloc: Global,
-    definitions: &Package<'_>,
-    derived: &str,
-    base: &str,
-) -> Result<Reply, NoMemory>
-    ensures { IfOk result (λ r. IsDerivation definitions.now derived.now base.now (reply_seen r)) }
-{
-    let reached = reached_between(alloc, definitions, derived, base)?;
-    let schema = completed_schema(alloc, reached)?;
-    Ok(Reply::Derive(derive_answer(alloc, &schema, derived, base)?))
+    Ok(Registry {
+        definitions: package.detach(alloc)?,
+        given: None,
+        schemas: no_schemas(alloc)?,
+        replies: no_replies(alloc)?,
+    })
 }
 
 impl Registry {
-    /// That of a package, in memory of its own. Where memory is refused the package comes back.
+    /// That of a package, in memory of its own, which keeps no reply yet. Where memory is refused the package comes back.
     pub fn new<'a>(alloc: Global, package: Package<'a>) -> Result<Registry, Package<'a>>
-        ensures kept { IfOk result (λ r. r ≡ «package».entry) }
+        ensures kept { IfOk result (λ r. r ≡ record { definitions = «package».entry; texts = None; replies = [] }) }
         ensures given_back { IfErr result (λ p. p ≡ «package».entry) }
     {
-        match package.detach(alloc) {
-            Ok(definitions) => Ok(Registry { definitions }),
+        match registry_of(alloc, &package) {
+            Ok(registry) => Ok(registry),
             Err(NoMemory) => Err(package),
         }
     }
 
+    /// From now on a user vouches for these unread rules, by their texts, and for no others: resources are judged as they hold. No reply of
+    /// before is kept.
+    pub fn vouch(&mut self, given: Vouching)
+        ensures { self.new ≡ record { definitions = self.old.definitions; texts = Some given; replies = [] } }
+    {
+        self.replies.clear();
+        self.given = Some(given);
+    }
+
     /// The definitions as they stand.
     pub fn definitions(&self) -> &Package<'static>
-        ensures { result.now ≡ self.now }
+        ensures { result.now ≡ self.now.definitions }
     {
         &self.definitions
     }
 
+    /// Whether the reply to a command is kept. It takes no memory.
+    pub fn kept(&self, command: &Command<'_>) -> bool
+        ensures told { result ≡ is_some (reply_kept (command_seen command.now) self.now.replies) }
+        ensures right { IfSome (reply_kept (command_seen command.now) self.now.replies)
+            (λ r. IsReplyBy self.now.texts self.now.definitions (command_seen command.now) r × (refuses r ≡ false)) }
+    {
+        equal_questions();
+        match command {
+            Command::Put(_) => false,
+            Command::Remove(_) => false,
+            Command::Ask(question) => self.replies.contains(question),
+        }
+    }
+
+    fn put_in(
+        &mut self,
+        alloc: Global,
+        definitions: Vec<Definition<'static>>,
+    ) -> Result<(), NoMemory>
+        ensures after { OnOk result (self.new.definitions ≡ put_each definitions.entry.items self.old.definitions) }
+        ensures forgets { OnOk result (ForgetsAll self.old.definitions (all_put_keys definitions.entry.items self.old.definitions) self.old.replies self.new.replies) }
+        ensures unchanged { OnErr result (self.new.definitions ≡ self.old.definitions) }
+        ensures texts { self.new.texts ≡ self.old.texts }
+    {
+        changes_elsewhere();
+        same_sets();
+        forget_put(
+            alloc,
+            &mut self.schemas,
+            &mut self.replies,
+            &self.definitions,
+            &definitions,
+        )?;
+        self.definitions.put_all(alloc, definitions)
+    }
+
     fn put(&mut self, alloc: Global, trees: &[Json<'_>]) -> Result<PutAnswer, NoMemory>
         ensures told { IfOk result (λ answer. answer ≡ put_answer (definitions_of (trees_of trees.now))) }
-        ensures after { OnOk result (self.new ≡ put_after (definitions_of (trees_of trees.now)) self.old) }
-        ensures unchanged { OnErr result (self.new ≡ self.old) }
+        ensures after { OnOk result (self.new.definitions ≡ put_after (definitions_of (trees_of trees.now)) self.old.definitions) }
+        ensures forgets { OnOk result (Forgets self.old.definitions (put (trees_of trees.now)) self.old.replies self.new.replies) }
+        ensures unchanged { OnErr result (self.new.definitions ≡ self.old.definitions) }
+        ensures texts { self.new.texts ≡ self.old.texts }
     {
         let Some(definitions) = definitions_of(alloc, trees)? else {
             return Ok(PutAnswer::NoDefinition);
@@ -203,74 +173,88 @@ impl Registry {
         if has_twice(alloc, &definitions)? {
             return Ok(PutAnswer::Twice);
         }
-        self.definitions.put_all(alloc, definitions)?;
+        self.put_in(alloc, definitions)?;
         Ok(PutAnswer::Done)
     }
 
-    fn remove(&mut self, url: &str) -> RemoveAnswer
-        ensures told { result ≡ remove_answer url.now self.old }
-        ensures after { self.new ≡ without url.now self.old }
+    // Takes out the definitions of a url. Whether there were any.
+    fn take_out(&mut self, alloc: Global, url: &str) -> bool
+        ensures told { result ≡ has_url url.now self.old.definitions }
+        ensures after { self.new.definitions ≡ without url.now self.old.definitions }
+        ensures forgets { Forgets self.old.definitions (remove url.now) self.old.replies self.new.replies }
+        ensures texts { self.new.texts ≡ self.old.texts }
     {
-        if self.definitions.remove(url) {
+        changes_elsewhere();
+        same_sets();
+        forget_removed(
+            alloc,
+            &mut self.schemas,
+            &mut self.replies,
+            &self.definitions,
+            url,
+        );
+        self.definitions.remove(url)
+    }
+
+    fn remove(&mut self, alloc: Global, url: &str) -> RemoveAnswer
+        ensures told { result ≡ remove_answer url.now self.old.definitions }
+        ensures after { self.new.definitions ≡ without url.now self.old.definitions }
+        ensures forgets { Forgets self.old.definitions (remove url.now) self.old.replies self.new.replies }
+        ensures texts { self.new.texts ≡ self.old.texts }
+    {
+        if self.take_out(alloc, url) {
             RemoveAnswer::Done
         } else {
             RemoveAnswer::Absent
         }
     }
 
-    /// Does what a command asks, and replies. A resource is judged by the definitions that it reaches, as they stand, completed, and a
-    /// certificate is derived by those that its two profiles reach. The one refusal is want of memory, which changes nothing.
+    fn ask(&mut self, alloc: Global, question: Question) -> Result<Reply, NoMemory>
+        ensures told { IfOk result (λ r. IsReplyBy self.old.texts self.old.definitions (question_seen question) (reply_seen r)) }
+        ensures held { IfSome (reply_kept (question_seen question) self.old.replies) (λ held. IfOk result (λ r. reply_seen r ≡ held)) }
+        ensures keeps { IfOk result (λ r. KeepsFor (question_seen question) (reply_seen r) (reply_kept (question_seen question) self.old.replies) self.old.replies self.new.replies) }
+        ensures definitions { self.new.definitions ≡ self.old.definitions }
+        ensures texts { self.new.texts ≡ self.old.texts }
+    {
+        if let Some(reply) = recall(alloc, &mut self.replies, &question)? {
+            return Ok(reply);
+        }
+        compute(
+            alloc,
+            &mut self.schemas,
+            &mut self.replies,
+            &self.definitions,
+            self.given.as_ref(),
+            question,
+        )
+    }
+
+    /// Does what a command asks, and replies. A resource is judged by the definitions that it reaches, as they stand, completed, and as the unread
+    /// rules hold for which a user vouches; a certificate is derived by those that its two profiles reach. A reply that is kept is given as it
+    /// is kept. The one refusal is want of memory, which changes no definition.
     pub fn apply(&mut self, alloc: Global, command: Command<'_>) -> Result<Reply, NoMemory>
-        ensures told { IfOk result (λ r. IsReply self.old (command_seen command.entry) (reply_seen r)) }
-        ensures after { OnOk result (self.new ≡ after (command_seen command.entry) self.old) }
-        ensures unchanged { OnErr result (self.new ≡ self.old) }
+        ensures told { IfOk result (λ r. IsReplyBy self.old.texts self.old.definitions (command_seen command.entry) (reply_seen r)) }
+        ensures held { IfSome (reply_kept (command_seen command.entry) self.old.replies) (λ held. IfOk result (λ r. reply_seen r ≡ held)) }
+        ensures keeps { IfOk result (λ r. Keeps self.old.definitions (command_seen command.entry) (reply_seen r) self.old.replies self.new.replies) }
+        ensures after { OnOk result (self.new.definitions ≡ after (command_seen command.entry) self.old.definitions) }
+        ensures unchanged { OnErr result (self.new.definitions ≡ self.old.definitions) }
+        ensures texts { self.new.texts ≡ self.old.texts }
     {
         match command {
             Command::Put(trees) => Ok(Reply::Put(self.put(alloc, &trees)?)),
-            Command::Remove(url) => Ok(Reply::Remove(self.remove(url.as_str()))),
-            Command::Validate { profile, resource } => {
-                judgement(alloc, &self.definitions, profile.as_str(), &resource)
-            }
-            Command::Derive { derived, base } => {
-                derivation(alloc, &self.definitions, derived.as_str(), base.as_str())
-            }
-        }
-    }
-
-    /// The same where a user vouches for unread rules by their texts: a resource is judged as these hold.
-    pub fn apply_given(
-        &mut self,
-        alloc: Global,
-        command: Command<'_>,
-        given: &Vouching,
-    ) -> Result<Reply, NoMemory>
-        ensures told { IfOk result (λ r. IsReplyAsGiven given.now self.old (command_seen command.entry) (reply_seen r)) }
-        ensures after { OnOk result (self.new ≡ after (command_seen command.entry) self.old) }
-        ensures unchanged { OnErr result (self.new ≡ self.old) }
-    {
-        match command {
-            Command::Validate { profile, resource } => judgement_given(
-                alloc,
-                &self.definitions,
-                profile.as_str(),
-                &resource,
-                given,
-            ),
-            Command::Put(trees) => self.apply(alloc, Command::Put(trees)),
-            Command::Remove(url) => self.apply(alloc, Command::Remove(url)),
-            Command::Derive { derived, base } => {
-                self.apply(alloc, Command::Derive { derived, base })
-            }
+            Command::Remove(url) => Ok(Reply::Remove(self.remove(alloc, url.as_str()))),
+            Command::Ask(question) => self.ask(alloc, question),
         }
     }
 
     /// Does what commands ask, one after the other, and gives the replies. The one refusal is want of memory: then the registry holds what
     /// some of the first commands leave.
     pub fn run(&mut self, alloc: Global, commands: Vec<Command<'_>>) -> Result<Vec<Reply>, NoMemory>
-        ensures told { IfOk result (λ replies. AreReplies self.old (map command_seen commands.entry.items) (map reply_seen replies.items)) }
-        ensures after { OnOk result (self.new ≡ after_all (map command_seen commands.entry.items) self.old) }
+        ensures told { IfOk result (λ replies. AreRepliesBy self.old.texts self.old.definitions (map command_seen commands.entry.items) (map reply_seen replies.items)) }
+        ensures after { OnOk result (self.new.definitions ≡ after_all (map command_seen commands.entry.items) self.old.definitions) }
         ensures partly { OnErr result ((first others : List CommandValue)
-            × (map command_seen commands.entry.items ≡ first ++ others) × (self.new ≡ after_all first self.old)) }
+            × (map command_seen commands.entry.items ≡ first ++ others) × (self.new.definitions ≡ after_all first self.old.definitions)) }
+        ensures texts { self.new.texts ≡ self.old.texts }
     {
         let mut replies = Vec::new(alloc);
         for command in commands {
