@@ -20,7 +20,7 @@ use Rattle.fhir_derive_check.specs.Deriving.{IsDerived, IsFirstFailing}
 use Rattle.fhir_derive_check.specs.Faults.{derive_refusal, is_no_memory}
 use Rattle.fhir_derive_check.specs.Reaching.{HasCertificate}
 use Rattle.fhir_derive_check.specs.Views.{certificate_of, failing_of}
-use Rattle.fhir_registry.specs.Deriving.{derives, fails, missing, unusable}
+use Rattle.fhir_replies.specs.Deriving.{derives, fails, missing, unusable}
 use Rattle.fhir_answers.specs.Answering.{IsDerivationReply}
 use Rattle.fhir_answers.specs.Promising.{Derived}
 use Rattle.fhir_answers.specs.Replying.{ReplyValue, written, on_side, fault_reply, status_of}

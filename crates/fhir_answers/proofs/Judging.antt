@@ -9,8 +9,8 @@ use Rattle.fhir_validator.specs.declared.verdict.Verdict.{Verdict}
 use Rattle.fhir_validator.specs.declared.verdict.Verdict.TheVariants as verdicts
 use Rattle.fhir_validator.specs.declared.verdict.Vouched.{Vouched}
 use Rattle.fhir_validator.specs.declared.verdict.Vouched.TheVariants as vouched
-use Rattle.fhir_registry.specs.Judging.{standing_of, IsJudged, standing_given, IsJudgedAsGiven}
-use Rattle.fhir_registry.specs.Standing.{AlwaysConforms, Stands, ConformsAsGiven, StandsAsGiven}
+use Rattle.fhir_replies.specs.Judging.{standing_of, IsJudged, standing_given, IsJudgedAsGiven}
+use Rattle.fhir_replies.specs.Standing.{AlwaysConforms, Stands, ConformsAsGiven, StandsAsGiven}
 use Rattle.fhir_answers.specs.declared.reply.Status.{Status}
 use Rattle.fhir_unread.specs.Given.{texts_given, AreSame, notes}
 use Rattle.fhir_unread.specs.Unread.{unread_texts}

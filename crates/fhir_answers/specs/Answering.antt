@@ -16,8 +16,8 @@ use Rattle.fhir_elements.specs.declared.reason.Reason.{Reason}
 use Rattle.fhir_elements.specs.Numbers.{reason_number}
 use Rattle.fhir_schema.specs.Schemas.{SchemaValue, unusable}
 use Rattle.fhir_commands.specs.declared.reply.Standing.{Standing}
-use Rattle.fhir_registry.specs.Judging.{IsJudged, IsJudgedAsGiven}
-use Rattle.fhir_registry.specs.Deriving.{Derivation, IsDerivationOf}
+use Rattle.fhir_replies.specs.Judging.{IsJudged, IsJudgedAsGiven}
+use Rattle.fhir_replies.specs.Deriving.{Derivation, IsDerivationOf}
 use Rattle.fhir_words.specs.declared.request.Manner.{Manner}
 use Rattle.fhir_findings.specs.Selecting.{SelectionValue, unknown_place, asked_selection, profile_selection}
 use Rattle.fhir_unread.specs.Given.{texts_given, AreSame, notes}

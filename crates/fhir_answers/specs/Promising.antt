@@ -12,7 +12,7 @@ use Rattle.fhir_cert_check.specs.Inclusion.{Includes}
 use Rattle.fhir_derive_check.specs.Deriving.{IsDerived}
 use Rattle.fhir_findings.specs.Clean.{AreSelectedUsable}
 use Rattle.fhir_findings.specs.Selecting.{SelectionValue, asked_selection}
-use Rattle.fhir_registry.specs.Standing.{AlwaysConforms, ConformsAsGiven}
+use Rattle.fhir_replies.specs.Standing.{AlwaysConforms, ConformsAsGiven}
 use Rattle.fhir_report.specs.Faultless.{CertificateValue, Promises, IsRightIfAny, PromisesIfAny}
 use Rattle.fhir_unread.specs.Given.{texts_given, AreSame}
 use Rattle.fhir_answers.specs.Reporting.{asked}

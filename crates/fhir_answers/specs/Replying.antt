@@ -14,7 +14,7 @@ use Rattle.fhir_cert_check.specs.Rule.{RuleName}
 use Rattle.fhir_cert_check.specs.Checking.{answer_of}
 use Rattle.fhir_derive_check.specs.declared.fault.Side.{Side}
 use Rattle.fhir_derive_check.specs.declared.fault.Side.TheVariants.{Derived, Base}
-use Rattle.fhir_registry.specs.Deriving.{Derivation, derives, fails, missing, unusable}
+use Rattle.fhir_replies.specs.Deriving.{Derivation, derives, fails, missing, unusable}
 use Rattle.fhir_answers.specs.declared.reply.Reply.{Reply}
 use Rattle.fhir_answers.specs.declared.reply.Reply.TheVariants.{Answer, Noted, Fault}
 use Rattle.fhir_answers.specs.Status.{code_of}

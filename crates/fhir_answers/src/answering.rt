@@ -11,7 +11,7 @@ ghost use Rattle.fhir_answers.specs.Answering.{IsAnswered, is_of_memory, IsReply
 ghost use Rattle.fhir_answers.specs.Promising.{Certified, Validated, Listed};
 ghost use Rattle.fhir_answers.specs.Replying.{written, reply_seen, status_of, fault_reply, certificate_reply};
 ghost use Rattle.fhir_answers.specs.Status.{standing_status};
-ghost use Rattle.fhir_registry.specs.Standing.{AlwaysConforms};
+ghost use Rattle.fhir_replies.specs.Standing.{AlwaysConforms};
 ghost use Rattle.fhir_answers.specs.Views.{bytes_seen};
 
 use crate::reply::{Reply, Status, fault_reply, unreadable_reply};
@@ -23,7 +23,7 @@ use fhir_elements::ElementDef;
 use fhir_json::{Json, NoMemory, write};
 use fhir_overlay::elements_json;
 use fhir_package::Package;
-use fhir_registry::judge;
+use fhir_replies::judge;
 use fhir_schema::Schema;
 use fhir_snapshot::{SnapNumber, generate};
 use std::alloc::Global;

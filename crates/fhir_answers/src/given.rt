@@ -3,7 +3,7 @@
 ghost use Rattle.std.specs.Prelude.{◌≡◌, ◌++◌, None, Some, IfOk, IfSome, IfNone, IsSome, codes, string_bytes};
 ghost use Rattle.fhir_json.specs.Tree.{Text};
 ghost use Rattle.fhir_json.specs.Views.{text_seen};
-ghost use Rattle.fhir_registry.specs.Standing.{ConformsAsGiven};
+ghost use Rattle.fhir_replies.specs.Standing.{ConformsAsGiven};
 ghost use Rattle.fhir_package.specs.declared.kind.Kind.TheVariants.{StructureDefinition};
 ghost use Rattle.fhir_package.specs.Definitions.{at_url};
 ghost use Rattle.fhir_elements.specs.Numbers.{reason_number};
@@ -20,7 +20,7 @@ use crate::session::Session;
 use fhir_elements::Reason;
 use fhir_findings::Selection;
 use fhir_json::NoMemory;
-use fhir_registry::judge_given;
+use fhir_replies::judge_given;
 use fhir_schema::Schema;
 use fhir_unread::Given;
 use fhir_vouching::GivenFault;

@@ -19,8 +19,8 @@ use Rattle.fhir_validator.specs.declared.verdict.Verdict.{Verdict}
 use Rattle.fhir_validator.specs.declared.verdict.Verdict.TheVariants as verdicts
 use Rattle.fhir_validator.specs.declared.verdict.Vouched.{Vouched}
 use Rattle.fhir_validator.specs.declared.verdict.Vouched.TheVariants as vouched
-use Rattle.fhir_registry.specs.Judging.{standing_of, standing_given}
-use Rattle.fhir_registry.specs.Standing.{Stands, StandsAsGiven, AlwaysConforms, NeverConforms, ConformsAsGiven}
+use Rattle.fhir_replies.specs.Judging.{standing_of, standing_given}
+use Rattle.fhir_replies.specs.Standing.{Stands, StandsAsGiven, AlwaysConforms, NeverConforms, ConformsAsGiven}
 use Rattle.fhir_claims.specs.Claims.{type_node, profiles_of}
 use Rattle.fhir_inputs.specs.declared.input.Kind.{Kind}
 use Rattle.fhir_telling.specs.declared.verdict.LineVerdict.{LineVerdict}

@@ -5,7 +5,7 @@ use Rattle.fhir_json.specs.Tree.{Text, Tree}
 use Rattle.fhir_claims.specs.Claims.{profiles_of}
 use Rattle.fhir_commands.specs.declared.reply.Standing.{Standing}
 use Rattle.fhir_schema.specs.Schemas.{SchemaValue}
-use Rattle.fhir_registry.specs.Judging.{IsJudged, IsJudgedAsGiven}
+use Rattle.fhir_replies.specs.Judging.{IsJudged, IsJudgedAsGiven}
 use Rattle.fhir_words.specs.declared.request.Format.{Format}
 use Rattle.fhir_telling.specs.declared.question.Profiles.{Profiles}
 use Rattle.fhir_telling.specs.declared.question.Profiles.TheVariants.{At, Own}

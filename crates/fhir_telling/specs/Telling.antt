@@ -8,7 +8,7 @@ use Rattle.fhir_inputs.specs.declared.input.Kind.{Kind}
 use Rattle.fhir_inputs.specs.declared.input.Kind.TheVariants.{Document, Lines}
 use Rattle.fhir_commands.specs.declared.reply.Standing.{Standing}
 use Rattle.fhir_commands.specs.declared.reply.Standing.TheVariants.{Violates, Fault}
-use Rattle.fhir_registry.specs.Outcomes.{HasSeverity, IsOutcome}
+use Rattle.fhir_replies.specs.Outcomes.{HasSeverity, IsOutcome}
 use Rattle.fhir_claims.specs.Claims.{resource_url, type_node, profiles_of, skipped_of}
 use Rattle.fhir_telling.specs.Verdicts.{verdict_of, worst}
 use Rattle.fhir_telling.specs.Judgements.{JudgementValue, ToldValue, told_memory, told_empty, issues_of, IsNoted}

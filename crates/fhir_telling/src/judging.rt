@@ -13,7 +13,7 @@ use crate::question::Question;
 use crate::verdict::LineVerdict;
 use fhir_commands::Standing;
 use fhir_json::{Json, NoMemory, Position};
-use fhir_registry::{judge, judge_given};
+use fhir_replies::{judge, judge_given};
 use std::alloc::Global;
 
 /// How the resource that bytes are stands with a profile, and the outcome that says so. The one refusal is want of memory.

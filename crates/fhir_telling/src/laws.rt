@@ -4,7 +4,7 @@ ghost use Rattle.std.specs.Prelude.{◌≡◌, ℕ, List, None, Some, All};
 ghost use Rattle.std.specs.List.{Contains};
 ghost use Rattle.fhir_json.specs.Grammar.{Reads};
 ghost use Rattle.fhir_json.specs.Tree.{Text, Tree};
-ghost use Rattle.fhir_registry.specs.Standing.{AlwaysConforms, NeverConforms, ConformsAsGiven};
+ghost use Rattle.fhir_replies.specs.Standing.{AlwaysConforms, NeverConforms, ConformsAsGiven};
 ghost use Rattle.fhir_inputs.specs.declared.input.Kind.{Kind};
 ghost use Rattle.fhir_telling.specs.declared.verdict.LineVerdict.TheVariants as verdicts;
 ghost use Rattle.fhir_telling.specs.Judgements.{ToldValue};

@@ -4,7 +4,7 @@ ghost use Rattle.std.specs.Prelude.{◌≡◌, ◌++◌, length, map, codes, All
 ghost use Rattle.fhir_json.specs.Fields.{text_in, items_in};
 ghost use Rattle.fhir_json.specs.Tree.{Text, string, array, object, items_of, members_of};
 ghost use Rattle.fhir_json.specs.Views.{tree_of, trees_of, property_of};
-ghost use Rattle.fhir_registry.specs.Outcomes.{HasSeverity};
+ghost use Rattle.fhir_replies.specs.Outcomes.{HasSeverity};
 ghost use Rattle.fhir_telling.specs.Judgements.{issues_of};
 ghost use Rattle.fhir_telling.specs.Telling.{IsWarned};
 

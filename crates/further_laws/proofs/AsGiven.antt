@@ -21,8 +21,8 @@ use Rattle.fhir_validator.specs.declared.verdict.Vouched.TheVariants as vouched
 use Rattle.fhir_validator.specs.Verdicts.{Means}
 use Rattle.fhir_commands.specs.declared.reply.Standing.{Standing}
 use Rattle.fhir_commands.specs.declared.reply.Standing.TheVariants as standings
-use Rattle.fhir_registry.specs.Standing.{Stands, StandsAsGiven}
-use Rattle.fhir_registry.specs.Judging.{standing_of, standing_given, IsJudged, IsJudgedAsGiven}
+use Rattle.fhir_replies.specs.Standing.{Stands, StandsAsGiven}
+use Rattle.fhir_replies.specs.Judging.{standing_of, standing_given, IsJudged, IsJudgedAsGiven}
 
 -- ---- a fault excludes a verdict
 

@@ -11,7 +11,7 @@ ghost use Rattle.fhir_conformance.specs.Conformance.{as_read, constant, Conforms
 ghost use Rattle.fhir_cert_check.specs.Inclusion.{Includes};
 ghost use Rattle.fhir_commands.specs.declared.reply.Standing.{Standing};
 ghost use Rattle.fhir_commands.specs.declared.reply.Standing.TheVariants as standings;
-ghost use Rattle.fhir_registry.specs.Judging.{IsJudged, IsJudgedAsGiven};
+ghost use Rattle.fhir_replies.specs.Judging.{IsJudged, IsJudgedAsGiven};
 
 use fhir_conformance::given_texts;
 use fhir_facets::given_rules;

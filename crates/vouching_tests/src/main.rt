@@ -7,7 +7,7 @@
 
 use fhir_json::write;
 use fhir_package::{FolderFile, MemoryFolder, load};
-use fhir_registry::judge_given;
+use fhir_replies::judge_given;
 use fhir_schema::Schema;
 use fhir_validator::{Site, Vouched, validate_given};
 use fhir_vouching::{Vouching, read_given};

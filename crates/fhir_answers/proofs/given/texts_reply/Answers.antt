@@ -1,6 +1,6 @@
 use Rattle.std.proofs.Common.{string_bytes, subst}
 use Rattle.std.proofs.lemmas.Result.{IfOk-weaker}
-use Rattle.fhir_registry.specs.Standing.{ConformsAsGiven}
+use Rattle.fhir_replies.specs.Standing.{ConformsAsGiven}
 use Rattle.fhir_answers.specs.Replying.{reply_seen}
 use Rattle.fhir_answers.proofs.Judging.{answered_by}
 use Rattle.fhir_answers.proofs.given.texts_reply.Goals as goal

@@ -1,6 +1,6 @@
 use Rattle.std.proofs.Common.{◌≡◌, length, codes, All}
 use Rattle.fhir_json.specs.Views.{trees_of}
-use Rattle.fhir_registry.specs.Outcomes.{HasSeverity}
+use Rattle.fhir_replies.specs.Outcomes.{HasSeverity}
 use Rattle.fhir_telling.proofs.warning.warnings_of.Given as goal
 
 abbrev pub invariant-loop-url : goal.invariant-loop-url
