@@ -1,13 +1,13 @@
 -- How the definitions in a folder are served.
-use Rattle.std.specs.Prelude.{◌≡◌, ℕ, List, Option, Some, Ok, IfSome}
+use Rattle.std.specs.Prelude.{◌≡◌, ℕ, List, Option, None, Some, Ok, IfSome}
 use Rattle.std.specs.Io.KnownBytes.{Appends}
 use Rattle.fhir_json.specs.Tree.{Text}
-use Rattle.fhir_package.specs.Definitions.{Definitions}
 use Rattle.fhir_package.specs.Folder.{Files}
 use Rattle.fhir_package.specs.Packing.{pack}
 use Rattle.fhir_serve.specs.Lines.{lines_of, AreFirst}
 use Rattle.fhir_serve.specs.Serving.{Serves}
-use Rattle.fhir_registry.specs.Lines.{AnswersLine, GivenDefinitions, AnswersLineAsGiven}
+use Rattle.fhir_registry.specs.Keeping.{RegistryValue}
+use Rattle.fhir_registry.specs.Lines.{AnswersLine}
 use Rattle.fhir_unread.specs.Given.{texts_given, AreSame}
 
 module _ {V : Type 0} (Answers : V → List ℕ → V → List ℕ → Type 0) where
@@ -30,13 +30,17 @@ module _ {V : Type 0} (Answers : V → List ℕ → V → List ℕ → Type 0) w
     pub are_first : IfSome input (λ bytes. AreFirst lines (lines_of bytes))
     pub answered : WereAnswered v lines old new
 
+-- The definitions are those of the folder's package, and nobody vouches for an unread rule.
+abbrev pub IsOpened : Files → RegistryValue → Type 0
+IsOpened files r = (pack files ≡ Ok r.definitions) × (r.texts ≡ None)
+
 -- The folder's files are a package, and by it all lines of the input were answered.
 abbrev pub IsServed : Files → (input old new : Option (List ℕ)) → Type 0
-IsServed files input old new = (p : Definitions) × (pack files ≡ Ok p) × AllWereAnswered AnswersLine p input old new
+IsServed files input old new = (r : RegistryValue) × IsOpened files r × AllWereAnswered AnswersLine r input old new
 
 -- The same of the first lines of the input.
 abbrev pub IsPartlyServed : Files → (input old new : Option (List ℕ)) → Type 0
-IsPartlyServed files input old new = (p : Definitions) × (pack files ≡ Ok p) × SomeWereAnswered AnswersLine p input old new
+IsPartlyServed files input old new = (r : RegistryValue) × IsOpened files r × SomeWereAnswered AnswersLine r input old new
 
 -- ---- where a user vouches for unread rules
 
@@ -44,14 +48,18 @@ IsPartlyServed files input old new = (p : Definitions) × (pack files ≡ Ok p) 
 abbrev pub AreTexts : Option Text → List Text → Type 0
 AreTexts given texts = (bytes : Text) × (given ≡ Some bytes) × AreSame texts (texts_given bytes)
 
+-- A user vouches for the texts that the lines of the file give.
+pub record AreVouched (given : Option Text) (vouched : Option (List Text)) : Type 0 where
+  pub texts : List Text
+  pub are_vouched : vouched ≡ Some texts
+  pub are_given : AreTexts given texts
+
 -- the definitions are those of the folder's package, and the texts those of the file
-abbrev pub AreHeld : Files → Option Text → GivenDefinitions → Type 0
-AreHeld files given g = (pack files ≡ Ok g.definitions) × AreTexts given g.texts
+abbrev pub AreHeld : Files → Option Text → RegistryValue → Type 0
+AreHeld files given r = (pack files ≡ Ok r.definitions) × AreVouched given r.texts
 
 abbrev pub IsServedAsGiven : Files → Option Text → (input old new : Option (List ℕ)) → Type 0
-IsServedAsGiven files given input old new =
-    (g : GivenDefinitions) × AreHeld files given g × AllWereAnswered AnswersLineAsGiven g input old new
+IsServedAsGiven files given input old new = (r : RegistryValue) × AreHeld files given r × AllWereAnswered AnswersLine r input old new
 
 abbrev pub IsPartlyServedAsGiven : Files → Option Text → (input old new : Option (List ℕ)) → Type 0
-IsPartlyServedAsGiven files given input old new =
-    (g : GivenDefinitions) × AreHeld files given g × SomeWereAnswered AnswersLineAsGiven g input old new
+IsPartlyServedAsGiven files given input old new = (r : RegistryValue) × AreHeld files given r × SomeWereAnswered AnswersLine r input old new

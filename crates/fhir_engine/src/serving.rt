@@ -1,10 +1,10 @@
 //! How definitions are served: a session over the lines of an input.
 
-ghost use Rattle.std.specs.Prelude.{◌≡◌, ◌⊎◌, Ok, Some, IfOk, MatchResult, IsTrue};
+ghost use Rattle.std.specs.Prelude.{◌≡◌, ◌⊎◌, Ok, None, Some, IfOk, MatchResult, IsTrue};
 ghost use Rattle.fhir_package.specs.Packing.{pack};
 ghost use Rattle.fhir_package.specs.ReadFiles.{pack_given};
 ghost use Rattle.fhir_answers.specs.Replying.{reply_seen, is_told};
-ghost use Rattle.fhir_engine.specs.Serving.{AllWereAnswered, SomeWereAnswered, IsServed, IsPartlyServed, AreTexts, AreHeld, IsServedAsGiven, IsPartlyServedAsGiven};
+ghost use Rattle.fhir_engine.specs.Serving.{AllWereAnswered, SomeWereAnswered, IsServed, IsPartlyServed, AreTexts, AreVouched, AreHeld, IsOpened, IsServedAsGiven, IsPartlyServedAsGiven};
 ghost use Rattle.fhir_answers.specs.Views.{bytes_seen};
 ghost use Rattle.fhir_unread.specs.Given.{texts_given, AreSame};
 
@@ -16,7 +16,7 @@ use fhir_json::NoMemory;
 use fhir_package::{
     Folder, FolderFault, FolderFiles, Package, Progress, Survey, given_files, surveys,
 };
-use fhir_registry::{GivenRegistry, Registry};
+use fhir_registry::Registry;
 use fhir_serve::{Ending, Service, serve};
 use fhir_unread::Given;
 use fhir_vouching::GivenFault;
@@ -30,7 +30,7 @@ fn registry_of<P: Progress>(
     progress: &mut P,
 ) -> Result<Result<Registry, Reply>, NoMemory>
     ensures { IfOk result (λ r. MatchResult r
-        (λ registry. pack_given files.now ≡ Some (Ok registry))
+        (λ registry. (pack_given files.now ≡ Some (Ok registry.definitions)) × (registry.texts ≡ None))
         (λ reply. IsTrue (is_told (reply_seen reply)))) }
 {
     surveys();
@@ -52,7 +52,7 @@ fn open_registry<F: Folder + Drop, P: Progress>(
     progress: &mut P,
 ) -> Result<Result<Registry, Reply>, NoMemory>
     ensures { IfOk result (λ r. MatchResult r
-        (λ registry. pack (F.files folder) ≡ Ok registry)
+        (λ registry. IsOpened (F.files folder) registry)
         (λ reply. IsTrue (is_told (reply_seen reply)))) }
 {
     given_files();
@@ -152,13 +152,17 @@ fn with_given(
     registry: Registry,
     session: &Session<'_>,
     file: NamedFile<'_>,
-) -> Result<Result<(GivenRegistry, String), Reply>, NoMemory>
+) -> Result<Result<(Registry, String), Reply>, NoMemory>
     ensures { IfOk result (λ r. MatchResult r
-        (λ held. (held.0.definitions ≡ registry) × AreTexts (bytes_seen file.entry.bytes) held.0.texts)
+        (λ held. (held.0.definitions ≡ registry.definitions) × AreVouched (bytes_seen file.entry.bytes) held.0.texts)
         (λ reply. IsTrue (is_told (reply_seen reply)))) }
 {
+    let mut registry = registry;
     match vouched(alloc, session, file)? {
-        Ok(Given { vouching, notes }) => Ok(Ok((GivenRegistry::new(registry, vouching), notes))),
+        Ok(Given { vouching, notes }) => {
+            registry.vouch(vouching);
+            Ok(Ok((registry, notes)))
+        }
         Err(reply) => Ok(Err(reply)),
     }
 }
@@ -169,9 +173,9 @@ fn given_registry_of<P: Progress>(
     files: &FolderFiles,
     file: NamedFile<'_>,
     progress: &mut P,
-) -> Result<Result<(GivenRegistry, String), Reply>, NoMemory>
+) -> Result<Result<(Registry, String), Reply>, NoMemory>
     ensures { IfOk result (λ r. MatchResult r
-        (λ held. (pack_given files.now ≡ Some (Ok held.0.definitions)) × AreTexts (bytes_seen file.entry.bytes) held.0.texts)
+        (λ held. (pack_given files.now ≡ Some (Ok held.0.definitions)) × AreVouched (bytes_seen file.entry.bytes) held.0.texts)
         (λ reply. IsTrue (is_told (reply_seen reply)))) }
 {
     match registry_of(alloc, files, progress)? {
@@ -190,7 +194,7 @@ fn open_given<F: Folder + Drop, P: Progress>(
     folder: F,
     file: NamedFile<'_>,
     progress: &mut P,
-) -> Result<Result<(GivenRegistry, String), Reply>, NoMemory>
+) -> Result<Result<(Registry, String), Reply>, NoMemory>
     ensures { IfOk result (λ r. MatchResult r
         (λ held. AreHeld (F.files folder) (bytes_seen file.entry.bytes) held.0)
         (λ reply. IsTrue (is_told (reply_seen reply)))) }

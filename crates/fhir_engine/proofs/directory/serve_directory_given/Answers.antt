@@ -1,6 +1,6 @@
 use Rattle.std.proofs.Common.{rules, ◌≡◌, subst}
 use Rattle.std.specs.Io.Buffered.{reader_remaining}
-use Rattle.fhir_registry.specs.Lines.{AnswersLineAsGiven}
+use Rattle.fhir_registry.specs.Lines.{AnswersLine}
 use Rattle.fhir_answers.specs.Views.{bytes_seen}
 use Rattle.fhir_engine.specs.Serving.{AllWereAnswered}
 use Rattle.fhir_engine.proofs.directory.serve_directory_given.Goals as goal
@@ -15,7 +15,7 @@ returns-in-Ok-open_served g c is =
         served.0,
         served.1,
         subst
-            (λ input. AllWereAnswered AnswersLineAsGiven served.0 input (g.W.Write.contents c.args.out.now) (g.W.Write.contents c.serve_folder_given.new.out))
+            (λ input. AllWereAnswered AnswersLine served.0 input (g.W.Write.contents c.args.out.now) (g.W.Write.contents c.serve_folder_given.new.out))
             whole served.2,
       ),
     )
