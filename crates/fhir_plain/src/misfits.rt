@@ -260,7 +260,15 @@ fn type_words(alloc: Global, spot: Spot<'_, '_>) -> Result<String, AllocError> {
     )
 }
 
-/// The words on the misfit of a number at a place of a resource. They are empty where there is nothing at the place.
+// Other diagnostics are told by themselves, and their places, which may be as many as a resource has, aren't looked for.
+fn is_misfit(number: &str) -> bool {
+    match number {
+        "I1" | "I2" | "I3" | "I4" | "I5" | "I6" | "I7" => true,
+        _ => false,
+    }
+}
+
+/// The words on the misfit of a number at a place of a resource. They are empty where there is nothing at the place, and where it is no misfit.
 pub(crate) fn misfit_words(
     alloc: Global,
     schema: &Schema,
@@ -268,6 +276,9 @@ pub(crate) fn misfit_words(
     place: &str,
     number: &str,
 ) -> Result<String, AllocError> {
+    if !is_misfit(number) {
+        return Ok(String::new(alloc));
+    }
     let Some(site) = Site::at(schema, resource, place) else {
         return Ok(String::new(alloc));
     };
