@@ -71,6 +71,7 @@ ghost use Rattle.fhir_commands.specs.Replies.{reply_seen};
 ghost use Rattle.fhir_reach.specs.Reach.{restrict};
 ghost use Rattle.fhir_reach.specs.Search.{reached};
 ghost use Rattle.fhir_reach.specs.Starting.{starts_of};
+ghost use Rattle.fhir_replies.specs.Judging.{IsJudged};
 ghost use Rattle.fhir_registry.specs.Session.{IsReply};
 
 use fhir_archives::PackageJson;
@@ -78,7 +79,7 @@ use fhir_asking::{Asks, settle};
 use fhir_cert_check::{Answer, check_bytes};
 use fhir_certificate::CertFault;
 use fhir_codes::expand;
-use fhir_commands::{Command, Reply};
+use fhir_commands::{Command, Reply, Standing};
 use fhir_conformance::{KidsByName, asks};
 use fhir_decimal::Decimal;
 use fhir_definition::Definition;
@@ -104,6 +105,7 @@ use fhir_package::{Folder, Kind, LoadFault, Package, Silent, Survey, load};
 use fhir_prims::{PrimType, lexical};
 use fhir_reach::{reach, restrict, starts_of};
 use fhir_registry::Registry;
+use fhir_replies::judge;
 use fhir_report::Subject;
 use fhir_schema::{NodeRef, Schema, Slot};
 use fhir_slicing::belongs;
@@ -462,6 +464,19 @@ pub fn definitions_under(
     let start = starts_of(alloc, profile, resource)?;
     let keys = reach(alloc, package, &start)?;
     restrict(alloc, package, &keys)
+}
+
+/// How a resource stands with a profile.
+pub fn standing(
+    alloc: Global,
+    schema: &Schema,
+    profile: &str,
+    bytes: &[u8],
+) -> Result<Standing, NoMemory>
+    ensures { IfOk result (λ standing. (outcome : Tree) × IsJudged schema.now profile.now bytes.now standing outcome) }
+{
+    let (standing, _) = judge(alloc, schema, profile, bytes)?;
+    Ok(standing)
 }
 
 /// The reply to a command about a package.
