@@ -1,6 +1,8 @@
 """A JSON schema of what a FHIR profile and the types below it say, for comparisons.
 
-It leaves out what a JSON schema can't say: arrays that are parallel, days that exist, and the order of dates.
+It leaves out what a JSON schema of draft 7 can't say: arrays that are parallel, days that exist, the order of dates, and how many items a
+slice has at most. Slices are those that a fixed value in a property tells apart. Of bindings those are read that are required, by a
+profile, to value sets that list their codes.
 """
 
 import json
@@ -66,27 +68,56 @@ def or_null(value):
     return {"anyOf": [{"type": "null"}, value]}
 
 
+def listed(value_set):
+    """The codes that a value set lists, if it lists them all."""
+    parts = [it.get("concept") for it in value_set["compose"]["include"]]
+    return [it["code"] for part in parts for it in part] if all(parts) else None
+
+
 class Writer:
     """The definitions of a package, and the profile that is written."""
 
     def __init__(self, path, url):
         with open(path, encoding="utf-8") as file:
             resources = [it["resource"] for it in json.load(file)["entry"]]
-        self.types = {it["type"]: it for it in resources if it["derivation"] != "constraint"}
-        self.profile = next(it for it in resources if it["url"] == url)
+        structures = [it for it in resources if it["resourceType"] == "StructureDefinition"]
+        self.types = {it["type"]: it for it in structures if it["derivation"] != "constraint"}
+        self.profile = next(it for it in structures if it["url"] == url)
+        self.codes = {it["url"]: listed(it) for it in resources if it["resourceType"] == "ValueSet"}
 
     def children(self, definition, id):
         """The elements below one, by their names."""
-        below = re.compile(re.escape(id) + r"\.([^.]+)")
+        below = re.compile(re.escape(id) + r"\.([^.:]+)")
         found = ((below.fullmatch(it["id"]), it) for it in definition["snapshot"]["element"])
         return {match.group(1): it for match, it in found if match}
+
+    def slices(self, own):
+        """Of each slice of a profile's element its element, and a schema of the items in it."""
+        name = re.compile(re.escape(own.get("id", ".")) + r":[^.:]+")
+        for slice in (it for it in self.profile["snapshot"]["element"] if name.fullmatch(it["id"])):
+            children = self.children(self.profile, slice["id"])
+            fixed = {it["path"]: asked(children[it["path"]]) for it in own["slicing"]["discriminator"]}
+            yield slice, {"type": "object", "properties": fixed, "required": [*fixed]}
+
+    def item(self, definition, element, code, own):
+        """A value that may be in a slice, and then is as the slice's element asks, which has all that the others have."""
+        made = self.value(definition, element, code, own)
+        for slice, belongs in self.slices(own):
+            made = {"if": belongs, "then": self.object(self.types[code], code, slice["id"]), "else": made}
+        return made
+
+    def bound(self, own):
+        """What a profile's element asks of a code."""
+        binding = own.get("binding", {})
+        codes = self.codes.get(binding.get("valueSet")) if binding.get("strength") == "required" else None
+        return {"enum": codes} if codes else {}
 
     def value(self, definition, element, code, own):
         """A value of a type: `element` is the type's, and `own` the profile's, or empty."""
         if code.startswith(SYSTEM):
             return {"type": "string", "minLength": 1}
         if code in PRIMITIVES:
-            return {**PRIMITIVES[code], **asked(own)}
+            return {**PRIMITIVES[code], **asked(own), **self.bound(own)}
         if self.children(definition, element["id"]):
             return self.object(definition, element["id"], own.get("id"))
         if own and self.children(self.profile, own["id"]):
@@ -107,8 +138,10 @@ class Writer:
             codes = [it["code"] for it in element["type"] if it["code"] in allowed]
             for code in codes:
                 property = name.replace("[x]", code[0].upper() + code[1:])
-                value = self.value(definition, element, code, own)
+                value = self.item(definition, element, code, own)
                 self.put(made, property, value, code in PRIMITIVES, least if element["max"] not in ("0", "1") else None)
+                there = [{"contains": belongs} for slice, belongs in self.slices(own) if slice["min"]]
+                made[property].update({"allOf": there} if there else {})
             if least and len(codes) == 1:
                 required.append(property)
         if definition["kind"] == "resource" and "." not in id:
@@ -130,7 +163,10 @@ class Writer:
 def json_schema(path, url):
     """Of a profile of a package, which is one file."""
     writer = Writer(path, url)
-    definitions = {it: writer.object(found, it, None) for it, found in writer.types.items() if found["kind"] == "complex-type"}
+    definitions = {it: writer.object(found, it, None) for it, found in writer.types.items() if found["kind"] != "primitive-type"}
+    definitions["Companion"] = definitions.get("Element", False)
+    concrete = (it for it, found in writer.types.items() if found["kind"] == "resource" and not found["abstract"])
+    definitions["Resource"] = {"anyOf": [{"$ref": f"#/definitions/{it}"} for it in concrete]}
     type = writer.profile["type"]
-    head = {"$schema": "http://json-schema.org/draft-07/schema#", "definitions": {**definitions, "Companion": definitions["Element"]}}
+    head = {"$schema": "http://json-schema.org/draft-07/schema#", "definitions": definitions}
     return {**head, **writer.object(writer.types[type], type, type)}
