@@ -1,4 +1,5 @@
 pub mod Meanings
+pub mod Nearby
 pub mod Looking
 pub mod Ordered
 pub mod Spots

@@ -3,6 +3,7 @@ pub mod Typing
 pub mod Accounting
 pub mod View
 pub mod Spelled
+pub mod Near
 pub mod Found
 pub mod Misfits
 pub mod TypingExample

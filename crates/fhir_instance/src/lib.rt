@@ -26,6 +26,7 @@ mod found;
 mod laws;
 mod leaves;
 mod misfit;
+mod near;
 mod pairs;
 mod placing;
 mod resource;

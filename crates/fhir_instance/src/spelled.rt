@@ -7,12 +7,14 @@ ghost use Rattle.fhir_json.specs.Tree.{names};
 ghost use Rattle.fhir_json.specs.Views.{members_view};
 ghost use Rattle.fhir_json.specs.Views.{property_of as name_and_value};
 ghost use Rattle.fhir_forms.specs.Forms.{spells};
+ghost use Rattle.fhir_schema.specs.Schemas.{forms as forms_of};
 ghost use Rattle.fhir_instance.specs.Typing.{names_type_in, may_stand, is_of_role, is_known, forms_in};
 ghost use Rattle.fhir_instance.specs.Found.{frame_of, kids_found};
 ghost use Rattle.fhir_instance.specs.Spelled.{property_meant, where_of_role, spelled_at, spelled_from, are_known, of_form, count_front, first_form, value_among, companion_among, places_among};
 
 use crate::found::{Found, Spot};
 use crate::misfit::MisfitKind;
+use crate::near::{Near, property_at};
 use crate::role::ObjectRole;
 use fhir_json::Member;
 use fhir_schema::{Form, NodeRef, Property, Schema};
@@ -88,13 +90,21 @@ fn where_of_role(role: ObjectRole, forms: &[Form], property: Property) -> Option
 }
 
 // What the name of a property means in an object.
-fn property_meant(schema: &Schema, node: NodeRef, role: ObjectRole, name: &str) -> Option<Property>
+fn property_meant(
+    schema: &Schema,
+    node: NodeRef,
+    role: ObjectRole,
+    forms: &[Form],
+    near: &mut Near,
+    name: &str,
+) -> Option<Property>
+    requires { forms.now ≡ forms_of schema.now node }
     ensures property_meant { result ≡ property_meant schema.now (frame_of node role) name.now }
     ensures found { is_some result ≡ list_any (λ f. spells f name.now) (forms_in schema.now (frame_of node role)) }
 {
     schema.forms_are_apart(node);
-    match schema.property(node, name) {
-        Some(property) => where_of_role(role, schema.forms(node), property),
+    match property_at(schema, node, forms, near, name) {
+        Some(property) => where_of_role(role, forms, property),
         None => None,
     }
 }
@@ -105,22 +115,26 @@ fn put<'a, 'j>(
     schema: &Schema,
     node: NodeRef,
     role: ObjectRole,
+    forms: &[Form],
+    near: &mut Near,
     member: &'a Member<'j>,
     at: usize,
     all: &mut Vec<Spelled>,
     found: &mut Found<'a, 'j>,
 ) -> Result<(), AllocError>
+    requires { forms.now ≡ forms_of schema.now node }
     ensures all { OnOk result (all.new.items ≡ all.old.items
         ++ spelled_at at (property_meant schema.now (frame_of node role) (name_and_value member.now).0)) }
     ensures found { OnOk result (kids_found found.new
         ≡ (if is_known schema.now (frame_of node role) (name_and_value member.now).0 then kids_found found.old else None)) }
 {
     let name = name_in(member);
-    let meant = property_meant(schema, node, role, name);
+    let meant = property_meant(schema, node, role, forms, near, name);
     if !is_known_name(role, name, meant.is_some()) {
         found.refuse(alloc, MisfitKind::UnknownProperty, Spot::of(member, at, 0));
     }
     if let Some(property) = meant {
+        near.pass(property.form);
         all.push(Spelled {
             form: property.form,
             is_companion: property.is_companion,
@@ -145,9 +159,22 @@ fn spelled_in<'a, 'j>(
         ≡ (if are_known schema.now (frame_of node role) (names (members_view members.now.items))
         then kids_found found.old else None)) }
 {
+    let forms = schema.forms(node);
+    let mut near = Near::new();
     let mut all = Vec::with_capacity(alloc, members.len())?;
     for i in 0..members.len() {
-        put(alloc, schema, node, role, &members[i], i, &mut all, found)?;
+        put(
+            alloc,
+            schema,
+            node,
+            role,
+            forms,
+            &mut near,
+            &members[i],
+            i,
+            &mut all,
+            found,
+        )?;
     }
     Ok(all)
 }
