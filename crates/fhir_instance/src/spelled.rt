@@ -1,6 +1,6 @@
 //! Which form each property of an object belongs to.
 
-ghost use Rattle.std.specs.Prelude.{◌≡◌, ◌++◌, ◌+◌, ◌<◌, ◌≤◌, ℕ, length, take, drop, IfOk, OnOk, is_some, None, if◌then◌else◌, ◌&&◌, ◌||◌};
+ghost use Rattle.std.specs.Prelude.{◌≡◌, ◌++◌, ◌+◌, ◌<◌, ◌≤◌, ℕ, [], ◌∷◌, length, take, drop, IfOk, OnOk, IsTrue, is_some, None, if◌then◌else◌, ◌&&◌, ◌||◌};
 ghost use Rattle.std.specs.List.{list_any};
 ghost use Rattle.std.specs.List.Sorted.{IsNonDecreasingBy};
 ghost use Rattle.fhir_json.specs.Tree.{names};
@@ -261,6 +261,33 @@ pub(crate) struct Group {
     pub(crate) count: usize,
 }
 
+// Whether the first is the only one of its form.
+fn is_alone(all: &[Spelled]) -> bool
+    requires { 0 < length all.now }
+    ensures { IsTrue result → count_front (first_form all.now) all.now ≡ 1 }
+{
+    if all.len() == 1 {
+        return true;
+    }
+    all[0].form != all[1].form
+}
+
+fn place_of(entry: Spelled) -> Places
+    ensures { result ≡ places_among (entry ∷ []) }
+{
+    if entry.is_companion {
+        Places {
+            value: None,
+            companion: Some(entry.at),
+        }
+    } else {
+        Places {
+            value: Some(entry.at),
+            companion: None,
+        }
+    }
+}
+
 // Those at the front that are of the first one's form.
 fn first_group(rest: &[Spelled]) -> Group
     requires { 0 < length rest.now }
@@ -271,6 +298,13 @@ fn first_group(rest: &[Spelled]) -> Group
     ensures some { 0 < result.count }
 {
     let form = rest[0].form;
+    if is_alone(rest) {
+        return Group {
+            form,
+            places: place_of(rest[0]),
+            count: 1,
+        };
+    }
     let count = count_front(form, rest);
     Group {
         form,
