@@ -75,7 +75,7 @@ fn object_kids<'a, 'j>(
     while i < spelled.len() {
         let group = group_at(&spelled, i);
         let form = form_at(forms, group.form);
-        let before = tally.before(forms, group, members);
+        let before = tally.before(form, group.places, members);
         add_form(
             alloc,
             schema,

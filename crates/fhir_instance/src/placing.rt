@@ -3,7 +3,7 @@
 ghost use Rattle.std.specs.Prelude.{◌≡◌, ◌<◌, length, Some};
 ghost use Rattle.std.specs.List.{slice_get};
 
-use crate::spelled::{Group, Places};
+use crate::spelled::Places;
 use fhir_json::{Json, Member};
 use fhir_schema::Form;
 
@@ -44,13 +44,6 @@ fn count_in(members: &[Member<'_>], at: usize) -> usize {
     }
 }
 
-/// How many items of one element there are so far, and the place of a form of it.
-#[derive(Clone, Copy, Debug)]
-pub(crate) struct Tally {
-    form: Option<usize>,
-    items: usize,
-}
-
 /// The form at a place.
 pub(crate) fn form_at(forms: &[Form], at: usize) -> &Form
     requires { at < length forms.now }
@@ -59,31 +52,44 @@ pub(crate) fn form_at(forms: &[Form], at: usize) -> &Form
     &forms[at]
 }
 
-fn name_at(forms: &[Form], at: Option<usize>) -> &str {
-    match at {
-        Some(i) => match forms.get(i) {
-            Some(form) => form.name(),
-            None => "",
-        },
-        None => "",
-    }
+/// The last form's element: its name, how many items it has before those of the form, and where these are.
+#[derive(Clone, Copy, Debug)]
+pub(crate) struct Tally<'a> {
+    name: &'a str,
+    before: usize,
+    places: Places,
 }
 
-impl Tally {
+impl<'a> Tally<'a> {
     /// None so far.
-    pub(crate) fn new() -> Tally {
+    pub(crate) fn new() -> Tally<'a> {
         Tally {
-            form: None,
-            items: 0,
+            name: "",
+            before: 0,
+            places: Places {
+                value: None,
+                companion: None,
+            },
         }
     }
 
-    /// How many items of the element there are before those of a form, which are counted in.
-    pub(crate) fn before(&mut self, forms: &[Form], group: Group, members: &[Member<'_>]) -> usize {
-        let is_next = name_at(forms, self.form) == name_at(forms, Some(group.form));
-        let before = if is_next { self.items } else { 0 };
-        self.form = Some(group.form);
-        self.items = before.saturating_add(count_at(members, group.places));
+    // How many items the element has so far.
+    fn items(&self, members: &[Member<'_>]) -> usize {
+        self.before.saturating_add(count_at(members, self.places))
+    }
+
+    /// How many items of the element there are before those of the next form, whose properties are at these places.
+    pub(crate) fn before(
+        &mut self,
+        form: &'a Form,
+        places: Places,
+        members: &[Member<'_>],
+    ) -> usize {
+        let is_same = self.name == form.name();
+        let before = if is_same { self.items(members) } else { 0 };
+        self.name = form.name();
+        self.before = before;
+        self.places = places;
         before
     }
 }
