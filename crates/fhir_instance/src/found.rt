@@ -255,6 +255,7 @@ impl<'a, 'j> Found<'a, 'j> {
     }
 
     /// One more child, as a form has it.
+    #[inline(always)]
     pub(crate) fn push(&mut self, form: &'a Form, item: Typed<'a, 'j>) -> Result<(), AllocError>
         ensures { OnOk result (kids_found self.new
             ≡ both (kids_found self.old) (under form.now (Some (item_of item.entry)))) }

@@ -39,6 +39,7 @@ fn is_filled_text(json: &Json<'_>) -> bool
 }
 
 // One more child without children, if it is right.
+#[inline(always)]
 fn add_leaf<'a, 'j>(
     alloc: Global,
     form: &'a Form,
