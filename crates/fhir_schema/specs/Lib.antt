@@ -1,6 +1,7 @@
 pub mod Settling
 pub mod Usability
 pub mod Schemas
+pub mod Known
 pub mod Chains
 pub mod Lineages
 pub mod Covers

@@ -4,6 +4,7 @@ ghost use Rattle.std.specs.Prelude.{◌≡◌, length, false, IsTrue, IfOk};
 ghost use Rattle.std.specs.Option.{option_copied, option_map, option_map_or};
 ghost use Rattle.fhir_json.specs.Memory.{Gives};
 ghost use Rattle.fhir_schema.specs.Schemas.{schema_of, schema_with, unusable, is_usable, elements_at, elements_of_url, has, element_at, url_at, id_of_node, is_root_node, node_in, root_element, root, node_with, node, slots, slot_named, slices, slice_named, criteria, is_closed, target, holder, child_holder, types, forms, property, type_root, resource_root, is_concrete, loaded, concepts_at};
+ghost use Rattle.fhir_schema.specs.Known.{is_lenient, only_type_root};
 ghost use Rattle.fhir_elements.specs.Causes.{blamed_reason, is_blame_among};
 ghost use Rattle.fhir_definition.specs.Blames.{AreBlamesAmong};
 ghost use Rattle.fhir_schema.specs.Settling.{reason_at, all_reasons};
@@ -11,6 +12,7 @@ ghost use Rattle.fhir_schema.specs.Blaming.{reasons_of};
 ghost use Rattle.fhir_nodes.specs.Slots.{all_slots, all_slices};
 ghost use Rattle.fhir_nodes.specs.Expressions.{all_expressions};
 ghost use Rattle.fhir_nodes.specs.Readings.{lists_seen};
+ghost use Rattle.fhir_summaries.specs.Summaries.{all_summaries};
 ghost use Rattle.fhir_forms.specs.Criteria.{all_criteria};
 ghost use Rattle.fhir_schema.specs.Lineages.{IsLineage};
 ghost use Rattle.fhir_nodes.specs.Types.{names_resource, type_of_code, type_place};
@@ -35,6 +37,7 @@ use fhir_nodes::{
     is_resource, names_resource, target, type_of_code,
 };
 use fhir_package::Package;
+use fhir_summaries::Summaries;
 use std::alloc::Global;
 use std::marker::Model;
 
@@ -46,6 +49,7 @@ pub struct Schema {
     blames: Vec<Option<Blame>>,
     nodes: Nodes,
     slices: Nodes,
+    summaries: Summaries,
     criteria: Criteria,
     forms: NodeForms,
     value_sets: ValueSets,
@@ -69,13 +73,14 @@ impl Model for Schema {
     ghost use Rattle.fhir_forms.specs.Criteria.{all_criteria};
     ghost use Rattle.fhir_nodes.specs.Expressions.{all_expressions};
     ghost use Rattle.fhir_nodes.specs.Readings.{lists_seen};
+    ghost use Rattle.fhir_summaries.specs.Summaries.{all_summaries};
     ghost use Rattle.fhir_schema.specs.Lineages.{IsLineage};
     ghost use Rattle.fhir_schema.specs.Blaming.{reasons_of};
     ghost use Rattle.fhir_definition.specs.Blames.{AreBlamesAmong};
 
     ghost view = { λ s. record { definitions = s.table; reasons = reasons_of s.blames.items; value_sets = s.value_sets } };
 
-    ghost invariant = { λ s. (s.nodes ≡ all_slots s.table) × (s.slices ≡ all_slices s.table) × (s.criteria.criteria ≡ all_criteria s.table) × (s.forms.forms ≡ all_forms s.table) × (lists_seen s.expressions ≡ all_expressions s.table) × IsLineage s.table s.lineage × AreBlamesAmong s.table s.blames.items };
+    ghost invariant = { λ s. (s.nodes ≡ all_slots s.table) × (s.slices ≡ all_slices s.table) × (s.criteria.criteria ≡ all_criteria s.table) × (s.forms.forms ≡ all_forms s.table) × (lists_seen s.expressions ≡ all_expressions s.table) × (s.summaries ≡ all_summaries s.table) × IsLineage s.table s.lineage × AreBlamesAmong s.table s.blames.items };
 }
 
 // What definitions say of their own nodes, and of one another's bases.
@@ -84,6 +89,7 @@ struct OwnParts {
     lineage: Lineage,
     nodes: Nodes,
     slices: Nodes,
+    summaries: Summaries,
     expressions: Expressions,
 }
 
@@ -91,16 +97,19 @@ fn own_parts(alloc: Global, table: &Table) -> Result<OwnParts, NoMemory>
     ensures lineage { IfOk result (λ p. IsLineage table.now p.lineage) }
     ensures nodes { IfOk result (λ p. p.nodes ≡ all_slots table.now) }
     ensures slices { IfOk result (λ p. p.slices ≡ all_slices table.now) }
+    ensures summaries { IfOk result (λ p. p.summaries ≡ all_summaries table.now) }
     ensures expressions { IfOk result (λ p. lists_seen p.expressions ≡ all_expressions table.now) }
 {
     let lineage = Lineage::of(alloc, table)?;
     let nodes = Nodes::slots_of(alloc, table)?;
     let slices = Nodes::slices_of(alloc, table)?;
+    let summaries = Summaries::of(alloc, table, &nodes, &slices)?;
     let expressions = Expressions::of(alloc, table)?;
     Ok(OwnParts {
         lineage,
         nodes,
         slices,
+        summaries,
         expressions,
     })
 }
@@ -152,6 +161,7 @@ impl Schema {
             blames: judged.blames,
             nodes: own.nodes,
             slices: own.slices,
+            summaries: own.summaries,
             criteria: judged.criteria,
             forms: judged.forms,
             value_sets,
@@ -449,6 +459,26 @@ impl Schema {
             Some(place) => self.node_in(place, self.root_element(place)),
             None => None,
         }
+    }
+
+    /// The root of the definition of the one type that a node's element names, if it names one alone, and that can be used. What is written
+    /// at a root counts too.
+    pub fn only_type_root(&self, node: NodeRef) -> Option<NodeRef>
+        ensures { result ≡ only_type_root self.now node }
+    {
+        match self.summaries.one_type(node) {
+            Some(place) => self.node_in(place, self.root_element(place)),
+            None => None,
+        }
+    }
+
+    /// Whether a node asks nothing of an item without children, but for its type: its element has no facet, no required binding and no
+    /// constraint that must hold, refers to no other for its content, and none of its slots has to be filled or has slices (FHIR R4,
+    /// ElementDefinition). A node that the schema doesn't have isn't known to.
+    pub fn is_lenient(&self, node: NodeRef) -> bool
+        ensures { result ≡ is_lenient self.now node }
+    {
+        self.summaries.is_lenient(node)
     }
 
     fn is_concrete(&self, code: &str) -> bool
