@@ -33,7 +33,8 @@ use fhir_schema::{NodeRef, Schema};
 use fhir_vouching::Vouching;
 use std::alloc::Global;
 
-fn view_of<'t, 'j>(item: &'t Typed<'_, 'j>) -> View<'t, 'j>
+/// What a facet sees of an item.
+pub fn view_of<'t, 'j>(item: &'t Typed<'_, 'j>) -> View<'t, 'j>
     ensures { view_seen result ≡ seen (item_of item.now) }
 {
     View {
@@ -208,7 +209,9 @@ fn judge_expression<'s, 't, 'a, 'j>(
     Ok(Holding::of(holds(alloc, expression, &env, item)?))
 }
 
-fn judge_constraint<'s, 't, 'a, 'j>(
+/// Whether the constraint at a position among those of a node's element holds of an item, where that is the nearest resource at or
+/// around it, as [`judge`] says it of the rule. Where there is none, or it needn't hold, it does. The one refusal is want of memory.
+pub fn judge_constraint<'s, 't, 'a, 'j>(
     alloc: Global,
     schema: &'s Schema,
     resource: &'t Typed<'a, 'j>,

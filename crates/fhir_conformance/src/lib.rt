@@ -40,11 +40,11 @@ mod sliced;
 
 pub use ask::{Ask, ElementRule};
 pub use asking::asks;
-pub use judging::{judge, judge_entry};
+pub use judging::{judge, judge_constraint, judge_entry, view_of};
 pub use kids_by_name::KidsByName;
 pub use laws::{
     constraints_example, example, fair_meanings, given_example, given_texts, hangs_on_carried,
     letters_example, meanings_agree, positive, questions_example, roots_ask_no_root,
     slices_example, values_example,
 };
-pub use members::{count_in, kid_at};
+pub use members::{count_in, kid_at, nearest_to};

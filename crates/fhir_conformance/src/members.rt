@@ -7,7 +7,7 @@ ghost use Rattle.fhir_instance.specs.Items.{kids_of};
 ghost use Rattle.fhir_instance.specs.View.{item_of};
 ghost use Rattle.fhir_slicing.specs.Belonging.{belongs, is_apart, is_sliced};
 ghost use Rattle.fhir_conformance.specs.Positions.{kid_at, at_kid, members};
-ghost use Rattle.fhir_conformance.specs.Conformance.{count_in};
+ghost use Rattle.fhir_conformance.specs.Conformance.{count_in, nearest_to};
 ghost use Rattle.fhir_conformance.specs.Views.{IsIndexOf};
 
 use crate::kids_by_name::KidsByName;
@@ -24,6 +24,21 @@ pub fn kid_at<'t, 'a, 'j>(item: &'t Typed<'a, 'j>, position: usize) -> Option<&'
         Some(kids[position].item())
     } else {
         None
+    }
+}
+
+/// The nearest resource at or around an item, where that is the nearest around it (FHIR R4, FHIRPath, variables).
+pub fn nearest_to<'t, 'a, 'j>(
+    schema: &Schema,
+    around: &'t Typed<'a, 'j>,
+    item: &'t Typed<'a, 'j>,
+) -> &'t Typed<'a, 'j>
+    ensures { item_of result.now ≡ nearest_to schema.now (item_of around.now) (item_of item.now) }
+{
+    if schema.is_resource(item.code()) {
+        item
+    } else {
+        around
     }
 }
 
