@@ -1,0 +1,5 @@
+mod Parts
+pub mod Kids
+pub mod Turns
+mod Free
+mod Alone

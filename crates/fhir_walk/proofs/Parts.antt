@@ -1,0 +1,134 @@
+-- What a node asks, part by part.
+use Rattle.std.proofs.Common.{◌≡◌, ℕ, ◌+◌, Bool, true, false, List, [], ◌∷◌, ◌++◌, map, refl, sym, ap, ◌∙◌, ◌&&◌, IsTrue, Option, Some, None, cond, arith}
+use Rattle.std.specs.List.{list_all, flat_map}
+use Rattle.std.specs.Option.{option_map_or}
+use Rattle.std.proofs.lemmas.List.Folds.{list_all-append}
+use Rattle.fhir_json.specs.Tree.{Text}
+use Rattle.fhir_json.specs.Bytes.{is_empty}
+use Rattle.fhir_elements.specs.Element.{Element}
+use Rattle.fhir_nodes.specs.declared.node.NodeRef.{NodeRef}
+use Rattle.fhir_nodes.specs.Slots.{Slot}
+use Rattle.fhir_schema.specs.Covers.{covers, type_at}
+use Rattle.fhir_schema.specs.Schemas.{SchemaValue, element_at, is_root_node, type_root, slices, is_closed, entry_of, types as node_types}
+use Rattle.fhir_instance.specs.Items.{Item, type_of}
+use Rattle.fhir_facets.specs.Cardinality.{are_enough, are_within}
+use Rattle.fhir_conformance.specs.Asks.{Ask, profile, child_ask, facet_asks, constraint_asks, own_constraint_asks, own_root, entry_roots, profile_asks, places_of, apart_ask, in_slice_ask, slice_asks, sliced_asks, slot_asks, kids_asks, root_asks, inner_asks, asks}
+use Rattle.fhir_conformance.specs.Conformance.{Around, constant, conforms, at_element, count_of, fixed_at, pattern_at, range_at, length_at, binding_at, types_hold}
+use Rattle.fhir_conformance.proofs.ByAsks.{IsOfType, IsOfCanonical, conforms_to}
+use Rattle.fhir_walk.specs.Walks.{none, passes, pass_all, facets_hold, rest_holds}
+
+regroup : (a b c d e : Bool) → (a && (b && (c && (d && (e && true))))) ≡ ((a && b) && ((c && d) && e))
+regroup true true true true true = refl
+regroup true true true true false = refl
+regroup true true true false e = refl
+regroup true true false d e = refl
+regroup true false c d e = refl
+regroup false b c d e = refl
+
+one : (b : Bool) → (b && true) ≡ b
+one true = refl
+one false = refl
+
+module _ (s : SchemaValue) (here : Around) (x : Item) where
+  pub joined : (xs ys : List Ask) → pass_all s here x (xs ++ ys) ≡ (pass_all s here x xs && pass_all s here x ys)
+  joined xs ys = list_all-append (passes s here x) xs ys
+
+  pub facet_parts : (n : NodeRef) → pass_all s here x (facet_asks n) ≡ option_map_or (facets_hold s x) (element_at s n) true
+  facet_parts n = by_case (element_at s n)
+    where
+      by_case : (o : Option Element)
+          → (option_map_or (fixed_at x) o true && (option_map_or (pattern_at x) o true && (option_map_or (range_at none x) o true && (option_map_or (length_at x) o true && (option_map_or (binding_at s none x) o true && true)))))
+          ≡ option_map_or (facets_hold s x) o true
+      by_case None = refl
+      by_case (Some e) = regroup (fixed_at x e) (pattern_at x e) (range_at none x e) (length_at x e) (binding_at s none x e)
+
+  -- the facets, and then what else there is
+  module _ (n : NodeRef) (rest others : List Ask) where
+    pub facets_first : pass_all s here x (facet_asks n ++ (rest ++ others))
+        ≡ (option_map_or (facets_hold s x) (element_at s n) true && (pass_all s here x rest && pass_all s here x others))
+    facets_first =
+        joined (facet_asks n) (rest ++ others)
+        ∙ (λ i. facet_parts n i && joined rest others i)
+
+  pub root_parts : (r : NodeRef) → pass_all s here x (root_asks s x r)
+      ≡ (covers s (type_at s r) (type_of x) && (option_map_or (facets_hold s x) (element_at s r) true
+      && (pass_all s here x (constraint_asks s r) && pass_all s here x (kids_asks s x r))))
+  root_parts r = ap (λ b. covers s (type_at s r) (type_of x) && b) (facets_first r (constraint_asks s r) (kids_asks s x r))
+
+  -- the profiles that types name are asked for, and needn't hold
+  profiles_pass : (rs : List NodeRef) → pass_all s here x (map profile rs) ≡ true
+  profiles_pass [] = refl
+  profiles_pass (r ∷ rs) = profiles_pass rs
+
+  pub inner_parts : (n : NodeRef) → pass_all s here x (inner_asks s x n)
+      ≡ (types_hold s none (conforms s (constant false) here x) x n && (option_map_or (facets_hold s x) (element_at s n) true
+      && (pass_all s here x (constraint_asks s n) && (pass_all s here x (own_root (type_root s (type_of x))) && pass_all s here x (kids_asks s x n)))))
+  inner_parts n =
+      let own = own_root (type_root s (type_of x)) in
+      let named = profile_asks s x n in
+      let kids = kids_asks s x n in
+      let F = option_map_or (facets_hold s x) (element_at s n) true in
+      let C = pass_all s here x (constraint_asks s n) in
+      let T = types_hold s none (conforms s (constant false) here x) x n in
+      let last : pass_all s here x (own ++ (named ++ kids)) ≡ (pass_all s here x own && pass_all s here x kids) =
+      joined own (named ++ kids)
+      ∙ ap (λ b. pass_all s here x own && b) (joined named kids ∙ ap (λ b. b && pass_all s here x kids) (profiles_pass (flat_map (entry_roots s x) (node_types s n)))) in
+      ap (λ b. T && b) (facets_first n (constraint_asks s n) (own ++ (named ++ kids)) ∙ ap (λ b. F && (C && b)) last)
+
+  -- the same, the rest last
+  pub inner_parts_last : (n : NodeRef) → pass_all s here x (inner_asks s x n)
+      ≡ (types_hold s none (conforms s (constant false) here x) x n && (pass_all s here x (own_root (type_root s (type_of x))) && rest_holds s here x n))
+  inner_parts_last n =
+      inner_parts n
+      ∙ ap (λ b. types_hold s none (conforms s (constant false) here x) x n && b)
+      (turned (option_map_or (facets_hold s x) (element_at s n) true) (pass_all s here x (constraint_asks s n)) (pass_all s here x (own_root (type_root s (type_of x)))) (pass_all s here x (kids_asks s x n)))
+    where
+      turned : (f c r k : Bool) → (f && (c && (r && k))) ≡ (r && (f && (c && k)))
+      turned true true r k = refl
+      turned true false true k = refl
+      turned true false false k = refl
+      turned false c true k = refl
+      turned false c false k = refl
+
+  -- ---- a slot without slices
+
+  regrouped : (a b c : Bool) → (a && (b && c)) ≡ ((a && b) && c)
+  regrouped true b c = refl
+  regrouped false b c = refl
+
+  unsliced : (name : Text) (places : List ℕ) (n : NodeRef) → IsTrue (is_empty (slices s n)) → sliced_asks s x name places n ≡ []
+  unsliced name places n is = ap (λ b. cond b [] (map (apart_ask n) places ++ (flat_map (slice_asks s x name places n) (slices s n) ++ cond (is_closed s n) (map (in_slice_ask n) places) []))) is
+
+  pub slot_parts : (h : NodeRef) (slot : Slot) → IsTrue (is_empty (slices s (entry_of h slot))) → pass_all s here x (slot_asks s x h slot)
+      ≡ ((at_element s (λ e. are_enough e (count_of slot.name x)) (entry_of h slot) && at_element s (λ e. are_within e (count_of slot.name x)) (entry_of h slot))
+      && pass_all s here x (map (child_ask (entry_of h slot)) (places_of slot.name x)))
+  slot_parts h slot is =
+      let n = entry_of h slot in
+      let A = at_element s (λ e. are_enough e (count_of slot.name x)) n in
+      let B = at_element s (λ e. are_within e (count_of slot.name x)) n in
+      let kids = map (child_ask n) (places_of slot.name x) in
+      ap (λ b. A && (B && b))
+      (joined kids (sliced_asks s x slot.name (places_of slot.name x) n)
+      ∙ ap (λ asks. pass_all s here x kids && pass_all s here x asks) (unsliced slot.name (places_of slot.name x) n is)
+      ∙ one (pass_all s here x kids))
+      ∙ regrouped A B (pass_all s here x kids)
+
+  pub too_few_or_many : (h : NodeRef) (slot : Slot)
+      → (at_element s (λ e. are_enough e (count_of slot.name x)) (entry_of h slot) && at_element s (λ e. are_within e (count_of slot.name x)) (entry_of h slot)) ≡ false
+      → false ≡ pass_all s here x (slot_asks s x h slot)
+  too_few_or_many h slot is =
+      let n = entry_of h slot in
+      let rest = pass_all s here x (map (child_ask n) (places_of slot.name x) ++ sliced_asks s x slot.name (places_of slot.name x) n) in
+      sym (regrouped (at_element s (λ e. are_enough e (count_of slot.name x)) n) (at_element s (λ e. are_within e (count_of slot.name x)) n) rest ∙ ap (λ b. b && rest) is)
+
+-- ---- what is asked of an item
+
+module _ (s : SchemaValue) (roots : IsOfType s) (others : IsOfCanonical s) (here : Around) (x : Item) where
+  pub root_told : (r : NodeRef) → IsTrue (is_root_node s r) → conforms s (constant false) here x r ≡ pass_all s here x (root_asks s x r)
+  root_told r is = conforms_to s roots others (constant false) here x r ∙ ap (λ b. pass_all s here x (cond b (root_asks s x r) (inner_asks s x r))) is
+
+  pub inner_told : (n : NodeRef) → is_root_node s n ≡ false → conforms s (constant false) here x n ≡ pass_all s here x (inner_asks s x n)
+  inner_told n is = conforms_to s roots others (constant false) here x n ∙ ap (λ b. pass_all s here x (cond b (root_asks s x n) (inner_asks s x n))) is
+
+  pub own_root_told : (o : Option NodeRef) (r : NodeRef) → o ≡ Some r → conforms s (constant false) here x r ≡ pass_all s here x (own_root o)
+  own_root_told o r is = sym (one (conforms s (constant false) here x r)) ∙ ap (λ o. pass_all s here x (own_root o)) (sym is)

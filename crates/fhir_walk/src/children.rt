@@ -1,0 +1,21 @@
+//! The children of an item by their names.
+
+ghost use Rattle.std.specs.Prelude.{◌≡◌, length};
+ghost use Rattle.fhir_instance.specs.Items.{kids_in};
+ghost use Rattle.fhir_instance.specs.View.{named_in};
+ghost use Rattle.fhir_conformance.specs.Asks.{places_from};
+
+use fhir_instance::Kid;
+
+/// How many children have a name.
+pub(crate) fn count_named(kids: &[Kid<'_, '_>], name: &str) -> usize
+    ensures { result ≡ length (places_from 0 name.now (kids_in (named_in kids.now))) }
+{
+    let mut count = 0;
+    for kid in kids {
+        if kid.name() == name {
+            count += 1;
+        }
+    }
+    count
+}
