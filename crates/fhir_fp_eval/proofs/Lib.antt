@@ -7,3 +7,4 @@ pub mod At
 pub mod Faulty
 pub mod Filtering
 pub mod Spines
+pub mod Visits

@@ -7,4 +7,5 @@ pub mod Pairing
 pub mod Comparing
 pub mod Meaning
 pub mod Spines
+pub mod Paths
 pub mod Example

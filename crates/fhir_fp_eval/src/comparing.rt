@@ -171,8 +171,9 @@ fn node_order(
     }
 }
 
+/// The order of two values.
 #[tactic(auto, unfolding(crate::specs::Comparing::order_of))]
-fn order_of(
+pub(crate) fn order_of(
     alloc: Global,
     schema: &Schema,
     left: Value<'_, '_, '_>,

@@ -5,8 +5,7 @@ ghost use Rattle.std.specs.Option.{option_map};
 ghost use Rattle.fhir_json.specs.Memory.{Gives, GivesOr};
 ghost use Rattle.fhir_fp_syntax.specs.Expression.{expression_of};
 ghost use Rattle.fhir_instance.specs.View.{item_of};
-ghost use Rattle.fhir_fp_eval.specs.Values.{node, number};
-ghost use Rattle.fhir_fp_eval.specs.Literals.{literal_value};
+ghost use Rattle.fhir_fp_eval.specs.Values.{node};
 ghost use Rattle.fhir_fp_eval.specs.Faults.{is_no_memory};
 ghost use Rattle.fhir_fp_eval.specs.Views.{plain_of, plains_of, world_of};
 ghost use Rattle.fhir_fp_eval.specs.Meaning.{criteria_hold, with_next, values_where, filtered_by, den, verdict, is_true};
@@ -14,17 +13,20 @@ ghost use Rattle.fhir_fp_eval.specs.Spines.{base_of, spine, made_of, steps_of};
 
 use crate::fault::EvalFault;
 use crate::lists::{children_of, is_empty, single};
-use crate::literals::literal;
+use crate::literals::number_of;
 use crate::operators::operator_result;
+use crate::quick::{few, truth_said};
 use crate::truths::{is_yes, truth_of};
 use crate::value::{Env, Value};
 use crate::words::{function_result, starts, type_test_result};
-use fhir_decimal::Number;
 use fhir_fp_syntax::{Expr, Filter};
 use fhir_instance::Typed;
 use fhir_json::NoMemory;
 use fhir_schema::Schema;
 use std::alloc::{AllocError, Global};
+
+// How many levels of operands are looked into before an expression is evaluated.
+const DEPTH: usize = 32;
 
 fn filtered_by<'e, 'a, 'j>(
     alloc: Global,
@@ -40,12 +42,6 @@ fn filtered_by<'e, 'a, 'j>(
         Filter::Exists => single(alloc, Value::Truth(!is_empty(&kept))),
         Filter::All => single(alloc, Value::Truth(kept.len() == values.len())),
     }
-}
-
-fn number_of<'e, 'a, 'j>(text: &'e str) -> Value<'e, 'a, 'j>
-    ensures { plain_of result ≡ number (literal_value text.now) }
-{
-    Value::Number(Number::Written(literal(text)))
 }
 
 fn keep_if<'e, 'a, 'j>(
@@ -205,8 +201,28 @@ pub fn eval<'e, 'a, 'j>(
     evaluate(alloc, env, expr, Value::Node(item))
 }
 
-// Whether an expression is true of an item, where all that is borrowed is borrowed as long.
+// Whether an expression is true of an item, by the values that it gives.
 #[tactic(auto, unfolding(crate::specs::Meaning::is_true))]
+fn holds_evaluated<'e, 'a, 'j>(
+    alloc: Global,
+    env: &Env<'e, 'a, 'j>,
+    expr: &'e Expr,
+    item: &'e Typed<'a, 'j>,
+) -> Result<bool, NoMemory>
+    ensures { Gives (λ b. b) result (is_true (world_of env.now) (expression_of expr.now) (item_of item.now)) }
+{
+    match criteria_hold(alloc, env, expr, Value::Node(item)) {
+        Ok(holds) => Ok(holds),
+        Err(fault) => match fault {
+            EvalFault::Several => Ok(false),
+            EvalFault::Kind => Ok(false),
+            EvalFault::NoMemory => Err(NoMemory),
+        },
+    }
+}
+
+// Whether an expression is true of an item, where all that is borrowed is borrowed as long.
+#[tactic(auto, using(crate::proofs::Visits::told_true))]
 fn holds_in<'e, 'a, 'j>(
     alloc: Global,
     expr: &'e Expr,
@@ -224,13 +240,9 @@ fn holds_in<'e, 'a, 'j>(
         resource,
         context,
     };
-    match criteria_hold(alloc, &env, expr, Value::Node(item)) {
-        Ok(holds) => Ok(holds),
-        Err(fault) => match fault {
-            EvalFault::Several => Ok(false),
-            EvalFault::Kind => Ok(false),
-            EvalFault::NoMemory => Err(NoMemory),
-        },
+    match few(alloc, &env, expr, item, DEPTH) {
+        Some(value) => Ok(is_yes(truth_said(value))),
+        None => holds_evaluated(alloc, &env, expr, item),
     }
 }
 

@@ -37,8 +37,8 @@ pub(crate) fn answer<'e, 'a, 'j>(
     }
 }
 
-// The name of an element in a path, which a choice has without its `[x]`.
-fn path_name(name: &str) -> &str
+/// The name of an element in a path, which a choice has without its `[x]`.
+pub(crate) fn path_name(name: &str) -> &str
     ensures { result.now ≡ path_name name.now }
 {
     if name.as_bytes().ends_with(b"[x]") {

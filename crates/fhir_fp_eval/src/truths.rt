@@ -81,7 +81,7 @@ pub(crate) fn same_truth(left: bool, right: bool) -> bool
     if left { right } else { !right }
 }
 
-fn truth_in(said: Option<SystemValue<'_>>) -> bool
+pub(crate) fn truth_in(said: Option<SystemValue<'_>>) -> bool
     ensures { result ≡ truth_in (option_map system_value_seen said.entry) }
 {
     match said {

@@ -90,7 +90,7 @@ pub(crate) fn starts<'e, 'a, 'j>(
     }
 }
 
-fn value_has_value(value: Value<'_, '_, '_>) -> bool
+pub(crate) fn value_has_value(value: Value<'_, '_, '_>) -> bool
     ensures { result ≡ has_value (plain_of value.entry ∷ []) }
 {
     match value {
