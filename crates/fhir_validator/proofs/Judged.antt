@@ -15,12 +15,13 @@ use Rattle.fhir_conformance.specs.Conformance.{Interpretation, Around, nearest_t
 use Rattle.fhir_conformance.specs.Positions.{kid_at}
 use Rattle.fhir_conformance.specs.Views.{ask_seen, asks_seen}
 use Rattle.fhir_conformance.specs.declared.ask.Ask.{Ask}
+use Rattle.fhir_conformance.proofs.ByAsks.{IsOfType, IsOfCanonical, conforms_to, test_at}
 use Rattle.fhir_validator.specs.declared.judgement.Judgement.{Judgement}
 use Rattle.fhir_validator.specs.declared.pair.ItemPair.{ItemPair}
 use Rattle.fhir_validator.specs.Layouts.{LayoutValue, spot_at, item_at, resource_of}
 use Rattle.fhir_validator.specs.Judging.{IsThere, IsRight, IsRightOf, IsOrdered}
-use Rattle.fhir_validator.proofs.Asking.{IsOfType, IsOfCanonical, are_ordered, conforms_to}
-use Rattle.fhir_validator.proofs.Rows.{test_at, own_nearest}
+use Rattle.fhir_validator.proofs.Asking.{are_ordered}
+use Rattle.fhir_validator.proofs.Rows.{own_nearest}
 
 pub weaker : {A E : Type 0} (P Q : A → Type 0) → ((a : A) → P a → Q a) → (r : Result A E) → IfOk r P → IfOk r Q
 weaker P Q f (Ok a) h = f a h

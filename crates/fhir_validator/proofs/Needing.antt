@@ -21,7 +21,8 @@ use Rattle.fhir_conformance.specs.Positions.{kid_at}
 use Rattle.fhir_conformance.specs.Asks.{Ask, own, types, root, child, root_type, constraint, constraint_ask, own_constraint_asks, constraint_asks, facet_asks, own_root, profile_asks, kids_asks, root_asks, inner_asks, asks}
 use Rattle.fhir_conformance.specs.Conformance.{Interpretation, Around, nearest_to, resource_at, inside, below, conforms, kid_tests, ask_conforms, as_read, outermost, Conforms, is_resource_item, constraint_holds, constraint_passes}
 use Rattle.fhir_validator.specs.Needed.{Needed, first, at_item, at_child, IsTrueOrGiven, ConstraintsHold, ConstraintsHoldAsGiven}
-use Rattle.fhir_validator.proofs.Asking.{IsOfType, IsOfCanonical, conforms_to, contains_mapped}
+use Rattle.fhir_conformance.proofs.ByAsks.{IsOfType, IsOfCanonical, conforms_to}
+use Rattle.fhir_validator.proofs.Asking.{contains_mapped}
 
 all_among : {A : Type 0} (p : A → Bool) (xs : List A) (x : A) → list_all p xs ≡ true → Contains xs x → p x ≡ true
 all_among p [] x each h = absurd (omega (arith, h.1))

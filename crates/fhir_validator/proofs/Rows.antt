@@ -14,7 +14,7 @@ use Rattle.fhir_instance.specs.Items.{Item, Kids, no_kids, kid, kids_of, kids_in
 use Rattle.fhir_instance.specs.View.{named_of, named_in}
 use Rattle.fhir_instance.specs.declared.typed.Kid.{Kid as Child}
 use Rattle.fhir_conformance.specs.Positions.{kid_at}
-use Rattle.fhir_conformance.specs.Conformance.{Interpretation, Around, nearest_to, is_resource_item, below, conforms, kid_tests}
+use Rattle.fhir_conformance.specs.Conformance.{nearest_to, is_resource_item}
 use Rattle.fhir_validator.specs.declared.layout.Stand.{Stand}
 use Rattle.fhir_validator.specs.Layouts.{LayoutValue, laid_out, Spot, spot_in, spot_of, spots_in, nowhere, numbered, place_in_row, spot_at, item_at, resource_of, kids_at, AreStands, AreFrom, AreLaid, IsLaid}
 
@@ -113,16 +113,6 @@ module _ (s : SchemaValue) where
       none_of : (o : Option Item) → option_map (spot_of s (numbered xs i).resource) o ≡ None → None ≡ o
       none_of None e = refl
       none_of (Some x) e = cc
-
--- ---- the test of a child
-
-pub test_at : (s : SchemaValue) (meaning : Interpretation) (around : Around) (p : ℕ) (ks : Kids) (i : ℕ) (n : NodeRef)
-    → get_or (kid_tests s meaning around p ks) i (λ n. true) n ≡ option_map_or (λ y. conforms s meaning (below around (p + i)) y n) (kid_at ks i) true
-test_at s meaning around p no_kids i n = refl
-test_at s meaning around p (kid name x ks) zero n = ap (λ q. conforms s meaning (below around q) x n) (omega arith)
-test_at s meaning around p (kid name x ks) (suc i) n =
-    let e : suc p + i ≡ p + suc i = omega arith in
-    test_at s meaning around (suc p) ks i n ∙ ap (λ q. option_map_or (λ y. conforms s meaning (below around q) y n) (kid_at ks i) true) e
 
 -- ---- the children of a `Typed`
 

@@ -8,7 +8,7 @@ ghost use Rattle.fhir_conformance.specs.Positions.{kid_at};
 ghost use Rattle.fhir_conformance.specs.Views.{IsIndexOf};
 ghost use Rattle.fhir_validator.specs.Layouts.{place_in_row, spot_in, spot_of, spots_in, spot_at, item_at, resource_of, number_of, IsStand, AreStands};
 
-use fhir_conformance::KidsByName;
+use fhir_conformance::{KidsByName, nearest_to};
 use fhir_instance::Typed;
 use fhir_json::NoMemory;
 use fhir_schema::Schema;
@@ -56,21 +56,6 @@ impl<'s, 't, 'a, 'j> Model for Layout<'s, 't, 'a, 'j> {
     ghost view = { λ l. laid_out l.schema.now l.given.now l.stands.items };
 
     ghost invariant = { λ l. IsLaid l.schema.now l.stands.items l.firsts.items };
-}
-
-// The nearest resource at or around an item, where that is the nearest around it.
-fn nearest_to<'t, 'a, 'j>(
-    schema: &Schema,
-    around: &'t Typed<'a, 'j>,
-    item: &'t Typed<'a, 'j>,
-) -> &'t Typed<'a, 'j>
-    ensures { item_of result.now ≡ nearest_to schema.now (item_of around.now) (item_of item.now) }
-{
-    if schema.is_resource(item.code()) {
-        item
-    } else {
-        around
-    }
 }
 
 fn stand_of<'t, 'a, 'j>(

@@ -14,7 +14,8 @@ use Rattle.fhir_validator.specs.Judgements.{under, same_judgement}
 use Rattle.fhir_validator.specs.Layouts.{item_at}
 use Rattle.fhir_validator.specs.Judging.{IsRight, IsRightOf}
 use Rattle.fhir_validator.specs.Listing.{upper, is_hanging, IsAllowed, IsHangingRoot, IsAskedBy, IsToList, PairIsTold, MarksAreTold, Grown, Lists}
-use Rattle.fhir_validator.proofs.Asking.{conforms_to, ordered_in}
+use Rattle.fhir_conformance.proofs.ByAsks.{conforms_to}
+use Rattle.fhir_validator.proofs.Asking.{ordered_in}
 use Rattle.fhir_validator.proofs.Explained.{on_any, all_more, each_held, told_same, grown_marked, hangs_between, lists_held, types_told, other_told}
 use Rattle.fhir_validator.proofs.Judged.{all_answered, asked_of, of_none, kid_there, standing, stands_there}
 use Rattle.fhir_validator.proofs.Measures.{weight, lighter_root, lighter_kid}

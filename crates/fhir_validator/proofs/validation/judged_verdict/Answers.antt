@@ -5,7 +5,7 @@ use Rattle.fhir_validator.specs.declared.pair.ItemPair.{ItemPair}
 use Rattle.fhir_validator.specs.Layouts.{item_at, resource_of}
 use Rattle.fhir_validator.specs.Judging.{IsRight}
 use Rattle.fhir_validator.proofs.Whole.{holding, given_verdict, open_verdict, fails_verdict}
-use Rattle.fhir_validator.proofs.validation.verdict_at.Goals as goal
+use Rattle.fhir_validator.proofs.validation.judged_verdict.Goals as goal
 
 pub returns-in-Holds : goal.returns-in-Holds
 returns-in-Holds c =
