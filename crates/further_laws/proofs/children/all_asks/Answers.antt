@@ -1,4 +1,4 @@
-use Rattle.fhir_validator.proofs.Asking.{conforms_to}
+use Rattle.fhir_conformance.proofs.ByAsks.{conforms_to}
 use Rattle.further_laws.proofs.children.all_asks.Goals as goal
 
 pub returns : goal.returns
