@@ -1,11 +1,10 @@
 -- What a lenient node asks of an item without children, but for its type: nothing.
-use Rattle.std.proofs.Common.{◌≡◌, ℕ, zero, suc, Bool, true, false, not, is_none, List, [], ◌∷◌, ◌++◌, map, length, refl, sym, ap, ◌∙◌, ◌&&◌, ◌||◌, nat_eq, nat_le, IsTrue, Option, Some, None, cond, subst, arith}
+use Rattle.std.proofs.Common.{◌≡◌, ℕ, zero, suc, Bool, true, false, not, is_none, List, [], ◌∷◌, map, length, refl, ap, ◌∙◌, ◌&&◌, ◌||◌, nat_eq, nat_le, IsTrue, Option, Some, None, cond, arith}
 use Rattle.std.specs.List.{list_all, flat_map, range_with_len, slice_get}
 use Rattle.std.specs.Option.{option_map_or, option_and_then, option_or}
 use Rattle.std.specs.Ordering.{is_ge, is_le}
 use Rattle.std.proofs.lemmas.Bool.{and_parts, and_from, false≢true}
 use Rattle.fhir_json.specs.Tree.{Text}
-use Rattle.fhir_json.specs.Bytes.{is_empty}
 use Rattle.fhir_elements.specs.declared.max.Max.{Max}
 use Rattle.fhir_elements.specs.declared.max.Max.TheVariants.{Unbounded, UpTo}
 use Rattle.fhir_elements.specs.Constraint.{Constraint, must_hold}
@@ -13,14 +12,14 @@ use Rattle.fhir_elements.specs.Element.{Element, required_value_set}
 use Rattle.fhir_elements.specs.Max.{is_within}
 use Rattle.fhir_nodes.specs.declared.node.NodeRef.{NodeRef}
 use Rattle.fhir_nodes.specs.Slots.{Slot}
-use Rattle.fhir_nodes.specs.Contents.{element_of, referred_node}
+use Rattle.fhir_nodes.specs.Contents.{referred_node}
 use Rattle.fhir_nodes.specs.Holders.{slots_at}
-use Rattle.fhir_schema.specs.Schemas.{SchemaValue, element_at, target, holder, slots, entry_of}
-use Rattle.fhir_instance.specs.Items.{Item, Kids, no_kids, kids_of}
+use Rattle.fhir_schema.specs.Schemas.{SchemaValue, element_at, target, slots, entry_of}
+use Rattle.fhir_instance.specs.Items.{Item, no_kids, kids_of}
 use Rattle.fhir_facets.specs.Cardinality.{are_enough, are_within}
 use Rattle.fhir_facets.specs.Ranges.{bound_holds}
-use Rattle.fhir_conformance.specs.Asks.{Ask, constraint_ask, own_constraint_asks, constraint_asks, child_ask, places_from, places_of, slot_asks, slots_ask, kids_asks}
-use Rattle.fhir_conformance.specs.Conformance.{Around, seen, resource_at, constraint_passes, constraint_holds, at_element, count_of, fixed_at, pattern_at, range_at, length_at, binding_at}
+use Rattle.fhir_conformance.specs.Asks.{constraint_ask, own_constraint_asks, constraint_asks, child_ask, places_from, places_of, slot_asks, slots_ask, kids_asks}
+use Rattle.fhir_conformance.specs.Conformance.{Around, seen, resource_at, constraint_passes, constraint_holds, at_element, fixed_at, pattern_at, range_at, length_at, binding_at}
 use Rattle.fhir_summaries.specs.Summaries.{is_bare, has_no_value, has_no_bound, has_no_rule, has_no_error, may_be_absent, may_be_empty, asks_nothing}
 use Rattle.fhir_walk.specs.Walks.{none, passes, pass_all, facets_hold, rest_holds}
 use Rattle.fhir_walk.proofs.Parts.{joined, slot_parts}

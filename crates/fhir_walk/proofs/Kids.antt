@@ -1,5 +1,5 @@
 -- The children of a name, one after the other.
-use Rattle.std.proofs.Common.{◌≡◌, ℕ, zero, suc, ◌+◌, ◌<◌, Bool, true, false, List, [], ◌∷◌, map, length, drop, get_or, refl, sym, ap, ◌∙◌, ◌&&◌, Option, Some, None, cond, arith, subst}
+use Rattle.std.proofs.Common.{◌≡◌, ℕ, suc, ◌+◌, ◌<◌, Bool, true, false, List, ◌∷◌, map, length, get_or, refl, sym, ap, ◌∙◌, ◌&&◌, Some, cond, subst}
 use Rattle.std.specs.Str.{bytes_eq}
 use Rattle.std.specs.Option.{option_map_or}
 use Rattle.fhir_json.specs.Tree.{Text}
@@ -10,7 +10,7 @@ use Rattle.fhir_instance.specs.View.{named_of, named_in}
 use Rattle.fhir_instance.specs.declared.typed.Kid.{Kid}
 use Rattle.fhir_conformance.specs.Asks.{child, child_ask, places_from}
 use Rattle.fhir_conformance.specs.Positions.{kid_at}
-use Rattle.fhir_conformance.specs.Conformance.{Around, constant, inside, below, resource_at, conforms}
+use Rattle.fhir_conformance.specs.Conformance.{Around, constant, inside, below, conforms}
 use Rattle.fhir_conformance.proofs.ByAsks.{test_at}
 use Rattle.fhir_conformance.proofs.KidAt.{is_there}
 use Rattle.fhir_walk.specs.Walks.{passes, pass_all, Tells, IsAroundKids}

@@ -1,5 +1,5 @@
 -- One turn of a loop through a list, and what a call tells that may tell nothing.
-use Rattle.std.proofs.Common.{◌≡◌, ℕ, suc, ◌+◌, ◌-◌, ◌<◌, ◌≤◌, Bool, true, false, List, [], ◌∷◌, map, length, drop, get_or, refl, sym, ap, ◌∙◌, ◌&&◌, ◌||◌, eqb, ne_eqb, add-one, Option, Some, None, arith}
+use Rattle.std.proofs.Common.{◌≡◌, ℕ, suc, ◌+◌, ◌-◌, ◌<◌, Bool, true, false, List, [], ◌∷◌, map, length, drop, get_or, refl, sym, ap, ◌∙◌, ◌&&◌, ◌||◌, eqb, ne_eqb, add-one, Option, Some, None, arith}
 use Rattle.std.specs.Prelude.{IfSome}
 use Rattle.std.proofs.Math.Seq.{drop-cons}
 use Rattle.std.specs.List.{list_any, range_with_len}
@@ -36,6 +36,10 @@ or_held false b is = is
 pub or_failed : (a b : Bool) → a ≡ false → false ≡ b → false ≡ (a || b)
 or_failed true b none is = cc
 or_failed false b none is = is
+
+pub empty_is : {A : Type 0} (xs : List A) → eqb (length xs) 0 ≡ is_empty xs
+empty_is [] = refl
+empty_is (x ∷ xs) = ne_eqb (suc (length xs)) 0 (λ e. omega arith)
 
 pub empty_mapped : {A B : Type 0} (f : A → B) (xs : List A) → eqb (length xs) 0 ≡ is_empty (map f xs)
 empty_mapped f [] = refl

@@ -1,17 +1,19 @@
-use Rattle.std.proofs.Common.{◌≡◌, ◌+◌, ◌&&◌, ◌||◌, true, false, ℕ, suc, map, drop, string_bytes, add-one, sym, ap, ◌∙◌}
-use Rattle.std.specs.List.{list_any}
+use Rattle.std.proofs.Common.{◌≡◌, ◌+◌, ◌&&◌, true, false, ℕ, suc, map, drop, string_bytes, add-one, sym, ap, ◌∙◌}
+use Rattle.std.specs.List.{list_any, flat_map}
 use Rattle.std.proofs.lemmas.List.{drop_all}
 use Rattle.fhir_json.specs.Bytes.{is_empty}
 use Rattle.fhir_schema.specs.Covers.{covers, type_at}
-use Rattle.fhir_schema.specs.Schemas.{type_root}
-use Rattle.fhir_instance.specs.Items.{type_of, kids_of}
+use Rattle.fhir_schema.specs.Schemas.{type_root, slices}
+use Rattle.fhir_instance.specs.Items.{type_of}
 use Rattle.fhir_instance.specs.View.{item_of}
-use Rattle.fhir_conformance.specs.Asks.{child_ask, places_from, own_root, root_asks, inner_asks}
+use Rattle.fhir_conformance.specs.Positions.{members}
+use Rattle.fhir_conformance.specs.Asks.{child_ask, places_from, places_of, slice_asks, sliced_asks, own_root, root_asks, inner_asks}
 use Rattle.fhir_conformance.specs.Conformance.{constant, conforms, types_hold, profile_holds}
-use Rattle.fhir_walk.specs.Walks.{none, pass_all, rest_holds, Tells}
-use Rattle.fhir_walk.proofs.Parts.{root_parts, inner_parts_last, root_told, inner_told}
+use Rattle.fhir_walk.specs.Walks.{none, pass_all, rest_holds, is_rightly_sliced, Tells, TellsOfKids}
+use Rattle.fhir_walk.proofs.Parts.{joined, sliced_split, root_parts, inner_parts_last, root_told, inner_told}
 use Rattle.fhir_walk.proofs.Kids.{named_from, first_asked, named_first, told_there}
-use Rattle.fhir_walk.proofs.Turns.{next, both_left, both_failed, either_left, either_held, or_held, or_failed, empty_mapped, any_mapped, told_more}
+use Rattle.fhir_walk.proofs.Sliced.{member_asked, member_told, asked_from, asked_next}
+use Rattle.fhir_walk.proofs.Turns.{next, empty_is, both_left, both_failed, either_left, either_held, or_held, or_failed, empty_mapped, any_mapped, told_more}
 use Rattle.fhir_walk.proofs.walking.+walking.Goals as goal
 
 pub item_conforms-returns-then-is_root : goal.item_conforms-returns-then-is_root
@@ -159,3 +161,92 @@ profiles_hold-returns t c = λ here near.
     (sym (ap (list_any (λ q. p (string_bytes q))) (drop_all i ps c.loop-profile-test.false))
     ∙ c.loop-profile.invariant here near
     ∙ any_mapped p string_bytes ps)
+
+pub members_conform-returns-then-not-branch : goal.members_conform-returns-then-not-branch
+members_conform-returns-then-not-branch t c = λ here stands.
+    let s = c.args.schema.now in
+    let x = item_of c.args.item.now in
+    let n = c.args.slice in
+    let name = c.args.name.now in
+    let ks = c.kids-kid-items.result.now in
+    let i = c.loop-kid.kid-index in
+    let k = c.kid-item.result in
+    let told : c.in_ok-member_conforms.field-0 ≡ member_asked s here x n name i k =
+    member_told s here x n name i k ks (item_of c.args.resource.now) c.in_ok-member_conforms.field-0 c.kids-kid-items.ensures c.loop-kid-test.true c.kid-item.is stands
+    (λ here near. c.in_ok-member_conforms.ensures here near) in
+    both_failed (asked_from s here x n name i (drop i ks)) (member_asked s here x n name i k) (asked_from s here x n name (i + 1) (drop (i + 1) ks))
+    (asked_next s here x n name i k ks c.kids-kid-items.ensures c.loop-kid-test.true c.kid-item.is) (sym told ∙ c.if-not-branch.true)
+    ∙ c.loop-kid.invariant here stands
+    ∙ ap (λ kids. pass_all s here x (map (child_ask n) (members s x n (places_from 0 name kids)))) c.kids-kid-items.ensures
+
+pub members_conform-loop-kid-preserved : goal.members_conform-loop-kid-preserved
+members_conform-loop-kid-preserved t c = λ here stands.
+    let s = c.args.schema.now in
+    let x = item_of c.args.item.now in
+    let n = c.args.slice in
+    let name = c.args.name.now in
+    let ks = c.kids-kid-items.result.now in
+    let i = c.loop-kid.kid-index in
+    let k = c.kid-item.result in
+    let told : c.in_ok-member_conforms.field-0 ≡ member_asked s here x n name i k =
+    member_told s here x n name i k ks (item_of c.args.resource.now) c.in_ok-member_conforms.field-0 c.kids-kid-items.ensures c.loop-kid-test.true c.kid-item.is stands
+    (λ here near. c.in_ok-member_conforms.ensures here near) in
+    sym (both_left (asked_from s here x n name i (drop i ks)) (member_asked s here x n name i k) (asked_from s here x n name (i + 1) (drop (i + 1) ks))
+    (asked_next s here x n name i k ks c.kids-kid-items.ensures c.loop-kid-test.true c.kid-item.is) (sym told ∙ c.if-not-branch.false))
+    ∙ c.loop-kid.invariant here stands
+
+pub sliced_conform-returns-then-not-is_rightly_sliced : goal.sliced_conform-returns-then-not-is_rightly_sliced
+sliced_conform-returns-then-not-is_rightly_sliced t c = λ here stands.
+    let s = c.args.schema.now in
+    let x = item_of c.args.item.now in
+    let n = c.args.node in
+    let name = c.args.name.now in
+    let some : is_empty (slices s n) ≡ false =
+    sym (empty_is c.slices-slices.result.now ∙ ap is_empty c.slices-slices.ensures) ∙ sym c.is_empty.ensures ∙ c.if-is_empty.false in
+    both_failed (pass_all s here x (sliced_asks s x name (places_of name x) n)) (is_rightly_sliced s n name x)
+    (pass_all s here x (flat_map (slice_asks s x name (places_of name x) n) (slices s n)))
+    (sliced_split s here x name n some) (sym c.is_rightly_sliced.ensures ∙ c.if-not-is_rightly_sliced.true)
+
+pub sliced_conform-returns : goal.sliced_conform-returns
+sliced_conform-returns t c =
+    let s = c.args.schema.now in
+    let x = item_of c.args.item.now in
+    let n = c.args.node in
+    let name = c.args.name.now in
+    let some : is_empty (slices s n) ≡ false =
+    sym (empty_is c.slices-slices.result.now ∙ ap is_empty c.slices-slices.ensures) ∙ sym c.is_empty.ensures ∙ c.if-is_empty.false in
+    told_more
+    (TellsOfKids s x (item_of c.args.resource.now) (λ here. pass_all s here x (flat_map (slice_asks s x name (places_of name x) n) (slices s n))))
+    (TellsOfKids s x (item_of c.args.resource.now) (λ here. pass_all s here x (sliced_asks s x name (places_of name x) n)))
+    (λ told tells here stands. tells here stands
+    ∙ sym (both_left (pass_all s here x (sliced_asks s x name (places_of name x) n)) (is_rightly_sliced s n name x)
+    (pass_all s here x (flat_map (slice_asks s x name (places_of name x) n) (slices s n)))
+    (sliced_split s here x name n some) (sym c.is_rightly_sliced.ensures ∙ c.if-not-is_rightly_sliced.false)))
+    c.slices_conform.result c.slices_conform.ensures
+
+pub slices_conform-returns-then-not-branch : goal.slices_conform-returns-then-not-branch
+slices_conform-returns-then-not-branch t c = λ here stands.
+    let s = c.args.schema.now in
+    let x = item_of c.args.item.now in
+    let f = slice_asks s x c.args.name.now (places_of c.args.name.now x) c.args.node in
+    let ks = c.slices-slice-items.result.now in
+    let i = c.loop-slice.slice-index in
+    let k = c.slice-item.result in
+    both_failed (pass_all s here x (flat_map f (drop i ks))) (pass_all s here x (f k)) (pass_all s here x (flat_map f (drop (i + 1) ks)))
+    (ap (λ l. pass_all s here x (flat_map f l)) (next ks i k c.loop-slice-test.true c.slice-item.is) ∙ joined s here x (f k) (flat_map f (drop (i + 1) ks)))
+    (sym (c.in_ok-slice_conforms.ensures here stands) ∙ c.if-not-branch.true)
+    ∙ c.loop-slice.invariant here stands
+    ∙ ap (λ l. pass_all s here x (flat_map f l)) c.slices-slice-items.ensures
+
+pub slices_conform-loop-slice-preserved : goal.slices_conform-loop-slice-preserved
+slices_conform-loop-slice-preserved t c = λ here stands.
+    let s = c.args.schema.now in
+    let x = item_of c.args.item.now in
+    let f = slice_asks s x c.args.name.now (places_of c.args.name.now x) c.args.node in
+    let ks = c.slices-slice-items.result.now in
+    let i = c.loop-slice.slice-index in
+    let k = c.slice-item.result in
+    sym (both_left (pass_all s here x (flat_map f (drop i ks))) (pass_all s here x (f k)) (pass_all s here x (flat_map f (drop (i + 1) ks)))
+    (ap (λ l. pass_all s here x (flat_map f l)) (next ks i k c.loop-slice-test.true c.slice-item.is) ∙ joined s here x (f k) (flat_map f (drop (i + 1) ks)))
+    (sym (c.in_ok-slice_conforms.ensures here stands) ∙ c.if-not-branch.false))
+    ∙ c.loop-slice.invariant here stands
