@@ -3,6 +3,7 @@
 ghost use Rattle.std.specs.Prelude.{◌≡◌};
 ghost use Rattle.fhir_forms.specs.Forms.{is_primitive};
 
+use fhir_names::Name;
 use fhir_nodes::NodeRef;
 use fhir_prims::PrimType;
 use std::marker::Model;
@@ -46,7 +47,7 @@ pub struct Property {
 /// One type of an element: under which property it stands, and what that holds.
 #[derive(Debug, Drop)]
 pub struct Form {
-    pub(crate) name: String,
+    pub(crate) name: Name,
     pub(crate) property: String,
     pub(crate) code: String,
     pub(crate) repeats: bool,
@@ -62,7 +63,7 @@ impl Model for Form {
     ghost Value = { Shown };
 
     ghost view = { λ f. record {
-      name = string_bytes f.name;
+      name = f.name;
       property = string_bytes f.property;
       code = string_bytes f.code;
       repeats = f.repeats;
@@ -76,6 +77,13 @@ impl Form {
         ensures { result.now ≡ self.now.name }
     {
         self.name.as_str()
+    }
+
+    /// That name, to be compared with others.
+    pub fn tagged_name(&self) -> &Name
+        ensures { result.now ≡ self.now.name }
+    {
+        &self.name
     }
 
     /// The name of its property, as `valueString`.

@@ -10,6 +10,7 @@ use crate::form::{Content, Form};
 use crate::property_name::property_name;
 use fhir_definition::Definition;
 use fhir_elements::{ElementDef, TypeEntry};
+use fhir_names::Name;
 use fhir_nodes::{
     NodeRef, Nodes, Slot, Table, child_holder, is_system, names_resource, primitive_of,
     root_of_code, typing_entries,
@@ -73,7 +74,7 @@ fn form_of(
     ensures { IfOk result (λ f. f ≡ form_of table.now definition.now slot.now element.now code.now) }
 {
     Ok(Form {
-        name: String::from_str(alloc, slot.name())?,
+        name: Name::of(alloc, slot.name())?,
         property: property_name(alloc, slot.name(), code)?,
         code: String::from_str(alloc, code)?,
         repeats: repeats(element),

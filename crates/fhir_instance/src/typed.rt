@@ -6,6 +6,7 @@ ghost use Rattle.fhir_instance.specs.Items.{type_of, json_of, kids_of, kids_in};
 ghost use Rattle.fhir_instance.specs.View.{item_of, named_of, named_in, repeats_of};
 
 use fhir_json::Json;
+use fhir_names::Name;
 use fhir_schema::Form;
 
 /// An item: a value of a resource as its type definition sees it.
@@ -55,6 +56,13 @@ impl<'a, 'j> Kid<'a, 'j> {
         ensures { result.now ≡ (named_of self.now).0 }
     {
         self.form.name()
+    }
+
+    /// That name, to be compared with others.
+    pub fn tagged_name(&self) -> &Name
+        ensures { result.now ≡ (named_of self.now).0 }
+    {
+        self.form.tagged_name()
     }
 
     /// Whether its element may stand several times in its type. This serves the spelling of places alone: an item doesn't know it.

@@ -25,6 +25,7 @@ mod laws;
 mod parents;
 mod resource_ids;
 mod segments;
+mod tagged;
 mod targets;
 mod texts;
 
@@ -36,4 +37,5 @@ pub use laws::{canonicals_agree, ids_agree, parents_agree, targets_agree};
 pub use parents::{front_of, name_of, slice_of, sliced_of};
 pub use resource_ids::is_id;
 pub use segments::Segment;
+pub use tagged::Name;
 pub use targets::relative_target;

@@ -11,7 +11,7 @@ use crate::slot_list::SlotList;
 use crate::table::Table;
 use fhir_definition::{Definition, is_root};
 use fhir_elements::{ElementDef, TypeEntry};
-use fhir_names::{front_of, name_of, slice_of};
+use fhir_names::{Name, front_of, name_of, slice_of};
 use std::alloc::{AllocError, Global};
 use std::marker::Model;
 
@@ -19,17 +19,16 @@ use std::marker::Model;
 /// are.
 #[derive(Debug, Drop)]
 pub struct Slot {
-    name: String,
+    name: Name,
     entry: usize,
 }
 
 impl Model for Slot {
-    ghost use Rattle.std.specs.Prelude.{string_bytes};
     ghost use Rattle.fhir_nodes.specs.Slots.{Slot as Shown};
 
     ghost Value = { Shown };
 
-    ghost view = { λ s. record { name = string_bytes s.name; entry = s.entry } };
+    ghost view = { λ s. record { name = s.name; entry = s.entry } };
 }
 
 impl Slot {
@@ -38,6 +37,13 @@ impl Slot {
         ensures { result.now ≡ self.now.name }
     {
         self.name.as_str()
+    }
+
+    /// Its name, to be compared with others.
+    pub fn tagged_name(&self) -> &Name
+        ensures { result.now ≡ self.now.name }
+    {
+        &self.name
     }
 
     /// The place of its element in the definition.
@@ -60,7 +66,7 @@ fn id_at(elements: &[ElementDef], place: usize) -> &str
 fn slot_at(alloc: Global, elements: &[ElementDef], place: usize) -> Result<Slot, AllocError>
     ensures { IfOk result (λ s. s ≡ slot_at elements.now place) }
 {
-    let name = String::from_str(alloc, name_of(id_at(elements, place)))?;
+    let name = Name::of(alloc, name_of(id_at(elements, place)))?;
     Ok(Slot { name, entry: place })
 }
 
@@ -68,7 +74,7 @@ fn slice_at(alloc: Global, elements: &[ElementDef], place: usize) -> Result<Slot
     ensures { IfOk result (λ s. s ≡ slice_at elements.now place) }
 {
     let name = slice_of(id_at(elements, place)).unwrap_or("");
-    let name = String::from_str(alloc, name)?;
+    let name = Name::of(alloc, name)?;
     Ok(Slot { name, entry: place })
 }
 

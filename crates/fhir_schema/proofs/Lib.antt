@@ -11,6 +11,8 @@ pub mod OneMeaning
 pub mod Users
 pub mod Spreading
 pub mod FoundThere
+pub mod OfResources
 pub mod ByName
 pub mod Utf8Names
+pub mod Utf8Versions
 pub mod Blamed

@@ -37,7 +37,7 @@ elements_sound t h = by (field (codes "snapshot") t) (field_sound (codes "snapsh
     by (Some v) h = items_in_sound (codes "element") v h
 
 -- a text, where there is one
-abbrev TextIfAny : Option Text → Type 0
+abbrev pub TextIfAny : Option Text → Type 0
 TextIfAny None = Unit {0}
 TextIfAny (Some s) = IsUtf8 s
 
@@ -49,7 +49,7 @@ as_text_utf8 (string s) h = IsUtf8-from_is_utf8 s h
 as_text_utf8 (array ts) h = tt
 as_text_utf8 (object ms) h = tt
 
-text_in_utf8 : (name : Text) (t : Tree) → IsSound t → TextIfAny (text_in name t)
+pub text_in_utf8 : (name : Text) (t : Tree) → IsSound t → TextIfAny (text_in name t)
 text_in_utf8 name t h = by (field name t) (field_sound name t h)
   where
     by : (r : Option Tree) → SoundIfAny r → TextIfAny (option_and_then as_text r)
@@ -108,7 +108,7 @@ there_is (x ∷ es) k e at = by (bytes_eq e.0 x.0) refl k at (λ k. there_is es 
         cc
     by false is (suc k) at behind = behind k at
 
-entry_at : (n : ℕ) (es : List (Text × Tree)) (k : ℕ) (d : Definition) → slice_get (definitions_from n es) k ≡ Some d
+pub entry_at : (n : ℕ) (es : List (Text × Tree)) (k : ℕ) (d : Definition) → slice_get (definitions_from n es) k ≡ Some d
     → (place : ℕ) × (e : Text × Tree) × (slice_get es k ≡ Some e) × (definition_of place e.0 e.1 ≡ d)
 entry_at n [] k d at = absurd (none-some d at)
 entry_at n (x ∷ es) zero d at = (n, x, refl, same_Some _ d at)
@@ -119,7 +119,7 @@ ids_utf8 [] k h = IsUtf8-nil
 ids_utf8 (t ∷ ts) zero h = text_or_nil (text_in (codes "id") t) (text_in_utf8 (codes "id") t h.0)
 ids_utf8 (t ∷ ts) (suc k) h = ids_utf8 ts k h.1
 
-sound_at : (es : List (Text × Tree)) (k : ℕ) (e : Text × Tree) → AllByRecursion (λ e. IsSound e.1) es → slice_get es k ≡ Some e → IsSound e.1
+pub sound_at : (es : List (Text × Tree)) (k : ℕ) (e : Text × Tree) → AllByRecursion (λ e. IsSound e.1) es → slice_get es k ≡ Some e → IsSound e.1
 sound_at [] k e h at = absurd (none-some e at)
 sound_at (x ∷ es) zero e h at = subst (λ (e : Text × Tree). IsSound e.1) (same_Some x e at) h.0
 sound_at (x ∷ es) (suc k) e h at = sound_at es k e h.1 at

@@ -2,6 +2,7 @@ pub mod Settling
 pub mod Usability
 pub mod Schemas
 pub mod Known
+pub mod Versions
 pub mod Chains
 pub mod Lineages
 pub mod Covers

@@ -26,6 +26,7 @@ mod rooted;
 mod schema;
 mod settling;
 mod types;
+mod versions;
 
 pub use fhir_forms::{Content, Criterion, Form, Property, Sought};
 pub use fhir_nodes::{NodeRef, Slot, is_system};
@@ -35,3 +36,4 @@ pub use laws::{
 pub use naming::{names_are_utf8, nodes_by_name};
 pub use rooted::usable_roots;
 pub use schema::Schema;
+pub use versions::versions_are_utf8;

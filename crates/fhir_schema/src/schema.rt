@@ -5,6 +5,8 @@ ghost use Rattle.std.specs.Option.{option_copied, option_map, option_map_or};
 ghost use Rattle.fhir_json.specs.Memory.{Gives};
 ghost use Rattle.fhir_schema.specs.Schemas.{schema_of, schema_with, unusable, is_usable, elements_at, elements_of_url, has, element_at, url_at, id_of_node, is_root_node, node_in, root_element, root, node_with, node, slots, slot_named, slices, slice_named, criteria, is_closed, target, holder, child_holder, types, forms, property, type_root, resource_root, is_concrete, loaded, concepts_at};
 ghost use Rattle.fhir_schema.specs.Known.{is_lenient, only_type_root};
+ghost use Rattle.fhir_json.specs.Views.{text_seen};
+ghost use Rattle.fhir_schema.specs.Versions.{can_be_used, stated_version, version_at, version};
 ghost use Rattle.fhir_elements.specs.Causes.{blamed_reason, is_blame_among};
 ghost use Rattle.fhir_definition.specs.Blames.{AreBlamesAmong};
 ghost use Rattle.fhir_schema.specs.Settling.{reason_at, all_reasons};
@@ -13,6 +15,7 @@ ghost use Rattle.fhir_nodes.specs.Slots.{all_slots, all_slices};
 ghost use Rattle.fhir_nodes.specs.Expressions.{all_expressions};
 ghost use Rattle.fhir_nodes.specs.Readings.{lists_seen};
 ghost use Rattle.fhir_summaries.specs.Summaries.{all_summaries};
+ghost use Rattle.fhir_summaries.specs.ResourceTypes.{of_resources};
 ghost use Rattle.fhir_forms.specs.Criteria.{all_criteria};
 ghost use Rattle.fhir_schema.specs.Lineages.{IsLineage};
 ghost use Rattle.fhir_nodes.specs.Types.{names_resource, type_of_code, type_place};
@@ -37,7 +40,7 @@ use fhir_nodes::{
     is_resource, names_resource, target, type_of_code,
 };
 use fhir_package::Package;
-use fhir_summaries::Summaries;
+use fhir_summaries::{ResourceTypes, Summaries};
 use std::alloc::Global;
 use std::marker::Model;
 
@@ -50,6 +53,7 @@ pub struct Schema {
     nodes: Nodes,
     slices: Nodes,
     summaries: Summaries,
+    resource_types: ResourceTypes,
     criteria: Criteria,
     forms: NodeForms,
     value_sets: ValueSets,
@@ -74,13 +78,23 @@ impl Model for Schema {
     ghost use Rattle.fhir_nodes.specs.Expressions.{all_expressions};
     ghost use Rattle.fhir_nodes.specs.Readings.{lists_seen};
     ghost use Rattle.fhir_summaries.specs.Summaries.{all_summaries};
+    ghost use Rattle.fhir_summaries.specs.ResourceTypes.{of_resources};
     ghost use Rattle.fhir_schema.specs.Lineages.{IsLineage};
     ghost use Rattle.fhir_schema.specs.Blaming.{reasons_of};
     ghost use Rattle.fhir_definition.specs.Blames.{AreBlamesAmong};
 
     ghost view = { λ s. record { definitions = s.table; reasons = reasons_of s.blames.items; value_sets = s.value_sets } };
 
-    ghost invariant = { λ s. (s.nodes ≡ all_slots s.table) × (s.slices ≡ all_slices s.table) × (s.criteria.criteria ≡ all_criteria s.table) × (s.forms.forms ≡ all_forms s.table) × (lists_seen s.expressions ≡ all_expressions s.table) × (s.summaries ≡ all_summaries s.table) × IsLineage s.table s.lineage × AreBlamesAmong s.table s.blames.items };
+    ghost invariant = { λ s. (s.nodes ≡ all_slots s.table) × (s.slices ≡ all_slices s.table) × (s.criteria.criteria ≡ all_criteria s.table) × (s.forms.forms ≡ all_forms s.table) × (lists_seen s.expressions ≡ all_expressions s.table) × (s.summaries ≡ all_summaries s.table) × (s.resource_types ≡ of_resources s.table) × IsLineage s.table s.lineage × AreBlamesAmong s.table s.blames.items };
+}
+
+fn stated_version(definition: &Definition) -> Option<&str>
+    ensures { text_seen result ≡ stated_version definition.now }
+{
+    match definition.version() {
+        Some(version) => version.as_text(),
+        None => None,
+    }
 }
 
 // What definitions say of their own nodes, and of one another's bases.
@@ -90,6 +104,7 @@ struct OwnParts {
     nodes: Nodes,
     slices: Nodes,
     summaries: Summaries,
+    resource_types: ResourceTypes,
     expressions: Expressions,
 }
 
@@ -98,18 +113,21 @@ fn own_parts(alloc: Global, table: &Table) -> Result<OwnParts, NoMemory>
     ensures nodes { IfOk result (λ p. p.nodes ≡ all_slots table.now) }
     ensures slices { IfOk result (λ p. p.slices ≡ all_slices table.now) }
     ensures summaries { IfOk result (λ p. p.summaries ≡ all_summaries table.now) }
+    ensures resource_types { IfOk result (λ p. p.resource_types ≡ of_resources table.now) }
     ensures expressions { IfOk result (λ p. lists_seen p.expressions ≡ all_expressions table.now) }
 {
     let lineage = Lineage::of(alloc, table)?;
     let nodes = Nodes::slots_of(alloc, table)?;
     let slices = Nodes::slices_of(alloc, table)?;
     let summaries = Summaries::of(alloc, table, &nodes, &slices)?;
+    let resource_types = ResourceTypes::of(alloc, table)?;
     let expressions = Expressions::of(alloc, table)?;
     Ok(OwnParts {
         lineage,
         nodes,
         slices,
         summaries,
+        resource_types,
         expressions,
     })
 }
@@ -162,6 +180,7 @@ impl Schema {
             nodes: own.nodes,
             slices: own.slices,
             summaries: own.summaries,
+            resource_types: own.resource_types,
             criteria: judged.criteria,
             forms: judged.forms,
             value_sets,
@@ -218,6 +237,35 @@ impl Schema {
         ensures { result ≡ is_usable self.now place }
     {
         blame_at(&self.blames, place).is_none()
+    }
+
+    /// Whether a definition stands at a url and can be used.
+    pub fn can_be_used(&self, url: &str) -> bool
+        ensures { result ≡ can_be_used self.now url.now }
+    {
+        match self.table.url_place(url) {
+            Some(place) => self.is_usable(place),
+            None => false,
+        }
+    }
+
+    fn version_at(&self, place: usize) -> Option<&str>
+        ensures { text_seen result ≡ version_at self.now place }
+    {
+        match self.table.definition(place) {
+            Some(definition) => stated_version(definition),
+            None => None,
+        }
+    }
+
+    /// The version that the definition at a url states (FHIR R4, StructureDefinition, version), whether it can be used or not.
+    pub fn version(&self, url: &str) -> Option<&str>
+        ensures { text_seen result ≡ version self.now url.now }
+    {
+        match self.table.url_place(url) {
+            Some(place) => self.version_at(place),
+            None => None,
+        }
     }
 
     fn elements_at(&self, place: usize) -> &[ElementDef]
@@ -529,6 +577,17 @@ impl Schema {
         ensures { result ≡ names_resource self.now.definitions code.now }
     {
         names_resource(&self.table, code)
+    }
+
+    /// Whether the type that a node's definition defines or constrains is of resources.
+    #[tactic(auto, using(crate::proofs::OfResources::of_resource_at))]
+    pub fn is_of_resource(&self, node: NodeRef) -> bool
+        ensures { result ≡ names_resource self.now.definitions (type_at self.now node) }
+    {
+        match self.resource_types.at(node.definition) {
+            Some(is_resource) => is_resource,
+            None => names_resource(&self.table, ""),
+        }
     }
 
     /// Whether a type code covers another: it is that one, or it is of a resource from which the other derives by its

@@ -15,7 +15,9 @@
 
 mod elements;
 mod laws;
+mod resource_types;
 mod summaries;
 
 pub use laws::lenient_nodes;
+pub use resource_types::ResourceTypes;
 pub use summaries::Summaries;

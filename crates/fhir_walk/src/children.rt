@@ -6,14 +6,15 @@ ghost use Rattle.fhir_instance.specs.View.{named_in};
 ghost use Rattle.fhir_conformance.specs.Asks.{places_from};
 
 use fhir_instance::Kid;
+use fhir_names::Name;
 
 /// How many children have a name.
-pub(crate) fn count_named(kids: &[Kid<'_, '_>], name: &str) -> usize
+pub(crate) fn count_named(kids: &[Kid<'_, '_>], name: &Name) -> usize
     ensures { result ≡ length (places_from 0 name.now (kids_in (named_in kids.now))) }
 {
     let mut count = 0;
     for kid in kids {
-        if kid.name() == name {
+        if name.is(kid.tagged_name()) {
             count += 1;
         }
     }

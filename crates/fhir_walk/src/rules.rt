@@ -10,7 +10,8 @@ ghost use Rattle.fhir_conformance.specs.Conformance.{at_element};
 ghost use Rattle.fhir_walk.specs.Walks.{Tells, passes, pass_all};
 
 use crate::facets::is_held;
-use fhir_conformance::{judge_constraint, nearest_to};
+use crate::known::nearest_by;
+use fhir_conformance::judge_constraint;
 use fhir_facets::{are_enough, are_within};
 use fhir_instance::Typed;
 use fhir_schema::{NodeRef, Schema};
@@ -37,7 +38,7 @@ fn constraint_holds<'t, 'a, 'j>(
 ) -> Option<bool>
     ensures { IfSome result (Tells (item_of around.now) (λ here. passes schema.now here (item_of item.now) (constraint_ask node position))) }
 {
-    let resource = nearest_to(schema, around, item);
+    let resource = nearest_by(schema, around, item, node);
     let given = Vouching::none();
     match judge_constraint(alloc, schema, resource, item, node, position, &given) {
         Ok(holding) => Some(is_held(holding)),

@@ -11,11 +11,12 @@ ghost use Rattle.fhir_walk.specs.Walks.{none, pass_all, rest_holds, Tells, Tells
 
 use crate::children::count_named;
 use crate::facets::{facets_hold, is_held};
-use crate::known::{is_free, own_root};
+use crate::known::{is_free, nearest_by, own_root};
 use crate::rules::{allows_count, constraints_hold};
-use fhir_conformance::{judge_entry, nearest_to};
+use fhir_conformance::judge_entry;
 use fhir_elements::TypeEntry;
 use fhir_instance::{Kid, Typed};
+use fhir_names::Name;
 use fhir_schema::{NodeRef, Schema, Slot, roots_are_roots};
 use fhir_vouching::Vouching;
 use std::alloc::Global;
@@ -279,7 +280,7 @@ fn kids_conform<'t, 'a, 'j>(
     if item.kids().is_empty() {
         return slots_conform(alloc, schema, around, item, holder, depth, left);
     }
-    let resource = nearest_to(schema, around, item);
+    let resource = nearest_by(schema, around, item, node);
     slots_conform(alloc, schema, resource, item, holder, depth, left)
 }
 
@@ -324,7 +325,7 @@ fn slot_conforms<'t, 'a, 'j>(
         definition: holder.definition,
         element: slot.entry(),
     };
-    let count = count_named(item.kids(), slot.name());
+    let count = count_named(item.kids(), slot.tagged_name());
     if !allows_count(schema, entry, count) {
         return Some(false);
     }
@@ -339,7 +340,7 @@ fn slot_conforms<'t, 'a, 'j>(
         schema,
         resource,
         item,
-        slot.name(),
+        slot.tagged_name(),
         entry,
         depth,
         left,
@@ -353,7 +354,7 @@ fn named_conform<'t, 'a, 'j>(
     schema: &'t Schema,
     resource: &'t Typed<'a, 'j>,
     item: &'t Typed<'a, 'j>,
-    name: &str,
+    name: &Name,
     node: NodeRef,
     depth: usize,
     left: &mut usize,
@@ -376,7 +377,7 @@ fn kid_conforms<'t, 'a, 'j>(
     schema: &'t Schema,
     resource: &'t Typed<'a, 'j>,
     kid: &'t Kid<'a, 'j>,
-    name: &str,
+    name: &Name,
     node: NodeRef,
     depth: usize,
     left: &mut usize,
@@ -384,7 +385,7 @@ fn kid_conforms<'t, 'a, 'j>(
     ensures { IfSome result (Tells (item_of resource.now) (λ here. if bytes_eq name.now (named_of kid.now).0
         then conforms schema.now (constant false) here (named_of kid.now).1 node else true)) }
 {
-    if kid.name() != name {
+    if !name.is(kid.tagged_name()) {
         return Some(true);
     }
     item_conforms(alloc, schema, resource, kid.item(), node, depth, left)
