@@ -11,12 +11,12 @@ use Rattle.std.proofs.lemmas.List.{append-nil}
 use Rattle.std.proofs.lemmas.Slice.Eq.{bytes_eq-Decides}
 use Rattle.fhir_json.specs.Tree.{Text}
 use Rattle.fhir_json.specs.Sound.{differ}
-use Rattle.fhir_certificate.specs.Numbers.{Numbering, number_text, url_text, url_named}
+use Rattle.fhir_certificate.specs.Numbers.{Numbering, number_text, url_text}
 use Rattle.fhir_certificate.specs.Versions.{is_version}
 use Rattle.fhir_certificate.specs.Format.{Name, Line, item, kids, Stated, Written, urls_of, numbering, line_text, pair_text, definitions_text, front_text}
 use Rattle.fhir_certificate.specs.Format.{is_field, is_url, is_name, is_line, is_stated, are_stated_if_any, Spells}
 use Rattle.fhir_certificate.specs.Reading.{cut_at, lines_of, is_ended, line_with, field_at, with_url, url_at, name_at, name_of, line_of, pairs_in, pairs_at}
-use Rattle.fhir_certificate.specs.Reading.{behind_field, definition_fields, definition_with, definition_of, definition_lines, behind_lines}
+use Rattle.fhir_certificate.specs.Reading.{behind_field, definition_with, definition_of, definition_lines, behind_lines}
 use Rattle.fhir_certificate.specs.Reading.{behind_line, field_of, field_line, url_line, written_behind, definitions_at, front_of, written_of}
 use Rattle.fhir_certificate.proofs.Cuts.{Lacks, tail_lacks, cut_some, lines_at, ended_at}
 use Rattle.fhir_certificate.proofs.Numbered.{number_field}
@@ -225,8 +225,7 @@ definitions_again (d ∷ ds) n rest are none =
     let parts = and_parts (is_stated d) (list_all is_stated ds) are in
     let later = definitions_again ds (n + 1) rest parts.1 none in
     let behind = definitions_text (n + 1) ds ++ rest in
-    let lacks = stated_lacks n d parts.0 in
-    (
+    let lacks = stated_lacks n d parts.0 in (
       ap (definition_lines n) (ap lines_of (stated_then n d ds rest) ∙ lines_at (stated_text n d) behind lacks)
           ∙ ap (λ o. option_map_or (λ d. d ∷ definition_lines (n + 1) (lines_of behind)) o []) (definition_again n d parts.0)
           ∙ ap (λ l. d ∷ l) later.0,

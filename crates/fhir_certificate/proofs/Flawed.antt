@@ -1,14 +1,14 @@
 -- Which fault the flaws of a text tell.
-use Rattle.std.proofs.Common.{◌≡◌, ℕ, ◌&&◌, ◌||◌, not, Bool, true, false, List, [], ◌∷◌, ◌++◌, length, map, Option, Some, None, is_some, option_map, if◌then◌else◌, Result, Ok, Err}
-use Rattle.std.proofs.Common.{refl, sym, ap, subst, ◌∙◌}
+use Rattle.std.proofs.Common.{◌≡◌, ℕ, ◌&&◌, ◌||◌, not, Bool, true, false, List, [], ◌∷◌, ◌++◌, length, Option, Some, None, is_some, option_map, if◌then◌else◌, Result, Ok, Err}
+use Rattle.std.proofs.Common.{◌==◌, refl, sym, ap, subst, ◌∙◌, arith, ne_eqb}
 use Rattle.std.specs.Prelude.{codes, IsTrue, IsUtf8, is_none, IfOk}
 use Rattle.std.specs.Option.{option_map_or, option_and_then}
-use Rattle.std.specs.List.{list_all}
-use Rattle.std.proofs.lemmas.Bool.{and_parts, cond-true, cond-false, false≢true, false_from_ne_true}
-use Rattle.std.proofs.lemmas.Option.{option_and_then_some, cond_some}
+use Rattle.std.proofs.lemmas.Bool.{and_parts, cond-true, cond-false, false≢true}
+use Rattle.std.proofs.lemmas.Option.{option_and_then_some}
 use Rattle.fhir_json.specs.Bytes.{is_empty}
 use Rattle.fhir_json.specs.Sound.{differ}
 use Rattle.fhir_json.specs.Tree.{Text}
+use Rattle.fhir_json.specs.Memory.{IsFault}
 use Rattle.fhir_schema.specs.Schemas.{SchemaValue, root}
 use Rattle.fhir_certificate.specs.declared.fault.CertFault.{CertFault}
 use Rattle.fhir_certificate.specs.declared.fault.CertFault.TheVariants.{WrongFormat, UnknownNode, TooManyPairs, NoMemory, OtherVersion}
@@ -16,14 +16,14 @@ use Rattle.fhir_certificate.specs.declared.flaw.Flaw.{Flaw}
 use Rattle.fhir_certificate.specs.declared.flaw.FlawKind.{FlawKind}
 use Rattle.fhir_certificate.specs.declared.flaw.FlawKind.TheVariants.{Expected, Definition, Element, Version}
 use Rattle.fhir_certificate.specs.Certificate.{CertificateValue}
-use Rattle.fhir_certificate.specs.Faults.{Means}
+use Rattle.fhir_certificate.specs.Faults.{is_no_memory, Means}
 use Rattle.fhir_certificate.specs.Format.{Line, Stated, Written, urls_of, numbering}
-use Rattle.fhir_certificate.specs.Judging.{are_loaded, certificate_of, has_room, has_version, has_versions, within, certificate_or_fault}
+use Rattle.fhir_certificate.specs.Judging.{are_loaded, certificate_of, has_room, has_versions, within, certificate_or_fault}
 use Rattle.fhir_certificate.specs.Reading.{lines_of, is_ended, pair_lines, pairs_in, pairs_at, behind_line, url_line, written_behind, definition_lines, behind_lines}
 use Rattle.fhir_certificate.specs.Reading.{definitions_at, written_numbered, front_of, written_of, reading}
 use Rattle.fhir_certificate.specs.Lines.{are_known}
-use Rattle.fhir_certificate.specs.Flaws.{is_of_format, is_of_version, any_of_format, are_of_versions, fault_of_flaws, fault_of_lines}
-use Rattle.fhir_certificate.proofs.Judging.{has_certificate, reading_other, reading_text}
+use Rattle.fhir_certificate.specs.Flaws.{is_of_format, is_of_version, any_of_format, are_of_versions, fault_of_flaws, fault_of_lines, is_other}
+use Rattle.fhir_certificate.proofs.Judging.{has_certificate, reading_other, reading_text, is_refused}
 use Rattle.fhir_certificate.proofs.Pairs.{are_front, at_some}
 use Rattle.fhir_certificate.proofs.Taken.{map_some}
 use Rattle.fhir_certificate.proofs.Again.{written_again}
@@ -289,16 +289,48 @@ versions_told view (Ok x) s bytes found u empty format none other nothing = vers
 versions_told view (Err e) s bytes found u empty format none other nothing = tt
 
 -- where another version is written
-pub other_told : {X E : Type 0} (view : X → List Flaw) (r : Result X E) (s : SchemaValue) (bytes text : Text) → text ≡ bytes
+kept : {X E : Type 0} (view : X → List Flaw) (r : Result X E) (o : Option CertFault) → IfOk r (λ x. fault_of_flaws (view x) ≡ Some OtherVersion)
+    → IfOk r (λ x. o ≡ Some OtherVersion → fault_of_flaws (view x) ≡ Some OtherVersion)
+kept view (Ok x) o h = λ _. h
+kept view (Err e) o h = tt
+
+means_other : (s : SchemaValue) (bytes : Text) (r : Result CertificateValue CertFault) → reading s bytes ≡ r → is_other (fault_of_lines r) ≡ true
     → Means OtherVersion s bytes
+means_other s bytes (Ok c) e is = absurd (false≢true is)
+means_other s bytes (Err WrongFormat) e is = absurd (false≢true is)
+means_other s bytes (Err UnknownNode) e is = absurd (false≢true is)
+means_other s bytes (Err TooManyPairs) e is = absurd (false≢true is)
+means_other s bytes (Err NoMemory) e is = absurd (false≢true is)
+means_other s bytes (Err OtherVersion) e is = is_refused s bytes (Err OtherVersion) e
+
+pub other_told : {X E : Type 0} (view : X → List Flaw) (r : Result X E) (s : SchemaValue) (bytes text : Text) → text ≡ bytes
+    → is_other (fault_of_lines (reading s bytes)) ≡ true
     → ((w : Written) → written_of text ≡ Some w → has_versions s w ≡ false → IfOk r (λ x. fault_of_flaws (view x) ≡ Some OtherVersion))
     → IfOk r (λ x. fault_of_lines (reading s bytes) ≡ Some OtherVersion → fault_of_flaws (view x) ≡ Some OtherVersion)
-other_told view r s bytes text same means h = kept view r (h means.0 (ap written_of same ∙ written_again bytes means.0 means.1) means.4)
-  where
-    kept : {X E A : Type 0} (view : X → List Flaw) (r : Result X E) → IfOk r (λ x. fault_of_flaws (view x) ≡ Some OtherVersion)
-        → IfOk r (λ x. A → fault_of_flaws (view x) ≡ Some OtherVersion)
-    kept view (Ok x) h = λ _. h
-    kept view (Err e) h = tt
+other_told view r s bytes text same is h =
+    let means = means_other s bytes (reading s bytes) refl is in
+    kept view r (fault_of_lines (reading s bytes)) (h means.0 (ap written_of same ∙ written_again bytes means.0 means.1) means.4)
+
+pub other_none : {X E : Type 0} (view : X → List Flaw) (r : Result X E) (o : Option CertFault) → is_other o ≡ true
+    → IfOk r (λ x. o ≡ None → view x ≡ [])
+other_none view (Ok x) o is = λ none. absurd (false≢true (sym (ap is_other none) ∙ is))
+other_none view (Err e) o is = tt
+
+-- whether a version is to blame, where a fault was answered
+pub other_of : {E : Type 0} (s : SchemaValue) (bytes : Text) (fault : CertFault) (r : Result Bool E) → IsFault (is_no_memory fault) fault (reading s bytes)
+    → IfOk r (λ _. is_no_memory fault ≡ false) → IfOk r (λ is. is ≡ is_other (Some fault))
+    → IfOk r (λ has. has ≡ is_other (fault_of_lines (reading s bytes)))
+other_of s bytes fault (Err e) h told other = tt
+other_of s bytes WrongFormat (Ok b) h told other = other ∙ ap (λ r. is_other (fault_of_lines r)) (sym h)
+other_of s bytes UnknownNode (Ok b) h told other = other ∙ ap (λ r. is_other (fault_of_lines r)) (sym h)
+other_of s bytes TooManyPairs (Ok b) h told other = other ∙ ap (λ r. is_other (fault_of_lines r)) (sym h)
+other_of s bytes NoMemory (Ok b) h told other = absurd (false≢true (sym told))
+other_of s bytes OtherVersion (Ok b) h told other = other ∙ ap (λ r. is_other (fault_of_lines r)) (sym h)
+
+-- a list is empty where its length is 0
+pub empty_len : {A : Type 0} (xs : List A) (n : ℕ) (b : Bool) → n ≡ length xs → b ≡ (n == 0) → b ≡ is_empty xs
+empty_len [] n b l e = e ∙ ap (λ k. k == 0) l
+empty_len (x ∷ xs) n b l e = e ∙ ne_eqb n 0 (λ z. absurd (omega arith))
 
 pub flaws_of_other : (s : SchemaValue) (bytes : Text) (flaws : List Flaw) → ¬ IsUtf8 bytes → fault_of_flaws flaws ≡ Some WrongFormat
     → fault_of_flaws flaws ≡ fault_of_lines (reading s bytes)

@@ -1,5 +1,5 @@
 -- Texts that are found by their places, as their list grows at its end.
-use Rattle.std.proofs.Common.{◌≡◌, ℕ, ◌+◌, ◌<◌, ◌≤◌, Bool, true, false, cond, ◌||◌, List, [], ◌∷◌, ◌++◌, length, map, take, get_or, Option, Some, None, is_some, refl, sym, ap, subst, ◌∙◌, Bor, arith}
+use Rattle.std.proofs.Common.{◌≡◌, ℕ, ◌+◌, ◌<◌, ◌≤◌, Bool, true, false, cond, ◌||◌, List, [], ◌∷◌, ◌++◌, length, take, get_or, Some, is_some, refl, sym, ap, subst, ◌∙◌, Bor}
 use Rattle.std.specs.List.{list_any, position_from, flat_map}
 use Rattle.std.specs.Str.{bytes_eq}
 use Rattle.std.proofs.lemmas.Bool.{cond-true, cond-false}
@@ -54,9 +54,9 @@ pairs_more s us ps i d lt =
     let p = get_or ps i d in
     let one : flat_map (pair_urls s) (p ∷ []) ≡ pair_urls s p = append-nil (pair_urls s p) in
     sym (
-      ap (λ (l : List NodePair). with_texts us (flat_map (pair_urls s) l)) (take_more ps i d lt)
-      ∙ ap (with_texts us) (flat_map-append (pair_urls s) (take i ps) (p ∷ []) ∙ ap (λ (l : List Text). flat_map (pair_urls s) (take i ps) ++ l) one)
-      ∙ texts_append us (flat_map (pair_urls s) (take i ps)) (pair_urls s p))
+    ap (λ (l : List NodePair). with_texts us (flat_map (pair_urls s) l)) (take_more ps i d lt)
+    ∙ ap (with_texts us) (flat_map-append (pair_urls s) (take i ps) (p ∷ []) ∙ ap (λ (l : List Text). flat_map (pair_urls s) (take i ps) ++ l) one)
+    ∙ texts_append us (flat_map (pair_urls s) (take i ps)) (pair_urls s p))
 
 pub pairs_whole : (s : SchemaValue) (us : List Text) (ps : List NodePair) (i : ℕ) → length ps ≤ i
     → with_texts us (flat_map (pair_urls s) (take i ps)) ≡ with_texts us (flat_map (pair_urls s) ps)

@@ -259,7 +259,6 @@ is_refused s bytes (Err TooManyPairs) e =
       | inl t ↦ let h = certificate_or_fault-says s t.0 (Err TooManyPairs) (sym t.2 ∙ e) in (t.0, t.1, h.0, beyond (length t.0.lines) h.1)
       | inr t ↦ let no = t.0 in cc
     ]
-
 is_refused s bytes (Err OtherVersion) e =
     elim (told s bytes) [
       | inl t ↦

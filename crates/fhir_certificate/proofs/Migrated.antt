@@ -1,5 +1,5 @@
 -- What is migrated is read as the same certificate.
-use Rattle.std.proofs.Common.{◌≡◌, ℕ, suc, ◌+◌, ◌≤◌, ◌&&◌, Bool, true, false, List, [], ◌∷◌, ◌++◌, length, Option, Some, None, is_some, option_map, Ok, refl, sym, ap, subst, ◌∙◌, arith, length-append}
+use Rattle.std.proofs.Common.{◌≡◌, ℕ, suc, ◌+◌, ◌≤◌, true, List, [], ◌∷◌, length, Option, Some, None, is_some, Ok, refl, sym, ap, subst, ◌∙◌, arith}
 use Rattle.std.specs.Prelude.{IsTrue}
 use Rattle.std.specs.Option.{option_map_or}
 use Rattle.std.specs.List.{flat_map}
@@ -8,7 +8,7 @@ use Rattle.fhir_schema.specs.Schemas.{SchemaValue}
 use Rattle.fhir_certificate.specs.declared.pair.Pair.{Pair}
 use Rattle.fhir_certificate.specs.declared.pair.Pair.TheVariants.{Item, Kids}
 use Rattle.fhir_certificate.specs.Certificate.{CertificateValue, fits}
-use Rattle.fhir_certificate.specs.Format.{Line, Written, text_of}
+use Rattle.fhir_certificate.specs.Format.{Line, text_of}
 use Rattle.fhir_certificate.specs.Judging.{limit, certificate_of}
 use Rattle.fhir_certificate.specs.Reading.{reading}
 use Rattle.fhir_certificate.specs.Lines.{pair_in, pairs_of, item_in, kids_in}

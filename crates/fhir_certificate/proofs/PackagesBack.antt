@@ -19,7 +19,7 @@ use Rattle.fhir_schema.specs.Schemas.{SchemaValue, has, root, node, url_at, id_o
 use Rattle.fhir_schema.specs.Versions.{version}
 use Rattle.fhir_certificate.specs.declared.pair.NodePair.{NodePair}
 use Rattle.fhir_certificate.specs.Certificate.{CertificateValue, are_nodes, fits}
-use Rattle.fhir_certificate.specs.Format.{Stated, urls_of, is_field, is_name, is_line, is_stated}
+use Rattle.fhir_certificate.specs.Format.{urls_of, is_field, is_name, is_line, is_stated}
 use Rattle.fhir_certificate.specs.Writing.{named, item_line, kids_line, pair_urls, urls_named, with_text, with_texts, firsts, stated, written_by, IsNamed, AreNamed, IsWritable}
 use Rattle.fhir_certificate.proofs.Naming.{text_same}
 use Rattle.fhir_certificate.proofs.VersionTexts.{IsJson, version_field, version_utf8, version_is}
@@ -202,9 +202,14 @@ module _ (s : SchemaValue) (h : IsNaming s) where
 
     urls_are : AllByRecursion IsUrl (firsts (urls_named s c))
     urls_are =
-        all_firsts IsUrl (urls_named s c)
-        (root_url c.derived parts.0, (root_url c.base parts.1, all_append IsUrl (flat_map (pair_urls s) c.items) (flat_map (pair_urls s) c.kids)
-        (pairs_urls c.items parts.2) (pairs_urls c.kids parts.3)))
+        all_firsts IsUrl (urls_named s c) (
+          root_url c.derived parts.0,
+          (
+            root_url c.base parts.1,
+            all_append IsUrl (flat_map (pair_urls s) c.items) (flat_map (pair_urls s) c.kids)
+                (pairs_urls c.items parts.2) (pairs_urls c.kids parts.3),
+          ),
+        )
 
     -- each url that is named has a line
     is_there : (url : Text) → is_among url (urls_named s c) ≡ true → is_among url (urls_of (map (stated s) (firsts (urls_named s c)))) ≡ true
@@ -251,7 +256,9 @@ module _ (s : SchemaValue) (h : IsNaming s) where
       derived = is_there c.derived derived_there;
       base = is_there c.base base_there;
       lines = list_all-append (is_line (Some (urls_of (map (stated s) (firsts (urls_named s c)))))) (map (item_line s) c.items) (map (kids_line s) c.kids)
-          ∙ rw (list_all-map (is_line (Some (urls_of (map (stated s) (firsts (urls_named s c)))))) (item_line s) c.items,
-          list_all-map (is_line (Some (urls_of (map (stated s) (firsts (urls_named s c)))))) (kids_line s) c.kids)
+          ∙ rw (
+            list_all-map (is_line (Some (urls_of (map (stated s) (firsts (urls_named s c)))))) (item_line s) c.items,
+            list_all-map (is_line (Some (urls_of (map (stated s) (firsts (urls_named s c)))))) (kids_line s) c.kids,
+          )
           (rw (pair_there c.items items_there parts.2, pair_there c.kids kids_there parts.3) refl);
     }

@@ -3,12 +3,12 @@ use Rattle.std.proofs.Common.{◌≡◌, ℕ, zero, suc, ◌+◌, Bool, true, fa
 use Rattle.std.specs.Option.{option_map_or}
 use Rattle.std.specs.Str.{bytes_eq}
 use Rattle.std.proofs.lemmas.Bool.{cases_Bool, false≢true, false_from_ne_true}
-use Rattle.std.proofs.lemmas.List.{map-append, length-map, append-nil, append_assoc}
+use Rattle.std.proofs.lemmas.List.{map-append, length-map, append_assoc}
 use Rattle.std.proofs.lemmas.Slice.Eq.{bytes_eq-Decides}
 use Rattle.fhir_json.specs.Tree.{Text}
 use Rattle.fhir_json.specs.Sound.{is_among, differ}
 use Rattle.fhir_json.proofs.Names.{among_append}
-use Rattle.fhir_names.specs.Places.{Places, place_of, Finds}
+use Rattle.fhir_names.specs.Places.{place_of, Finds}
 use Rattle.fhir_certificate.specs.declared.stated.StatedText.{StatedText}
 use Rattle.fhir_certificate.specs.declared.stating.DefinitionLines.{DefinitionLines}
 use Rattle.fhir_certificate.specs.Numbers.{number_text, number_texts}
@@ -105,8 +105,7 @@ lines_next old new d place text rest behind last h front left more next =
     let many : length new.stated.items ≡ suc (length old.stated.items) =
     sym (length-map new.stated.items stated_seen) ∙ ap length h.stated ∙ length-append xs (stated_seen d ∷ [])
     ∙ (let e : length xs + 1 ≡ suc (length old.stated.items) = omega (arith, length-map old.stated.items stated_seen) in e) in
-    let later : place + 1 ≡ length new.stated.items = omega (arith, many, last) in
-    (
+    let later : place + 1 ≡ length new.stated.items = omega (arith, many, last) in (
       subst (AreLines new) (sym h.stated) h,
       front ∙ ap (λ k. xs ++ definition_lines k (lines_of rest)) (sym last) ∙ ap (λ (l : List Stated). xs ++ l) more
           ∙ sym (append_assoc xs (stated_seen d ∷ []) (definition_lines (place + 1) (lines_of behind)))

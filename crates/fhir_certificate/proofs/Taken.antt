@@ -253,8 +253,7 @@ are_stated_more : (n : ℕ) (text : Text) (p : Text × Text) (d : Stated) (ds : 
 are_stated_more n text p d ds cut line rest =
     let first : text ≡ stated_text n d ++ 10 ∷ p.1 = cut_is 10 text p cut ∙ ap (λ t. t ++ 10 ∷ p.1) line.0 in
     let own = line_text (codes "def") (number_text n ∷ d.url ∷ d.version ∷ []) in
-    let behind : behind_lines (suc (length ds)) text ≡ behind_lines (length ds) p.1 = ap (λ o. option_map_or (λ p. behind_lines (length ds) p.1) o []) cut in
-    (
+    let behind : behind_lines (suc (length ds)) text ≡ behind_lines (length ds) p.1 = ap (λ o. option_map_or (λ p. behind_lines (length ds) p.1) o []) cut in (
       first ∙ sym (append_assoc (stated_text n d) (10 ∷ []) p.1) ∙ ap (λ t. t ++ p.1) (stated_line n d) ∙ ap (λ t. own ++ t) rest.0
           ∙ sym (append_assoc own (definitions_text (n + 1) ds) (behind_lines (length ds) p.1))
           ∙ ap (λ t. (own ++ definitions_text (n + 1) ds) ++ t) (sym behind),

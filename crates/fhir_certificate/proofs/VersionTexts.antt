@@ -1,8 +1,8 @@
 -- How versions are written: as fields, in UTF-8, and so that they are taken as versions.
-use Rattle.std.proofs.Common.{◌≡◌, ℕ, ◌<◌, ◌≤◌, ◌==◌, not, ◌&&◌, ◌||◌, ◌↔◌, ◌⊎◌, inl, inr, Bool, true, false, List, [], ◌∷◌, ◌++◌, Option, Some, None, Result, Ok, Err, refl, sym, ap, subst, ◌∙◌, arith}
-use Rattle.std.specs.Prelude.{codes, IsTrue, IsUtf8}
-use Rattle.std.specs.Str.{bytes_eq, is_utf8}
-use Rattle.std.proofs.lemmas.Bool.{cases_lt, or_cases, and_from, agree_below_at, false≢true}
+use Rattle.std.proofs.Common.{◌≡◌, ℕ, ◌≤◌, ◌||◌, ◌↔◌, ◌⊎◌, inl, inr, Bool, true, false, [], ◌∷◌, Option, Some, None, Result, Ok, Err, refl, ap, ◌∙◌, arith}
+use Rattle.std.specs.Prelude.{codes, IsUtf8}
+use Rattle.std.specs.Str.{bytes_eq}
+use Rattle.std.proofs.lemmas.Bool.{cases_lt, or_cases, agree_below_at, false≢true}
 use Rattle.std.proofs.lemmas.Bool.Decides.{nat_tests}
 use Rattle.std.proofs.lemmas.List.Folds.{list_all-append}
 use Rattle.std.proofs.lemmas.Slice.Eq.{bytes_eq-Decides}
@@ -11,7 +11,7 @@ use Rattle.std.proofs.lemmas.Str.Ascii.{IsAscii-nil, IsAscii-cons}
 use Rattle.fhir_json.specs.Tree.{Text, Tree, null, boolean, number, string, array, object}
 use Rattle.fhir_json.specs.Sound.{IsSound, depth, max_depth}
 use Rattle.fhir_json.specs.Grammar.{Reads}
-use Rattle.fhir_json.specs.Compact.{escape_byte, escape_text, quoted_text, compact}
+use Rattle.fhir_json.specs.Compact.{escape_byte, escape_text, compact}
 use Rattle.fhir_json.specs.Reading.{reading}
 use Rattle.fhir_json.specs.declared.fault.JsonFault.{JsonFault}
 use Rattle.fhir_json.proofs.Utf8.{compact_utf8}

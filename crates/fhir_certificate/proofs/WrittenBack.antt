@@ -1,27 +1,25 @@
 -- What is written for a certificate is read as that certificate.
-use Rattle.std.proofs.Common.{◌≡◌, ℕ, ◌≤◌, ◌+◌, ◌&&◌, ◌||◌, Bool, true, false, List, [], ◌∷◌, ◌++◌, length, map, Option, Some, None}
-use Rattle.std.proofs.Common.{is_some, Ok, Err, if◌then◌else◌, refl, sym, ap, subst, ◌∙◌, arith, length-append, All}
+use Rattle.std.proofs.Common.{◌≡◌, ◌≤◌, ◌+◌, ◌&&◌, Bool, true, false, List, [], ◌∷◌, ◌++◌, length, map, Option, Some, None}
+use Rattle.std.proofs.Common.{is_some, Ok, Err, if◌then◌else◌, refl, ap, ◌∙◌, arith, length-append, All}
 use Rattle.std.specs.Prelude.{IsTrue}
 use Rattle.std.specs.Option.{option_map_or, option_and_then}
 use Rattle.std.specs.List.{list_all, flat_map}
-use Rattle.std.specs.Str.{bytes_eq}
-use Rattle.std.proofs.lemmas.Bool.{and_parts, and_from, cases_Bool, cond-true, cond-false, false≢true}
+use Rattle.std.proofs.lemmas.Bool.{and_parts, cond-true}
 use Rattle.std.proofs.lemmas.List.{length-map}
 use Rattle.std.proofs.lemmas.List.Folds.{list_all-append, list_all-map}
 use Rattle.std.proofs.lemmas.List.Elements.{All-head, All-tail}
-use Rattle.std.proofs.lemmas.Slice.Eq.{bytes_eq-Decides}
 use Rattle.fhir_json.specs.Sound.{is_among}
 use Rattle.fhir_json.specs.Tree.{Text}
 use Rattle.fhir_nodes.specs.Urls.{url_place}
 use Rattle.fhir_nodes.specs.declared.node.NodeRef.{NodeRef}
-use Rattle.fhir_schema.specs.Schemas.{SchemaValue, url_at, is_usable, node_in, root_element, root_in, root, node_with, node}
+use Rattle.fhir_schema.specs.Schemas.{SchemaValue, is_usable, root_in, root, node_with, node}
 use Rattle.fhir_schema.specs.Versions.{can_be_used, version}
-use Rattle.fhir_certificate.specs.declared.fault.CertFault.TheVariants.{UnknownNode, TooManyPairs, OtherVersion}
+use Rattle.fhir_certificate.specs.declared.fault.CertFault.TheVariants.{UnknownNode}
 use Rattle.fhir_certificate.specs.declared.pair.NodePair.{NodePair}
 use Rattle.fhir_certificate.specs.Certificate.{CertificateValue, are_nodes, fits}
 use Rattle.fhir_certificate.specs.Versions.{version_text}
-use Rattle.fhir_certificate.specs.Format.{Line, Stated, text_of, Spells}
-use Rattle.fhir_certificate.specs.Judging.{limit, node_of, pair_of, with_item, with_kids, with_lines, are_loaded, are_usable, certificate_of, has_version, has_versions, within, Stands}
+use Rattle.fhir_certificate.specs.Format.{Line, text_of, Spells}
+use Rattle.fhir_certificate.specs.Judging.{limit, pair_of, with_item, with_kids, with_lines, are_loaded, are_usable, certificate_of, has_version, within, Stands}
 use Rattle.fhir_certificate.specs.Reading.{reading}
 use Rattle.fhir_certificate.specs.Writing.{named, item_line, kids_line, pair_urls, urls_named, with_text, with_texts, firsts, stated, written_by, IsNamed, AreNamed, IsWritable}
 use Rattle.fhir_certificate.proofs.Naming.{text_same}

@@ -48,3 +48,12 @@ fault_of_lines (Err UnknownNode) = Some UnknownNode
 fault_of_lines (Err TooManyPairs) = None
 fault_of_lines (Err NoMemory) = None
 fault_of_lines (Err OtherVersion) = Some OtherVersion
+
+-- whether a line is to blame for another version
+abbrev pub is_other : Option CertFault → Bool
+is_other None = false
+is_other (Some WrongFormat) = false
+is_other (Some UnknownNode) = false
+is_other (Some TooManyPairs) = false
+is_other (Some NoMemory) = false
+is_other (Some OtherVersion) = true

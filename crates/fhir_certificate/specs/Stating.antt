@@ -1,7 +1,7 @@
 -- The definitions of a text as they are found (used by private contracts alone).
-use Rattle.std.specs.Prelude.{◌≡◌, List, Option, None, Some, map, is_none}
+use Rattle.std.specs.Prelude.{◌≡◌, List, map, is_none}
 use Rattle.fhir_json.specs.Sound.{differ}
-use Rattle.fhir_names.specs.Places.{Places, Finds}
+use Rattle.fhir_names.specs.Places.{Finds}
 use Rattle.fhir_certificate.specs.declared.stating.DefinitionLines.{DefinitionLines}
 use Rattle.fhir_certificate.specs.Numbers.{number_texts}
 use Rattle.fhir_certificate.specs.Format.{Stated, urls_of}

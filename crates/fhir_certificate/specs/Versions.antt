@@ -1,7 +1,7 @@
 -- How the version of a definition is written: as JSON, or as `-` where it has none.
 use Rattle.std.specs.Prelude.{Bool, false, ◌||◌, Option, None, Some, Result, Ok, Err, codes}
 use Rattle.std.specs.Str.{bytes_eq}
-use Rattle.fhir_json.specs.Tree.{Text, Tree, null, boolean, number, string, array, object}
+use Rattle.fhir_json.specs.Tree.{Text, Tree, string}
 use Rattle.fhir_json.specs.Compact.{compact}
 use Rattle.fhir_json.specs.Reading.{reading}
 use Rattle.fhir_json.specs.declared.fault.JsonFault.{JsonFault}

@@ -13,7 +13,8 @@ ghost use Rattle.fhir_certificate.specs.Judging.{node_of, certificate_of, has_ve
 ghost use Rattle.fhir_certificate.specs.Reading.{lines_of, pair_lines, pairs_at, written_behind, written_numbered, written_of, reading};
 ghost use Rattle.fhir_certificate.specs.Lines.{pair_in, are_known};
 ghost use Rattle.fhir_certificate.specs.Views.{name_seen, line_seen, stated_seen};
-ghost use Rattle.fhir_certificate.specs.Flaws.{flaw_fault, is_of_format, any_of_format, is_of_version, are_of_versions, fault_of_flaws, fault_of_lines};
+ghost use Rattle.fhir_certificate.specs.Faults.{is_no_memory};
+ghost use Rattle.fhir_certificate.specs.Flaws.{flaw_fault, is_of_format, any_of_format, is_of_version, are_of_versions, fault_of_flaws, fault_of_lines, is_other};
 
 use crate::fault::CertFault;
 use crate::fields::behind_line;
@@ -429,6 +430,28 @@ fn stated_flaws<'a>(
     }
 }
 
+// Whether a fault is that of another version. Of want of memory nothing is said.
+fn is_other(fault: CertFault) -> Result<bool, NoMemory>
+    ensures told { IfOk result (λ _. is_no_memory fault ≡ false) }
+    ensures other { IfOk result (λ is. is ≡ is_other (Some fault)) }
+{
+    match fault {
+        CertFault::NoMemory => Err(NoMemory),
+        CertFault::OtherVersion => Ok(true),
+        CertFault::WrongFormat | CertFault::UnknownNode | CertFault::TooManyPairs => Ok(false),
+    }
+}
+
+// Whether reading fails for a version.
+fn has_other(alloc: Global, schema: &Schema, bytes: &[u8]) -> Result<bool, NoMemory>
+    ensures { IfOk result (λ has. has ≡ is_other (fault_of_lines (reading schema.now bytes.now))) }
+{
+    match read(alloc, schema, bytes) {
+        Ok(_) => Ok(false),
+        Err(fault) => is_other(fault),
+    }
+}
+
 // Those of the versions that are written, where nothing else is wrong.
 fn version_flaws<'a>(
     alloc: Global,
@@ -441,10 +464,10 @@ fn version_flaws<'a>(
         → fault_of_flaws flaws.items ≡ Some faults.OtherVersion) }
     ensures none { IfOk result (λ flaws. fault_of_lines (reading schema.now bytes.now) ≡ None → flaws.items ≡ []) }
 {
-    match read(alloc, schema, bytes) {
-        Err(CertFault::OtherVersion) => stated_flaws(alloc, schema, text),
-        Err(CertFault::NoMemory) => Err(NoMemory),
-        Ok(_) | Err(_) => Ok(Vec::new(alloc)),
+    if has_other(alloc, schema, bytes)? {
+        stated_flaws(alloc, schema, text)
+    } else {
+        Ok(Vec::new(alloc))
     }
 }
 
