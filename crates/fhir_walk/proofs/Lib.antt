@@ -3,3 +3,4 @@ pub mod Kids
 pub mod Turns
 mod Free
 mod Alone
+pub mod Sliced

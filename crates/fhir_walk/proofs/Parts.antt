@@ -12,10 +12,12 @@ use Rattle.fhir_schema.specs.Covers.{covers, type_at}
 use Rattle.fhir_schema.specs.Schemas.{SchemaValue, element_at, is_root_node, type_root, slices, is_closed, entry_of, types as node_types}
 use Rattle.fhir_instance.specs.Items.{Item, type_of}
 use Rattle.fhir_facets.specs.Cardinality.{are_enough, are_within}
-use Rattle.fhir_conformance.specs.Asks.{Ask, profile, child_ask, facet_asks, constraint_asks, own_constraint_asks, own_root, entry_roots, profile_asks, places_of, apart_ask, in_slice_ask, slice_asks, sliced_asks, slot_asks, kids_asks, root_asks, inner_asks, asks}
-use Rattle.fhir_conformance.specs.Conformance.{Around, constant, conforms, at_element, count_of, fixed_at, pattern_at, range_at, length_at, binding_at, types_hold}
+use Rattle.fhir_slicing.specs.Belonging.{is_apart, is_sliced}
+use Rattle.fhir_conformance.specs.Positions.{at_kid, members}
+use Rattle.fhir_conformance.specs.Asks.{Ask, own, too_few_in, too_many_in, profile, child_ask, facet_asks, constraint_asks, own_constraint_asks, own_root, entry_roots, profile_asks, places_of, apart_ask, in_slice_ask, slice_asks, sliced_asks, slot_asks, kids_asks, root_asks, inner_asks, asks}
+use Rattle.fhir_conformance.specs.Conformance.{Around, constant, conforms, at_element, count_of, count_in, fixed_at, pattern_at, range_at, length_at, binding_at, types_hold}
 use Rattle.fhir_conformance.proofs.ByAsks.{IsOfType, IsOfCanonical, conforms_to}
-use Rattle.fhir_walk.specs.Walks.{none, passes, pass_all, facets_hold, rest_holds}
+use Rattle.fhir_walk.specs.Walks.{none, passes, pass_all, is_rightly_sliced, facets_hold, rest_holds}
 
 regroup : (a b c d e : Bool) → (a && (b && (c && (d && (e && true))))) ≡ ((a && b) && ((c && d) && e))
 regroup true true true true true = refl
@@ -120,6 +122,72 @@ module _ (s : SchemaValue) (here : Around) (x : Item) where
       let n = entry_of h slot in
       let rest = pass_all s here x (map (child_ask n) (places_of slot.name x) ++ sliced_asks s x slot.name (places_of slot.name x) n) in
       sym (regrouped (at_element s (λ e. are_enough e (count_of slot.name x)) n) (at_element s (λ e. are_within e (count_of slot.name x)) n) rest ∙ ap (λ b. b && rest) is)
+
+  -- ---- a slot, and its slices
+
+  pub slot_split : (h : NodeRef) (slot : Slot) → pass_all s here x (slot_asks s x h slot)
+      ≡ ((at_element s (λ e. are_enough e (count_of slot.name x)) (entry_of h slot) && at_element s (λ e. are_within e (count_of slot.name x)) (entry_of h slot))
+      && (pass_all s here x (map (child_ask (entry_of h slot)) (places_of slot.name x)) && pass_all s here x (sliced_asks s x slot.name (places_of slot.name x) (entry_of h slot))))
+  slot_split h slot =
+      let n = entry_of h slot in
+      let A = at_element s (λ e. are_enough e (count_of slot.name x)) n in
+      let B = at_element s (λ e. are_within e (count_of slot.name x)) n in
+      let kids = map (child_ask n) (places_of slot.name x) in
+      let sliced = sliced_asks s x slot.name (places_of slot.name x) n in
+      ap (λ b. A && (B && b)) (joined kids sliced) ∙ regrouped A B (pass_all s here x kids && pass_all s here x sliced)
+
+  pub none_sliced : (name : Text) (n : NodeRef) → IsTrue (is_empty (slices s n)) → true ≡ pass_all s here x (sliced_asks s x name (places_of name x) n)
+  none_sliced name n is = ap (pass_all s here x) (sym (unsliced name (places_of name x) n is))
+
+  apart_pass : (n : NodeRef) (places : List ℕ) → pass_all s here x (map (apart_ask n) places) ≡ list_all (at_kid true (is_apart s n) x) places
+  apart_pass n [] = refl
+  apart_pass n (i ∷ is) = ap (λ b. at_kid true (is_apart s n) x i && b) (apart_pass n is)
+
+  in_slices_pass : (n : NodeRef) (places : List ℕ) → pass_all s here x (map (in_slice_ask n) places) ≡ list_all (at_kid true (is_sliced s n) x) places
+  in_slices_pass n [] = refl
+  in_slices_pass n (i ∷ is) = ap (λ b. at_kid true (is_sliced s n) x i && b) (in_slices_pass n is)
+
+  closed_pass : (n : NodeRef) (places : List ℕ) (b : Bool) → pass_all s here x (cond b (map (in_slice_ask n) places) []) ≡ cond b (list_all (at_kid true (is_sliced s n) x) places) true
+  closed_pass n places true = in_slices_pass n places
+  closed_pass n places false = refl
+
+  pub sliced_split : (name : Text) (n : NodeRef) → is_empty (slices s n) ≡ false → pass_all s here x (sliced_asks s x name (places_of name x) n)
+      ≡ (is_rightly_sliced s n name x && pass_all s here x (flat_map (slice_asks s x name (places_of name x) n) (slices s n)))
+  sliced_split name n is =
+      let places = places_of name x in
+      let apart = map (apart_ask n) places in
+      let each = flat_map (slice_asks s x name places n) (slices s n) in
+      let closed = cond (is_closed s n) (map (in_slice_ask n) places) [] in
+      ap (λ b. pass_all s here x (cond b [] (apart ++ (each ++ closed)))) is
+      ∙ joined apart (each ++ closed)
+      ∙ (λ i. apart_pass n places i && joined each closed i)
+      ∙ (λ i. list_all (at_kid true (is_apart s n) x) places && (pass_all s here x each && closed_pass n places (is_closed s n) i))
+      ∙ turned (list_all (at_kid true (is_apart s n) x) places) (pass_all s here x each) (cond (is_closed s n) (list_all (at_kid true (is_sliced s n) x) places) true)
+    where
+      turned : (a e c : Bool) → (a && (e && c)) ≡ ((a && c) && e)
+      turned true true true = refl
+      turned true true false = refl
+      turned true false true = refl
+      turned true false false = refl
+      turned false e c = refl
+
+  pub slice_split : (name : Text) (n : NodeRef) (slice : Slot) → pass_all s here x (slice_asks s x name (places_of name x) n slice)
+      ≡ ((at_element s (λ e. are_enough e (count_in s (entry_of n slice) name x)) (entry_of n slice) && at_element s (λ e. are_within e (count_in s (entry_of n slice) name x)) (entry_of n slice))
+      && pass_all s here x (map (child_ask (entry_of n slice)) (members s x (entry_of n slice) (places_of name x))))
+  slice_split name n slice =
+      let m = entry_of n slice in
+      let A = at_element s (λ e. are_enough e (count_in s m name x)) m in
+      let B = at_element s (λ e. are_within e (count_in s m name x)) m in
+      let each = map (child_ask m) (members s x m (places_of name x)) in
+      joined each (own (too_few_in name) m ∷ own (too_many_in name) m ∷ []) ∙ turned (pass_all s here x each) A B
+    where
+      turned : (k a b : Bool) → (k && (a && (b && true))) ≡ ((a && b) && k)
+      turned true true true = refl
+      turned true true false = refl
+      turned true false b = refl
+      turned false true true = refl
+      turned false true false = refl
+      turned false false b = refl
 
 -- ---- what is asked of an item
 

@@ -1,14 +1,16 @@
 -- What a walk tells of an item: what of a node's asks it passes where no unread rule holds (used by private contracts alone).
-use Rattle.std.specs.Prelude.{◌≡◌, ℕ, List, Bool, true, false, ◌&&◌, Some}
+use Rattle.std.specs.Prelude.{◌≡◌, ℕ, List, Bool, true, false, ◌&&◌, Some, if◌then◌else◌}
 use Rattle.std.specs.List.{list_all}
 use Rattle.std.specs.Option.{option_map_or}
+use Rattle.fhir_json.specs.Tree.{Text}
 use Rattle.fhir_elements.specs.Element.{Element}
 use Rattle.fhir_nodes.specs.declared.node.NodeRef.{NodeRef}
-use Rattle.fhir_schema.specs.Schemas.{SchemaValue, element_at}
+use Rattle.fhir_schema.specs.Schemas.{SchemaValue, element_at, is_closed}
 use Rattle.fhir_instance.specs.Items.{Item, kids_of}
 use Rattle.fhir_facets.specs.Unread.{Meaning}
-use Rattle.fhir_conformance.specs.Positions.{kid_at}
-use Rattle.fhir_conformance.specs.Asks.{Ask, constraint_asks, kids_asks}
+use Rattle.fhir_slicing.specs.Belonging.{is_apart, is_sliced}
+use Rattle.fhir_conformance.specs.Positions.{kid_at, at_kid}
+use Rattle.fhir_conformance.specs.Asks.{Ask, places_of, constraint_asks, kids_asks}
 use Rattle.fhir_conformance.specs.Conformance.{Around, constant, ask_conforms, resource_at, fixed_at, pattern_at, range_at, length_at, binding_at}
 
 -- no unread rule holds
@@ -33,6 +35,17 @@ IsAroundKids s x around here = (i : ℕ) (kid : Item) → kid_at (kids_of x) i �
 -- it tells a test wherever that is the nearest resource around the item's children
 abbrev pub TellsOfKids : SchemaValue → Item → Item → (Around → Bool) → Bool → Type 0
 TellsOfKids s x around test told = (here : Around) → IsAroundKids s x around here → told ≡ test here
+
+-- ---- slices
+
+-- the children of a name pass a test
+abbrev pub named_pass : (Item → Bool) → Text → Item → Bool
+named_pass test name x = list_all (at_kid true test x) (places_of name x)
+
+-- no child of a name is in two slices of the node's element, and each is in one, if the slicing is closed
+abbrev pub is_rightly_sliced : SchemaValue → NodeRef → Text → Item → Bool
+is_rightly_sliced s n name x =
+    named_pass (is_apart s n) name x && (if is_closed s n then named_pass (is_sliced s n) name x else true)
 
 -- ---- the facets of an element
 

@@ -18,6 +18,7 @@ mod children;
 mod facets;
 mod known;
 mod rules;
+mod slicing;
 mod walking;
 
 pub use walking::conforms;

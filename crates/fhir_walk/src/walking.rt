@@ -1,18 +1,22 @@
 //! Walking through an item and what is asked of it.
 
-ghost use Rattle.std.specs.Prelude.{◌≡◌, map, true, false, string_bytes, IfSome, if◌then◌else◌};
+ghost use Rattle.std.specs.Prelude.{◌≡◌, ◌&&◌, map, true, false, string_bytes, IfSome, if◌then◌else◌};
+ghost use Rattle.std.specs.List.{flat_map};
 ghost use Rattle.std.specs.Str.{bytes_eq};
-ghost use Rattle.fhir_schema.specs.Schemas.{type_root};
+ghost use Rattle.fhir_schema.specs.Schemas.{type_root, slices, criteria};
 ghost use Rattle.fhir_instance.specs.Items.{type_of};
 ghost use Rattle.fhir_instance.specs.View.{item_of, named_of};
-ghost use Rattle.fhir_conformance.specs.Asks.{child_ask, own_root, places_of, slot_asks, slots_ask, kids_asks, root_asks, inner_asks};
-ghost use Rattle.fhir_conformance.specs.Conformance.{conforms, constant, outermost, types_hold, entry_holds, profiles_hold, profile_holds};
+ghost use Rattle.fhir_slicing.specs.Belonging.{belongs};
+ghost use Rattle.fhir_conformance.specs.Positions.{members};
+ghost use Rattle.fhir_conformance.specs.Asks.{child_ask, own_root, places_of, slice_asks, sliced_asks, slot_asks, slots_ask, kids_asks, root_asks, inner_asks};
+ghost use Rattle.fhir_conformance.specs.Conformance.{conforms, constant, outermost, count_of, types_hold, entry_holds, profiles_hold, profile_holds};
 ghost use Rattle.fhir_walk.specs.Walks.{none, pass_all, rest_holds, Tells, TellsOfKids};
 
 use crate::children::count_named;
 use crate::facets::{facets_hold, is_held};
 use crate::known::{is_free, nearest_by, own_root};
 use crate::rules::{allows_count, constraints_hold};
+use crate::slicing::{count_members, entry_of, is_member, is_rightly_sliced};
 use fhir_conformance::judge_entry;
 use fhir_elements::TypeEntry;
 use fhir_instance::{Kid, Typed};
@@ -45,7 +49,7 @@ fn may_look(slots: &[Slot], kids: &[Kid<'_, '_>], left: &mut usize) -> bool {
 
 /// Whether an item that stands in no other conforms to a node, where no unread rule holds (FHIR R4, Profiling and
 /// ElementDefinition); none where it isn't told by a walk of so many steps. A step is a node that is asked of an item, a slot or a
-/// child that is looked at. Nor is it told where memory is refused.
+/// child that is looked at, or a slice that may have it. Nor is it told where memory is refused.
 pub fn conforms(
     alloc: Global,
     schema: &Schema,
@@ -306,7 +310,7 @@ fn slots_conform<'t, 'a, 'j>(
     Some(true)
 }
 
-// The same by one slot. Where it has slices, it isn't told.
+// The same by one slot.
 #[cycle(walking)]
 fn slot_conforms<'t, 'a, 'j>(
     alloc: Global,
@@ -321,30 +325,167 @@ fn slot_conforms<'t, 'a, 'j>(
     ensures { IfSome result (TellsOfKids schema.now (item_of item.now) (item_of resource.now)
         (λ here. pass_all schema.now here (item_of item.now) (slot_asks schema.now (item_of item.now) holder slot.now))) }
 {
-    let entry = NodeRef {
-        definition: holder.definition,
-        element: slot.entry(),
-    };
-    let count = count_named(item.kids(), slot.tagged_name());
+    let entry = entry_of(holder, slot);
+    let name = slot.tagged_name();
+    let count = count_named(item.kids(), name);
     if !allows_count(schema, entry, count) {
         return Some(false);
     }
-    if !schema.slices(entry).is_empty() {
+    if !counted_conform(
+        alloc, schema, resource, item, name, entry, count, depth, left,
+    )? {
+        return Some(false);
+    }
+    sliced_conform(alloc, schema, resource, item, name, entry, depth, left)
+}
+
+// Whether the children of a name are as the slices of a node ask, if it has any.
+#[cycle(walking)]
+fn sliced_conform<'t, 'a, 'j>(
+    alloc: Global,
+    schema: &'t Schema,
+    resource: &'t Typed<'a, 'j>,
+    item: &'t Typed<'a, 'j>,
+    name: &Name,
+    node: NodeRef,
+    depth: usize,
+    left: &mut usize,
+) -> Option<bool>
+    ensures { IfSome result (TellsOfKids schema.now (item_of item.now) (item_of resource.now)
+        (λ here. pass_all schema.now here (item_of item.now)
+        (sliced_asks schema.now (item_of item.now) name.now (places_of name.now (item_of item.now)) node))) }
+{
+    let slices = schema.slices(node);
+    if slices.is_empty() {
+        return Some(true);
+    }
+    if !spend(left, slices.len().saturating_mul(item.kids().len())) {
         return None;
     }
+    if !is_rightly_sliced(schema, item, name, node) {
+        return Some(false);
+    }
+    slices_conform(alloc, schema, resource, item, name, node, depth, left)
+}
+
+// Whether the members of each slice of a node are as that asks.
+#[cycle(walking)]
+fn slices_conform<'t, 'a, 'j>(
+    alloc: Global,
+    schema: &'t Schema,
+    resource: &'t Typed<'a, 'j>,
+    item: &'t Typed<'a, 'j>,
+    name: &Name,
+    node: NodeRef,
+    depth: usize,
+    left: &mut usize,
+) -> Option<bool>
+    ensures { IfSome result (TellsOfKids schema.now (item_of item.now) (item_of resource.now)
+        (λ here. pass_all schema.now here (item_of item.now)
+        (flat_map (slice_asks schema.now (item_of item.now) name.now (places_of name.now (item_of item.now)) node) (slices schema.now node)))) }
+{
+    for slice in schema.slices(node) {
+        if !slice_conforms(
+            alloc, schema, resource, item, name, node, slice, depth, left,
+        )? {
+            return Some(false);
+        }
+    }
+    Some(true)
+}
+
+// Whether the members of a slice are enough, and not too many, and each conforms to it.
+#[cycle(walking)]
+fn slice_conforms<'t, 'a, 'j>(
+    alloc: Global,
+    schema: &'t Schema,
+    resource: &'t Typed<'a, 'j>,
+    item: &'t Typed<'a, 'j>,
+    name: &Name,
+    node: NodeRef,
+    slice: &'t Slot,
+    depth: usize,
+    left: &mut usize,
+) -> Option<bool>
+    ensures { IfSome result (TellsOfKids schema.now (item_of item.now) (item_of resource.now)
+        (λ here. pass_all schema.now here (item_of item.now)
+        (slice_asks schema.now (item_of item.now) name.now (places_of name.now (item_of item.now)) node slice.now))) }
+{
+    let entry = entry_of(node, slice);
+    let count = count_members(schema, item, name, entry);
+    if !allows_count(schema, entry, count) {
+        return Some(false);
+    }
+    members_conform(alloc, schema, resource, item, name, entry, depth, left)
+}
+
+// Whether each member of a slice conforms to it.
+#[cycle(walking)]
+fn members_conform<'t, 'a, 'j>(
+    alloc: Global,
+    schema: &'t Schema,
+    resource: &'t Typed<'a, 'j>,
+    item: &'t Typed<'a, 'j>,
+    name: &Name,
+    slice: NodeRef,
+    depth: usize,
+    left: &mut usize,
+) -> Option<bool>
+    ensures { IfSome result (TellsOfKids schema.now (item_of item.now) (item_of resource.now)
+        (λ here. pass_all schema.now here (item_of item.now)
+        (map (child_ask slice) (members schema.now (item_of item.now) slice (places_of name.now (item_of item.now)))))) }
+{
+    for kid in item.kids() {
+        if !member_conforms(alloc, schema, resource, kid, name, slice, depth, left)? {
+            return Some(false);
+        }
+    }
+    Some(true)
+}
+
+// Whether a child conforms to a slice, if it has that name and belongs to it.
+#[cycle(walking)]
+fn member_conforms<'t, 'a, 'j>(
+    alloc: Global,
+    schema: &'t Schema,
+    resource: &'t Typed<'a, 'j>,
+    kid: &'t Kid<'a, 'j>,
+    name: &Name,
+    slice: NodeRef,
+    depth: usize,
+    left: &mut usize,
+) -> Option<bool>
+    ensures { IfSome result (Tells (item_of resource.now)
+        (λ here. if bytes_eq name.now (named_of kid.now).0 && belongs schema.now (criteria schema.now slice) (named_of kid.now).1
+        then conforms schema.now (constant false) here (named_of kid.now).1 slice else true)) }
+{
+    if !is_member(schema, kid, name, slice) {
+        return Some(true);
+    }
+    item_conforms(alloc, schema, resource, kid.item(), slice, depth, left)
+}
+
+// Whether each child of a name conforms to a node, where so many have it.
+#[cycle(walking)]
+fn counted_conform<'t, 'a, 'j>(
+    alloc: Global,
+    schema: &'t Schema,
+    resource: &'t Typed<'a, 'j>,
+    item: &'t Typed<'a, 'j>,
+    name: &Name,
+    node: NodeRef,
+    count: usize,
+    depth: usize,
+    left: &mut usize,
+) -> Option<bool>
+    requires { count ≡ count_of name.now (item_of item.now) }
+    ensures { IfSome result (TellsOfKids schema.now (item_of item.now) (item_of resource.now)
+        (λ here. pass_all schema.now here (item_of item.now) (map (child_ask node) (places_of name.now (item_of item.now))))) }
+{
     if count == 0 {
         return Some(true);
     }
-    named_conform(
-        alloc,
-        schema,
-        resource,
-        item,
-        slot.tagged_name(),
-        entry,
-        depth,
-        left,
-    )
+    named_conform(alloc, schema, resource, item, name, node, depth, left)
 }
 
 // Whether each child of a name conforms to a node.

@@ -6,11 +6,13 @@ use Rattle.fhir_schema.specs.Covers.{covers, type_at}
 use Rattle.fhir_schema.specs.Schemas.{type_root}
 use Rattle.fhir_instance.specs.Items.{type_of, kids_of}
 use Rattle.fhir_instance.specs.View.{item_of}
+use Rattle.fhir_conformance.specs.Positions.{members}
 use Rattle.fhir_conformance.specs.Asks.{child_ask, places_from, own_root, root_asks, inner_asks}
 use Rattle.fhir_conformance.specs.Conformance.{constant, conforms, types_hold, profile_holds}
 use Rattle.fhir_walk.specs.Walks.{none, pass_all, rest_holds, Tells}
 use Rattle.fhir_walk.proofs.Parts.{root_parts, inner_parts_last, root_told, inner_told}
 use Rattle.fhir_walk.proofs.Kids.{named_from, first_asked, named_first, told_there}
+use Rattle.fhir_walk.proofs.Sliced.{member_asked, member_told, asked_from, asked_next}
 use Rattle.fhir_walk.proofs.Turns.{next, both_left, both_failed, either_left, either_held, or_held, or_failed, empty_mapped, any_mapped, told_more}
 use Rattle.fhir_walk.proofs.walking.+walking.Goals as goal
 
@@ -159,3 +161,36 @@ profiles_hold-returns t c = λ here near.
     (sym (ap (list_any (λ q. p (string_bytes q))) (drop_all i ps c.loop-profile-test.false))
     ∙ c.loop-profile.invariant here near
     ∙ any_mapped p string_bytes ps)
+
+pub members_conform-returns-then-not-branch : goal.members_conform-returns-then-not-branch
+members_conform-returns-then-not-branch t c = λ here stands.
+    let s = c.args.schema.now in
+    let x = item_of c.args.item.now in
+    let n = c.args.slice in
+    let name = c.args.name.now in
+    let ks = c.kids-kid-items.result.now in
+    let i = c.loop-kid.kid-index in
+    let k = c.kid-item.result in
+    let told : c.in_ok-member_conforms.field-0 ≡ member_asked s here x n name i k =
+    member_told s here x n name i k ks (item_of c.args.resource.now) c.in_ok-member_conforms.field-0 c.kids-kid-items.ensures c.loop-kid-test.true c.kid-item.is stands
+    (λ here near. c.in_ok-member_conforms.ensures here near) in
+    both_failed (asked_from s here x n name i (drop i ks)) (member_asked s here x n name i k) (asked_from s here x n name (i + 1) (drop (i + 1) ks))
+    (asked_next s here x n name i k ks c.kids-kid-items.ensures c.loop-kid-test.true c.kid-item.is) (sym told ∙ c.if-not-branch.true)
+    ∙ c.loop-kid.invariant here stands
+    ∙ ap (λ kids. pass_all s here x (map (child_ask n) (members s x n (places_from 0 name kids)))) c.kids-kid-items.ensures
+
+pub members_conform-loop-kid-preserved : goal.members_conform-loop-kid-preserved
+members_conform-loop-kid-preserved t c = λ here stands.
+    let s = c.args.schema.now in
+    let x = item_of c.args.item.now in
+    let n = c.args.slice in
+    let name = c.args.name.now in
+    let ks = c.kids-kid-items.result.now in
+    let i = c.loop-kid.kid-index in
+    let k = c.kid-item.result in
+    let told : c.in_ok-member_conforms.field-0 ≡ member_asked s here x n name i k =
+    member_told s here x n name i k ks (item_of c.args.resource.now) c.in_ok-member_conforms.field-0 c.kids-kid-items.ensures c.loop-kid-test.true c.kid-item.is stands
+    (λ here near. c.in_ok-member_conforms.ensures here near) in
+    sym (both_left (asked_from s here x n name i (drop i ks)) (member_asked s here x n name i k) (asked_from s here x n name (i + 1) (drop (i + 1) ks))
+    (asked_next s here x n name i k ks c.kids-kid-items.ensures c.loop-kid-test.true c.kid-item.is) (sym told ∙ c.if-not-branch.false))
+    ∙ c.loop-kid.invariant here stands
