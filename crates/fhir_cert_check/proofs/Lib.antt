@@ -13,3 +13,4 @@ pub mod Distinct
 pub mod Looking
 pub mod OfNodes
 pub mod Entailed
+pub mod Alike

@@ -1,17 +1,22 @@
 //! Laws: what right pairs promise.
 
-ghost use Rattle.std.specs.Prelude.{◌≡◌, Bool, IsTrue};
+ghost use Rattle.std.specs.Prelude.{◌≡◌, Bool, Ok, IsTrue};
 ghost use Rattle.std.specs.List.{Contains};
+ghost use Rattle.fhir_json.specs.Tree.{Text};
+ghost use Rattle.fhir_package.specs.Changing.{AreSound, EachOnce};
 ghost use Rattle.fhir_package.specs.Definitions.{Definitions};
 ghost use Rattle.fhir_nodes.specs.declared.node.NodeRef.{NodeRef};
 ghost use Rattle.fhir_schema.specs.Schemas.{SchemaValue, schema_of};
 ghost use Rattle.fhir_certificate.specs.declared.pair.Pair.{Pair};
 ghost use Rattle.fhir_cert_check.specs.Rules.{has_item_pair, failing_rule, is_local};
 ghost use Rattle.fhir_certificate.specs.Certificate.{CertificateValue};
-ghost use Rattle.fhir_cert_check.specs.Checking.{IsRight, IsCertificate};
+ghost use Rattle.fhir_certificate.specs.Migrating.{migrated};
+ghost use Rattle.fhir_certificate.specs.Reading.{reading};
+ghost use Rattle.fhir_cert_check.specs.Checking.{IsRight, IsCertificate, answer_of};
 ghost use Rattle.fhir_cert_check.specs.Asked.{asked_for, is_of_nodes};
 ghost use Rattle.fhir_cert_check.specs.Inclusion.{IncludesItems, Includes};
 
+use fhir_certificate::migrated_back;
 use fhir_conformance::roots_ask_no_root;
 use fhir_entail::entailed_is_true;
 use fhir_facets::narrower_holds;
@@ -63,4 +68,13 @@ pub fn asked_are_nodes()
         → IsTrue (is_of_nodes (schema_of d) q) }
 {
     least_closed();
+}
+
+/// In the schema of a package of sound definitions, each url of a kind once, the same is answered of bytes and of the text that they
+/// are migrated to: that both are right, or the same first pair that fails the same rule.
+pub fn migrated_alike()
+    ensures { (p : Definitions) (bytes text : Text) → AreSound p → EachOnce p → migrated (schema_of p) bytes ≡ Ok text
+        → answer_of (reading (schema_of p) bytes) (schema_of p) ≡ answer_of (reading (schema_of p) text) (schema_of p) }
+{
+    migrated_back();
 }

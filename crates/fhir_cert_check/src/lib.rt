@@ -33,7 +33,10 @@ mod texts;
 pub use answer::Answer;
 pub use asked::asked_for;
 pub use checking::{check, check_bytes, failing, first_failing};
-pub use laws::{asked_are_nodes, certificates_include, inclusion, more_pairs, rules_look_at_asked};
+pub use laws::{
+    asked_are_nodes, certificates_include, inclusion, migrated_alike, more_pairs,
+    rules_look_at_asked,
+};
 pub use pair_set::{PairSet, same_pairs};
 pub use rule::Rule;
 pub use texts::{pair_text, rule_text};

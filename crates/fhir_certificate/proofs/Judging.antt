@@ -14,14 +14,14 @@ use Rattle.fhir_json.specs.Memory.{GivesOr}
 use Rattle.fhir_nodes.specs.declared.node.NodeRef.{NodeRef}
 use Rattle.fhir_schema.specs.Schemas.{SchemaValue, has, root, node}
 use Rattle.fhir_certificate.specs.declared.fault.CertFault.{CertFault}
-use Rattle.fhir_certificate.specs.declared.fault.CertFault.TheVariants.{WrongFormat, UnknownNode, TooManyPairs, NoMemory}
+use Rattle.fhir_certificate.specs.declared.fault.CertFault.TheVariants.{WrongFormat, UnknownNode, TooManyPairs, NoMemory, OtherVersion}
 use Rattle.fhir_certificate.specs.declared.pair.NodePair.{NodePair}
 use Rattle.fhir_certificate.specs.declared.pair.Pair.{Pair}
 use Rattle.fhir_certificate.specs.declared.pair.Pair.TheVariants.{Item, Kids}
 use Rattle.fhir_certificate.specs.Certificate.{CertificateValue, are_nodes, fits}
 use Rattle.fhir_certificate.specs.Format.{Name, Line, item, kids, Written, Spells}
 use Rattle.fhir_certificate.specs.Judging.{limit, node_of, pair_of, with_item, with_kids, with_lines}
-use Rattle.fhir_certificate.specs.Judging.{are_usable, certificate_of, has_room, certificate_or_fault, Stands}
+use Rattle.fhir_certificate.specs.Judging.{are_loaded, are_usable, certificate_of, has_room, has_versions, within, certificate_or_fault, Stands}
 use Rattle.fhir_certificate.specs.Faults.{is_no_memory, Means}
 use Rattle.fhir_certificate.specs.Reading.{written_of, reading}
 use Rattle.fhir_certificate.specs.Lines.{are_known, pairs_of, item_in, kids_in, LeadsTo}
@@ -97,15 +97,22 @@ certificate_built s w is = certificate_is s w ∙ cond-true _ _ _ (has_certifica
 pub room : (n : ℕ) → n ≤ limit → nat_le n limit ≡ true
 room n le = grind (arith, nat_tests)
 
+-- what is answered where there is a certificate
+pub answer_some : (s : SchemaValue) (w : Written) → is_some (certificate_of s w) ≡ true → certificate_or_fault s w ≡ within s w (built s w)
+answer_some s w is = ap (λ o. option_map_or (within s w) o (Err UnknownNode)) (certificate_built s w is)
+
+pub answer_within : (s : SchemaValue) (w : Written) (c : CertificateValue) → length w.lines ≤ limit → has_versions s w ≡ true → within s w c ≡ Ok c
+answer_within s w c le own = cond-true _ _ _ (room (length w.lines) le) ∙ cond-true _ _ _ own
+
 pub built_or_fault : (s : SchemaValue) (w : Written) (r : Result CertificateValue CertFault) → is_some (certificate_of s w) ≡ true → length w.lines ≤ limit
-    → MatchResult r (λ c. c ≡ built s w) (λ fault. fault ≡ NoMemory) → GivesOr is_no_memory (λ c. c) r (certificate_or_fault s w)
-built_or_fault s w (Ok c) is le e =
-    ap (λ o. option_map_or (λ c. if has_room w then Ok c else Err TooManyPairs) o (Err UnknownNode)) (certificate_built s w is)
-    ∙ cond-true _ _ _ (room (length w.lines) le) ∙ ap Ok (sym e)
-built_or_fault s w (Err NoMemory) is le e = tt
-built_or_fault s w (Err WrongFormat) is le e = cc
-built_or_fault s w (Err UnknownNode) is le e = cc
-built_or_fault s w (Err TooManyPairs) is le e = cc
+    → has_versions s w ≡ true → MatchResult r (λ c. c ≡ built s w) (λ fault. fault ≡ NoMemory)
+    → GivesOr is_no_memory (λ c. c) r (certificate_or_fault s w)
+built_or_fault s w (Ok c) is le own e = answer_some s w is ∙ answer_within s w (built s w) le own ∙ ap Ok (sym e)
+built_or_fault s w (Err NoMemory) is le own e = tt
+built_or_fault s w (Err WrongFormat) is le own e = cc
+built_or_fault s w (Err UnknownNode) is le own e = cc
+built_or_fault s w (Err TooManyPairs) is le own e = cc
+built_or_fault s w (Err OtherVersion) is le own e = cc
 
 -- ---- what the lines say is judged
 
@@ -127,15 +134,20 @@ module _ (s : SchemaValue) (w : Written) (so_far : LinesRead) (h : LeadsTo s (ar
   lines_count : so_far.count ≡ length w.lines
   lines_count = let e = h.count in omega arith
 
+  lines_few : so_far.count ≤ limit → length w.lines ≤ limit
+  lines_few le = let n = lines_count in omega arith
+
   pub lines_unknown : so_far.is_known ≡ false → certificate_or_fault s w ≡ Err UnknownNode
-  lines_unknown is =
-      ap (λ o. option_map_or (λ c. if has_room w then Ok c else Err TooManyPairs) o (Err UnknownNode)) (none_of (certificate_of s w) (sym lines_known ∙ is))
+  lines_unknown is = ap (λ o. option_map_or (within s w) o (Err UnknownNode)) (none_of (certificate_of s w) (sym lines_known ∙ is))
 
   pub lines_over : so_far.is_known ≡ true → limit < so_far.count → certificate_or_fault s w ≡ Err TooManyPairs
   lines_over is lt =
       let many : limit < length w.lines = let e = lines_count in omega arith in
-      ap (λ o. option_map_or (λ c. if has_room w then Ok c else Err TooManyPairs) o (Err UnknownNode)) (certificate_built s w (sym lines_known ∙ is))
-      ∙ cond-false _ _ _ (over (length w.lines) many)
+      answer_some s w (sym lines_known ∙ is) ∙ cond-false _ _ _ (over (length w.lines) many)
+
+  pub lines_other : so_far.is_known ≡ true → so_far.count ≤ limit → has_versions s w ≡ false → certificate_or_fault s w ≡ Err OtherVersion
+  lines_other is le other =
+      answer_some s w (sym lines_known ∙ is) ∙ cond-true _ _ _ (room (length w.lines) (lines_few le)) ∙ cond-false _ _ _ other
 
   -- the certificate of what the lines say
   abbrev pub kept : CertificateValue
@@ -147,15 +159,11 @@ module _ (s : SchemaValue) (w : Written) (so_far : LinesRead) (h : LeadsTo s (ar
       let kids : so_far.kids.items ≡ flat_map kids_in (pairs_of s w.lines) = sym (append-nil so_far.kids.items) ∙ h.kids is le in
       rw (items, kids) refl
 
-  pub lines_certificate : (r : Result CertificateValue CertFault) → so_far.is_known ≡ true → so_far.count ≤ limit
+  pub lines_certificate : (r : Result CertificateValue CertFault) → so_far.is_known ≡ true → so_far.count ≤ limit → has_versions s w ≡ true
       → MatchResult r (λ c. c ≡ kept) (λ fault. fault ≡ NoMemory)
       → GivesOr is_no_memory (λ c. c) r (certificate_or_fault s w)
-  lines_certificate (Ok c) is le e =
-      let few : length w.lines ≤ limit = let n = lines_count in omega arith in
-      built_or_fault s w (Ok c) (sym lines_known ∙ is) few (e ∙ kept_built is le)
-  lines_certificate (Err fault) is le e =
-      let few : length w.lines ≤ limit = let n = lines_count in omega arith in
-      built_or_fault s w (Err fault) (sym lines_known ∙ is) few e
+  lines_certificate (Ok c) is le own e = built_or_fault s w (Ok c) (sym lines_known ∙ is) (lines_few le) own (e ∙ kept_built is le)
+  lines_certificate (Err fault) is le own e = built_or_fault s w (Err fault) (sym lines_known ∙ is) (lines_few le) own e
 
 -- ---- what is read of bytes
 
@@ -188,33 +196,37 @@ told s bytes =
 
 -- ---- what an answer says
 
-within : (n : ℕ) → nat_le n limit ≡ true → n ≤ limit
-within n e = grind (arith, nat_tests)
+at_most : (n : ℕ) → nat_le n limit ≡ true → n ≤ limit
+at_most n e = grind (arith, nat_tests)
 
 beyond : (n : ℕ) → nat_le n limit ≡ false → limit < n
 beyond n e = grind (arith, nat_tests)
 
--- what each answer says of what is meant and of whether there is room
-abbrev pub Says : Option CertificateValue → Bool → Result CertificateValue CertFault → Type 0
-Says o b (Ok c) = (o ≡ Some c) × (b ≡ true)
-Says o b (Err WrongFormat) = ⊥
-Says o b (Err UnknownNode) = o ≡ None
-Says o b (Err TooManyPairs) = (is_some o ≡ true) × (b ≡ false)
-Says o b (Err NoMemory) = ⊥
+-- what each answer says of what is meant, of whether there is room, and of the versions
+abbrev pub Says : Option CertificateValue → Bool → Bool → Result CertificateValue CertFault → Type 0
+Says o b v (Ok c) = (o ≡ Some c) × (b ≡ true) × (v ≡ true)
+Says o b v (Err WrongFormat) = ⊥
+Says o b v (Err UnknownNode) = o ≡ None
+Says o b v (Err TooManyPairs) = (is_some o ≡ true) × (b ≡ false)
+Says o b v (Err NoMemory) = ⊥
+Says o b v (Err OtherVersion) = (is_some o ≡ true) × (b ≡ true) × (v ≡ false)
 
-says : (o : Option CertificateValue) (b : Bool) → Says o b (option_map_or (λ c. if b then Ok c else Err TooManyPairs) o (Err UnknownNode))
-says None b = refl
-says (Some c) true = (refl, refl)
-says (Some c) false = (refl, refl)
+says : (o : Option CertificateValue) (b v : Bool)
+    → Says o b v (option_map_or (λ c. if b then (if v then Ok c else Err OtherVersion) else Err TooManyPairs) o (Err UnknownNode))
+says None b v = refl
+says (Some c) true true = (refl, refl, refl)
+says (Some c) true false = (refl, refl, refl)
+says (Some c) false v = (refl, refl)
 
 pub certificate_or_fault-says : (s : SchemaValue) (w : Written) (r : Result CertificateValue CertFault) → certificate_or_fault s w ≡ r
-    → Says (certificate_of s w) (has_room w) r
-certificate_or_fault-says s w r e = subst (Says (certificate_of s w) (has_room w)) e (says (certificate_of s w) (has_room w))
+    → Says (certificate_of s w) (has_room w) (has_versions s w) r
+certificate_or_fault-says s w r e =
+    subst (Says (certificate_of s w) (has_room w) (has_versions s w)) e (says (certificate_of s w) (has_room w) (has_versions s w))
 
 pub reads_ok : (s : SchemaValue) (bytes : Text) (c : CertificateValue) → reading s bytes ≡ Ok c → Stands s bytes c
 reads_ok s bytes c e =
     elim (told s bytes) [
-      | inl t ↦ let h = certificate_or_fault-says s t.0 (Ok c) (sym t.2 ∙ e) in (t.0, t.1, h.0, within (length t.0.lines) h.1)
+      | inl t ↦ let h = certificate_or_fault-says s t.0 (Ok c) (sym t.2 ∙ e) in (t.0, t.1, h.0, at_most (length t.0.lines) h.1, h.2)
       | inr t ↦ let no = t.0 in cc
     ]
 
@@ -245,6 +257,13 @@ is_refused s bytes (Err UnknownNode) e =
 is_refused s bytes (Err TooManyPairs) e =
     elim (told s bytes) [
       | inl t ↦ let h = certificate_or_fault-says s t.0 (Err TooManyPairs) (sym t.2 ∙ e) in (t.0, t.1, h.0, beyond (length t.0.lines) h.1)
+      | inr t ↦ let no = t.0 in cc
+    ]
+is_refused s bytes (Err OtherVersion) e =
+    elim (told s bytes) [
+      | inl t ↦
+          let h = certificate_or_fault-says s t.0 (Err OtherVersion) (sym t.2 ∙ e) in
+          (t.0, t.1, h.0, at_most (length t.0.lines) h.1, h.2)
       | inr t ↦ let no = t.0 in cc
     ]
 
@@ -292,7 +311,7 @@ pub meant_fits : NamedNodes → (s : SchemaValue) (w : Written) (c : Certificate
 meant_fits named s w c e =
     let is = some_is (certificate_of s w) c e in
     let parts = and_parts (are_usable s w) (are_known s w.lines) (has_certificate s w ∙ is) in
-    let roots = and_parts (is_some (root s w.derived)) (is_some (root s w.base)) parts.0 in
+    let roots = and_parts (is_some (root s w.derived)) (is_some (root s w.base)) (and_parts _ (are_loaded s w.definitions) parts.0).0 in
     let b = certificate_built s w is in
     let same : built s w ≡ c = cc in
     let pairs = pairs_fit named s w.lines in

@@ -1,9 +1,16 @@
+pub mod Numbered
+pub mod Naming
+pub mod Found
+pub mod Pushed
 pub mod Cuts
 pub mod Pairs
 pub mod Taken
 pub mod Again
 pub mod Flawed
 pub mod Judging
+pub mod VersionTexts
 pub mod WrittenBack
 pub mod Utf8Written
 pub mod PackagesBack
+pub mod Migrated
+pub mod Whole

@@ -8,6 +8,7 @@ use Rattle.std.specs.Str.{bytes_eq}
 use Rattle.std.proofs.lemmas.Bool.{and_parts}
 use Rattle.std.proofs.lemmas.Slice.Eq.{bytes_eq-Decides}
 use Rattle.fhir_json.specs.Tree.{Text}
+use Rattle.fhir_certificate.specs.Numbers.{Numbering}
 use Rattle.fhir_certificate.specs.Format.{Line}
 use Rattle.fhir_json.specs.Bytes.{is_empty}
 use Rattle.fhir_certificate.specs.Reading.{longer, lines_of, is_ended, line_of, pair_lines, is_end, pairs_in, pairs_at}
@@ -43,9 +44,9 @@ some_more l true (Some ps) = refl
 some_more l true None = refl
 some_more l false pairs = refl
 
-pub next_all : (text line rest : Text) (l : Line) → is_ended text ≡ is_ended rest → lines_of text ≡ line ∷ lines_of rest → line_of line ≡ Some l
-    → is_some (pairs_at text) ≡ is_some (pairs_at rest)
-next_all text line rest l e lines is = rw (e, lines, is) (some_more l (is_ended rest) (pairs_in (lines_of rest)))
+pub next_all : (ns : Numbering) (text line rest : Text) (l : Line) → is_ended text ≡ is_ended rest → lines_of text ≡ line ∷ lines_of rest
+    → line_of ns line ≡ Some l → is_some (pairs_at ns text) ≡ is_some (pairs_at ns rest)
+next_all ns text line rest l e lines is = rw (e, lines, is) (some_more l (is_ended rest) (pairs_in ns (lines_of rest)))
 
 are_step : (o : Option Line) (all : Option (List Line)) (is : Bool) (ls ps : List Line)
     → ((qs : List Line) → all ≡ Some qs → ls ≡ qs)
@@ -57,9 +58,9 @@ are_step (Some l) None is ls ps h e = cc
 are_step (Some l) (Some qs) is ls ps h e = let same : ls ≡ qs = h qs refl in cc
 
 -- the pairs are those in front
-pub are_front : (lines : List Text) (ps : List Line) → pairs_in lines ≡ Some ps → pair_lines lines ≡ ps
-are_front [] ps e = cc
-are_front (line ∷ lines) ps e = are_step (line_of line) (pairs_in lines) (is_end line lines) (pair_lines lines) ps (are_front lines) e
+pub are_front : (ns : Numbering) (lines : List Text) (ps : List Line) → pairs_in ns lines ≡ Some ps → pair_lines ns lines ≡ ps
+are_front ns [] ps e = cc
+are_front ns (line ∷ lines) ps e = are_step (line_of ns line) (pairs_in ns lines) (is_end line lines) (pair_lines ns lines) ps (are_front ns lines) e
 
 told : (o : Option (List Line)) (b : Bool) (ls : List Line) → ((ps : List Line) → o ≡ Some ps → ls ≡ ps) → is_some o ≡ b → o ≡ (if b then Some ls else None)
 told None true ls h e = cc
@@ -71,9 +72,11 @@ pub at_some : (b : Bool) (o : Option (List Line)) (ps : List Line) → (if b the
 at_some true o ps e = e
 at_some false o ps e = cc
 
-pub pairs_told : (text : Text) (b : Bool) → is_some (pairs_at text) ≡ b → pairs_at text ≡ (if b then Some (pair_lines (lines_of text)) else None)
-pairs_told text b e =
-    told (pairs_at text) b (pair_lines (lines_of text)) (λ ps is. are_front (lines_of text) ps (at_some (is_ended text) (pairs_in (lines_of text)) ps is)) e
+pub pairs_told : (ns : Numbering) (text : Text) (b : Bool) → is_some (pairs_at ns text) ≡ b
+    → pairs_at ns text ≡ (if b then Some (pair_lines ns (lines_of text)) else None)
+pairs_told ns text b e =
+    told (pairs_at ns text) b (pair_lines ns (lines_of text))
+    (λ ps is. are_front ns (lines_of text) ps (at_some (is_ended text) (pairs_in ns (lines_of text)) ps is)) e
 
 -- ---- the end
 
@@ -97,22 +100,22 @@ end_line line lines e =
     let last : lines ≡ [] = none_left lines parts.1 in
     cc
 
-end_of : (line : Text) (lines : List Text) (o : Option Line)
-    → option_map_or (λ l. l ∷ pair_lines lines) o [] ≡ []
-    → is_some (option_map_or (λ l. option_map (λ qs. l ∷ qs) (pairs_in lines)) o (if is_end line lines then Some [] else None)) ≡ true
+end_of : (ns : Numbering) (line : Text) (lines : List Text) (o : Option Line)
+    → option_map_or (λ l. l ∷ pair_lines ns lines) o [] ≡ []
+    → is_some (option_map_or (λ l. option_map (λ qs. l ∷ qs) (pairs_in ns lines)) o (if is_end line lines then Some [] else None)) ≡ true
     → line ∷ lines ≡ codes "end" ∷ []
-end_of line lines (Some l) none some = cc
-end_of line lines None none some = end_line line lines (some_true (is_end line lines) (Some []) some).0
+end_of ns line lines (Some l) none some = cc
+end_of ns line lines None none some = end_line line lines (some_true (is_end line lines) (Some []) some).0
 
-last_line : (lines : List Text) → pair_lines lines ≡ [] → is_some (pairs_in lines) ≡ true → lines ≡ codes "end" ∷ []
-last_line [] none some = cc
-last_line (line ∷ lines) none some = end_of line lines (line_of line) none some
+last_line : (ns : Numbering) (lines : List Text) → pair_lines ns lines ≡ [] → is_some (pairs_in ns lines) ≡ true → lines ≡ codes "end" ∷ []
+last_line ns [] none some = cc
+last_line ns (line ∷ lines) none some = end_of ns line lines (line_of ns line) none some
 
 -- where no pair line is in front, only the last line is
-pub end_is : (text : Text) → pair_lines (lines_of text) ≡ [] → is_some (pairs_at text) ≡ bytes_eq text (codes "end" ++ 10 ∷ [])
-end_is text none =
-    same_tests (is_some (pairs_at text)) (bytes_eq text (codes "end" ++ 10 ∷ []))
+pub end_is : (ns : Numbering) (text : Text) → pair_lines ns (lines_of text) ≡ [] → is_some (pairs_at ns text) ≡ bytes_eq text (codes "end" ++ 10 ∷ [])
+end_is ns text none =
+    same_tests (is_some (pairs_at ns text)) (bytes_eq text (codes "end" ++ 10 ∷ []))
     (λ some.
-    let parts = some_true (is_ended text) (pairs_in (lines_of text)) some in
-    (bytes_eq-Decides text (codes "end" ++ 10 ∷ [])).1 (whole text parts.0 ∙ ap (flat_map ended) (last_line (lines_of text) none parts.1)))
+    let parts = some_true (is_ended text) (pairs_in ns (lines_of text)) some in
+    (bytes_eq-Decides text (codes "end" ++ 10 ∷ [])).1 (whole text parts.0 ∙ ap (flat_map ended) (last_line ns (lines_of text) none parts.1)))
     (λ same. rw ((bytes_eq-Decides text (codes "end" ++ 10 ∷ [])).0 same) refl)

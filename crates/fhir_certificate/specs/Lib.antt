@@ -1,9 +1,15 @@
 pub mod Certificate
+pub mod Numbers
+pub mod Versions
 pub mod Format
 pub mod Judging
 pub mod Faults
 pub mod Reading
 pub mod Views
+pub mod Stating
+pub mod Heads
 pub mod Lines
 pub mod Writing
 pub mod Flaws
+pub mod Numbering
+pub mod Migrating

@@ -15,10 +15,12 @@ pub enum CertFault {
     WrongFormat,
     /// `C2`: a definition is missing or can't be used, or an element is not its definition's.
     UnknownNode,
-    /// `C3`: there are more than 1,048,576 pair lines.
+    /// `C3`: there are more than 16,777,216 pair lines.
     TooManyPairs,
     /// `C4`: a growth of memory was refused.
     NoMemory,
+    /// `C5`: the version of a definition that is written isn't the one that it has.
+    OtherVersion,
 }
 
 impl CertFault {
@@ -31,6 +33,7 @@ impl CertFault {
             CertFault::UnknownNode => "C2",
             CertFault::TooManyPairs => "C3",
             CertFault::NoMemory => "C4",
+            CertFault::OtherVersion => "C5",
         }
     }
 }

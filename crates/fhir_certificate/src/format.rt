@@ -1,12 +1,17 @@
 //! The text of a certificate.
 
-ghost use Rattle.std.specs.Prelude.{◌≡◌, ◌<◌, [], ◌∷◌, length, None, is_some, option_map, IfSome, MatchOption};
-ghost use Rattle.fhir_json.specs.Views.{text_seen};
-ghost use Rattle.fhir_json.specs.Bytes.{tab, line_feed};
-ghost use Rattle.fhir_certificate.specs.Format.{is_field};
-ghost use Rattle.fhir_certificate.specs.Reading.{cut_at, lines_of, is_ended, field_at, name_at, name_of, line_with};
-ghost use Rattle.fhir_certificate.specs.Reading.{line_of, pair_lines, pairs_at, behind_line, field_of, field_line, written_of};
-ghost use Rattle.fhir_certificate.specs.Views.{parts_seen, name_seen, line_seen, written_with};
+ghost use Rattle.std.specs.Prelude.{◌≡◌, ◌<◌, [], ◌∷◌, length, None, is_some, option_map, IfOk, IfSome, MatchOption};
+ghost use Rattle.fhir_certificate.specs.Format.{numbering};
+ghost use Rattle.fhir_certificate.specs.Reading.{lines_of, url_at, name_at, name_of, line_with};
+ghost use Rattle.fhir_certificate.specs.Reading.{line_of, pair_lines, pairs_at, url_line, written_behind, written_of};
+ghost use Rattle.fhir_certificate.specs.Views.{parts_seen, name_seen, line_seen};
+ghost use Rattle.fhir_certificate.specs.Heads.{written_with};
+
+use crate::fields::{cut_at_feed, cut_at_tab, field_at, field_line, is_field};
+use crate::stated::Definitions;
+use crate::stating::front_of;
+use fhir_json::NoMemory;
+use std::alloc::Global;
 
 /// An element by the url of its definition and its id.
 #[derive(Clone, Copy)]
@@ -22,58 +27,34 @@ pub(crate) enum PairLine<'a> {
     Kids(NameText<'a>, NameText<'a>),
 }
 
-/// Both urls of a certificate's text, and what stands behind their lines.
-#[derive(Clone, Copy)]
+/// What stands in front of the pairs of a text, and what stands behind it.
+#[derive(Drop)]
 pub(crate) struct Head<'a> {
+    pub(crate) definitions: Definitions<'a>,
     pub(crate) derived: &'a str,
     pub(crate) base: &'a str,
     pub(crate) pairs: &'a str,
 }
 
-fn cut_at_tab(text: &str) -> Option<(&str, &str)>
-    ensures { parts_seen result ≡ cut_at tab text.now }
+fn url_at<'a>(definitions: &Definitions<'a>, text: &'a str) -> Option<(&'a str, &'a str)>
+    ensures { parts_seen result ≡ url_at (numbering definitions.now) text.now }
 {
-    text.split_once('\t')
+    let (field, rest) = field_at(text)?;
+    Some((definitions.url(field)?, rest))
 }
 
-fn cut_at_feed(text: &str) -> Option<(&str, &str)>
-    ensures parts { parts_seen result ≡ cut_at line_feed text.now }
-    ensures lines { MatchOption result (lines_of text.now ≡ []) (λ p. lines_of text.now ≡ p.0.now ∷ lines_of p.1.now) }
-    ensures ended { IfSome result (λ p. is_ended text.now ≡ is_ended p.1.now) }
-    ensures shorter { IfSome result (λ p. length p.1.now < length text.now) }
+fn name_at<'a>(definitions: &Definitions<'a>, text: &'a str) -> Option<(NameText<'a>, &'a str)>
+    ensures { option_map (λ p. (name_seen p.0, p.1.now)) result ≡ name_at (numbering definitions.now) text.now }
 {
-    text.split_once('\n')
-}
-
-fn is_field(text: &str) -> bool
-    ensures { result ≡ is_field text.now }
-{
-    text.as_bytes().iter().all(|b| *b != b'\t' && *b != b'\n')
-}
-
-fn field_at(text: &str) -> Option<(&str, &str)>
-    ensures { parts_seen result ≡ field_at text.now }
-{
-    let (field, rest) = cut_at_tab(text)?;
-    if is_field(field) {
-        Some((field, rest))
-    } else {
-        None
-    }
-}
-
-fn name_at(text: &str) -> Option<(NameText<'_>, &str)>
-    ensures { option_map (λ p. (name_seen p.0, p.1.now)) result ≡ name_at text.now }
-{
-    let (url, rest) = field_at(text)?;
+    let (url, rest) = url_at(definitions, text)?;
     let (id, rest) = field_at(rest)?;
     Some((NameText { url, id }, rest))
 }
 
-fn name_of(text: &str) -> Option<NameText<'_>>
-    ensures { option_map name_seen result ≡ name_of text.now }
+fn name_of<'a>(definitions: &Definitions<'a>, text: &'a str) -> Option<NameText<'a>>
+    ensures { option_map name_seen result ≡ name_of (numbering definitions.now) text.now }
 {
-    let (url, id) = field_at(text)?;
+    let (url, id) = url_at(definitions, text)?;
     if is_field(id) {
         Some(NameText { url, id })
     } else {
@@ -93,63 +74,63 @@ fn line_with<'a>(word: &str, derived: NameText<'a>, base: NameText<'a>) -> Optio
     }
 }
 
-fn line_of(line: &str) -> Option<PairLine<'_>>
-    ensures { option_map line_seen result ≡ line_of line.now }
+fn line_of<'a>(definitions: &Definitions<'a>, line: &'a str) -> Option<PairLine<'a>>
+    ensures { option_map line_seen result ≡ line_of (numbering definitions.now) line.now }
 {
     let (word, names) = cut_at_tab(line)?;
-    let (derived, base) = name_at(names)?;
-    line_with(word, derived, name_of(base)?)
+    let (derived, base) = name_at(definitions, names)?;
+    line_with(word, derived, name_of(definitions, base)?)
 }
 
 /// The first line, where it is a pair line, and what stands behind it.
-pub(crate) fn next_pair(text: &str) -> Option<(PairLine<'_>, &str)>
-    ensures pairs { MatchOption result (pair_lines (lines_of text.now) ≡ [])
-        (λ p. pair_lines (lines_of text.now) ≡ line_seen p.0 ∷ pair_lines (lines_of p.1.now)) }
-    ensures all { IfSome result (λ p. is_some (pairs_at text.now) ≡ is_some (pairs_at p.1.now)) }
+pub(crate) fn next_pair<'a>(
+    definitions: &Definitions<'a>,
+    text: &'a str,
+) -> Option<(PairLine<'a>, &'a str)>
+    ensures pairs { let ns = numbering definitions.now in MatchOption result (pair_lines ns (lines_of text.now) ≡ [])
+        (λ p. pair_lines ns (lines_of text.now) ≡ line_seen p.0 ∷ pair_lines ns (lines_of p.1.now)) }
+    ensures all { let ns = numbering definitions.now in
+        IfSome result (λ p. is_some (pairs_at ns text.now) ≡ is_some (pairs_at ns p.1.now)) }
     ensures shorter { IfSome result (λ p. length p.1.now < length text.now) }
 {
     let (line, rest) = cut_at_feed(text)?;
-    Some((line_of(line)?, rest))
+    Some((line_of(definitions, line)?, rest))
 }
 
-/// What stands behind a first line that is this.
-pub(crate) fn behind_line<'a>(word: &str, text: &'a str) -> Option<&'a str>
-    ensures { text_seen result ≡ behind_line word.now text.now }
+/// The url that is named in a first line with this word, and what stands behind the line.
+pub(crate) fn url_line<'a>(
+    definitions: &Definitions<'a>,
+    word: &str,
+    text: &'a str,
+) -> Option<(&'a str, &'a str)>
+    ensures { parts_seen result ≡ url_line (numbering definitions.now) word.now text.now }
 {
-    let (line, rest) = cut_at_feed(text)?;
-    if line == word { Some(rest) } else { None }
+    let (field, rest) = field_line(word, text)?;
+    Some((definitions.url(field)?, rest))
 }
 
-fn field_of<'a>(word: &str, line: &'a str) -> Option<&'a str>
-    ensures { text_seen result ≡ field_of word.now line.now }
+fn head_behind<'a>(definitions: Definitions<'a>, text: &'a str) -> Option<Head<'a>>
+    ensures { MatchOption result (written_behind definitions.entry text.now ≡ None)
+        (λ head. written_behind definitions.entry text.now
+        ≡ option_map (written_with head) (pairs_at (numbering head.definitions) head.pairs.now)) }
 {
-    let (own, field) = cut_at_tab(line)?;
-    if own == word && is_field(field) {
-        Some(field)
-    } else {
-        None
-    }
-}
-
-/// The field of a first line with this word, and what stands behind the line.
-pub(crate) fn field_line<'a>(word: &str, text: &'a str) -> Option<(&'a str, &'a str)>
-    ensures { parts_seen result ≡ field_line word.now text.now }
-{
-    let (line, rest) = cut_at_feed(text)?;
-    Some((field_of(word, line)?, rest))
-}
-
-/// The head of a certificate's text.
-pub(crate) fn head_of(text: &str) -> Option<Head<'_>>
-    ensures { MatchOption result (written_of text.now ≡ None)
-        (λ head. written_of text.now ≡ option_map (written_with head) (pairs_at head.pairs.now)) }
-{
-    let rest = behind_line("fhirprof-certificate 1", text)?;
-    let (derived, rest) = field_line("derived", rest)?;
-    let (base, pairs) = field_line("base", rest)?;
+    let (derived, rest) = url_line(&definitions, "derived", text)?;
+    let (base, pairs) = url_line(&definitions, "base", rest)?;
     Some(Head {
+        definitions,
         derived,
         base,
         pairs,
     })
+}
+
+/// The head of a certificate's text, if it has one. The one refusal is want of memory.
+pub(crate) fn head_of(alloc: Global, text: &str) -> Result<Option<Head<'_>>, NoMemory>
+    ensures { IfOk result (λ h. MatchOption h (written_of text.now ≡ None)
+        (λ head. written_of text.now ≡ option_map (written_with head) (pairs_at (numbering head.definitions) head.pairs.now))) }
+{
+    match front_of(alloc, text)? {
+        Some((definitions, rest)) => Ok(head_behind(definitions, rest)),
+        None => Ok(None),
+    }
 }

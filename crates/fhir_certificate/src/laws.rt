@@ -1,7 +1,8 @@
 //! Laws: what the definitions say of one another.
 
-ghost use Rattle.std.specs.Prelude.{◌≡◌, ◌≤◌, ◌+◌, length, Some, Ok, IsTrue, IsUtf8};
-ghost use Rattle.fhir_json.specs.Tree.{Text};
+ghost use Rattle.std.specs.Prelude.{◌≡◌, ◌≤◌, ◌+◌, ◌⊎◌, ◌↔◌, codes, length, Some, Ok, IsTrue, IsUtf8};
+ghost use Rattle.fhir_json.specs.Compact.{compact};
+ghost use Rattle.fhir_json.specs.Tree.{Text, string};
 ghost use Rattle.fhir_package.specs.Definitions.{Definitions};
 ghost use Rattle.fhir_package.specs.Changing.{AreSound, EachOnce};
 ghost use Rattle.fhir_schema.specs.Schemas.{SchemaValue, schema_of};
@@ -9,9 +10,12 @@ ghost use Rattle.fhir_certificate.specs.Certificate.{CertificateValue, fits};
 ghost use Rattle.fhir_certificate.specs.Format.{Written, Spells, text_of};
 ghost use Rattle.fhir_certificate.specs.Judging.{limit, Stands};
 ghost use Rattle.fhir_certificate.specs.Reading.{written_of, reading};
+ghost use Rattle.fhir_certificate.specs.Versions.{is_version};
+ghost use Rattle.fhir_certificate.specs.Migrating.{migrated};
 ghost use Rattle.fhir_certificate.specs.Writing.{written_by, AreNamed, IsWritable};
 
-use fhir_schema::{names_are_utf8, nodes_by_name};
+use fhir_json::{reading_agrees, sound_trees};
+use fhir_schema::{named_nodes, names_are_utf8, nodes_by_name, versions_are_utf8};
 
 /// Reading from left to right gives what the bytes spell, and nothing where they spell nothing. What they spell is one.
 pub fn format_agrees()
@@ -41,4 +45,26 @@ pub fn written_back_in_packages()
 {
     nodes_by_name();
     names_are_utf8();
+    versions_are_utf8();
+    sound_trees();
+    reading_agrees();
+}
+
+/// A version is written as JSON writes a text, or as `-`.
+pub fn versions_as_json()
+    ensures { (text : Text) → IsTrue (is_version text)
+        ↔ ((text ≡ codes "-") ⊎ ((version : Text) × IsUtf8 version × (text ≡ compact (string version)))) }
+{
+    sound_trees();
+    reading_agrees();
+}
+
+/// In the schema of a package of sound definitions, each url of a kind once, what is migrated is read as the same certificate, with
+/// the same pairs in the same order.
+pub fn migrated_back()
+    ensures { (p : Definitions) (bytes text : Text) (c : CertificateValue) → AreSound p → EachOnce p
+        → reading (schema_of p) bytes ≡ Ok c → migrated (schema_of p) bytes ≡ Ok text → reading (schema_of p) text ≡ Ok c }
+{
+    named_nodes();
+    written_back_in_packages();
 }

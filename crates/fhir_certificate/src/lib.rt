@@ -19,19 +19,28 @@
 
 mod certificate;
 mod fault;
+mod fields;
 mod flaw;
 mod format;
 mod laws;
 mod lines;
+mod migrating;
+mod numbering;
 mod pair;
 mod reading;
+mod stated;
+mod stating;
+mod versions;
 mod writing;
 
 pub use certificate::{Certificate, fits};
 pub use fault::CertFault;
 pub use flaw::{Flaw, FlawKind, LinePart, flaws};
-pub use laws::{format_agrees, written_back, written_back_in_packages};
+pub use laws::{
+    format_agrees, migrated_back, versions_as_json, written_back, written_back_in_packages,
+};
 pub use lines::MAX_PAIRS;
+pub use migrating::migrate;
 pub use pair::{NodePair, Pair};
 pub use reading::read;
 pub use writing::write;

@@ -3,6 +3,7 @@
 ghost use Rattle.std.specs.Prelude.{◌≡◌, ◌+◌, ◌++◌, ◌<◌, ◌≤◌, ◌^◌, ◌⊎◌, [], None, Some, option_map, IfOk, IfErr, OnOk};
 ghost use Rattle.fhir_certificate.specs.declared.fault.CertFault.TheVariants as faults;
 ghost use Rattle.fhir_certificate.specs.declared.pair.Pair.TheVariants.{Item, Kids};
+ghost use Rattle.fhir_certificate.specs.Format.{numbering};
 ghost use Rattle.fhir_certificate.specs.Judging.{limit, node_of, pair_of};
 ghost use Rattle.fhir_certificate.specs.Reading.{lines_of, pair_lines, pairs_at};
 ghost use Rattle.fhir_certificate.specs.Lines.{pair_in, item_in, kids_in, Reads, LeadsTo};
@@ -11,11 +12,12 @@ ghost use Rattle.fhir_certificate.specs.Views.{name_seen, line_seen};
 use crate::fault::CertFault;
 use crate::format::{NameText, PairLine, next_pair};
 use crate::pair::{NodePair, Pair};
+use crate::stated::Definitions;
 use fhir_schema::{NodeRef, Schema};
 use std::alloc::Global;
 
 /// How many pair lines a certificate may have.
-pub const MAX_PAIRS: usize = 1_048_576;
+pub const MAX_PAIRS: usize = 16_777_216;
 
 /// What the pair lines say so far.
 #[derive(Drop)]
@@ -118,17 +120,19 @@ impl LinesRead {
 }
 
 /// What the pair lines of a text say, where it is pair lines and then the last line; else it is `WrongFormat`.
-pub(crate) fn read_lines(
+pub(crate) fn read_lines<'a>(
     alloc: Global,
     schema: &Schema,
     usable: bool,
-    text: &str,
+    definitions: &Definitions<'a>,
+    text: &'a str,
 ) -> Result<LinesRead, CertFault>
-    ensures leads { IfOk result (λ so_far.
-        LeadsTo schema.now usable so_far [] (pair_lines (lines_of text.now))) }
-    ensures whole { OnOk result (pairs_at text.now ≡ Some (pair_lines (lines_of text.now))) }
+    ensures leads { let ns = numbering definitions.now in IfOk result (λ so_far.
+        LeadsTo schema.now usable so_far [] (pair_lines ns (lines_of text.now))) }
+    ensures whole { let ns = numbering definitions.now in
+        OnOk result (pairs_at ns text.now ≡ Some (pair_lines ns (lines_of text.now))) }
     ensures refused { IfErr result (λ fault. (fault ≡ faults.NoMemory)
-        ⊎ ((fault ≡ faults.WrongFormat) × (pairs_at text.now ≡ None))) }
+        ⊎ ((fault ≡ faults.WrongFormat) × (pairs_at (numbering definitions.now) text.now ≡ None))) }
 {
     let mut so_far = LinesRead {
         items: Vec::new(alloc),
@@ -137,7 +141,7 @@ pub(crate) fn read_lines(
         is_known: usable,
     };
     let mut rest = text;
-    while let Some((line, behind)) = next_pair(rest) {
+    while let Some((line, behind)) = next_pair(definitions, rest) {
         so_far.read_line(schema, line)?;
         rest = behind;
     }

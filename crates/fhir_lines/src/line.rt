@@ -28,7 +28,8 @@ pub enum FaultNumber {
     Unusable(Reason),
     /// `S1` to `S4`: a definition has no snapshot.
     Snapshot(SnapNumber),
-    /// `C1` to `C3`: a line of a certificate isn't written as it should be or names what isn't there, or there are too many.
+    /// `C1` to `C3` and `C5`: a line of a certificate isn't written as it should be, or names what isn't there or another version, or
+    /// there are too many.
     Certificate(CertFault),
 }
 

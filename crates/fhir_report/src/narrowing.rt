@@ -57,7 +57,8 @@ fn cardinality_text(alloc: Global, element: Option<&ElementDef>) -> Result<Strin
     format!(in alloc; "{least}..{most}")
 }
 
-fn json_text(alloc: Global, value: &Json<'_>) -> Result<String, NoMemory> {
+/// The text of a value.
+pub(crate) fn json_text(alloc: Global, value: &Json<'_>) -> Result<String, NoMemory> {
     let bytes = write(alloc, value)?;
     Ok(String::from_utf8_lossy(alloc, &bytes)?)
 }

@@ -114,7 +114,7 @@ fn one_line<'r>(
 fn too_many<'r>(alloc: Global, file: &'r str) -> Result<Line<'r>, AllocError>
     ensures { IfOk result (λ l. IsOfCertificate file.now (line_seen l)) }
 {
-    let text = String::from_str(alloc, "it has more than 1,048,576 lines of pairs")?;
+    let text = String::from_str(alloc, "it has more than 16,777,216 lines of pairs")?;
     let number = FaultNumber::Certificate(CertFault::TooManyPairs);
     Ok(Line::of_file(file, Some(number), text))
 }
@@ -135,7 +135,7 @@ fn push_flaw<'r>(
 // What is wrong with the lines of a certificate.
 fn flaw_lines<'r>(
     alloc: Global,
-    schema: &Schema,
+    schema: &'r Schema,
     certificate: CertificateFile<'r>,
 ) -> Result<Vec<Line<'r>>, NoMemory>
     ensures { IfOk result (λ ls. All (IsOfCertificate certificate.entry.name.now) (lines_seen ls.items)) }
@@ -149,7 +149,7 @@ fn flaw_lines<'r>(
 
 fn judge<'r>(
     alloc: Global,
-    schema: &Schema,
+    schema: &'r Schema,
     certificate: CertificateFile<'r>,
 ) -> Result<CertificateLines<'r>, NoMemory>
     ensures right { IfOk result (λ j. IsTrue j.is_right → IsRight schema.now certificate.entry.bytes.now) }
@@ -171,17 +171,19 @@ fn judge<'r>(
         Err(CertFault::TooManyPairs) => {
             one_line(alloc, false, too_many(alloc, certificate.name)?)
         }
-        Err(CertFault::WrongFormat | CertFault::UnknownNode) => Ok(CertificateLines {
-            is_right: false,
-            lines: flaw_lines(alloc, schema, certificate)?,
-        }),
+        Err(CertFault::WrongFormat | CertFault::UnknownNode | CertFault::OtherVersion) => {
+            Ok(CertificateLines {
+                is_right: false,
+                lines: flaw_lines(alloc, schema, certificate)?,
+            })
+        }
     }
 }
 
 // The same where there may be none: a missing one is right.
 fn judge_if_any<'r>(
     alloc: Global,
-    schema: &Schema,
+    schema: &'r Schema,
     certificate: Option<CertificateFile<'r>>,
 ) -> Result<CertificateLines<'r>, NoMemory>
     ensures right { IfOk result (λ j. IsTrue j.is_right → IsRightIfAny schema.now (certificate_seen certificate.entry)) }

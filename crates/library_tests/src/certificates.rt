@@ -2,7 +2,7 @@
 
 use crate::packages::package_of;
 use fhir_cert_check::{Answer, Rule, check, check_bytes, first_failing};
-use fhir_certificate::{Certificate, NodePair, Pair, fits, read, write};
+use fhir_certificate::{Certificate, NodePair, Pair, fits, migrate, read, write};
 use fhir_package::{FolderFile, Package};
 use fhir_schema::{NodeRef, Schema};
 use std::alloc::{AllocError, Global};
@@ -17,6 +17,7 @@ enum Call {
     Failing,
     Without,
     Write,
+    Migrate,
 }
 
 fn call_of(name: &str) -> Option<Call> {
@@ -29,6 +30,7 @@ fn call_of(name: &str) -> Option<Call> {
         "failing" => Some(Call::Failing),
         "without" => Some(Call::Without),
         "write" => Some(Call::Write),
+        "migrate" => Some(Call::Migrate),
         _ => None,
     }
 }
@@ -73,6 +75,7 @@ fn answer_of_schema(
     match call {
         Call::Bytes => return check_text(alloc, schema, bytes),
         Call::Fronts => return fronts(alloc, schema, bytes),
+        Call::Migrate => return migrated_told(alloc, schema, bytes),
         _ => {}
     }
     match read(alloc, schema, bytes) {
@@ -243,6 +246,13 @@ fn without_told(
     check_told(alloc, schema, &other)
 }
 
+fn text_told(alloc: Global, bytes: Vec<u8>) -> Result<String, AllocError> {
+    match String::from_utf8(bytes) {
+        Ok(text) => Ok(text),
+        Err(_) => String::from_str(alloc, "not UTF-8"),
+    }
+}
+
 // The text that is written for a certificate.
 fn written_told(
     alloc: Global,
@@ -250,10 +260,15 @@ fn written_told(
     certificate: &Certificate,
 ) -> Result<String, AllocError> {
     match write(alloc, schema, certificate) {
-        Ok(bytes) => match String::from_utf8(bytes) {
-            Ok(text) => Ok(text),
-            Err(_) => String::from_str(alloc, "not UTF-8"),
-        },
+        Ok(bytes) => text_told(alloc, bytes),
+        Err(fault) => format!(in alloc; "{fault}"),
+    }
+}
+
+// The text in format 2 of the certificate that the bytes are.
+fn migrated_told(alloc: Global, schema: &Schema, bytes: &[u8]) -> Result<String, AllocError> {
+    match migrate(alloc, schema, bytes) {
+        Ok(bytes) => text_told(alloc, bytes),
         Err(fault) => format!(in alloc; "{fault}"),
     }
 }

@@ -16,6 +16,8 @@ returns c =
       url_utf8 = λ place. c.names_are_utf8.ensures.url p place sound;
       id_utf8 = λ n. c.names_are_utf8.ensures.id p n sound;
       root_utf8 = λ url is. c.names_are_utf8.ensures.root p url sound is;
+      version_utf8 = λ url text e. c.versions_are_utf8.ensures p url text sound e;
+      json = record { sound = c.sound_trees.ensures; agrees = c.reading_agrees.ensures };
     } in
     record {
       stands = λ p certificate sound once fit few.

@@ -1,6 +1,6 @@
 use Rattle.std.proofs.Common.{lit<}
 use Rattle.fhir_certificate.proofs.Cuts.{first_cut, first_line, first_ended}
-use Rattle.fhir_certificate.proofs.format.cut_at_feed.Goals as goal
+use Rattle.fhir_certificate.proofs.fields.cut_at_feed.Goals as goal
 
 pub returns-clause-parts : goal.returns-clause-parts
 returns-clause-parts c = first_cut 10 c.args.text.now c.split_once.result c.split_once.ensures.cases (lit< tt)

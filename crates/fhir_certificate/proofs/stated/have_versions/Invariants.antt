@@ -1,0 +1,10 @@
+use Rattle.std.proofs.Common.{◌≡◌, map, drop}
+use Rattle.std.specs.List.{list_all}
+use Rattle.fhir_certificate.specs.Judging.{has_version}
+use Rattle.fhir_certificate.specs.Views.{stated_seen}
+use Rattle.fhir_certificate.proofs.stated.have_versions.Given as goal
+
+abbrev pub invariant-loop-definition : goal.invariant-loop-definition
+invariant-loop-definition l =
+    list_all (has_version l.schema) (map stated_seen (drop l.definition-index l.stated))
+    ≡ list_all (has_version l.schema) (map stated_seen l.stated)
