@@ -15,6 +15,7 @@ use Rattle.fhir_snapshot.specs.Refusing.{Applies}
 use Rattle.fhir_elements.specs.declared.reason.Reason.{Reason}
 use Rattle.fhir_elements.specs.Numbers.{reason_number}
 use Rattle.fhir_schema.specs.Schemas.{SchemaValue, unusable}
+use Rattle.fhir_certificate.specs.Migrating.{migrated}
 use Rattle.fhir_commands.specs.declared.reply.Standing.{Standing}
 use Rattle.fhir_replies.specs.Judging.{IsJudged, IsJudgedAsGiven}
 use Rattle.fhir_replies.specs.Deriving.{Derivation, IsDerivationOf}
@@ -24,9 +25,9 @@ use Rattle.fhir_unread.specs.Given.{texts_given, AreSame, notes}
 use Rattle.fhir_unread.specs.Listing.{listing}
 use Rattle.fhir_unread.specs.Unread.{unread_texts}
 use Rattle.fhir_report.specs.Faultless.{CertificateValue}
-use Rattle.fhir_answers.specs.Replying.{ReplyValue, written, noted, told, answer_noted, fault_reply, refused_reply, unreadable_reply, certificate_reply, derivation_reply}
+use Rattle.fhir_answers.specs.Replying.{ReplyValue, written, noted, told, answer_noted, fault_reply, refused_reply, unreadable_reply, certificate_reply, migrated_reply, derivation_reply}
 use Rattle.fhir_answers.specs.Reporting.{IsAllRight, IsReportOf}
-use Rattle.fhir_words.specs.Requests.{RequestValue, certify, validate, validate_given, snapshot, derive, check, unread}
+use Rattle.fhir_words.specs.Requests.{RequestValue, certify, migrate, validate, validate_given, snapshot, derive, check, unread}
 use Rattle.fhir_answers.specs.Session.{SessionValue, schema_in}
 use Rattle.fhir_answers.specs.Status.{code_of, standing_status, report_status}
 use Rattle.fhir_answers.specs.Views.{file_at}
@@ -119,6 +120,9 @@ package_answer (Some fault) answer = stated (refused_reply fault)
 abbrev pub certify_answer : SchemaValue → Text → Option Text → AnswerValue
 certify_answer s name file = file_answer (λ bytes. stated (certificate_reply name s bytes)) name file
 
+abbrev pub migrate_answer : SchemaValue → Text → Option Text → AnswerValue
+migrate_answer s name file = file_answer (λ bytes. stated (migrated_reply name (migrated s bytes))) name file
+
 abbrev pub validate_answer : SchemaValue → Text → Text → Option Text → AnswerValue
 validate_answer s profile name file = file_answer (λ bytes. judged s profile bytes) name file
 
@@ -163,6 +167,7 @@ unread_reply s (Some url) = profile_reply s url (unusable (schema_in s) url)
 -- of a session, and of the bytes of the first and of the second file that is asked about
 abbrev pub answer_of : RequestValue → SessionValue → (first second : Option Text) → AnswerValue
 answer_of (certify folder name) s first second = package_answer (refusal s.survey) (certify_answer (schema_in s) name first)
+answer_of (migrate folder name) s first second = package_answer (refusal s.survey) (migrate_answer (schema_in s) name first)
 answer_of (validate folder profile name) s first second = package_answer (refusal s.survey) (validate_answer (schema_in s) profile name first)
 answer_of (validate_given folder profile name given) s first second =
     package_answer (refusal s.survey) (given_answer s profile name first given second)

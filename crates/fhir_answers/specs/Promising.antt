@@ -1,5 +1,5 @@
 -- What status 0 promises.
-use Rattle.std.specs.Prelude.{◌≡◌, List, [], Option, None, Some, IsSome}
+use Rattle.std.specs.Prelude.{◌≡◌, List, [], Option, None, Some, Ok, IsSome}
 use Rattle.fhir_json.specs.Tree.{Text}
 use Rattle.fhir_package.specs.declared.kind.Kind.TheVariants.{StructureDefinition}
 use Rattle.fhir_package.specs.Definitions.{Definitions, at_url}
@@ -7,6 +7,7 @@ use Rattle.fhir_elements.specs.Element.{Element}
 use Rattle.fhir_snapshot.specs.Snapshots.{IsSnapshot}
 use Rattle.fhir_schema.specs.Schemas.{SchemaValue, unusable, schema_of}
 use Rattle.fhir_certificate.specs.Certificate.{CertificateValue as DerivedValue}
+use Rattle.fhir_certificate.specs.Reading.{reading}
 use Rattle.fhir_cert_check.specs.Checking.{IsCertificate}
 use Rattle.fhir_cert_check.specs.Inclusion.{Includes}
 use Rattle.fhir_derive_check.specs.Deriving.{IsDerived}
@@ -16,7 +17,7 @@ use Rattle.fhir_replies.specs.Standing.{AlwaysConforms, ConformsAsGiven}
 use Rattle.fhir_report.specs.Faultless.{CertificateValue, Promises, IsRightIfAny, PromisesIfAny}
 use Rattle.fhir_unread.specs.Given.{texts_given, AreSame}
 use Rattle.fhir_answers.specs.Reporting.{asked}
-use Rattle.fhir_words.specs.Requests.{RequestValue, certify, validate, validate_given, snapshot, derive, check, unread}
+use Rattle.fhir_words.specs.Requests.{RequestValue, certify, migrate, validate, validate_given, snapshot, derive, check, unread}
 use Rattle.fhir_answers.specs.Session.{SessionValue}
 use Rattle.fhir_answers.specs.Views.{file_at}
 
@@ -24,6 +25,14 @@ use Rattle.fhir_answers.specs.Views.{file_at}
 -- does each typed item wherever it stands, whatever unread rules mean that is fair.
 abbrev pub Certified : SchemaValue → Option Text → Type 0
 Certified s file = (bytes : Text) × (file ≡ Some bytes) × Promises s bytes
+
+-- The bytes are a certificate of the schema's nodes, with the versions of its definitions where they say some.
+abbrev pub IsRead : SchemaValue → Text → Type 0
+IsRead s bytes = (c : DerivedValue) × (reading s bytes ≡ Ok c)
+
+-- The file was read, and its bytes are one.
+abbrev pub Migrated : SchemaValue → Option Text → Type 0
+Migrated s file = (bytes : Text) × (file ≡ Some bytes) × IsRead s bytes
 
 -- The file was read. The resource that its bytes are conforms to the profile, whatever unread rules mean.
 abbrev pub Validated : SchemaValue → Text → Option Text → Type 0
@@ -68,6 +77,7 @@ CanBeListed p (Some url) = IsSome (at_url StructureDefinition url p) × (unusabl
 -- of a package that is completed, and of the bytes of the first and of the second file that is asked about
 abbrev pub PromisedOf : RequestValue → Definitions → (first second : Option Text) → Type 0
 PromisedOf (certify folder name) p first second = Certified (schema_of p) first
+PromisedOf (migrate folder name) p first second = Migrated (schema_of p) first
 PromisedOf (validate folder profile name) p first second = Validated (schema_of p) profile first
 PromisedOf (validate_given folder profile name given) p first second = ValidatedAsGiven (schema_of p) profile first second
 PromisedOf (snapshot folder url) p first second = Listed p url

@@ -80,6 +80,11 @@ abbrev pub checked_reply : Text → SchemaValue → Result (Option (Pair × Rule
 checked_reply name s (Ok wrong) = wrong_reply s wrong
 checked_reply name s (Err fault) = fault_reply (cert_number fault) name
 
+-- the text of a certificate in the newest format, or the fault for which its file is none
+abbrev pub migrated_reply : Text → Result Text CertFault → ReplyValue
+migrated_reply name (Ok text) = written 0 text
+migrated_reply name (Err fault) = fault_reply (cert_number fault) name
+
 -- the one of two urls that is on a side
 abbrev pub on_side : Side → (derived base : Text) → Text
 on_side Derived derived base = derived

@@ -23,6 +23,7 @@
 mod answering;
 mod derive_reply;
 mod given;
+mod migrate_reply;
 mod reply;
 mod session;
 mod wrong_reply;

@@ -8,8 +8,8 @@ ghost use Rattle.fhir_report.specs.Faultless.{certificate_seen};
 ghost use Rattle.fhir_unread.specs.Given.{texts_given, AreSame, notes};
 ghost use Rattle.fhir_unread.specs.Listing.{listing};
 ghost use Rattle.fhir_unread.specs.Unread.{unread_texts};
-ghost use Rattle.fhir_answers.specs.Answering.{IsReported, IsReply, stated, listed, between, package_answer, certify_answer, validate_answer, given_answer, report_answer, check_answer, unread_reply, answer_of, answer_by};
-ghost use Rattle.fhir_answers.specs.Promising.{Certified, Validated, ValidatedAsGiven, CanBeListed, Listed, Derived, AreRight, CheckedOf, Checked, PromisedOf, SessionPromise};
+ghost use Rattle.fhir_answers.specs.Answering.{IsReported, IsReply, stated, listed, between, package_answer, certify_answer, migrate_answer, validate_answer, given_answer, report_answer, check_answer, unread_reply, answer_of, answer_by};
+ghost use Rattle.fhir_answers.specs.Promising.{Certified, Migrated, Validated, ValidatedAsGiven, CanBeListed, Listed, Derived, AreRight, CheckedOf, Checked, PromisedOf, SessionPromise};
 ghost use Rattle.fhir_answers.specs.Replying.{reply_seen, status_of, fault_reply, refused_reply};
 ghost use Rattle.fhir_answers.specs.Session.{IsCompleted, IsSessionOf, schema_in};
 ghost use Rattle.fhir_answers.specs.Status.{report_status};
@@ -19,6 +19,7 @@ ghost use Rattle.fhir_words.specs.Views.{request_seen};
 use crate::answering::{certify, list_snapshot, validate_file};
 use crate::derive_reply::derive_between;
 use crate::given::{NamedFile, file_at, list_unread, validate_given};
+use crate::migrate_reply::migrate_file;
 use crate::reply::{Reply, Status, fault_reply, unreadable_reply};
 use fhir_findings::{SelectFault, Selection, selected_usable};
 use fhir_json::NoMemory;
@@ -171,6 +172,7 @@ impl<'f> Session<'f> {
     {
         match request {
             Request::Certify { file, .. } => self.certify(alloc, *file, first),
+            Request::Migrate { file, .. } => self.migrate(alloc, *file, first),
             Request::Validate { profile, file, .. } => {
                 self.validate(alloc, *profile, *file, first)
             }
@@ -210,6 +212,18 @@ impl<'f> Session<'f> {
     {
         match self.package() {
             Ok(schema) => certify(alloc, schema, name, file),
+            Err(fault) => Ok(refused_reply(alloc, fault)?),
+        }
+    }
+
+    fn migrate(&self, alloc: Global, name: &str, file: Option<&[u8]>) -> Result<Reply, NoMemory>
+        ensures told { IfOk result (λ r. IsReply
+            (package_answer (refusal self.now.survey) (migrate_answer (schema_in self.now) name.now (bytes_seen file.entry))) (reply_seen r)) }
+        ensures promised { IfOk result (λ r. status_of (reply_seen r) ≡ 0
+            → (self.now.survey.faults ≡ []) × Migrated (schema_in self.now) (bytes_seen file.entry)) }
+    {
+        match self.package() {
+            Ok(schema) => migrate_file(alloc, schema, name, file),
             Err(fault) => Ok(refused_reply(alloc, fault)?),
         }
     }

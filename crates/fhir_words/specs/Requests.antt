@@ -8,6 +8,8 @@ use Rattle.fhir_words.specs.declared.request.Manner.{Manner}
 pub data RequestValue : Type 0 where
   -- whether the certificate in a file is right, over the definitions in a folder
   certify : (folder file : List ℕ) → RequestValue
+  -- the certificate in a file, in the newest format, over the definitions in a folder
+  migrate : (folder file : List ℕ) → RequestValue
   -- whether the resource in a file conforms to the profile at a url, over the definitions in a folder
   validate : (folder profile file : List ℕ) → RequestValue
   -- the same where the unread rules hold whose texts another file gives
@@ -24,6 +26,7 @@ pub data RequestValue : Type 0 where
 
 abbrev pub folder_of : RequestValue → Text
 folder_of (certify folder file) = folder
+folder_of (migrate folder file) = folder
 folder_of (validate folder profile file) = folder
 folder_of (validate_given folder profile file given) = folder
 folder_of (snapshot folder url) = folder
@@ -39,6 +42,7 @@ one_file (Some file) = file ∷ []
 -- the files that are asked about, in the order of the words
 abbrev pub files_of : RequestValue → List Text
 files_of (certify folder file) = file ∷ []
+files_of (migrate folder file) = file ∷ []
 files_of (validate folder profile file) = file ∷ []
 files_of (validate_given folder profile file given) = file ∷ given ∷ []
 files_of (snapshot folder url) = []

@@ -4,20 +4,21 @@ use Rattle.std.specs.Borrow.{Bor}
 use Rattle.fhir_json.specs.Tree.{Text}
 use Rattle.fhir_json.specs.Views.{text_seen}
 use Rattle.fhir_words.specs.declared.request.Request.{Request}
-use Rattle.fhir_words.specs.declared.request.Request.TheVariants.{Certify, Validate, ValidateGiven, Snapshot, Derive, Check, Unread}
+use Rattle.fhir_words.specs.declared.request.Request.TheVariants.{Certify, Migrate, Validate, ValidateGiven, Snapshot, Derive, Check, Unread}
 use Rattle.fhir_words.specs.declared.request.Invocation.{Invocation}
 use Rattle.fhir_words.specs.declared.request.Invocation.TheVariants.{Request as Asked, Version}
 use Rattle.fhir_words.specs.declared.request.Task.{Task}
 use Rattle.fhir_words.specs.declared.request.Task.TheVariants.{Answer, Serve, Gather, ValidateAll}
 use Rattle.fhir_words.specs.declared.request.BulkRequest.{BulkRequest}
 use Rattle.fhir_words.specs.declared.request.WordsFault.{WordsFault}
-use Rattle.fhir_words.specs.Requests.{RequestValue, certify, validate, validate_given, snapshot, derive, check, unread, InvocationValue, request, version, BulkValue, TaskValue, answer, serve, gather, validate_all}
+use Rattle.fhir_words.specs.Requests.{RequestValue, certify, migrate, validate, validate_given, snapshot, derive, check, unread, InvocationValue, request, version, BulkValue, TaskValue, answer, serve, gather, validate_all}
 
 abbrev pub texts_seen : List (Bor Text) → List Text
 texts_seen texts = map (λ t. t.now) texts
 
 abbrev pub request_seen : Request → RequestValue
 request_seen (Certify folder file) = certify folder.now file.now
+request_seen (Migrate folder file) = migrate folder.now file.now
 request_seen (Validate folder profile file) = validate folder.now profile.now file.now
 request_seen (ValidateGiven folder profile file given) = validate_given folder.now profile.now file.now given.now
 request_seen (Snapshot folder url) = snapshot folder.now url.now

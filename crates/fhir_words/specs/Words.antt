@@ -6,7 +6,7 @@ use Rattle.fhir_json.specs.Tree.{Text}
 use Rattle.fhir_words.specs.declared.request.Format.TheVariants.{Text as AsText}
 use Rattle.fhir_words.specs.declared.request.Detail.TheVariants.{Once}
 use Rattle.fhir_words.specs.declared.request.Manner.{Manner}
-use Rattle.fhir_words.specs.Requests.{RequestValue, certify, validate, validate_given, snapshot, derive, check, unread, InvocationValue, request, BulkValue, TaskValue, answer, serve, gather, validate_all}
+use Rattle.fhir_words.specs.Requests.{RequestValue, certify, migrate, validate, validate_given, snapshot, derive, check, unread, InvocationValue, request, BulkValue, TaskValue, answer, serve, gather, validate_all}
 
 abbrev pub is_option : Text → Bool
 is_option word = starts_with nat_eq word (codes "-")
@@ -19,6 +19,10 @@ are_plain first second = not (is_option first) && not (is_option second)
 abbrev pub certify_request : Text → Text → Text → Option RequestValue
 certify_request command first second =
     if bytes_eq command (codes "certify") && are_plain first second then Some (certify first second) else None
+
+abbrev pub migrate_request : Text → Text → Text → Option RequestValue
+migrate_request command first second =
+    if bytes_eq command (codes "migrate") && are_plain first second then Some (migrate first second) else None
 
 abbrev pub validate_request : Text → Text → Text → Text → Option RequestValue
 validate_request command first second third =
@@ -68,7 +72,7 @@ first_some None other = other
 abbrev pub command_request : Text → List Text → Option RequestValue
 command_request command (first ∷ []) = first_some (check_request command first) (unread_request command first)
 command_request command (first ∷ second ∷ []) =
-    first_some (certify_request command first second)
+    first_some (first_some (certify_request command first second) (migrate_request command first second))
     (first_some (snapshot_request command first second)
     (first_some (check_beside command first second) (unread_of_profile command first second)))
 command_request command (first ∷ second ∷ third ∷ []) =

@@ -18,6 +18,12 @@ fn certify<'a>(alloc: Global) -> Result<Command<'a>, AllocError> {
         .arg(Arg::new(alloc, "CERTIFICATE").required(true))
 }
 
+fn migrate<'a>(alloc: Global) -> Result<Command<'a>, AllocError> {
+    Command::new(alloc, "migrate")
+        .arg(Arg::new(alloc, "PACKAGE").required(true))?
+        .arg(Arg::new(alloc, "CERTIFICATE").required(true))
+}
+
 fn validate<'a>(alloc: Global) -> Result<Command<'a>, AllocError> {
     Command::new(alloc, "validate")
         .arg(Arg::new(alloc, "PACKAGE").required(true))?
@@ -103,6 +109,7 @@ fn program<'a>(alloc: Global) -> Result<Command<'a>, AllocError> {
         .version(VERSION)
         .subcommand_required(true)
         .subcommand(certify(alloc)?)?
+        .subcommand(migrate(alloc)?)?
         .subcommand(validate(alloc)?)?
         .subcommand(validate_given(alloc)?)?
         .subcommand(snapshot(alloc)?)?
@@ -155,6 +162,7 @@ fn matched<'w>(
 ) -> Result<Request<'w>, WordsFault> {
     match name {
         "certify" => certify_matched(matches),
+        "migrate" => migrate_matched(matches),
         "validate" => validate_matched(matches),
         "validate-given" => validate_given_matched(matches),
         "snapshot" => snapshot_matched(matches),
@@ -167,6 +175,13 @@ fn matched<'w>(
 
 fn certify_matched<'w>(matches: &ArgMatches<'w>) -> Result<Request<'w>, WordsFault> {
     Ok(Request::Certify {
+        folder: word(matches, "PACKAGE")?,
+        file: word(matches, "CERTIFICATE")?,
+    })
+}
+
+fn migrate_matched<'w>(matches: &ArgMatches<'w>) -> Result<Request<'w>, WordsFault> {
+    Ok(Request::Migrate {
         folder: word(matches, "PACKAGE")?,
         file: word(matches, "CERTIFICATE")?,
     })

@@ -3,7 +3,7 @@
 ghost use Rattle.std.specs.Prelude.{◌≡◌, ◌∷◌, ◌++◌, [], not, map, string_bytes, option_map, IfOk, OnOk};
 ghost use Rattle.std.specs.List.{list_any};
 ghost use Rattle.fhir_words.specs.Requests.{check, answer, gather};
-ghost use Rattle.fhir_words.specs.Words.{is_option, are_plain, plain_manner, certify_request, validate_request, validate_given_request, snapshot_request, derive_request, check_request, check_beside, unread_request, unread_of_profile, first_some, command_request, plain_request, plain_invocation, serve_task, serve_given_task, plain_serving, gather_task, plain_gathering, plain_bulk, plain_task};
+ghost use Rattle.fhir_words.specs.Words.{is_option, are_plain, plain_manner, certify_request, migrate_request, validate_request, validate_given_request, snapshot_request, derive_request, check_request, check_beside, unread_request, unread_of_profile, first_some, command_request, plain_request, plain_invocation, serve_task, serve_given_task, plain_serving, gather_task, plain_gathering, plain_bulk, plain_task};
 ghost use Rattle.fhir_json.specs.Views.{text_seen};
 ghost use Rattle.fhir_words.specs.Views.{texts_seen, request_seen, task_seen};
 
@@ -29,6 +29,19 @@ fn certify_request<'w>(command: &str, first: &'w str, second: &'w str) -> Option
 {
     if command == "certify" && are_plain(first, second) {
         Some(Request::Certify {
+            folder: first,
+            file: second,
+        })
+    } else {
+        None
+    }
+}
+
+fn migrate_request<'w>(command: &str, first: &'w str, second: &'w str) -> Option<Request<'w>>
+    ensures { option_map request_seen result ≡ migrate_request command.now first.now second.now }
+{
+    if command == "migrate" && are_plain(first, second) {
+        Some(Request::Migrate {
             folder: first,
             file: second,
         })
@@ -214,17 +227,28 @@ fn snapshot_or_other<'w>(
     }
 }
 
+fn certify_or_migrate<'w>(command: &str, first: &'w str, second: &'w str) -> Option<Request<'w>>
+    ensures { option_map request_seen result
+        ≡ first_some (certify_request command.now first.now second.now) (migrate_request command.now first.now second.now) }
+{
+    match certify_request(command, first, second) {
+        Some(request) => Some(request),
+        None => migrate_request(command, first, second),
+    }
+}
+
 fn request_of_two<'w>(
     alloc: Global,
     command: &str,
     first: &'w str,
     second: &'w str,
 ) -> Option<Request<'w>>
-    ensures { option_map request_seen result ≡ first_some (certify_request command.now first.now second.now)
+    ensures { option_map request_seen result
+        ≡ first_some (first_some (certify_request command.now first.now second.now) (migrate_request command.now first.now second.now))
         (first_some (snapshot_request command.now first.now second.now)
         (first_some (check_beside command.now first.now second.now) (unread_of_profile command.now first.now second.now))) }
 {
-    match certify_request(command, first, second) {
+    match certify_or_migrate(command, first, second) {
         Some(request) => Some(request),
         None => snapshot_or_other(alloc, command, first, second),
     }

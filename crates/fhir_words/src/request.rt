@@ -45,6 +45,13 @@ pub enum Request<'w> {
         /// The file.
         file: &'w str,
     },
+    /// The certificate in a file, in the newest format, over the definitions in a folder.
+    Migrate {
+        /// The folder.
+        folder: &'w str,
+        /// The file.
+        file: &'w str,
+    },
     /// Whether the resource in a file conforms to the profile at a url, over the definitions in a folder.
     Validate {
         /// The folder.
@@ -118,6 +125,7 @@ impl<'w> Request<'w> {
     {
         match self {
             Request::Certify { folder, .. }
+            | Request::Migrate { folder, .. }
             | Request::Validate { folder, .. }
             | Request::ValidateGiven { folder, .. }
             | Request::Snapshot { folder, .. }
@@ -132,9 +140,9 @@ impl<'w> Request<'w> {
         ensures { IfOk result (λ files. texts_seen files.items ≡ files_of (request_seen self.now)) }
     {
         match self {
-            Request::Certify { file, .. } | Request::Validate { file, .. } => {
-                Ok(vec![in alloc; *file]?)
-            }
+            Request::Certify { file, .. }
+            | Request::Migrate { file, .. }
+            | Request::Validate { file, .. } => Ok(vec![in alloc; *file]?),
             Request::ValidateGiven { file, given, .. } => Ok(vec![in alloc; *file, *given]?),
             Request::Snapshot { .. } | Request::Derive { .. } | Request::Unread { .. } => {
                 Ok(Vec::new(alloc))
