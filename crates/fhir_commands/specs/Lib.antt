@@ -1,2 +1,3 @@
 pub mod Commands
+pub mod Hashing
 pub mod Replies
