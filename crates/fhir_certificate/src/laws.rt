@@ -59,8 +59,7 @@ pub fn versions_as_json()
     reading_agrees();
 }
 
-/// In the schema of a package of sound definitions, each url of a kind once, what is migrated is read as the same certificate, with
-/// the same pairs in the same order.
+/// In the schema of a package of sound definitions, each url of a kind once, what is migrated is read as the same certificate.
 pub fn migrated_back()
     ensures { (p : Definitions) (bytes text : Text) (c : CertificateValue) → AreSound p → EachOnce p
         → reading (schema_of p) bytes ≡ Ok c → migrated (schema_of p) bytes ≡ Ok text → reading (schema_of p) text ≡ Ok c }

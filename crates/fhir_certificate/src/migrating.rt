@@ -10,8 +10,8 @@ use crate::writing::write;
 use fhir_schema::Schema;
 use std::alloc::Global;
 
-/// The text, in format 2, of the certificate that the bytes are in either format, with the same pairs in the same order: a
-/// pair that stands twice still does. The refusals are those of `read`.
+/// The text, in format 2, of the certificate that the bytes are in either format: the same pairs of items, and behind them the same
+/// pairs of children, each in their order. A pair that stands twice still does. The refusals are those of `read`.
 pub fn migrate(alloc: Global, schema: &Schema, bytes: &[u8]) -> Result<Vec<u8>, CertFault>
     ensures { GivesOr is_no_memory (λ text. text.items) result (migrated schema.now bytes.now) }
 {
