@@ -9,7 +9,7 @@ pub mod Keeping
 pub mod Certified
 pub mod Promised
 pub mod Spelled
-pub mod Distinct
+pub mod Repeated
 pub mod Looking
 pub mod OfNodes
 pub mod Entailed

@@ -14,7 +14,7 @@ ghost use Rattle.fhir_cert_check.specs.Rules.{failing_rule, is_local};
 ghost use Rattle.fhir_cert_check.specs.Checking.{is_among, roots_of, IsCertificate, pairs_of, first_in, first_wrong, wrong_with, answer_of, SpellsCertificate};
 ghost use Rattle.fhir_cert_check.specs.Inclusion.{IncludesItems, Includes};
 ghost use Rattle.fhir_cert_check.specs.Views.{failing_seen, rule_seen, is_yes, wrong_in};
-ghost use Rattle.fhir_cert_check.specs.PairSet.{has_pair, OrdersFirsts};
+ghost use Rattle.fhir_cert_check.specs.PairSet.{has_pair, AreRepeated, MarkRepeated, split_mark, unless_repeated};
 
 use crate::answer::Answer;
 use crate::items::item_failing;
@@ -45,18 +45,49 @@ pub fn failing<'s>(
 // A pair that fails a rule, with that rule.
 type Wrong<'s> = Result<Option<(Pair, Rule<'s>)>, NoMemory>;
 
+// The first mark, and those behind it.
+fn split_mark(marks: &[bool]) -> (bool, &[bool])
+    ensures { (result.0, result.1.now) ≡ split_mark marks.now }
+{
+    match marks {
+        [mark, rest @ ..] => (*mark, rest),
+        [] => (false, marks),
+    }
+}
+
+fn failing_unless_repeated<'s>(
+    alloc: Global,
+    schema: &'s Schema,
+    pairs: &PairSet,
+    pair: Pair,
+    is_repeated: bool,
+) -> Result<Option<Rule<'s>>, NoMemory>
+    ensures { Gives rule_seen result (unless_repeated is_repeated (failing_rule (has_pair pairs.now) schema.now pair)) }
+{
+    if is_repeated {
+        return Ok(None);
+    }
+    failing(alloc, schema, pairs, pair)
+}
+
 fn first_item<'s>(
     alloc: Global,
     schema: &'s Schema,
     pairs: &PairSet,
+    repeated: &[bool],
     nodes: &[NodePair],
 ) -> Wrong<'s>
+    requires { AreRepeated [] repeated.now nodes.now }
     ensures { Gives failing_seen result (first_in (failing_rule (has_pair pairs.now) schema.now) (map variants.Item nodes.now)) }
 {
+    let mut marks = repeated;
     for pair in nodes {
-        if let Some(rule) = failing(alloc, schema, pairs, Pair::Item(*pair))? {
-            return Ok(Some((Pair::Item(*pair), rule)));
+        let (is_repeated, rest) = split_mark(marks);
+        let pair = Pair::Item(*pair);
+        if let Some(rule) = failing_unless_repeated(alloc, schema, pairs, pair, is_repeated)? {
+            return Ok(Some((pair, rule)));
         }
+        marks = rest;
     }
     Ok(None)
 }
@@ -65,14 +96,20 @@ fn first_kids<'s>(
     alloc: Global,
     schema: &'s Schema,
     pairs: &PairSet,
+    repeated: &[bool],
     nodes: &[NodePair],
 ) -> Wrong<'s>
+    requires { AreRepeated [] repeated.now nodes.now }
     ensures { Gives failing_seen result (first_in (failing_rule (has_pair pairs.now) schema.now) (map variants.Kids nodes.now)) }
 {
+    let mut marks = repeated;
     for pair in nodes {
-        if let Some(rule) = failing(alloc, schema, pairs, Pair::Kids(*pair))? {
-            return Ok(Some((Pair::Kids(*pair), rule)));
+        let (is_repeated, rest) = split_mark(marks);
+        let pair = Pair::Kids(*pair);
+        if let Some(rule) = failing_unless_repeated(alloc, schema, pairs, pair, is_repeated)? {
+            return Ok(Some((pair, rule)));
         }
+        marks = rest;
     }
     Ok(None)
 }
@@ -84,12 +121,16 @@ fn first_wrong<'s>(
     pairs: &CertificatePairs,
     certificate: &Certificate,
 ) -> Wrong<'s>
-    requires { OrdersFirsts pairs.now.items.items pairs.now.kids.items certificate.now }
+    requires { MarkRepeated pairs.now.repeated_items.items pairs.now.repeated_kids.items certificate.now }
     ensures { Gives failing_seen result (first_in (failing_rule (has_pair pairs.now.set) schema.now) (pairs_of certificate.now)) }
 {
-    match first_item(alloc, schema, &pairs.set, &pairs.items)? {
+    let (repeated, items) = (&pairs.repeated_items, &certificate.items);
+    match first_item(alloc, schema, &pairs.set, repeated, items)? {
         Some(wrong) => Ok(Some(wrong)),
-        None => first_kids(alloc, schema, &pairs.set, &pairs.kids),
+        None => {
+            let (repeated, kids) = (&pairs.repeated_kids, &certificate.kids);
+            first_kids(alloc, schema, &pairs.set, repeated, kids)
+        }
     }
 }
 
@@ -100,7 +141,7 @@ fn judge<'s>(
     roots: NodePair,
     certificate: &Certificate,
 ) -> Result<Answer<'s>, NoMemory>
-    requires { OrdersFirsts pairs.now.items.items pairs.now.kids.items certificate.now }
+    requires { MarkRepeated pairs.now.repeated_items.items pairs.now.repeated_kids.items certificate.now }
     ensures { Gives wrong_in result (first_wrong schema.now (has_pair pairs.now.set) roots (pairs_of certificate.now)) }
 {
     if !pairs.set.has(Pair::Item(roots)) {

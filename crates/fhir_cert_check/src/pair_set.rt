@@ -5,7 +5,7 @@ ghost use Rattle.std.specs.List.{list_any};
 ghost use Rattle.fhir_certificate.specs.declared.pair.NodePair.{NodePair};
 ghost use Rattle.fhir_certificate.specs.declared.pair.Pair.{Pair};
 ghost use Rattle.fhir_cert_check.specs.Checking.{same_nodes, is_among};
-ghost use Rattle.fhir_cert_check.specs.PairSet.{has_pair, same_pair, AreDistinct, OrdersFirsts};
+ghost use Rattle.fhir_cert_check.specs.PairSet.{has_pair, same_pair, AreMarked, MarkRepeated};
 
 use fhir_certificate::{Certificate, NodePair, Pair};
 use fhir_json::NoMemory;
@@ -98,48 +98,46 @@ pub fn same_pairs()
 
 // ---- the pairs of a certificate
 
-// Pairs, each once: those that are known, and the order in which they first stand.
+// The pairs of a list, and which of the list stand in it before. A mark takes a byte, and a second list of pairs would take 32.
 #[derive(Drop)]
-struct DistinctPairs {
+struct MarkedPairs {
     set: BTreeSet<NodePair>,
-    order: Vec<NodePair>,
+    repeated: Vec<bool>,
 }
 
-// Puts a pair behind the others, unless it is there.
+// Puts a pair in, and marks it where it is there.
 fn put(
     set: &mut BTreeSet<NodePair>,
-    order: &mut Vec<NodePair>,
+    repeated: &mut Vec<bool>,
     pair: NodePair,
 ) -> Result<(), AllocError>
-    ensures { OnOk result ((ps : List NodePair) → AreDistinct set.old.keys order.old.items ps
-        → AreDistinct set.new.keys order.new.items (ps ++ pair ∷ [])) }
+    ensures { OnOk result ((ps : List NodePair) → AreMarked set.old.keys repeated.old.items ps
+        → AreMarked set.new.keys repeated.new.items (ps ++ pair ∷ [])) }
 {
-    if set.insert(pair)? {
-        order.push(pair)?;
-    }
-    Ok(())
+    let is_new = set.insert(pair)?;
+    repeated.push(!is_new)
 }
 
-fn distinct(alloc: Global, pairs: &[NodePair]) -> Result<DistinctPairs, AllocError>
-    ensures { IfOk result (λ d. AreDistinct d.set.keys d.order.items pairs.now) }
+fn marked(alloc: Global, pairs: &[NodePair]) -> Result<MarkedPairs, AllocError>
+    ensures { IfOk result (λ m. AreMarked m.set.keys m.repeated.items pairs.now) }
 {
     let mut set = BTreeSet::new(alloc);
-    let mut order = Vec::new(alloc);
+    let mut repeated = Vec::new(alloc);
     for pair in pairs {
-        put(&mut set, &mut order, *pair)?;
+        put(&mut set, &mut repeated, *pair)?;
     }
-    Ok(DistinctPairs { set, order })
+    Ok(MarkedPairs { set, repeated })
 }
 
-/// The pairs of a certificate: the set of them, and each once in the certificate's order.
+/// The set of a certificate's pairs, and which of its lists stand in them before.
 #[derive(Drop)]
 pub(crate) struct CertificatePairs {
     /// All of them.
     pub(crate) set: PairSet,
-    /// Those of items.
-    pub(crate) items: Vec<NodePair>,
-    /// Those of children.
-    pub(crate) kids: Vec<NodePair>,
+    /// The marks on those of items.
+    pub(crate) repeated_items: Vec<bool>,
+    /// The marks on those of children.
+    pub(crate) repeated_kids: Vec<bool>,
 }
 
 impl CertificatePairs {
@@ -149,17 +147,17 @@ impl CertificatePairs {
         certificate: &Certificate,
     ) -> Result<CertificatePairs, AllocError>
         ensures same { IfOk result (λ c. (p : Pair) → has_pair c.set p ≡ is_among certificate.now p) }
-        ensures first { IfOk result (λ c. OrdersFirsts c.items.items c.kids.items certificate.now) }
+        ensures marked { IfOk result (λ c. MarkRepeated c.repeated_items.items c.repeated_kids.items certificate.now) }
     {
-        let items = distinct(alloc, &certificate.items)?;
-        let kids = distinct(alloc, &certificate.kids)?;
+        let items = marked(alloc, &certificate.items)?;
+        let kids = marked(alloc, &certificate.kids)?;
         Ok(CertificatePairs {
             set: PairSet {
                 items: items.set,
                 kids: kids.set,
             },
-            items: items.order,
-            kids: kids.order,
+            repeated_items: items.repeated,
+            repeated_kids: kids.repeated,
         })
     }
 }
