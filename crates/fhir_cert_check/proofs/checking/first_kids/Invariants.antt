@@ -9,4 +9,4 @@ abbrev pub invariant-loop-pair : goal.invariant-loop-pair
 invariant-loop-pair l =
     (first_in (failing_rule (has_pair l.pairs) l.schema) (map Kids (drop l.pair-index l.nodes)) ≡ first_in (failing_rule (has_pair l.pairs) l.schema) (map Kids l.nodes))
     × (first_in (failing_rule (has_pair l.pairs) l.schema) (map Kids (take l.pair-index l.nodes)) ≡ None)
-    × AreRepeated (take l.pair-index l.nodes) l.marks.now (drop l.pair-index l.nodes)
+    × AreRepeated (take l.pair-index l.nodes) l.marks (drop l.pair-index l.nodes)
