@@ -8,3 +8,4 @@ pub mod Faulty
 pub mod Filtering
 pub mod Spines
 pub mod Visits
+pub mod Untyped
