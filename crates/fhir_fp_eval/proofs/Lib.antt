@@ -8,4 +8,3 @@ pub mod Faulty
 pub mod Filtering
 pub mod Spines
 pub mod Visits
-pub mod Untyped
