@@ -115,7 +115,8 @@ fn put(
         → AreMarked set.new.keys repeated.new.items (ps ++ pair ∷ [])) }
 {
     let is_new = set.insert(pair)?;
-    repeated.push(!is_new)
+    repeated.push(!is_new)?;
+    Ok(())
 }
 
 fn marked(alloc: Global, pairs: &[NodePair]) -> Result<MarkedPairs, AllocError>
