@@ -257,7 +257,7 @@ impl Registry {
         if let Some(line) = recall_line(alloc, &mut self.replies, &question)? {
             return Ok(line);
         }
-        self.ask(alloc, question)?.into_line(alloc)
+        self.ask(alloc, question)?.line(alloc)
     }
 
     /// Does what a command asks, as `apply` does, and gives the line of the reply. The one refusal is want of memory, which changes no
@@ -273,9 +273,9 @@ impl Registry {
     {
         match command {
             Command::Ask(question) => self.ask_line(alloc, question),
-            Command::Put(trees) => Reply::Put(self.put(alloc, &trees)?).into_line(alloc),
+            Command::Put(trees) => Reply::Put(self.put(alloc, &trees)?).line(alloc),
             Command::Remove(url) => {
-                Reply::Remove(self.remove(alloc, url.as_str())).into_line(alloc)
+                Reply::Remove(self.remove(alloc, url.as_str())).line(alloc)
             }
         }
     }

@@ -44,7 +44,7 @@ impl WrittenReply {
     pub(crate) fn of(alloc: Global, reply: &Reply) -> Result<WrittenReply, NoMemory>
         ensures { IfOk result (λ w. w ≡ reply_seen reply.now) }
     {
-        let line = reply.copy(alloc)?.into_line(alloc)?;
+        let line = reply.line(alloc)?;
         Ok(WrittenReply {
             reply: reply.copy(alloc)?,
             line,
