@@ -90,6 +90,13 @@ reply_tree (derive answer) = fields ((codes "derive", string (derive_text answer
 abbrev pub line_of : Tree → List ℕ
 line_of t = compact t ++ codes "\n"
 
+-- what stands before the outcome on the line of a validation
+abbrev pub judgement_front : Standing → Text
+judgement_front Conforms = codes "{\"validate\":\"conforms\",\"outcome\":"
+judgement_front Violates = codes "{\"validate\":\"violates\",\"outcome\":"
+judgement_front Open = codes "{\"validate\":\"open\",\"outcome\":"
+judgement_front Fault = codes "{\"validate\":\"fault\",\"outcome\":"
+
 -- where a line is no command, or memory ran out
 abbrev pub fault_tree : Text → Tree
 fault_tree word = fields ((codes "fault", string word) ∷ [])

@@ -10,7 +10,7 @@
 //! }
 //! ```
 //!
-//! The contracts to read first are those of [`Command::of_line`] and [`Reply::into_line`]. How a command is written stands in
+//! The contracts to read first are those of [`Command::of_line`] and [`Reply::line`]. How a command is written stands in
 //! `specs/Commands.antt`, and how a reply is in `specs/Replies.antt`.
 #![tactic(auto)]
 

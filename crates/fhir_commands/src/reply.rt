@@ -5,7 +5,7 @@ ghost use Rattle.std.specs.Fmt.{decimal};
 ghost use Rattle.fhir_json.specs.Tree.{number, string};
 ghost use Rattle.fhir_json.specs.Views.{tree_of, property_of};
 ghost use Rattle.fhir_json.specs.Memory.{Gives};
-ghost use Rattle.fhir_commands.specs.Replies.{put, remove, validate, derive, refuted, put_text, remove_text, standing_text, derive_text, derive_seen, reply_seen, reply_tree, line_of, line_seen, is_refusal, refuses, is_short, fields};
+ghost use Rattle.fhir_commands.specs.Replies.{put, remove, validate, derive, refuted, put_text, remove_text, standing_text, derive_text, derive_seen, reply_seen, reply_tree, line_of, line_seen, is_refusal, refuses, is_short, fields, judgement_front};
 
 use crate::line::{
     DERIVE_MISSING, DERIVE_UNUSABLE, Line, PUT_DONE, PUT_NO_DEFINITION, PUT_TWICE, REMOVE_ABSENT,
@@ -153,28 +153,16 @@ fn word_member(name: &'static str, word: &'static str) -> Member<'static>
     }
 }
 
-fn outcome_member(outcome: Json<'static>) -> Member<'static>
-    ensures { property_of result ≡ (codes "outcome", tree_of outcome.entry) }
+// What stands before the outcome. Nothing in it is escaped, so the line is put together without a tree.
+fn judgement_front(standing: Standing) -> &'static str
+    ensures { result.now ≡ judgement_front standing }
 {
-    Member {
-        name: CowStr::Borrowed("outcome"),
-        value: outcome,
+    match standing {
+        Standing::Conforms => "{\"validate\":\"conforms\",\"outcome\":",
+        Standing::Violates => "{\"validate\":\"violates\",\"outcome\":",
+        Standing::Open => "{\"validate\":\"open\",\"outcome\":",
+        Standing::Fault => "{\"validate\":\"fault\",\"outcome\":",
     }
-}
-
-fn judgement_tree(
-    alloc: Global,
-    standing: Standing,
-    outcome: Json<'static>,
-) -> Result<Json<'static>, NoMemory>
-    ensures { IfOk result (λ json. tree_of json
-        ≡ fields ((codes "validate", string (standing_text standing)) ∷ (codes "outcome", tree_of outcome.entry) ∷ [])) }
-{
-    let members = vec![in alloc;
-        word_member("validate", standing.text()),
-        outcome_member(outcome),
-    ]?;
-    Ok(Json::Obj(members))
 }
 
 fn line_of(alloc: Global, json: &Json<'_>) -> Result<Vec<u8>, NoMemory>
@@ -188,12 +176,16 @@ fn line_of(alloc: Global, json: &Json<'_>) -> Result<Vec<u8>, NoMemory>
 fn judgement_line(
     alloc: Global,
     standing: Standing,
-    outcome: Json<'static>,
+    outcome: &Json<'_>,
 ) -> Result<Line, NoMemory>
-    ensures { Gives line_seen result (line_of (reply_tree (validate standing (tree_of outcome.entry)))) }
+    ensures { Gives line_seen result (line_of (reply_tree (validate standing (tree_of outcome.now)))) }
 {
-    let json = judgement_tree(alloc, standing, outcome)?;
-    Ok(Line::Made(line_of(alloc, &json)?))
+    let written = write(alloc, outcome)?;
+    let mut line = Vec::new(alloc);
+    line.extend_from_slice(judgement_front(standing).as_bytes())?;
+    line.extend_from_slice(&written)?;
+    line.extend_from_slice(b"}\n")?;
+    Ok(Line::Made(line))
 }
 
 impl DeriveAnswer {
@@ -235,13 +227,13 @@ impl DeriveAnswer {
         }
     }
 
-    fn into_line(self, alloc: Global) -> Result<Line, NoMemory>
-        ensures line { Gives line_seen result (line_of (reply_tree (derive (derive_seen self)))) }
-        ensures always { is_refusal (derive_seen self) ≡ true → IsOk result }
+    fn line(&self, alloc: Global) -> Result<Line, NoMemory>
+        ensures line { Gives line_seen result (line_of (reply_tree (derive (derive_seen self.now)))) }
+        ensures always { is_refusal (derive_seen self.now) ≡ true → IsOk result }
     {
         fixed_lines();
         match self {
-            DeriveAnswer::Derived { pairs, .. } => derived_line(alloc, pairs),
+            DeriveAnswer::Derived { pairs, .. } => derived_line(alloc, *pairs),
             DeriveAnswer::Refuted { at, rule } => refuted_line(alloc, at, rule),
             DeriveAnswer::Missing => Ok(Line::Fixed(DERIVE_MISSING)),
             DeriveAnswer::Unusable => Ok(Line::Fixed(DERIVE_UNUSABLE)),
@@ -300,9 +292,11 @@ fn refuted_tree(alloc: Global, at: String, rule: String) -> Result<Json<'static>
     Ok(Json::Obj(members))
 }
 
-fn refuted_line(alloc: Global, at: String, rule: String) -> Result<Line, NoMemory>
-    ensures { Gives line_seen result (line_of (reply_tree (derive (refuted (string_bytes at) (string_bytes rule))))) }
+fn refuted_line(alloc: Global, at: &str, rule: &str) -> Result<Line, NoMemory>
+    ensures { Gives line_seen result (line_of (reply_tree (derive (refuted at.now rule.now)))) }
 {
+    let at = String::from_str(alloc, at)?;
+    let rule = String::from_str(alloc, rule)?;
     let json = refuted_tree(alloc, at, rule)?;
     Ok(Line::Made(line_of(alloc, &json)?))
 }
@@ -336,15 +330,15 @@ impl Reply {
 
     /// The line on which the reply is written. Where definitions were to be changed it takes no memory, so that what was done is always
     /// told, nor does a refusal to derive; else want of memory is the one refusal.
-    pub fn into_line(self, alloc: Global) -> Result<Line, NoMemory>
-        ensures line { Gives line_seen result (line_of (reply_tree (reply_seen self))) }
-        ensures always { is_short (reply_seen self) ≡ true → IsOk result }
+    pub fn line(&self, alloc: Global) -> Result<Line, NoMemory>
+        ensures line { Gives line_seen result (line_of (reply_tree (reply_seen self.now))) }
+        ensures always { is_short (reply_seen self.now) ≡ true → IsOk result }
     {
         match self {
             Reply::Put(answer) => Ok(Line::Fixed(answer.line())),
             Reply::Remove(answer) => Ok(Line::Fixed(answer.line())),
-            Reply::Validate(standing, outcome) => judgement_line(alloc, standing, outcome),
-            Reply::Derive(answer) => answer.into_line(alloc),
+            Reply::Validate(standing, outcome) => judgement_line(alloc, *standing, outcome),
+            Reply::Derive(answer) => answer.line(alloc),
         }
     }
 }

@@ -16,7 +16,7 @@ use Rattle.fhir_registry.specs.Sound.{IsAnswerBy, IsRightFor, IsFirst, KeepsNew}
 use Rattle.fhir_registry.proofs.Elsewhere.{replies_by}
 
 pub replied : {E Y : Type 0} (r : Result Reply E) (texts : Option (List Text)) (p : Definitions) (q : Question) (cache : LruCache (Vec Key Y) (Kept SchemaValue))
-    (old new : LruCache Question (Kept Reply)) → IsFirst p (starts_by (question_seen q)) cache
+    (old new : LruCache Question (Kept ReplyValue)) → IsFirst p (starts_by (question_seen q)) cache
     → IfOk r (λ reply. IsSomeAnd (slice_get cache.entries 0) (λ e. IsAnswerBy texts e.1.value (question_seen q) (reply_seen reply) × KeepsNew q (reply_seen reply) e.1.keys old new))
     → IfOk r (λ reply. IsReplyBy texts p (question_seen q) (reply_seen reply))
 replied (Err e) texts p q cache old new first answered = tt

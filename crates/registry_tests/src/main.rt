@@ -48,7 +48,7 @@ fn registry_of(alloc: Global, package: &Package<'_>) -> Result<Registry, NoMemor
 
 fn apply(alloc: Global, registry: &mut Registry, command: Command<'_>) -> Result<Line, NoMemory> {
     let reply = registry.apply(alloc, command)?;
-    reply.into_line(alloc)
+    reply.line(alloc)
 }
 
 fn answer(alloc: Global, registry: &mut Registry, line: &str) -> Result<Line, NoMemory> {
