@@ -173,11 +173,7 @@ fn line_of(alloc: Global, json: &Json<'_>) -> Result<Vec<u8>, NoMemory>
     Ok(line)
 }
 
-fn judgement_line(
-    alloc: Global,
-    standing: Standing,
-    outcome: &Json<'_>,
-) -> Result<Line, NoMemory>
+fn judgement_line(alloc: Global, standing: Standing, outcome: &Json<'_>) -> Result<Line, NoMemory>
     ensures { Gives line_seen result (line_of (reply_tree (validate standing (tree_of outcome.now)))) }
 {
     let written = write(alloc, outcome)?;

@@ -19,10 +19,7 @@ use std::alloc::Global;
 /// Replies, each under its question.
 pub(crate) type Replies = LruCache<Question, Kept<WrittenReply>>;
 
-fn reply_of(
-    alloc: Global,
-    kept: Option<&Kept<WrittenReply>>,
-) -> Result<Option<Reply>, NoMemory>
+fn reply_of(alloc: Global, kept: Option<&Kept<WrittenReply>>) -> Result<Option<Reply>, NoMemory>
     ensures { IfOk result (λ found. option_map reply_seen found ≡ option_map (λ k. k.value) (option_copied kept.entry)) }
 {
     match kept {

@@ -14,8 +14,9 @@ returns-in-Some c =
     let f = failing_rule (has_pair c.args.pairs.now.set) c.args.schema.now in
     let items = map Item c.args.certificate.now.items in
     let kids = map Kids c.args.certificate.now.kids in
+    let same : c.deref-2.result.now ≡ c.args.certificate.now.items = c.deref-2.ensures.value ∙ ap (λ v. v.items) c.certificate.view_is in
     let wrong = sym c.in_ok-wrong.ensures ∙ ap failing_seen c.in-Some.is in
-    let e = sym (c.requires.items_alike Item f) ∙ ap (λ ps. first_in f (map Item ps)) (sym c.deref.ensures.value) ∙ wrong in
+    let e = ap (λ ps. first_in f (map Item ps)) (sym same) ∙ wrong in
     sym (first_in-append f items kids ∙ ap (λ o. option_or o (first_in f kids)) e)
 
 pub returns-in-None : goal.returns-in-None
@@ -23,10 +24,11 @@ returns-in-None c =
     let f = failing_rule (has_pair c.args.pairs.now.set) c.args.schema.now in
     let items = map Item c.args.certificate.now.items in
     let kids = map Kids c.args.certificate.now.kids in
+    let same : c.deref-2.result.now ≡ c.args.certificate.now.items = c.deref-2.ensures.value ∙ ap (λ v. v.items) c.certificate.view_is in
+    let same_kids : c.deref-in-None-2.result.now ≡ c.args.certificate.now.kids = c.deref-in-None-2.ensures.value ∙ ap (λ v. v.kids) c.certificate.view_is in
     let right = sym c.in_ok-wrong.ensures ∙ ap failing_seen c.in-None.is in
-    let e = sym (c.requires.items_alike Item f) ∙ ap (λ ps. first_in f (map Item ps)) (sym c.deref.ensures.value) ∙ right in
+    let e = ap (λ ps. first_in f (map Item ps)) (sym same) ∙ right in
     subst (λ x. Gives failing_seen c.first_kids.result x)
-    (ap (λ ps. first_in f (map Kids ps)) c.deref-in-None.ensures.value
-    ∙ c.requires.kids_alike Kids f
+    (ap (λ ps. first_in f (map Kids ps)) same_kids
     ∙ sym (first_in-append f items kids ∙ ap (λ o. option_or o (first_in f kids)) e))
     c.first_kids.ensures
