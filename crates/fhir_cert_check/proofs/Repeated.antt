@@ -79,9 +79,9 @@ pub passed : (wrap : NodePair → Pair) (f : Pair → Option RuleName) (nodes : 
     (given : Option RuleName) → i < length nodes → (is_repeated, rest) ≡ split_mark marks
     → given ≡ unless_repeated is_repeated (f (wrap (get_or nodes i d))) → given ≡ None
     → (first_in f (map wrap (drop i nodes)) ≡ first_in f (map wrap nodes)) × (first_in f (map wrap (take i nodes)) ≡ None)
-        × AreRepeated (take i nodes) marks (drop i nodes)
+    × AreRepeated (take i nodes) marks (drop i nodes)
     → (first_in f (map wrap (drop (i + 1) nodes)) ≡ first_in f (map wrap nodes)) × (first_in f (map wrap (take (i + 1) nodes)) ≡ None)
-        × AreRepeated (take (i + 1) nodes) rest (drop (i + 1) nodes)
+    × AreRepeated (take (i + 1) nodes) rest (drop (i + 1) nodes)
 passed wrap f nodes i d marks rest is_repeated given lt split is none so =
     let p : NodePair = get_or nodes i d in
     let behind : List NodePair = drop (i + 1) nodes in
@@ -90,11 +90,10 @@ passed wrap f nodes i d marks rest is_repeated given lt split is none so =
     let fine : f (wrap p) ≡ None =
     sym (asked_so wrap f (take i nodes) marks p behind so.1 here)
     ∙ ap (λ (q : Bool × List Bool). unless_repeated q.0 (f (wrap p))) (sym split) ∙ sym is ∙ none in
-    let more : take (i + 1) nodes ≡ take i nodes ++ p ∷ [] = take_more nodes i d lt in
-    (
+    let more : take (i + 1) nodes ≡ take i nodes ++ p ∷ [] = take_more nodes i d lt in (
       sym (ap (λ (o : Option RuleName). option_map_or (λ rule. Some (wrap p, rule)) o (first_in f (map wrap behind))) fine)
-      ∙ sym (at_drop_more (λ (ps : List NodePair). first_in f (map wrap ps)) nodes i d lt) ∙ so.0,
+          ∙ sym (at_drop_more (λ (ps : List NodePair). first_in f (map wrap ps)) nodes i d lt) ∙ so.0,
       ap (λ (ps : List NodePair). first_in f (map wrap ps)) more ∙ none_more wrap f (take i nodes) p so.1 fine,
       subst (λ (before : List NodePair). AreRepeated before rest behind) (sym more)
-      (subst (λ (q : Bool × List Bool). AreRepeated (take i nodes ++ p ∷ []) q.1 behind) (sym split) (marks_behind (take i nodes) marks p behind here)),
+          (subst (λ (q : Bool × List Bool). AreRepeated (take i nodes ++ p ∷ []) q.1 behind) (sym split) (marks_behind (take i nodes) marks p behind here)),
     )
