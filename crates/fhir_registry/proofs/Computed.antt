@@ -8,7 +8,7 @@ use Rattle.fhir_reach.specs.declared.key.Key.{Key}
 use Rattle.fhir_schema.specs.Schemas.{SchemaValue}
 use Rattle.fhir_commands.specs.Commands.{question_seen}
 use Rattle.fhir_commands.specs.declared.question.Question.{Question}
-use Rattle.fhir_commands.specs.Replies.{reply_seen}
+use Rattle.fhir_commands.specs.Replies.{ReplyValue, reply_seen}
 use Rattle.fhir_commands.specs.declared.reply.Reply.{Reply}
 use Rattle.fhir_registry.specs.declared.kept.Kept.{Kept}
 use Rattle.fhir_registry.specs.Session.{IsReplyBy, starts_by, reach_of}

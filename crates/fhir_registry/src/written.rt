@@ -16,7 +16,8 @@ pub(crate) struct WrittenReply {
 }
 
 impl Model for WrittenReply {
-    ghost use Rattle.fhir_commands.specs.Replies.{ReplyValue};
+    ghost use Rattle.std.specs.Prelude.{◌≡◌};
+    ghost use Rattle.fhir_commands.specs.Replies.{ReplyValue, reply_seen, reply_tree, line_of, line_seen};
 
     ghost Value = { ReplyValue };
 
