@@ -273,8 +273,7 @@ impl Registry {
     {
         match command {
             Command::Ask(question) => self.ask_line(alloc, question),
-            Command::Put(trees) => Reply::Put(self.put(alloc, &trees)?).line(alloc),
-            Command::Remove(url) => { Reply::Remove(self.remove(alloc, url.as_str())).line(alloc) }
+            command => self.apply(alloc, command)?.line(alloc),
         }
     }
 

@@ -10,6 +10,28 @@ use Rattle.fhir_registry.proofs.Right.{all_promoted}
 use Rattle.fhir_registry.proofs.Seen.{line_there}
 use Rattle.fhir_registry.proofs.registry.Registry.ask_line.Goals as goal
 
+pub invariant_of-self-in-Some : goal.invariant_of-self-in-Some
+invariant_of-self-in-Some c =
+    let was = c.self.inside in
+    record {
+      right_schemas = c.self.invariant.right_schemas;
+      right_replies = all_promoted (IsRightReply was.given was.definitions) (λ q. asks_same (question_seen c.args.question) (question_seen q)) was.replies c.recall_line.new.replies
+          c.in_ok-line.ensures.promoted c.self.invariant.right_replies;
+      schemas_bound = c.self.invariant.schemas_bound;
+      replies_bound = ap (λ cache. cache.cap) c.in_ok-line.ensures.promoted ∙ c.self.invariant.replies_bound;
+    }
+
+pub invariant_of-self-2 : goal.invariant_of-self-2
+invariant_of-self-2 c =
+    let was = c.self.inside in
+    record {
+      right_schemas = c.self.invariant.right_schemas;
+      right_replies = all_promoted (IsRightReply was.given was.definitions) (λ q. asks_same (question_seen c.args.question) (question_seen q)) was.replies c.recall_line.new.replies
+          c.in_ok-line.ensures.promoted c.self.invariant.right_replies;
+      schemas_bound = c.self.invariant.schemas_bound;
+      replies_bound = ap (λ cache. cache.cap) c.in_ok-line.ensures.promoted ∙ c.self.invariant.replies_bound;
+    }
+
 pub returns-in-Some-clause-told : goal.returns-in-Some-clause-told
 returns-in-Some-clause-told c =
     let was = c.self.inside in
