@@ -30,7 +30,6 @@ mod registry;
 mod replies;
 mod schemas;
 mod shared;
-mod written;
 
 pub use laws::same_replies;
 pub use registry::Registry;

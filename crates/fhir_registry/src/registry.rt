@@ -7,16 +7,15 @@ ghost use Rattle.fhir_package.specs.Changing.{put_each, without, has_url};
 ghost use Rattle.fhir_reach.specs.Reach.{all_put_keys};
 ghost use Rattle.lru.specs.LruCache.{lru_cache};
 ghost use Rattle.fhir_commands.specs.Commands.{CommandValue, put, remove, command_seen, question_seen};
-ghost use Rattle.fhir_commands.specs.Replies.{ReplyValue, reply_seen, refuses, line_seen};
+ghost use Rattle.fhir_commands.specs.Replies.{ReplyValue, reply_seen, refuses};
 ghost use Rattle.fhir_registry.specs.Session.{definitions_of, put_answer, put_after, remove_answer, after, IsReplyBy, after_all, AreRepliesBy};
 ghost use Rattle.fhir_registry.specs.Keeping.{reply_kept, ForgetsAll, Forgets, KeepsFor, Keeps};
-ghost use Rattle.fhir_registry.specs.Lines.{WritesReply, AnswersCommand};
 
 use crate::asking::compute;
 use crate::forgetting::{forget_put, forget_removed};
-use crate::replies::{Replies, recall, recall_line};
+use crate::replies::{Replies, recall};
 use crate::schemas::Schemas;
-use fhir_commands::{Command, Line, PutAnswer, Question, RemoveAnswer, Reply, equal_questions};
+use fhir_commands::{Command, PutAnswer, Question, RemoveAnswer, Reply, equal_questions};
 use fhir_json::{Json, NoMemory};
 use fhir_package::{Definition, Package, has_twice};
 use fhir_reach::{changes_elsewhere, same_sets};
@@ -245,35 +244,6 @@ impl Registry {
             Command::Put(trees) => Ok(Reply::Put(self.put(alloc, &trees)?)),
             Command::Remove(url) => Ok(Reply::Remove(self.remove(alloc, url.as_str()))),
             Command::Ask(question) => self.ask(alloc, question),
-        }
-    }
-
-    // The line of the reply to a question. One that is kept is not written again.
-    fn ask_line(&mut self, alloc: Global, question: Question) -> Result<Line, NoMemory>
-        ensures told { IfOk result (λ line. WritesReply (IsReplyBy self.old.texts self.old.definitions) (question_seen question) (line_seen line)) }
-        ensures definitions { self.new.definitions ≡ self.old.definitions }
-        ensures texts { self.new.texts ≡ self.old.texts }
-    {
-        if let Some(line) = recall_line(alloc, &mut self.replies, &question)? {
-            return Ok(line);
-        }
-        self.ask(alloc, question)?.line(alloc)
-    }
-
-    /// Does what a command asks, as `apply` does, and gives the line of the reply. The one refusal is want of memory, which changes no
-    /// definition.
-    pub(crate) fn apply_line(
-        &mut self,
-        alloc: Global,
-        command: Command<'_>,
-    ) -> Result<Line, NoMemory>
-        ensures told { IfOk result (λ line. AnswersCommand self.old (Some (command_seen command.entry)) self.new (line_seen line)) }
-        ensures unchanged { OnErr result (self.new.definitions ≡ self.old.definitions) }
-        ensures texts { self.new.texts ≡ self.old.texts }
-    {
-        match command {
-            Command::Ask(question) => self.ask_line(alloc, question),
-            command => self.apply(alloc, command)?.line(alloc),
         }
     }
 
