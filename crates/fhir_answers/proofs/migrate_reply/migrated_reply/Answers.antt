@@ -14,4 +14,4 @@ read_so s (Err fault) text is = absurd cc
 
 pub returns-in-Ok-clause-promised : goal.returns-in-Ok-clause-promised
 returns-in-Ok-clause-promised c zero =
-    read_so c.args.schema.now (reading c.args.schema.now c.args.bytes.now) c.in-Ok.field-0.items c.in-Ok.ensures
+    read_so c.args.schema.now (reading c.args.schema.now c.args.bytes.now) c.in-Ok.out.items c.in-Ok.ensures
