@@ -8,7 +8,7 @@ ghost use Rattle.fhir_conformance.specs.Positions.{kid_at};
 ghost use Rattle.fhir_conformance.specs.Views.{rule_name, IsIndexOf};
 ghost use Rattle.fhir_instance.specs.Items.{kids_of};
 ghost use Rattle.fhir_instance.specs.View.{item_of};
-ghost use Rattle.fhir_validator.specs.Issues.{rule_said, types, too_few, too_many, says, slices_said, slice_name, set_at, key_at, told_child, told_at, IsNamed};
+ghost use Rattle.fhir_validator.specs.Issues.{rule_said, types, too_few, too_many, after, after_rest, says, slices_said, slice_name, set_at, key_at, told_child, told_at, IsNamed};
 ghost use Rattle.fhir_validator.specs.Layouts.{item_at};
 
 use crate::broken_rule::BrokenRule;
@@ -123,6 +123,31 @@ fn slice_name<'s>(
     }
 }
 
+fn out_of_order<'s>(
+    schema: &'s Schema,
+    item: &Typed<'_, '_>,
+    node: NodeRef,
+    earlier: usize,
+    position: usize,
+) -> BrokenRule<'s>
+    ensures { rule_said result
+        ≡ after (slice_name schema.now (item_of item.now) node position) (slice_name schema.now (item_of item.now) node earlier) }
+{
+    let own = slice_name(schema, item, node, position);
+    BrokenRule::After(own, slice_name(schema, item, node, earlier))
+}
+
+fn out_of_rest<'s>(
+    schema: &'s Schema,
+    item: &Typed<'_, '_>,
+    node: NodeRef,
+    position: usize,
+) -> BrokenRule<'s>
+    ensures { rule_said result ≡ after_rest (slice_name schema.now (item_of item.now) node position) }
+{
+    BrokenRule::AfterRest(slice_name(schema, item, node, position))
+}
+
 // What is to be said of a rule of a node, at the item that has these children.
 fn broken_rule<'s>(
     schema: &'s Schema,
@@ -160,12 +185,9 @@ fn broken_rule<'s>(
         ElementRule::Apart(position) => slices_of_kid(schema, item, position, node),
         ElementRule::InASlice(_position) => BrokenRule::InNoSlice,
         ElementRule::InOrder(earlier, position) => {
-            let other = slice_name(schema, item, node, earlier);
-            BrokenRule::After(slice_name(schema, item, node, position), other)
+            out_of_order(schema, item, node, earlier, position)
         }
-        ElementRule::InTheRest(position) => {
-            BrokenRule::AfterRest(slice_name(schema, item, node, position))
-        }
+        ElementRule::InTheRest(position) => out_of_rest(schema, item, node, position),
         ElementRule::Constraint(position) => BrokenRule::Constraint(key_of(schema, node, position)),
     }
 }
