@@ -44,8 +44,8 @@ pub data Said : Type 0 where
   in_slices : (one other : List ℕ) → Said
   in_no_slice : Said
   -- the slice that an item is in, and that of an earlier one, which it may not follow; or an earlier one is in none
-  after : (own other : List ℕ) → Said
-  after_rest : (own : List ℕ) → Said
+  after : (slice other : List ℕ) → Said
+  after_rest : (slice : List ℕ) → Said
   -- the constraint's key
   constraint : (key : List ℕ) → Said
 
@@ -61,8 +61,8 @@ rule_said (TooFew min found) = too_few min found
 rule_said (TooMany max found) = too_many max found
 rule_said (InSlices one other) = in_slices one.now other.now
 rule_said InNoSlice = in_no_slice
-rule_said (After own other) = after own.now other.now
-rule_said (AfterRest own) = after_rest own.now
+rule_said (After slice other) = after slice.now other.now
+rule_said (AfterRest slice) = after_rest slice.now
 rule_said (Constraint key) = constraint key.now
 
 -- the value set that a node asks for, or the empty text
