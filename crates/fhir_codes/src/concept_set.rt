@@ -86,6 +86,14 @@ impl ConceptSet {
             .is_ok()
     }
 
+    /// The system and the code of the concept at a position, in the order of the codes' bytes, and then of the systems'.
+    pub fn at(&self, position: usize) -> Option<(&str, &str)>
+        ensures { IfSome result (λ c. set.contains self.now (concept c.0.now c.1.now) ≡ true) }
+    {
+        let concept = self.table.as_slice().get(position)?;
+        Some((concept.system(), concept.code()))
+    }
+
     pub(crate) fn has(&self, concept: &SharedConcept) -> bool
         ensures { result ≡ set.contains self.now concept.now }
     {
