@@ -1,14 +1,13 @@
 //! What could be changed at the place of a pair, so that what conforms to the derived node doesn't conform to the base's.
 
-use crate::demand::{entry_of, profile_for};
+use crate::demand::{concept_at, entry_of, profile_for};
 use crate::draft::Done;
 use crate::plan::{least_at, most_at};
 use crate::step::{Candidate, Change, Slice, Step};
 use crate::values::{extremes, has_length};
-use fhir_certificate::{NodePair, Pair};
 use fhir_codes::ConceptSet;
 use fhir_elements::{ElementDef, TypeEntry};
-use fhir_json::NoMemory;
+use fhir_json::Member;
 use fhir_schema::{NodeRef, Schema, Slot};
 use std::alloc::Global;
 
@@ -31,6 +30,8 @@ pub(crate) struct Finder<'s> {
     // The way to the place of the pair.
     way: Vec<Step<'s>>,
     found: Vec<Candidate<'s>>,
+    // How many there may be.
+    room: usize,
 }
 
 fn text_is(left: Option<&str>, right: Option<&str>) -> bool {
@@ -43,7 +44,7 @@ fn text_is(left: Option<&str>, right: Option<&str>) -> bool {
 // The first concept of a set that isn't in another one.
 fn concept_outside<'s>(set: &'s ConceptSet, other: &ConceptSet) -> Option<(&'s str, &'s str)> {
     for position in 0..usize::MAX {
-        let (system, code) = set.at(position)?;
+        let (system, code) = concept_at(set, position)?;
         if !other.contains(system, code) {
             return Some((system, code));
         }
@@ -54,7 +55,7 @@ fn concept_outside<'s>(set: &'s ConceptSet, other: &ConceptSet) -> Option<(&'s s
 // The first whose code isn't in another one.
 fn code_outside<'s>(set: &'s ConceptSet, other: &ConceptSet) -> Option<(&'s str, &'s str)> {
     for position in 0..usize::MAX {
-        let (system, code) = set.at(position)?;
+        let (system, code) = concept_at(set, position)?;
         if !other.contains_code(code) {
             return Some((system, code));
         }
@@ -73,6 +74,22 @@ fn has_constraint(element: &ElementDef, expression: Option<&str>) -> bool {
         }
     }
     false
+}
+
+fn is_same(own: &Member<'static>, base: &Member<'static>) -> bool {
+    match (own.value.as_number(), base.value.as_number()) {
+        (Some(own), Some(base)) => own == base,
+        _ => text_is(own.value.as_text(), base.value.as_text()),
+    }
+}
+
+// Whether there is no bound of the base's, or the own one is the same.
+fn is_within(own: Option<&Member<'static>>, base: Option<&Member<'static>>) -> bool {
+    match (own, base) {
+        (_, None) => true,
+        (None, Some(_)) => false,
+        (Some(own), Some(base)) => is_same(own, base),
+    }
 }
 
 fn covers_code(schema: &Schema, entries: &[TypeEntry], code: &str) -> bool {
@@ -135,7 +152,7 @@ fn kids_node(schema: &Schema, node: NodeRef) -> Option<NodeRef> {
 
 impl<'s> Finder<'s> {
     fn push(&mut self, extra: &[Step<'s>], change: Change<'s>) -> Done {
-        if self.found.len() >= MOST_CANDIDATES {
+        if self.is_full() {
             return Ok(());
         }
         let mut steps = self.way.to_vec(self.alloc)?;
@@ -146,9 +163,14 @@ impl<'s> Finder<'s> {
 
     // ---- facets
 
-    fn push_values(&mut self, extra: &[Step<'s>], base: &ElementDef) -> Done {
-        if base.fixed().is_some() || base.pattern().is_some() {
+    fn push_values(&mut self, extra: &[Step<'s>], own: &ElementDef, base: &ElementDef) -> Done {
+        let is_free = own.fixed().is_none() && own.pattern().is_none();
+        let is_bound = base.fixed().is_some() || base.pattern().is_some();
+        if is_free && is_bound {
             self.push(extra, Change::OtherValue)?;
+        }
+        if is_bound {
+            self.push(extra, Change::Nothing)?;
         }
         Ok(())
     }
@@ -178,16 +200,27 @@ impl<'s> Finder<'s> {
         base: &ElementDef,
         code: &str,
     ) -> Done {
-        if base.min_value().is_none() && base.max_value().is_none() {
+        if is_within(own.min_value(), base.min_value())
+            && is_within(own.max_value(), base.max_value())
+        {
             return Ok(());
         }
         self.push_bounds(extra, own, code)
     }
 
-    fn push_length(&mut self, extra: &[Step<'s>], base: &ElementDef, code: &str) -> Done {
+    fn push_length(
+        &mut self,
+        extra: &[Step<'s>],
+        own: &ElementDef,
+        base: &ElementDef,
+        code: &str,
+    ) -> Done {
         let Some(most) = base.max_length() else {
             return Ok(());
         };
+        if own.max_length().is_some_and(|own| own <= most) {
+            return Ok(());
+        }
         let count = usize::try_from(most).unwrap_or(0).saturating_add(1);
         if count <= MOST_LETTERS && has_length(code) {
             self.push(extra, Change::Long(count))?;
@@ -222,9 +255,9 @@ impl<'s> Finder<'s> {
         base: &'s ElementDef,
         code: &str,
     ) -> Done {
-        self.push_values(extra, base)?;
+        self.push_values(extra, own, base)?;
         self.push_binding(extra, own, base)?;
-        self.push_length(extra, base, code)?;
+        self.push_length(extra, own, base, code)?;
         self.push_range(extra, own, base, code)
     }
 
@@ -339,15 +372,15 @@ impl<'s> Finder<'s> {
         own: Option<NodeRef>,
         slice: NodeRef,
     ) -> Done {
-        let own_least = match own {
-            Some(own) => least_at(self.schema, own),
-            None => 0,
+        let (own_least, own_most) = match own {
+            Some(own) => (least_at(self.schema, own), most_at(self.schema, own)),
+            None => (0, usize::MAX),
         };
         let (least, most) = (least_at(self.schema, slice), most_at(self.schema, slice));
         if least > own_least {
             self.push(extra, Change::InSlice(name, slice, least.saturating_sub(1)))?;
         }
-        if most < MOST_CHILDREN {
+        if most < own_most && most < MOST_CHILDREN {
             self.push(extra, Change::InSlice(name, slice, most + 1))?;
         }
         Ok(())
@@ -589,27 +622,67 @@ fn push_below<'s>(
     push_item(finder, levels, &steps, own, base)
 }
 
-/// The candidates for a pair that a way leads to, the likeliest first.
-pub(crate) fn candidates<'s>(
-    alloc: Global,
-    schema: &'s Schema,
-    way: Vec<Step<'s>>,
-    pair: Pair,
-) -> Result<Vec<Candidate<'s>>, NoMemory> {
-    let mut finder = Finder {
-        alloc,
-        schema,
-        way,
-        found: Vec::new(alloc),
-    };
-    finder.push(&[], Change::Nothing)?;
-    match pair {
-        Pair::Item(NodePair { derived, base }) => {
-            push_item(&mut finder, MOST_LEVELS, &[], derived, base)?
-        }
-        Pair::Kids(NodePair { derived, base }) => {
-            push_kids(&mut finder, MOST_LEVELS, &[], derived, base)?
+impl<'s> Finder<'s> {
+    /// One without candidates.
+    pub(crate) fn new(alloc: Global, schema: &'s Schema) -> Finder<'s> {
+        Finder {
+            alloc,
+            schema,
+            way: Vec::new(alloc),
+            found: Vec::new(alloc),
+            room: MOST_CANDIDATES / 2,
         }
     }
-    Ok(finder.found)
+
+    /// Candidates with a change at the end of another way.
+    pub(crate) fn go(&mut self, way: Vec<Step<'s>>) {
+        self.way = way;
+    }
+
+    /// From here on there may be as many candidates as ever.
+    pub(crate) fn make_room(&mut self) {
+        self.room = MOST_CANDIDATES;
+    }
+
+    /// Whether there is no room for more.
+    pub(crate) fn is_full(&self) -> bool {
+        self.found.len() >= self.room
+    }
+
+    /// The candidates.
+    pub(crate) fn into_found(self) -> Vec<Candidate<'s>> {
+        self.found
+    }
+}
+
+/// All that a pair of items and what stands below it suggest.
+pub(crate) fn suggest_of_items<'s>(finder: &mut Finder<'s>, own: NodeRef, base: NodeRef) -> Done {
+    finder.push(&[], Change::Nothing)?;
+    push_item(finder, MOST_LEVELS, &[], own, base)
+}
+
+/// All that a pair of children and what stands below it suggest.
+pub(crate) fn suggest_of_kids<'s>(finder: &mut Finder<'s>, own: NodeRef, base: NodeRef) -> Done {
+    finder.push(&[], Change::Nothing)?;
+    push_kids(finder, MOST_LEVELS, &[], own, base)
+}
+
+/// What a pair of items suggests by itself.
+pub(crate) fn suggest_of_elements<'s>(
+    finder: &mut Finder<'s>,
+    own: NodeRef,
+    base: NodeRef,
+) -> Done {
+    if own == base {
+        return Ok(());
+    }
+    push_elements(finder, &[], own, base)
+}
+
+/// What a pair of children suggests by itself.
+pub(crate) fn suggest_of_slots<'s>(finder: &mut Finder<'s>, own: NodeRef, base: NodeRef) -> Done {
+    if own == base {
+        return Ok(());
+    }
+    finder.push_slots(&[], own, base)
 }

@@ -5,11 +5,10 @@ ghost use Rattle.fhir_counter.specs.Shows.{Shows, ShowsAsGiven, AlwaysConforms, 
 ghost use Rattle.fhir_json.specs.Tree.{Tree};
 ghost use Rattle.fhir_json.specs.Grammar.{Reads};
 
-use crate::changes::candidates;
 use crate::kinds::plain_code;
 use crate::making::make;
 use crate::step::Candidate;
-use crate::ways::way_to;
+use crate::ways::candidates;
 use fhir_certificate::{NodePair, Pair};
 use fhir_json::{NoMemory, one_tree};
 use fhir_schema::Schema;
@@ -108,8 +107,7 @@ fn candidates_for<'s>(
     let (Some(derived), Some(base)) = (schema.root(derived), schema.root(base)) else {
         return Ok(Vec::new(alloc));
     };
-    let way = way_to(alloc, schema, NodePair { derived, base }, pair)?;
-    candidates(alloc, schema, way, pair)
+    candidates(alloc, schema, NodePair { derived, base }, pair)
 }
 
 fn made<'s>(

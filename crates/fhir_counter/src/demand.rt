@@ -43,6 +43,11 @@ pub(crate) fn entry_of(node: NodeRef, slot: &Slot) -> NodeRef {
     }
 }
 
+/// Whether the children of an element's name have another name in a path, where a choice has no `[x]`.
+pub(crate) fn is_named(element: &str, name: &str) -> bool {
+    element.strip_suffix("[x]").unwrap_or(element) == name
+}
+
 /// The node of the children of a name.
 pub(crate) fn child_of(schema: &Schema, node: NodeRef, name: &str) -> Option<NodeRef> {
     let holder = schema.child_holder(node)?;
@@ -67,16 +72,21 @@ fn push_new(node: NodeRef, into: &mut Vec<Demand<'_>>) -> Done {
 
 // ---- what a node asks in turn
 
+/// The system and the code of the concept at a position of a set.
+pub(crate) fn concept_at(set: &ConceptSet, position: usize) -> Option<(&str, &str)> {
+    set.at(position)
+}
+
 // The first concept of a set that is in another one, if there is another.
 fn common_concept<'s>(
     set: &'s ConceptSet,
     other: Option<&ConceptSet>,
 ) -> Option<(&'s str, &'s str)> {
     let Some(other) = other else {
-        return set.at(0);
+        return concept_at(set, 0);
     };
     for position in 0..usize::MAX {
-        let (system, code) = set.at(position)?;
+        let (system, code) = concept_at(set, position)?;
         if other.contains(system, code) {
             return Some((system, code));
         }
@@ -248,7 +258,7 @@ pub(crate) fn below<'s>(
     demands: &[Demand<'s>],
     name: &str,
 ) -> Result<Vec<Demand<'s>>, NoMemory> {
-    let mut children = Vec::new(alloc);
+    let mut children: Vec<Demand<'s>> = Vec::new(alloc);
     for demand in demands {
         push_child(schema, *demand, name, &mut children)?;
     }
@@ -272,8 +282,7 @@ fn push_rest<'s>(
     into: &mut Vec<Demand<'s>>,
 ) -> Done {
     if let [first, rest @ ..] = names {
-        let leads_there = first.as_str() == name;
-        if leads_there {
+        if is_named(name, first.as_str()) {
             into.push(Demand::Sought(rest, sought))?;
         }
     }
@@ -350,7 +359,7 @@ pub(crate) fn specials<'s>(
     demands: &[Demand<'s>],
     name: &str,
 ) -> Result<Vec<Demand<'s>>, NoMemory> {
-    let mut special = Vec::new(alloc);
+    let mut special: Vec<Demand<'s>> = Vec::new(alloc);
     push_step(task, demands, name, &mut special)?;
     push_target(task.change_at(demands), name, &mut special)?;
     for demand in demands {

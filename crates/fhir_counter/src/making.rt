@@ -52,7 +52,7 @@ fn of_slice<'s>(
     schema: &'s Schema,
     slice: NodeRef,
 ) -> Result<Vec<Demand<'s>>, NoMemory> {
-    let mut special = Vec::new(alloc);
+    let mut special: Vec<Demand<'s>> = Vec::new(alloc);
     special.push(Demand::Node(slice))?;
     push_criteria(schema, slice, &mut special)?;
     Ok(special)
@@ -77,17 +77,17 @@ fn missing_of(task: &Task<'_, '_>, demands: &[Demand<'_>], name: &str, slice: No
 
 // A list of children that is gathered.
 #[derive(Clone, Copy)]
-struct Gathering<'c, 's> {
+struct Gathering<'t, 'w, 'd, 'c, 's> {
     alloc: Global,
-    task: &'c Task<'c, 's>,
+    task: &'t Task<'w, 's>,
     // What their parent is asked for.
-    demands: &'c [Demand<'s>],
+    demands: &'d [Demand<'s>],
     name: &'s str,
     // What each of them is.
     common: &'c [Demand<'s>],
 }
 
-impl<'s> Gathering<'_, 's> {
+impl<'s> Gathering<'_, '_, '_, '_, 's> {
     fn push_slice(&self, node: NodeRef, slice: &Slot, into: &mut Items<'s>) -> Done {
         let slice = entry_of(node, slice);
         let count = missing_of(self.task, self.demands, self.name, slice);
@@ -135,7 +135,7 @@ impl<'s> Gathering<'_, 's> {
     fn push_changed(&self, into: &mut Items<'s>) -> Done {
         match self.task.change_at(self.demands) {
             Change::InSlice(name, slice, count) if name == self.name => {
-                let mut special = Vec::new(self.alloc);
+                let mut special: Vec<Demand<'s>> = Vec::new(self.alloc);
                 push_criteria(self.task.schema, slice, &mut special)?;
                 push_items(self.alloc, self.common, &special, count, into)
             }
@@ -192,7 +192,7 @@ impl<'s> Gathering<'_, 's> {
     }
 
     fn items(&self, count: usize) -> Result<Items<'s>, NoMemory> {
-        let mut items = Vec::new(self.alloc);
+        let mut items: Items<'s> = Vec::new(self.alloc);
         self.push_special(&mut items)?;
         self.push_sliced(&mut items)?;
         self.push_patterns(&mut items)?;
@@ -204,7 +204,7 @@ impl<'s> Gathering<'_, 's> {
 
 // What all of these are asked for at once: of what doesn't repeat there is one item.
 fn merged<'s>(alloc: Global, items: &Items<'s>) -> Result<Vec<Demand<'s>>, NoMemory> {
-    let mut all = Vec::new(alloc);
+    let mut all: Vec<Demand<'s>> = Vec::new(alloc);
     for item in items {
         all.extend_from_slice(item)?;
     }
@@ -247,7 +247,7 @@ fn items_of<'s>(
         return Ok(items);
     }
     let one = merged(alloc, &items)?;
-    let mut single = Vec::new(alloc);
+    let mut single: Items<'s> = Vec::new(alloc);
     single.push(one)?;
     Ok(single)
 }

@@ -1,6 +1,6 @@
 //! How many children of each name an item gets.
 
-use crate::demand::{Demand, child_of, entry_of};
+use crate::demand::{Demand, child_of, entry_of, is_named};
 use crate::draft::Done;
 use crate::settling::settle;
 use crate::step::Change;
@@ -21,9 +21,16 @@ pub(crate) struct Planned<'s> {
     pub(crate) most: usize,
     /// Whether the count is settled.
     pub(crate) is_settled: bool,
+    /// Whether they are bound to codes that aren't known.
+    pub(crate) is_open: bool,
 }
 
-impl Planned<'_> {
+impl<'s> Planned<'s> {
+    /// Whether they are named so in a path, where a choice has no `[x]`.
+    pub(crate) fn is_named(&self, name: &str) -> bool {
+        is_named(self.name, name)
+    }
+
     fn at_least(&mut self, count: usize) {
         self.least = self.least.max(count);
         self.count = self.count.max(count);
@@ -33,11 +40,15 @@ impl Planned<'_> {
         self.most = self.most.min(count);
     }
 
-    /// Settles the count, as far as there may be so many.
-    pub(crate) fn settle(&mut self, count: usize) {
-        if !self.is_settled && count >= self.least && count <= self.most {
-            self.count = count;
-            self.is_settled = true;
+    /// With a count that is settled, as far as there may be so many.
+    pub(crate) fn settled(self, count: usize) -> Planned<'s> {
+        if self.is_settled || count < self.least || count > self.most {
+            return self;
+        }
+        Planned {
+            count,
+            is_settled: true,
+            ..self
         }
     }
 
@@ -84,11 +95,21 @@ fn sliced_at(schema: &Schema, node: NodeRef) -> usize {
     count
 }
 
+fn has_unread_set(schema: &Schema, node: NodeRef) -> bool {
+    match schema.element(node) {
+        Some(element) => element
+            .required_value_set()
+            .is_some_and(|canonical| schema.concepts(canonical).is_none()),
+        None => false,
+    }
+}
+
 fn plan_node(schema: &Schema, node: NodeRef, planned: &mut Planned<'_>) {
     if let Some(child) = child_of(schema, node, planned.name) {
         planned.at_least(least_at(schema, child));
         planned.at_least(sliced_at(schema, child));
         planned.at_most(most_at(schema, child));
+        planned.is_open = planned.is_open || has_unread_set(schema, child);
     }
 }
 
@@ -104,7 +125,7 @@ fn plan_sought(names: &[String], sought: &Sought, planned: &mut Planned<'_>) {
     let [first, rest @ ..] = names else {
         return;
     };
-    if first.as_str() != planned.name {
+    if !planned.is_named(first.as_str()) {
         return;
     }
     match sought {
@@ -155,6 +176,7 @@ fn planned_of<'s>(task: &Task<'_, 's>, demands: &[Demand<'s>], name: &'s str) ->
         least: 0,
         most: usize::MAX,
         is_settled: false,
+        is_open: false,
     };
     for demand in demands {
         plan_demand(task, *demand, &mut planned);
@@ -214,16 +236,25 @@ fn is_empty(plan: &[Planned<'_>]) -> bool {
     plan.iter().all(|planned| planned.count == 0)
 }
 
+fn first_usual(plan: &[Planned<'_>], is_open: bool) -> Option<usize> {
+    for (place, planned) in plan.iter().enumerate() {
+        if is_usual(planned) && planned.is_open == is_open {
+            return Some(place);
+        }
+    }
+    None
+}
+
 /// Plans one child, where there is none.
 pub(crate) fn fill(plan: &mut [Planned<'_>]) {
     if !is_empty(plan) {
         return;
     }
-    for planned in plan {
-        if is_usual(planned) {
-            planned.count = 1;
-            return;
-        }
+    let Some(place) = first_usual(plan, false).or(first_usual(plan, true)) else {
+        return;
+    };
+    if place < plan.len() {
+        plan[place] = plan[place].settled(1);
     }
 }
 

@@ -45,25 +45,27 @@ fn is_name(path: &Expr) -> bool {
     }
 }
 
-fn count_in(path: &Expr, plan: &[Planned<'_>]) -> Option<usize> {
+fn place_in(path: &Expr, plan: &[Planned<'_>]) -> Option<usize> {
     let name = name_in(path)?;
-    for planned in plan {
-        if planned.name == name {
-            return Some(planned.count);
+    for (place, planned) in plan.iter().enumerate() {
+        if planned.is_named(name) {
+            return Some(place);
         }
     }
     None
 }
 
+fn count_in(path: &Expr, plan: &[Planned<'_>]) -> Option<usize> {
+    let planned = plan.get(place_in(path, plan)?)?;
+    Some(planned.count)
+}
+
 fn settle_count(path: &Expr, count: usize, plan: &mut [Planned<'_>]) {
-    let Some(name) = name_in(path) else {
+    let Some(place) = place_in(path, plan) else {
         return;
     };
-    for planned in plan {
-        if planned.name == name {
-            planned.settle(count);
-            return;
-        }
+    if place < plan.len() {
+        plan[place] = plan[place].settled(count);
     }
 }
 

@@ -1,6 +1,9 @@
-//! The way to the place of a pair, from the pair of two roots.
+//! The places of pairs, from the pair of two roots, and the candidates for each.
 
-use crate::step::{Slice, Step};
+use crate::changes::{
+    Finder, suggest_of_elements, suggest_of_items, suggest_of_kids, suggest_of_slots,
+};
+use crate::step::{Candidate, Slice, Step};
 use fhir_cert_check::{PairSet, asked_for};
 use fhir_certificate::{NodePair, Pair};
 use fhir_json::NoMemory;
@@ -39,13 +42,8 @@ fn put_asked(alloc: Global, schema: &Schema, visits: &mut Visits, pair: Pair, fr
     Ok(())
 }
 
-// The pairs that are found from a first one, up to the one that is wanted.
-fn visits_to(
-    alloc: Global,
-    schema: &Schema,
-    first: Pair,
-    wanted: Pair,
-) -> Result<Vec<Visit>, NoMemory> {
+// The pairs that are found from a first one.
+fn visits_from(alloc: Global, schema: &Schema, first: Pair) -> Result<Vec<Visit>, NoMemory> {
     let mut visits = Visits {
         found: Vec::new(alloc),
         seen: PairSet::new(alloc),
@@ -54,9 +52,6 @@ fn visits_to(
     let mut at = 0;
     while at < visits.found.len() {
         let pair = visits.found[at].pair;
-        if pair == wanted {
-            return Ok(visits.found);
-        }
         put_asked(alloc, schema, &mut visits, pair, at)?;
         at += 1;
     }
@@ -149,18 +144,71 @@ fn steps_back<'s>(
     Ok(steps)
 }
 
-/// The way to the place where a pair is first asked for, from the pair of two roots.
-pub(crate) fn way_to<'s>(
+// The way to a place.
+fn way_to<'s>(
+    alloc: Global,
+    schema: &'s Schema,
+    visits: &[Visit],
+    place: usize,
+) -> Result<Vec<Step<'s>>, NoMemory> {
+    let mut steps = steps_back(alloc, schema, visits, place)?;
+    steps.reverse();
+    Ok(steps)
+}
+
+// What the pair that fails suggests, with what stands below it.
+fn suggest_first<'s>(
+    alloc: Global,
+    finder: &mut Finder<'s>,
+    schema: &'s Schema,
+    visits: &[Visit],
+    wanted: Pair,
+) -> Done {
+    let Some(place) = place_of(visits, wanted) else {
+        return Ok(());
+    };
+    finder.go(way_to(alloc, schema, visits, place)?);
+    match wanted {
+        Pair::Item(nodes) => suggest_of_items(finder, nodes.derived, nodes.base),
+        Pair::Kids(nodes) => suggest_of_kids(finder, nodes.derived, nodes.base),
+    }
+}
+
+// What any other pair suggests.
+fn suggest<'s>(
+    alloc: Global,
+    finder: &mut Finder<'s>,
+    schema: &'s Schema,
+    visits: &[Visit],
+    place: usize,
+) -> Done {
+    let Some(visit) = visits.get(place).copied() else {
+        return Ok(());
+    };
+    if finder.is_full() {
+        return Ok(());
+    }
+    finder.go(way_to(alloc, schema, visits, place)?);
+    match visit.pair {
+        Pair::Item(nodes) => suggest_of_elements(finder, nodes.derived, nodes.base),
+        Pair::Kids(nodes) => suggest_of_slots(finder, nodes.derived, nodes.base),
+    }
+}
+
+/// The candidates for two roots of which a pair fails, the likeliest first: those that this pair suggests, and then those of the others.
+/// A pair that fails needn't be what parts the two profiles.
+pub(crate) fn candidates<'s>(
     alloc: Global,
     schema: &'s Schema,
     roots: NodePair,
     wanted: Pair,
-) -> Result<Vec<Step<'s>>, NoMemory> {
-    let visits = visits_to(alloc, schema, Pair::Item(roots), wanted)?;
-    let Some(place) = place_of(&visits, wanted) else {
-        return Ok(Vec::new(alloc));
-    };
-    let mut steps = steps_back(alloc, schema, &visits, place)?;
-    steps.reverse();
-    Ok(steps)
+) -> Result<Vec<Candidate<'s>>, NoMemory> {
+    let visits = visits_from(alloc, schema, Pair::Item(roots))?;
+    let mut finder = Finder::new(alloc, schema);
+    suggest_first(alloc, &mut finder, schema, &visits, wanted)?;
+    finder.make_room();
+    for place in 0..visits.len() {
+        suggest(alloc, &mut finder, schema, &visits, place)?;
+    }
+    Ok(finder.into_found())
 }
