@@ -56,7 +56,7 @@ fn violates(alloc: Global, schema: &Schema, profile: &str, bytes: &[u8]) -> Resu
 {
     match validate(alloc, schema, profile, bytes) {
         Ok(Verdict::Violates(_)) => Ok(true),
-        Ok(Verdict::Open(_)) => Ok(false),
+        Ok(Verdict::Open(_sites)) => Ok(false),
         Ok(Verdict::Conforms) => Ok(false),
         Err(Fault::NoMemory) => Err(NoMemory),
         Err(_) => Ok(false),
