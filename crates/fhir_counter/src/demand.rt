@@ -338,7 +338,7 @@ fn push_step<'s>(
     let Some((at, step)) = task.step_to(demands, name) else {
         return Ok(());
     };
-    into.push(Demand::Way(at + 1))?;
+    into.push(Demand::Way(at.saturating_add(1)))?;
     if let Some(code) = step.code {
         into.push(Demand::Type(code))?;
     }
