@@ -4,6 +4,7 @@ ghost use Rattle.std.specs.Prelude.{◌≡◌, IfOk, IfSome, IsTrue};
 ghost use Rattle.fhir_counter.specs.Shows.{Shows, ShowsAsGiven, AlwaysConforms, NeverConforms, ConformsAsGiven};
 ghost use Rattle.fhir_json.specs.Tree.{Tree};
 ghost use Rattle.fhir_json.specs.Grammar.{Reads};
+ghost use Rattle.fhir_validator.specs.Verdicts.{is_conforming, is_violating, conforms_as_given};
 
 use crate::kinds::plain_code;
 use crate::making::make;
@@ -16,15 +17,43 @@ use fhir_validator::{Fault, Verdict, Vouched, validate, validate_given};
 use fhir_vouching::Vouching;
 use std::alloc::Global;
 
+fn is_conforming(verdict: &Verdict<'_>) -> bool
+    ensures { result ≡ is_conforming verdict.now }
+{
+    match verdict {
+        Verdict::Conforms => true,
+        Verdict::Violates(_) => false,
+        Verdict::Open(_) => false,
+    }
+}
+
+fn is_violating(verdict: &Verdict<'_>) -> bool
+    ensures { result ≡ is_violating verdict.now }
+{
+    match verdict {
+        Verdict::Conforms => false,
+        Verdict::Violates(_) => true,
+        Verdict::Open(_sites) => false,
+    }
+}
+
+fn conforms_as_given(verdict: &Vouched<'_>) -> bool
+    ensures { result ≡ conforms_as_given verdict.now }
+{
+    match verdict {
+        Vouched::Conforms(_) => true,
+        Vouched::Violates(_) => false,
+        Vouched::Open(_) => false,
+    }
+}
+
 // Whether a resource conforms to a profile, and its constraints are true. What can't be judged doesn't.
 fn conforms(alloc: Global, schema: &Schema, profile: &str, bytes: &[u8]) -> Result<bool, NoMemory>
     ensures always { (t : Tree) → Reads bytes.now t → IfOk result (λ yes. IsTrue yes → AlwaysConforms schema.now profile.now t) }
     ensures read { IfOk result (λ yes. IsTrue yes → (t : Tree) × Reads bytes.now t) }
 {
     match validate(alloc, schema, profile, bytes) {
-        Ok(Verdict::Conforms) => Ok(true),
-        Ok(Verdict::Open(_)) => Ok(false),
-        Ok(Verdict::Violates(_)) => Ok(false),
+        Ok(verdict) => Ok(is_conforming(&verdict)),
         Err(Fault::NoMemory) => Err(NoMemory),
         Err(_) => Ok(false),
     }
@@ -42,9 +71,7 @@ fn conforms_given(
     ensures read { IfOk result (λ yes. IsTrue yes → (t : Tree) × Reads bytes.now t) }
 {
     match validate_given(alloc, schema, profile, bytes, given) {
-        Ok(Vouched::Conforms(_)) => Ok(true),
-        Ok(Vouched::Open(_)) => Ok(false),
-        Ok(Vouched::Violates(_)) => Ok(false),
+        Ok(verdict) => Ok(conforms_as_given(&verdict)),
         Err(Fault::NoMemory) => Err(NoMemory),
         Err(_) => Ok(false),
     }
@@ -55,9 +82,7 @@ fn violates(alloc: Global, schema: &Schema, profile: &str, bytes: &[u8]) -> Resu
     ensures { (t : Tree) → Reads bytes.now t → IfOk result (λ yes. IsTrue yes → NeverConforms schema.now profile.now t) }
 {
     match validate(alloc, schema, profile, bytes) {
-        Ok(Verdict::Violates(_)) => Ok(true),
-        Ok(Verdict::Open(_sites)) => Ok(false),
-        Ok(Verdict::Conforms) => Ok(false),
+        Ok(verdict) => Ok(is_violating(&verdict)),
         Err(Fault::NoMemory) => Err(NoMemory),
         Err(_) => Ok(false),
     }
