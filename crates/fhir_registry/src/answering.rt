@@ -21,7 +21,8 @@ fn answer_line(registry: &mut Registry, alloc: Global, line: &[u8]) -> Result<Li
 {
     fixed_lines();
     match Command::of_line(alloc, line)? {
-        Some(command) => registry.apply_line(alloc, command),
+        Some(Command::Ask(question)) => registry.ask_line(alloc, question),
+        Some(command) => registry.apply(alloc, command)?.line(alloc),
         None => Ok(Line::Fixed(LINE_FAULT)),
     }
 }

@@ -10,7 +10,7 @@ ghost use Rattle.fhir_commands.specs.Commands.{CommandValue, put, remove, comman
 ghost use Rattle.fhir_commands.specs.Replies.{ReplyValue, reply_seen, refuses, line_seen};
 ghost use Rattle.fhir_registry.specs.Session.{definitions_of, put_answer, put_after, remove_answer, after, IsReplyBy, after_all, AreRepliesBy};
 ghost use Rattle.fhir_registry.specs.Keeping.{reply_kept, ForgetsAll, Forgets, KeepsFor, Keeps};
-ghost use Rattle.fhir_registry.specs.Lines.{WritesReply, AnswersCommand};
+ghost use Rattle.fhir_registry.specs.Lines.{WritesReply};
 
 use crate::asking::compute;
 use crate::forgetting::{forget_put, forget_removed};
@@ -248,8 +248,8 @@ impl Registry {
         }
     }
 
-    // The line of the reply to a question. One that is kept is not written again.
-    fn ask_line(&mut self, alloc: Global, question: Question) -> Result<Line, NoMemory>
+    /// The line of the reply to a question. One that is kept is not written again. The one refusal is want of memory.
+    pub(crate) fn ask_line(&mut self, alloc: Global, question: Question) -> Result<Line, NoMemory>
         ensures told { IfOk result (λ line. WritesReply (IsReplyBy self.old.texts self.old.definitions) (question_seen question) (line_seen line)) }
         ensures definitions { self.new.definitions ≡ self.old.definitions }
         ensures texts { self.new.texts ≡ self.old.texts }
@@ -258,23 +258,6 @@ impl Registry {
             return Ok(line);
         }
         self.ask(alloc, question)?.line(alloc)
-    }
-
-    /// Does what a command asks, as `apply` does, and gives the line of the reply. The one refusal is want of memory, which changes no
-    /// definition.
-    pub(crate) fn apply_line(
-        &mut self,
-        alloc: Global,
-        command: Command<'_>,
-    ) -> Result<Line, NoMemory>
-        ensures told { IfOk result (λ line. AnswersCommand self.old (Some (command_seen command.entry)) self.new (line_seen line)) }
-        ensures unchanged { OnErr result (self.new.definitions ≡ self.old.definitions) }
-        ensures texts { self.new.texts ≡ self.old.texts }
-    {
-        match command {
-            Command::Ask(question) => self.ask_line(alloc, question),
-            command => self.apply(alloc, command)?.line(alloc),
-        }
     }
 
     /// Does what commands ask, one after the other, and gives the replies. The one refusal is want of memory: then the registry holds what
