@@ -3,6 +3,7 @@ pub mod First
 pub mod Answered
 pub mod Within
 pub mod Constrained
+mod Sequenced
 pub mod Sliced
 pub mod Typed
 pub mod Keeping

@@ -21,8 +21,8 @@ use Rattle.fhir_conformance.specs.Conformance.{is_untyped}
 use Rattle.fhir_slicing.specs.SameCriteria.{same_criteria}
 use Rattle.fhir_certificate.specs.declared.pair.Pair.{Pair}
 use Rattle.fhir_certificate.specs.declared.pair.Pair.TheVariants.{Item, Kids}
-use Rattle.fhir_cert_check.specs.Rule.{RuleName, type, children, cardinality, entry, closed, slice, criteria, bounds}
-use Rattle.fhir_cert_check.specs.Rules.{elements_answer, is_forbidden_at, constraint_rules, roots_answer, closed_answers, empty_slice_rule, has_item_pair, has_kids_pair}
+use Rattle.fhir_cert_check.specs.Rule.{RuleName, type, children, cardinality, entry, slice, criteria, bounds}
+use Rattle.fhir_cert_check.specs.Rules.{elements_answer, is_forbidden_at, constraint_rules, roots_answer, slicing_rules, empty_slice_rule, has_item_pair, has_kids_pair}
 use Rattle.fhir_cert_check.specs.Rules.{profile_answers, profiles_answer, entry_answers, types_answer, type_answers}
 use Rattle.fhir_cert_check.specs.Rules.{code_children_answer, profiles_children_answer, entry_children_answer, type_children_answer, own_children_answer, children_answer}
 use Rattle.fhir_cert_check.specs.Rules.{item_rules, is_paired, own_slice_rules, slice_rules, entry_rules, own_slot_rules, slot_rules, rules_of}
@@ -271,13 +271,13 @@ module _ (R : Bool → Bool → Type 0) (L : RuleList → RuleList → Type 0) (
       where
         go : (b : Bool) → Agree (cond b [] (item_pair n m ∷ flat_map (λ b. option_to_list (slice_pair s n m b)) (slices s m)))
             → L (cond b (map (empty_slice_rule s name m) (slices s m))
-            ((has_item_pair some n m, entry name) ∷ flat_map (slice_rules some s name n m) (slices s m) ++ (closed_answers s n m, closed name) ∷ []))
+            ((has_item_pair some n m, entry name) ∷ flat_map (slice_rules some s name n m) (slices s m) ++ slicing_rules s name n m))
             (cond b (map (empty_slice_rule s name m) (slices s m))
-            ((has_item_pair others n m, entry name) ∷ flat_map (slice_rules others s name n m) (slices s m) ++ (closed_answers s n m, closed name) ∷ []))
+            ((has_item_pair others n m, entry name) ∷ flat_map (slice_rules others s name n m) (slices s m) ++ slicing_rules s name n m))
         go true agree = k.as_is (map (empty_slice_rule s name m) (slices s m))
         go false agree =
             let asked : List Pair = flat_map (λ b. option_to_list (slice_pair s n m b)) (slices s m) in
-            let last : RuleList = (closed_answers s n m, closed name) ∷ [] in
+            let last : RuleList = slicing_rules s name n m in
             k.rule (has_item_pair some n m) (has_item_pair others n m) (entry name) _ _ (first (item_pair n m) asked agree)
             (k.joined (flat_map (slice_rules some s name n m) (slices s m)) (flat_map (slice_rules others s name n m) (slices s m)) last last
             (rules_along (λ b. option_to_list (slice_pair s n m b)) (slice_rules some s name n m) (slice_rules others s name n m) (slice_kept name n m) (slices s m)

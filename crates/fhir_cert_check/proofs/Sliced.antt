@@ -19,18 +19,20 @@ use Rattle.fhir_nodes.specs.Slots.{Slot}
 use Rattle.fhir_schema.specs.Schemas.{SchemaValue, element_at, entry_of, slices, slice_named, is_closed, criteria}
 use Rattle.fhir_instance.specs.Items.{Item, kids_of}
 use Rattle.fhir_facets.specs.Unread.{Meaning}
+use Rattle.fhir_facets.specs.Order.{is_ordered, is_open_at_end, ordered_narrower, is_live}
 use Rattle.fhir_facets.specs.Cardinality.{are_enough, are_within, cardinality_holds, cardinality_narrower, allows_none, is_forbidden}
-use Rattle.fhir_slicing.specs.Belonging.{belongs, is_in, is_apart, is_sliced}
+use Rattle.fhir_slicing.specs.Belonging.{belongs, is_in, slice_of, is_apart, is_sliced}
 use Rattle.fhir_slicing.specs.SameCriteria.{same_criteria}
 use Rattle.fhir_conformance.specs.Asks.{too_few, too_many, too_few_in, too_many_in}
-use Rattle.fhir_conformance.specs.Asks.{Ask, own, places_of, child_ask, apart_ask, in_slice_ask, slice_asks, sliced_asks, named_asks}
+use Rattle.fhir_conformance.specs.Asks.{Ask, own, places_of, child_ask, apart_ask, in_slice_ask, order_asks, rest_ask, behind_rest, sequence_asks, slice_asks, sliced_asks, named_asks}
 use Rattle.fhir_conformance.specs.Positions.{kid_at, at_kid, members}
 use Rattle.fhir_conformance.specs.Conformance.{count_of, count_in, rule_holds, ask_holds}
 use Rattle.fhir_certificate.specs.declared.pair.Pair.{Pair}
-use Rattle.fhir_cert_check.specs.Rule.{entry, closed}
-use Rattle.fhir_cert_check.specs.Rules.{is_answered, elements_answer, is_forbidden_at, has_item_pair, is_paired, own_slice_rules, slice_rules, is_shared, slices_shared, closed_answers}
+use Rattle.fhir_cert_check.specs.Rule.{entry}
+use Rattle.fhir_cert_check.specs.Rules.{is_answered, elements_answer, is_forbidden_at, has_item_pair, is_paired, own_slice_rules, slice_rules, is_shared, slices_shared, closed_answers, end_answers, slicing_rules}
 use Rattle.fhir_cert_check.specs.Rules.{empty_slice_rule, entry_rules}
 use Rattle.fhir_cert_check.proofs.Answered.{all_append, all_joined, all_moved}
+use Rattle.fhir_cert_check.proofs.Sequenced.{EachOwn, child_there, sequence_step}
 use Rattle.fhir_cert_check.proofs.Within.{Within, some_within, within_some, at_within, all_within, any_within, within_any, found_within, within_kept, given_at, given_all, flat_at, flat_all}
 
 pub same_text : (a b : Text) → IsTrue (bytes_eq a b) → a ≡ b
@@ -83,6 +85,7 @@ module _ (s : SchemaValue) (counts_hold : CountsHold) (alike : BelongAlike s) (p
   -- ---- slices of the base, each with the derived one's
 
   record Answers (n k : NodeRef) (b a : Slot) : Type 0 where
+    found : slice_named s n b.name ≡ Some a
     there : Within a (slices s n)
     named : b.name ≡ a.name
     same : IsTrue (same_criteria s (entry_of n a) (entry_of k b))
@@ -101,6 +104,7 @@ module _ (s : SchemaValue) (counts_hold : CountsHold) (alike : BelongAlike s) (p
           let found = found_within (λ slice. bytes_eq b.name slice.name) (slices s n) a e in (
             a,
             record {
+              found = e;
               there = found.0;
               named = same_text b.name a.name found.1;
               same = by_criteria.0;
@@ -279,17 +283,18 @@ module _ (s : SchemaValue) (counts_hold : CountsHold) (alike : BelongAlike s) (p
           )
 
       abbrev asks_of_slicing : NodeRef → List Ask
-      asks_of_slicing n = map (apart_ask n) places ++ (flat_map (slice_asks s x name places n) (slices s n) ++ closed_asks n)
+      asks_of_slicing n = map (apart_ask n) places ++ (flat_map (slice_asks s x name places n) (slices s n) ++ (closed_asks n ++ sequence_asks s x n places))
 
       slicing_from : (n : NodeRef) → IsTrue (list_all holds (map (apart_ask n) places)) → AsksOfSlices n → IsTrue (list_all holds (closed_asks n))
-          → IsTrue (list_all holds (sliced_asks s x name places n))
-      slicing_from n of_apart of_slices of_closed = go (is_empty (slices s n))
+          → IsTrue (list_all holds (sequence_asks s x n places)) → IsTrue (list_all holds (sliced_asks s x name places n))
+      slicing_from n of_apart of_slices of_closed of_sequence = go (is_empty (slices s n))
         where
           go : (b : Bool) → IsTrue (list_all holds (if b then [] else asks_of_slicing n))
           go true = refl
           go false =
-              all_joined holds (map (apart_ask n) places) (flat_map (slice_asks s x name places n) (slices s n) ++ closed_asks n) of_apart
-              (all_joined holds (flat_map (slice_asks s x name places n) (slices s n)) (closed_asks n) of_slices of_closed)
+              all_joined holds (map (apart_ask n) places) (flat_map (slice_asks s x name places n) (slices s n) ++ (closed_asks n ++ sequence_asks s x n places)) of_apart
+              (all_joined holds (flat_map (slice_asks s x name places n) (slices s n)) (closed_asks n ++ sequence_asks s x n places) of_slices
+              (all_joined holds (closed_asks n) (sequence_asks s x n places) of_closed of_sequence))
 
       nowhere : places ≡ [] → (f : ℕ → Ask) → IsTrue (list_all holds (map f places))
       nowhere none f = ap (λ is. list_all holds (map f is)) none
@@ -301,12 +306,24 @@ module _ (s : SchemaValue) (counts_hold : CountsHold) (alike : BelongAlike s) (p
           go true = nowhere none (in_slice_ask k)
           go false = refl
 
+      none_in_order : (m : NodeRef) → IsTrue (list_all holds (sequence_asks s x m []))
+      none_in_order m = go (is_ordered s m) (is_open_at_end s m)
+        where
+          go : (b c : Bool) → IsTrue (list_all holds ((if b then order_asks s x m [] [] else []) ++ (if c then map (rest_ask m) (behind_rest s x m []) else [])))
+          go true true = refl
+          go true false = refl
+          go false true = refl
+          go false false = refl
+
+      none_sequence : places ≡ [] → IsTrue (list_all holds (sequence_asks s x k places))
+      none_sequence none = ap (λ is. list_all holds (sequence_asks s x k is)) none ∙ none_in_order k
+
       none_sliced : places ≡ [] → IsTrue (all_hold (map (empty_slice_rule s name k) (slices s k))) → IsTrue (list_all holds (sliced_asks s x name places k))
       none_sliced none rules =
           slicing_from k (nowhere none (apart_ask k))
           (flat_all holds (slice_asks s x name places k) (slices s k)
           (λ b there. none_of_slice none b (given_at (λ rule. rule.0) (empty_slice_rule s name k) (slices s k) b there rules)))
-          (none_closed none)
+          (none_closed none) (none_sequence none)
 
       -- ---- where some may be
 
@@ -334,7 +351,40 @@ module _ (s : SchemaValue) (counts_hold : CountsHold) (alike : BelongAlike s) (p
             let answer = answers some.0 some.1 in
             within_some answer.0 (slices s n) answer.1.there
 
-        sliced_step : IsTrue (all_hold (flat_map (slice_rules pairs s name n k) (slices s k))) → IsTrue (closed_answers s n k)
+        -- the items stand to one another as the base says too
+        each_own : EachAnswers n k → EachOwn s alike n k
+        each_own answers b there = let answer = answers b there in (answer.0, answer.1.found, answer.1.same)
+
+        child_at : (i : ℕ) → Within i places → (y : Item) × (kid_at (kids_of x) i ≡ Some y)
+        child_at i there =
+            let c = child_there 0 name (kids_of x) i there in
+            let at : i ≡ c.0 = omega (arith, c.1) in
+            (c.2, ap (λ j. kid_at (kids_of x) j) at ∙ c.3)
+
+        apart_at : IsTrue (list_all holds (map (apart_ask n) places)) → (i : ℕ) (y : Item) → Within i places → kid_at (kids_of x) i ≡ Some y
+            → IsTrue (is_apart s n y)
+        apart_at each i y there e = sym (ap (λ o. option_map_or (is_apart s n) o true) e) ∙ given_at holds (apart_ask n) places i there each
+
+        live_at : AsksOfSlices n → (i : ℕ) (y : Item) → Within i places → kid_at (kids_of x) i ≡ Some y → (c : Slot) → slice_of s n y ≡ Some c
+            → IsTrue (is_live s n c)
+        live_at each i y there e c is = go (is_forbidden_at s (entry_of n c)) refl
+          where
+            go : (b : Bool) → is_forbidden_at s (entry_of n c) ≡ b → IsTrue (not b)
+            go false allowed = refl
+            go true forbidden =
+                let found = found_within (is_in s n y) (slices s n) c is in
+                absurd (not_in_forbidden name (entry_of n c) i forbidden
+                (slice_parts name n c (flat_at holds (slice_asks s x name places n) (slices s n) c found.0 each)).1.1 there
+                (ap (λ o. option_map_or (belongs s (criteria s (entry_of n c))) o false) e ∙ found.1))
+
+        closed_at : IsTrue (list_all holds (closed_asks n)) → (i : ℕ) (y : Item) → Within i places → kid_at (kids_of x) i ≡ Some y → IsTrue (is_closed s n)
+            → IsTrue (is_sliced s n y)
+        closed_at each i y there e closes =
+            let asked : IsTrue (list_all holds (map (in_slice_ask n) places)) =
+            sym (ap (λ b. list_all holds (if b then map (in_slice_ask n) places else [])) closes) ∙ each in
+            sym (ap (λ o. option_map_or (is_sliced s n) o true) e) ∙ given_at holds (in_slice_ask n) places i there asked
+
+        sliced_step : IsTrue (all_hold (flat_map (slice_rules pairs s name n k) (slices s k))) → IsTrue (all_hold (slicing_rules s name n k))
             → IsTrue (list_all holds (sliced_asks s x name places n)) → IsTrue (list_all holds (sliced_asks s x name places k))
         sliced_step rules closes each = go (is_empty (slices s k)) refl
           where
@@ -344,31 +394,37 @@ module _ (s : SchemaValue) (counts_hold : CountsHold) (alike : BelongAlike s) (p
                 let answers = each_answer name n k rules in
                 let asked : IsTrue (list_all holds (asks_of_slicing n)) =
                 sym (ap (λ b. list_all holds (if b then [] else asks_of_slicing n)) (is_sliced_too answers e)) ∙ each in
-                let of_apart = all_append holds (map (apart_ask n) places) (flat_map (slice_asks s x name places n) (slices s n) ++ closed_asks n) asked in
-                let of_slices = all_append holds (flat_map (slice_asks s x name places n) (slices s n)) (closed_asks n) of_apart.1 in
-                all_joined holds (map (apart_ask k) places) (flat_map (slice_asks s x name places k) (slices s k) ++ closed_asks k)
+                let of_closed = and_parts (closed_answers s n k) _ closes in
+                let of_order = and_parts (ordered_narrower s n k) _ of_closed.1 in
+                let of_end = and_parts (end_answers s n k) true of_order.1 in
+                let of_apart = all_append holds (map (apart_ask n) places) (flat_map (slice_asks s x name places n) (slices s n) ++ (closed_asks n ++ sequence_asks s x n places)) asked in
+                let of_slices = all_append holds (flat_map (slice_asks s x name places n) (slices s n)) (closed_asks n ++ sequence_asks s x n places) of_apart.1 in
+                let of_rest = all_append holds (closed_asks n) (sequence_asks s x n places) of_slices.1 in
+                all_joined holds (map (apart_ask k) places) (flat_map (slice_asks s x name places k) (slices s k) ++ (closed_asks k ++ sequence_asks s x k places))
                 (all_moved (apart_ask n) (apart_ask k) holds (at_kid_step x (is_apart s n) (is_apart s k) (apart_step n k answers)) places of_apart.0)
-                (all_joined holds (flat_map (slice_asks s x name places k) (slices s k)) (closed_asks k)
+                (all_joined holds (flat_map (slice_asks s x name places k) (slices s k)) (closed_asks k ++ sequence_asks s x k places)
                 (flat_all holds (slice_asks s x name places k) (slices s k)
                 (λ b there.
                 let answer = answers b there in
                 slice_step b answer.0 answer.1 (flat_at holds (slice_asks s x name places n) (slices s n) answer.0 answer.1.there of_slices.0)))
-                (closed_step e closes of_slices.0 of_slices.1))
+                (all_joined holds (closed_asks k) (sequence_asks s x k places) (closed_step e of_closed.0 of_slices.0 of_rest.0)
+                (sequence_step s alike n k (each_own answers) x places holds (λ m j i. refl) (λ m i. refl) child_at (apart_at of_apart.0) (live_at of_slices.0) (closed_at of_rest.0)
+                e of_order.0 of_end.0 of_rest.1)))
 
         -- ---- the items of a slot
 
         abbrev items_asks : NodeRef → List Ask
         items_asks n = map (child_ask n) places ++ sliced_asks s x name places n
 
-        allowed_step : IsTrue (all_hold ((has_item_pair pairs n k, entry name) ∷ flat_map (slice_rules pairs s name n k) (slices s k) ++ (closed_answers s n k, closed name) ∷ []))
+        allowed_step : IsTrue (all_hold ((has_item_pair pairs n k, entry name) ∷ flat_map (slice_rules pairs s name n k) (slices s k) ++ slicing_rules s name n k))
             → IsTrue (list_all holds (items_asks n)) → IsTrue (list_all holds (items_asks k))
         allowed_step rules each =
             let pair = and_parts (has_item_pair pairs n k) _ rules in
-            let of_slices = all_append (λ rule. rule.0) (flat_map (slice_rules pairs s name n k) (slices s k)) ((closed_answers s n k, closed name) ∷ []) pair.1 in
+            let of_slices = all_append (λ rule. rule.0) (flat_map (slice_rules pairs s name n k) (slices s k)) (slicing_rules s name n k) pair.1 in
             let parts = all_append holds (map (child_ask n) places) (sliced_asks s x name places n) each in
             all_joined holds (map (child_ask k) places) (sliced_asks s x name places k)
             (all_moved (child_ask n) (child_ask k) holds (λ i. keep n k pair.0 i) places parts.0)
-            (sliced_step of_slices.0 (and_parts (closed_answers s n k) true of_slices.1).0 parts.1)
+            (sliced_step of_slices.0 of_slices.1 parts.1)
 
         items_step : IsTrue (all_hold (entry_rules pairs s name n k)) → IsTrue (rule_holds s m resource x (too_many name) n)
             → IsTrue (list_all holds (items_asks n)) → IsTrue (list_all holds (items_asks k))
@@ -376,7 +432,7 @@ module _ (s : SchemaValue) (counts_hold : CountsHold) (alike : BelongAlike s) (p
           where
             go : (b : Bool) → is_forbidden_at s n ≡ b
                 → IsTrue (all_hold (if b then map (empty_slice_rule s name k) (slices s k)
-                else (has_item_pair pairs n k, entry name) ∷ flat_map (slice_rules pairs s name n k) (slices s k) ++ (closed_answers s n k, closed name) ∷ []))
+                else (has_item_pair pairs n k, entry name) ∷ flat_map (slice_rules pairs s name n k) (slices s k) ++ slicing_rules s name n k))
                 → IsTrue (list_all holds (items_asks k))
             go true forbidden rules =
                 let none = none_at (element_at s n) places forbidden many in

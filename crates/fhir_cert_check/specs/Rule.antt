@@ -6,7 +6,7 @@ use Rattle.fhir_json.specs.Tree.{Text}
 -- a rule, with the name of the slot, or the key of the constraint, that it is about; and behind it that of a slice
 pub data RuleName : Type 0 where
   root type fixed pattern range length_limit binding children : RuleName
-  constraint slot cardinality entry closed : List ℕ → RuleName
+  constraint slot cardinality entry closed ordered at_end : List ℕ → RuleName
   slice criteria bounds : (name of_slice : List ℕ) → RuleName
 
 abbrev pub word_of : RuleName → Text
@@ -23,6 +23,8 @@ word_of (slot name) = codes "slot"
 word_of (cardinality name) = codes "cardinality"
 word_of (entry name) = codes "entry"
 word_of (closed name) = codes "closed"
+word_of (ordered name) = codes "ordered"
+word_of (at_end name) = codes "end"
 word_of (slice name of_slice) = codes "slice"
 word_of (criteria name of_slice) = codes "criteria"
 word_of (bounds name of_slice) = codes "bounds"
@@ -34,6 +36,8 @@ about (slot name) = Some name
 about (cardinality name) = Some name
 about (entry name) = Some name
 about (closed name) = Some name
+about (ordered name) = Some name
+about (at_end name) = Some name
 about (slice name of_slice) = Some name
 about (criteria name of_slice) = Some name
 about (bounds name of_slice) = Some name
@@ -64,6 +68,8 @@ slice_of (slot name) = None
 slice_of (cardinality name) = None
 slice_of (entry name) = None
 slice_of (closed name) = None
+slice_of (ordered name) = None
+slice_of (at_end name) = None
 
 -- the name, and behind a colon that of the slice
 abbrev pub subject : RuleName → Text → Text

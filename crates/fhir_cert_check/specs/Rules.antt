@@ -23,11 +23,12 @@ use Rattle.fhir_facets.specs.Ranges.{range_narrower}
 use Rattle.fhir_facets.specs.Targets.{targets_narrower}
 use Rattle.fhir_facets.specs.Bindings.{binding_to, binding_narrower}
 use Rattle.fhir_facets.specs.Cardinality.{cardinality_narrower, is_forbidden, are_enough}
+use Rattle.fhir_facets.specs.Order.{ordered_narrower, end_narrower_by}
 use Rattle.fhir_slicing.specs.SameCriteria.{same_criteria}
 use Rattle.fhir_conformance.specs.Conformance.{range_of, is_untyped}
 use Rattle.fhir_certificate.specs.declared.pair.Pair.{Pair}
 use Rattle.fhir_certificate.specs.declared.pair.Pair.TheVariants.{Item, Kids}
-use Rattle.fhir_cert_check.specs.Rule.{RuleName, type, fixed, pattern, range, length_limit, binding, constraint, children, slot, cardinality, entry, slice, criteria, bounds, closed}
+use Rattle.fhir_cert_check.specs.Rule.{RuleName, type, fixed, pattern, range, length_limit, binding, constraint, children, slot, cardinality, entry, slice, criteria, bounds, closed, ordered, at_end}
 use Rattle.fhir_json.specs.Bytes.{is_empty}
 use Rattle.fhir_cert_check.specs.Lists.{each_answers}
 
@@ -117,6 +118,15 @@ slices_shared s n m = list_all (λ a. is_forbidden_at s (entry_of n a) || is_sha
 -- where the base's element is closed, so is the derived one, and in a slice that the base lacks no item may be
 abbrev pub closed_answers : SchemaValue → NodeRef → NodeRef → Bool
 closed_answers s n m = is_empty (slices s m) || not (is_closed s m) || (is_closed s n && slices_shared s n m)
+
+-- where the base's element is open at its end, so is the derived one, or closed; and items in slices that the base lacks come last
+abbrev pub end_answers : SchemaValue → NodeRef → NodeRef → Bool
+end_answers s n m = end_narrower_by (is_shared s n m) s n m
+
+-- what the base's slicing asks of the derived one's, beside what each of its slices does
+abbrev pub slicing_rules : SchemaValue → Text → NodeRef → NodeRef → List (Bool × RuleName)
+slicing_rules s name n m =
+    (closed_answers s n m, closed name) ∷ (ordered_narrower s n m, ordered name) ∷ (end_answers s n m, at_end name) ∷ []
 
 -- a slice of the base's asks for no item
 abbrev pub empty_slice_rule : SchemaValue → Text → NodeRef → Slot → Bool × RuleName
@@ -213,7 +223,7 @@ module _ (pairs : Pair → Bool) where
     abbrev pub entry_rules : Text → NodeRef → NodeRef → List (Bool × RuleName)
     entry_rules name n m =
         if is_forbidden_at s n then map (empty_slice_rule s name m) (slices s m)
-        else (has_item_pair n m, entry name) ∷ flat_map (slice_rules name n m) (slices s m) ++ (closed_answers s n m, closed name) ∷ []
+        else (has_item_pair n m, entry name) ∷ flat_map (slice_rules name n m) (slices s m) ++ slicing_rules s name n m
 
     -- ---- slots
 

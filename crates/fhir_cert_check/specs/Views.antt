@@ -2,10 +2,10 @@
 use Rattle.std.specs.Prelude.{Bool, true, false, Option, None, Some, option_map}
 use Rattle.fhir_certificate.specs.declared.pair.Pair.{Pair}
 use Rattle.fhir_cert_check.specs.declared.rule.Rule.{Rule}
-use Rattle.fhir_cert_check.specs.declared.rule.Rule.TheVariants.{Root, TypeCode, Fixed, Pattern, Range, Length, Binding, Constraint, Children, Slot, Cardinality, Entry, Closed, Slice, Criteria, Bounds}
+use Rattle.fhir_cert_check.specs.declared.rule.Rule.TheVariants.{Root, TypeCode, Fixed, Pattern, Range, Length, Binding, Constraint, Children, Slot, Cardinality, Entry, Closed, Ordered, End, Slice, Criteria, Bounds}
 use Rattle.fhir_cert_check.specs.declared.answer.Answer.{Answer}
 use Rattle.fhir_cert_check.specs.declared.answer.Answer.TheVariants.{Yes, No}
-use Rattle.fhir_cert_check.specs.Rule.{RuleName, root, type, fixed, pattern, range, length_limit, binding, constraint, children, slot, cardinality, entry, closed, slice, criteria, bounds}
+use Rattle.fhir_cert_check.specs.Rule.{RuleName, root, type, fixed, pattern, range, length_limit, binding, constraint, children, slot, cardinality, entry, closed, ordered, at_end, slice, criteria, bounds}
 
 abbrev pub rule_name : Rule → RuleName
 rule_name Root = root
@@ -21,6 +21,8 @@ rule_name (Slot name) = slot name.now
 rule_name (Cardinality name) = cardinality name.now
 rule_name (Entry name) = entry name.now
 rule_name (Closed name) = closed name.now
+rule_name (Ordered name) = ordered name.now
+rule_name (End name) = at_end name.now
 rule_name (Slice name of_slice) = slice name.now of_slice.now
 rule_name (Criteria name of_slice) = criteria name.now of_slice.now
 rule_name (Bounds name of_slice) = bounds name.now of_slice.now

@@ -20,6 +20,7 @@ mod answer;
 mod asked;
 mod checking;
 mod constraints;
+mod ends;
 mod held;
 mod items;
 mod kids;

@@ -47,6 +47,13 @@ pub enum Rule<'s> {
     /// `closed`: where each item of the base node's slot has to be in a slice, so it is at the derived node's, and in a slice
     /// that the base node's lacks no item may be (ElementDefinition, slicing.rules).
     Closed(&'s str),
+    /// `ordered`: where the items of the base node's slot stand in the order of its slices, so they do at the derived node's, and the
+    /// slices of both in which items may be stand in the base node's order (ElementDefinition, slicing.ordered).
+    Ordered(&'s str),
+    /// `end`: where those items of the base node's slot that are in no slice stand at its end, so they do at the derived node's, or there
+    /// are none; and items in slices that the base node's lacks stand behind those of the slices that it has (ElementDefinition,
+    /// slicing.rules).
+    End(&'s str),
     /// `slice`: the derived node's slot has a slice of the base node's name, and there is a pair for the two, unless no item may
     /// be in it (FHIR R4, Profiling, slicing).
     Slice { name: &'s str, slice: &'s str },
@@ -78,6 +85,8 @@ impl<'s> Rule<'s> {
             Rule::Cardinality(name) => ("cardinality", Some(*name), None),
             Rule::Entry(name) => ("entry", Some(*name), None),
             Rule::Closed(name) => ("closed", Some(*name), None),
+            Rule::Ordered(name) => ("ordered", Some(*name), None),
+            Rule::End(name) => ("end", Some(*name), None),
             Rule::Slice { name, slice } => ("slice", Some(*name), Some(*slice)),
             Rule::Criteria { name, slice } => ("criteria", Some(*name), Some(*slice)),
             Rule::Bounds { name, slice } => ("bounds", Some(*name), Some(*slice)),

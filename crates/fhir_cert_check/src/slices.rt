@@ -8,16 +8,17 @@ ghost use Rattle.fhir_schema.specs.Schemas.{element_at, entry_of, slices, is_clo
 ghost use Rattle.fhir_elements.specs.Tests.{first_of};
 ghost use Rattle.fhir_facets.specs.Cardinality.{cardinality_narrower, are_enough};
 ghost use Rattle.fhir_slicing.specs.SameCriteria.{same_criteria};
-ghost use Rattle.fhir_cert_check.specs.Rule.{entry, closed, slice, criteria, bounds};
+ghost use Rattle.fhir_cert_check.specs.Rule.{entry, slice, criteria, bounds};
 ghost use Rattle.fhir_cert_check.specs.Rules.{elements_answer, is_forbidden_at, has_item_pair, is_paired, slice_rules, entry_rules};
-ghost use Rattle.fhir_cert_check.specs.Rules.{is_shared, slices_shared, closed_answers, empty_slice_rule};
+ghost use Rattle.fhir_cert_check.specs.Rules.{is_shared, slices_shared, closed_answers, slicing_rules, empty_slice_rule};
 ghost use Rattle.fhir_cert_check.specs.Views.{rule_name};
 ghost use Rattle.fhir_cert_check.specs.PairSet.{has_pair};
 
+use crate::ends::end_answers;
 use crate::nodes::{cardinality_answers, entry_of, has_item_pair, is_forbidden_at};
 use crate::pair_set::PairSet;
 use crate::rule::Rule;
-use fhir_facets::are_enough;
+use fhir_facets::{are_enough, ordered_narrower};
 use fhir_schema::{NodeRef, Schema, Slot};
 use fhir_slicing::same_criteria;
 
@@ -93,7 +94,8 @@ fn slices_failing<'s>(
 
 // ---- closed slicing
 
-fn is_shared(schema: &Schema, n: NodeRef, m: NodeRef, own: &Slot) -> bool
+/// Whether a base node's element has a slice of the derived one's too, told apart by the same.
+pub(crate) fn is_shared(schema: &Schema, n: NodeRef, m: NodeRef, own: &Slot) -> bool
     ensures { result ≡ is_shared schema.now n m own.now }
 {
     match schema.slice(m, own.name()) {
@@ -127,6 +129,22 @@ fn closed_answers(schema: &Schema, n: NodeRef, m: NodeRef) -> bool
     ensures { result ≡ closed_answers schema.now n m }
 {
     closes_none(schema, m) || (schema.is_closed(n) && slices_shared(schema, n, m))
+}
+
+// The first rule that the slicings of two elements fail, beside those of each slice.
+fn slicing_failing<'s>(schema: &Schema, name: &'s str, n: NodeRef, m: NodeRef) -> Option<Rule<'s>>
+    ensures { option_map rule_name result ≡ first_of (slicing_rules schema.now name.now n m) }
+{
+    if !closed_answers(schema, n, m) {
+        return Some(Rule::Closed(name));
+    }
+    if !ordered_narrower(schema, n, m) {
+        return Some(Rule::Ordered(name));
+    }
+    if !end_answers(schema, n, m) {
+        return Some(Rule::End(name));
+    }
+    None
 }
 
 // ---- where no item may be
@@ -180,7 +198,7 @@ fn allowed_failing<'s>(
     ensures { option_map rule_name result ≡ first_of
         ((has_item_pair (has_pair pairs.now) n m, entry name.now)
         ∷ flat_map (slice_rules (has_pair pairs.now) schema.now name.now n m) (slices schema.now m)
-        ++ (closed_answers schema.now n m, closed name.now) ∷ []) }
+        ++ slicing_rules schema.now name.now n m) }
 {
     if !has_item_pair(pairs, n, m) {
         return Some(Rule::Entry(name));
@@ -188,10 +206,7 @@ fn allowed_failing<'s>(
     if let Some(rule) = slices_failing(schema, pairs, name, n, m) {
         return Some(rule);
     }
-    if !closed_answers(schema, n, m) {
-        return Some(Rule::Closed(name));
-    }
-    None
+    slicing_failing(schema, name, n, m)
 }
 
 /// The first rule that the elements of a slot fail, but for how many items there may be.

@@ -1,7 +1,7 @@
 -- What kinds of things a node asks.
-use Rattle.std.proofs.Common.{◌≡◌, ℕ, Bool, true, false, List, [], ◌∷◌, ◌++◌, length, map, Option, Some, None, refl, ◌⊎◌, inl, inr}
+use Rattle.std.proofs.Common.{◌≡◌, ℕ, Bool, true, false, List, [], ◌∷◌, ◌++◌, length, map, filter, not, Option, Some, None, refl, ◌⊎◌, inl, inr}
 use Rattle.std.specs.Prelude.{if◌then◌else◌}
-use Rattle.std.specs.List.{AllByRecursion, range_with_len, flat_map}
+use Rattle.std.specs.List.{AllByRecursion, range_with_len, flat_map, last_or}
 use Rattle.std.specs.Option.{option_map_or}
 use Rattle.fhir_json.specs.Tree.{Text}
 use Rattle.fhir_json.specs.Bytes.{is_empty}
@@ -11,9 +11,10 @@ use Rattle.fhir_elements.specs.TypeEntry.{TypeEntry}
 use Rattle.fhir_schema.specs.Schemas.{SchemaValue, element_at, target, holder, slots, slices, is_closed, entry_of, type_root, loaded, types as node_types}
 use Rattle.fhir_schema.specs.Covers.{covers}
 use Rattle.fhir_instance.specs.Items.{Item, type_of}
-use Rattle.fhir_conformance.specs.Positions.{members}
-use Rattle.fhir_conformance.specs.Asks.{ElementRuleName, root_type, fixed, pattern, range, length_limit, binding, too_few, too_many, too_few_in, too_many_in, apart, in_a_slice, constraint}
-use Rattle.fhir_conformance.specs.Asks.{Ask, own, types, profile, root, child, places_of, constraint_ask, own_constraint_asks, constraint_asks, child_ask, apart_ask, in_slice_ask, slice_asks, sliced_asks, named_asks, slot_asks, roots_named, entry_roots, profile_asks, own_root, slots_ask, kids_asks, root_asks, inner_asks}
+use Rattle.fhir_facets.specs.Order.{is_ordered, is_open_at_end, may_follow}
+use Rattle.fhir_conformance.specs.Positions.{members, slice_place}
+use Rattle.fhir_conformance.specs.Asks.{ElementRuleName, root_type, fixed, pattern, range, length_limit, binding, too_few, too_many, too_few_in, too_many_in, apart, in_a_slice, in_order, in_the_rest, constraint}
+use Rattle.fhir_conformance.specs.Asks.{Ask, own, types, profile, root, child, places_of, constraint_ask, own_constraint_asks, constraint_asks, child_ask, apart_ask, in_slice_ask, order_ask, order_asks, rest_ask, behind_rest, sequence_asks, slice_asks, sliced_asks, named_asks, slot_asks, roots_named, entry_roots, profile_asks, own_root, slots_ask, kids_asks, root_asks, inner_asks}
 use Rattle.fhir_conformance.proofs.Lists.{all_of_each, all_join, all_gathered, all_mapped}
 
 -- the rules that an element has of the children of a name
@@ -30,6 +31,8 @@ IsOfKids (too_few_in name) = Unit {0}
 IsOfKids (too_many_in name) = Unit {0}
 IsOfKids (apart position) = Unit {0}
 IsOfKids (in_a_slice position) = Unit {0}
+IsOfKids (in_order earlier position) = Unit {0}
+IsOfKids (in_the_rest position) = Unit {0}
 IsOfKids (constraint position) = ⊥
 
 -- of children, a node asks rules of their number and of its slices, and what each conforms to
@@ -45,6 +48,32 @@ module _ (P : Ask → Type 0) (of_rule : (rule : ElementRuleName) (m : NodeRef) 
       all_join P (map (child_ask m) (members s x m places)) (own (too_few_in name) m ∷ own (too_many_in name) m ∷ [])
       (children m (members s x m places))
       (of_rule (too_few_in name) m tt, (of_rule (too_many_in name) m tt, tt))
+
+  of_order : (s : SchemaValue) (x : Item) (n : NodeRef) (earlier places : List ℕ) → AllByRecursion P (order_asks s x n earlier places)
+  of_order s x n earlier [] = tt
+  of_order s x n earlier (i ∷ is) =
+      all_join P (order_ask s x n earlier i) (order_asks s x n (earlier ++ i ∷ []) is)
+      (of_one (last_or None (filter (λ j. not (may_follow (slice_place s x n j) (slice_place s x n i))) earlier)))
+      (of_order s x n (earlier ++ i ∷ []) is)
+    where
+      of_one : (o : Option ℕ) → AllByRecursion P (option_map_or (λ j. own (in_order j i) n ∷ []) o [])
+      of_one None = tt
+      of_one (Some j) = (of_rule (in_order j i) n tt, tt)
+
+  of_sequence : (s : SchemaValue) (x : Item) (n : NodeRef) (places : List ℕ) → AllByRecursion P (sequence_asks s x n places)
+  of_sequence s x n places =
+      all_join P (if is_ordered s n then order_asks s x n [] places else []) (if is_open_at_end s n then map (rest_ask n) (behind_rest s x n places) else [])
+      (ordered (is_ordered s n)) (at_end (is_open_at_end s n))
+    where
+      ordered : (b : Bool) → AllByRecursion P (if b then order_asks s x n [] places else [])
+      ordered true = of_order s x n [] places
+      ordered false = tt
+
+      at_end : (b : Bool) → AllByRecursion P (if b then map (rest_ask n) (behind_rest s x n places) else [])
+      at_end true =
+          all_mapped P (rest_ask n) (behind_rest s x n places)
+          (all_of_each (λ i. P (own (in_the_rest i) n)) (λ i. of_rule (in_the_rest i) n tt) (behind_rest s x n places))
+      at_end false = tt
 
   of_slices : (s : SchemaValue) (x : Item) (name : Text) (places : List ℕ) (n : NodeRef) → AllByRecursion P (sliced_asks s x name places n)
   of_slices s x name places n = by_case (is_empty (slices s n)) (is_closed s n)
@@ -64,12 +93,14 @@ module _ (P : Ask → Type 0) (of_rule : (rule : ElementRuleName) (m : NodeRef) 
           → AllByRecursion P
           (if none then []
           else map (apart_ask n) places
-          ++ (flat_map (slice_asks s x name places n) (slices s n) ++ (if is_closed then map (in_slice_ask n) places else [])))
+          ++ (flat_map (slice_asks s x name places n) (slices s n)
+          ++ ((if is_closed then map (in_slice_ask n) places else []) ++ sequence_asks s x n places)))
       by_case true is_closed = tt
       by_case false is_closed =
           all_join P (map (apart_ask n) places)
-          (flat_map (slice_asks s x name places n) (slices s n) ++ (if is_closed then map (in_slice_ask n) places else [])) aparts
-          (all_join P (flat_map (slice_asks s x name places n) (slices s n)) (if is_closed then map (in_slice_ask n) places else []) each (closed is_closed))
+          (flat_map (slice_asks s x name places n) (slices s n) ++ ((if is_closed then map (in_slice_ask n) places else []) ++ sequence_asks s x n places)) aparts
+          (all_join P (flat_map (slice_asks s x name places n) (slices s n)) ((if is_closed then map (in_slice_ask n) places else []) ++ sequence_asks s x n places) each
+          (all_join P (if is_closed then map (in_slice_ask n) places else []) (sequence_asks s x n places) (closed is_closed) (of_sequence s x n places)))
 
   of_name : (s : SchemaValue) (x : Item) (name : Text) (places : List ℕ) (n : NodeRef) → AllByRecursion P (named_asks s x name places n)
   of_name s x name places n = (
@@ -126,6 +157,8 @@ IsOf s x n (own (too_few_in name) m) = Unit {0}
 IsOf s x n (own (too_many_in name) m) = Unit {0}
 IsOf s x n (own (apart position) m) = Unit {0}
 IsOf s x n (own (in_a_slice position) m) = Unit {0}
+IsOf s x n (own (in_order earlier position) m) = Unit {0}
+IsOf s x n (own (in_the_rest position) m) = Unit {0}
 IsOf s x n (own (constraint position) m) = (m ≡ n) ⊎ (target s n ≡ Some m)
 IsOf s x n (types m) = m ≡ n
 IsOf s x n (profile r) = (canonical : Text) × (loaded s canonical ≡ Some r)
@@ -146,6 +179,8 @@ module _ (s : SchemaValue) (x : Item) (n : NodeRef) where
   kids_rule_is_of (too_many_in name) m is = tt
   kids_rule_is_of (apart position) m is = tt
   kids_rule_is_of (in_a_slice position) m is = tt
+  kids_rule_is_of (in_order earlier position) m is = tt
+  kids_rule_is_of (in_the_rest position) m is = tt
   kids_rule_is_of (constraint position) m is = absurd is
 
   kids_are_of : AllByRecursion (IsOf s x n) (kids_asks s x n)

@@ -16,7 +16,7 @@ use Rattle.fhir_instance.specs.Items.{Item, type_of}
 use Rattle.fhir_facets.specs.Unread.{Unread, Meaning}
 use Rattle.fhir_facets.specs.Targets.{targets_hold}
 use Rattle.fhir_facets.specs.Carried.{range_unread, constraint_unread}
-use Rattle.fhir_conformance.specs.Asks.{ElementRuleName, root_type, fixed, pattern, range, length_limit, binding, too_few, too_many, too_few_in, too_many_in, apart, in_a_slice, constraint}
+use Rattle.fhir_conformance.specs.Asks.{ElementRuleName, root_type, fixed, pattern, range, length_limit, binding, too_few, too_many, too_few_in, too_many_in, apart, in_a_slice, in_order, in_the_rest, constraint}
 use Rattle.fhir_conformance.specs.Conformance.{seen, range_at, binding_at, constraint_passes, rule_holds, entry_allows}
 use Rattle.fhir_conformance.specs.Meeting.{targets_unread, set_unread, rule_unread}
 use Rattle.fhir_conformance.proofs.Carrying.{AreCarried, targets_step, element_step, set_step, constraint_given}
@@ -59,6 +59,8 @@ module _ (s : SchemaValue) (m m' : Meaning) (resource x : Item) where
   rule_step (too_many_in name) n each holds = holds
   rule_step (apart position) n each holds = holds
   rule_step (in_a_slice position) n each holds = holds
+  rule_step (in_order earlier position) n each holds = holds
+  rule_step (in_the_rest position) n each holds = holds
 
   pub rule_hangs : (rule : ElementRuleName) (n : NodeRef) → ((u : Unread) → Contains (rule_unread s x rule n) u → IsTrue (m u) → IsTrue (m' u))
       → IsTrue (rule_holds s m resource x rule n) → IsTrue (rule_holds s m' resource x rule n)

@@ -4,6 +4,8 @@ pub mod Carrying
 mod Hanging
 pub mod Asked
 pub mod ByAsks
+mod Standing
+pub mod Sequenced
 pub mod Stepping
 pub mod Placing
 pub mod Seen

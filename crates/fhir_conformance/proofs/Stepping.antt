@@ -8,7 +8,7 @@ use Rattle.fhir_nodes.specs.declared.node.NodeRef.{NodeRef}
 use Rattle.fhir_schema.specs.Schemas.{SchemaValue, is_root_node, type_root, loaded, types as node_types}
 use Rattle.fhir_instance.specs.Items.{Item, item, Kids, no_kids, kid, kids_of, type_of}
 use Rattle.fhir_facets.specs.Unread.{Meaning}
-use Rattle.fhir_conformance.specs.Asks.{root_type, fixed, pattern, range, length_limit, binding, too_few, too_many, too_few_in, too_many_in, apart, in_a_slice, constraint}
+use Rattle.fhir_conformance.specs.Asks.{root_type, fixed, pattern, range, length_limit, binding, too_few, too_many, too_few_in, too_many_in, apart, in_a_slice, in_order, in_the_rest, constraint}
 use Rattle.fhir_conformance.specs.Asks.{Ask, own, types, profile, root, child, facet_asks, constraint_asks, own_root, entry_roots, profile_asks, kids_asks, root_asks, inner_asks, asks}
 use Rattle.fhir_conformance.specs.Conformance.{Interpretation, Around, meaning_at, resource_at, inside, below, ask_holds, root_holds, inner_holds, item_holds, conforms, kid_tests}
 use Rattle.fhir_conformance.specs.Meeting.{unread_at}
@@ -48,6 +48,8 @@ module _ (s : SchemaValue) (m m' : Meaning) (resource x : Item) (kids kids' : Li
   ask_step n carried of_profiles all of_root of_child (own (too_many_in name) k) has is = λ h. h
   ask_step n carried of_profiles all of_root of_child (own (apart position) k) has is = λ h. h
   ask_step n carried of_profiles all of_root of_child (own (in_a_slice position) k) has is = λ h. h
+  ask_step n carried of_profiles all of_root of_child (own (in_order earlier position) k) has is = λ h. h
+  ask_step n carried of_profiles all of_root of_child (own (in_the_rest position) k) has is = λ h. h
   ask_step n carried of_profiles all of_root of_child (own (constraint position) k) has is =
       elim is [
         | inl e ↦ subst (λ k. IsStep (own (constraint position) k)) (sym e) (constraint_step s m m' resource x n position carried)

@@ -1,7 +1,7 @@
 -- What a node asks of an item (FHIR R4, ElementDefinition, Profiling, and StructureDefinition, snapshot), as a list of single
 -- asks. Which they are hangs on the item alone, and on no meaning of unread rules.
-use Rattle.std.specs.Prelude.{ℕ, suc, List, [], ◌∷◌, ◌++◌, map, length, Option, None, Some, if◌then◌else◌}
-use Rattle.std.specs.List.{flat_map, range_with_len}
+use Rattle.std.specs.Prelude.{ℕ, suc, List, [], ◌∷◌, ◌++◌, map, filter, length, not, Option, None, Some, is_some, if◌then◌else◌}
+use Rattle.std.specs.List.{flat_map, range_with_len, last_or}
 use Rattle.std.specs.Option.{option_map_or}
 use Rattle.std.specs.Str.{bytes_eq}
 use Rattle.fhir_json.specs.Tree.{Text}
@@ -11,7 +11,8 @@ use Rattle.fhir_elements.specs.TypeEntry.{TypeEntry}
 use Rattle.fhir_json.specs.Bytes.{is_empty}
 use Rattle.fhir_schema.specs.Schemas.{SchemaValue, is_root_node, element_at, target, holder, slots, slices, is_closed, entry_of, type_root, loaded, types as node_types}
 use Rattle.fhir_schema.specs.Covers.{covers}
-use Rattle.fhir_conformance.specs.Positions.{members}
+use Rattle.fhir_facets.specs.Order.{is_ordered, is_open_at_end, may_follow}
+use Rattle.fhir_conformance.specs.Positions.{members, slice_place}
 use Rattle.fhir_instance.specs.Items.{Item, Kids, no_kids, kid, kids_of, type_of}
 
 -- a rule that is judged at an item by itself
@@ -25,6 +26,10 @@ pub data ElementRuleName : Type 0 where
   too_few_in too_many_in : (name : List ℕ) → ElementRuleName
   -- the child at that position is in no two of the element's slices, and in one of them
   apart in_a_slice : (position : ℕ) → ElementRuleName
+  -- the child at a position isn't in a slice before that of an earlier child
+  in_order : (earlier position : ℕ) → ElementRuleName
+  -- the child at that position, which stands behind one that is in none of the element's slices, is in none either
+  in_the_rest : (position : ℕ) → ElementRuleName
   -- the constraint at that position among the element's
   constraint : (position : ℕ) → ElementRuleName
 
@@ -83,13 +88,40 @@ slice_asks s x name places n slice =
     map (child_ask (entry_of n slice)) (members s x (entry_of n slice) places)
     ++ own (too_few_in name) (entry_of n slice) ∷ own (too_many_in name) (entry_of n slice) ∷ []
 
--- where the element has slices: no child is in two of them, what each slice asks, and each child is in one, if the slicing is
--- closed
+-- Where the slicing is ordered, no child comes behind one that is in a later slice (FHIR R4, ElementDefinition, slicing.ordered). That
+-- is asked of each that does, and of the nearest such before it.
+abbrev pub order_ask : SchemaValue → Item → NodeRef → (earlier : List ℕ) → ℕ → List Ask
+order_ask s x n earlier i =
+    option_map_or (λ j. own (in_order j i) n ∷ []) (last_or None (filter (λ j. not (may_follow (slice_place s x n j) (slice_place s x n i))) earlier)) []
+
+-- of the children at these places, which stand behind those at the earlier ones
+abbrev pub order_asks : SchemaValue → Item → NodeRef → (earlier places : List ℕ) → List Ask
+order_asks s x n earlier [] = []
+order_asks s x n earlier (i ∷ is) = order_ask s x n earlier i ++ order_asks s x n (earlier ++ i ∷ []) is
+
+-- Where the slicing is open at its end, each child behind the first that is in none of the slices is in none (FHIR R4,
+-- ElementDefinition, slicing.rules).
+abbrev pub behind_rest : SchemaValue → Item → NodeRef → List ℕ → List ℕ
+behind_rest s x n [] = []
+behind_rest s x n (i ∷ is) = if is_some (slice_place s x n i) then behind_rest s x n is else is
+
+abbrev pub rest_ask : NodeRef → ℕ → Ask
+rest_ask n i = own (in_the_rest i) n
+
+-- how the children stand to one another
+abbrev pub sequence_asks : SchemaValue → Item → NodeRef → List ℕ → List Ask
+sequence_asks s x n places =
+    (if is_ordered s n then order_asks s x n [] places else [])
+    ++ (if is_open_at_end s n then map (rest_ask n) (behind_rest s x n places) else [])
+
+-- where the element has slices: no child is in two of them, what each slice asks, each child is in one, if the slicing is
+-- closed, and they stand as the slicing says
 abbrev pub sliced_asks : SchemaValue → Item → Text → List ℕ → NodeRef → List Ask
 sliced_asks s x name places n =
     if is_empty (slices s n) then []
     else map (apart_ask n) places
-    ++ (flat_map (slice_asks s x name places n) (slices s n) ++ (if is_closed s n then map (in_slice_ask n) places else []))
+    ++ (flat_map (slice_asks s x name places n) (slices s n)
+    ++ ((if is_closed s n then map (in_slice_ask n) places else []) ++ sequence_asks s x n places))
 
 -- the number of children of a name, then each of them by itself, and then by the slices
 abbrev pub named_asks : SchemaValue → Item → Text → List ℕ → NodeRef → List Ask

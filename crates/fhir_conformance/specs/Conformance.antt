@@ -1,6 +1,6 @@
 -- When an item conforms to a node, and a resource to a profile (FHIR R4, Profiling and ElementDefinition): where all holds
 -- that the node asks of it. An item is folded into its test of nodes: what is asked of a child is asked of the child's test.
-use Rattle.std.specs.Prelude.{◌≡◌, ℕ, suc, List, [], ◌∷◌, ◌++◌, length, get_or, Bool, true, not, ◌&&◌, ◌||◌, nat_eq, Some, IsTrue, if◌then◌else◌}
+use Rattle.std.specs.Prelude.{◌≡◌, ℕ, suc, List, [], ◌∷◌, ◌++◌, length, get_or, is_none, Bool, true, not, ◌&&◌, ◌||◌, nat_eq, Some, IsTrue, if◌then◌else◌}
 use Rattle.std.specs.Option.{option_map_or}
 use Rattle.std.specs.List.{list_all, list_any}
 use Rattle.fhir_json.specs.Tree.{Text, Tree}
@@ -25,10 +25,11 @@ use Rattle.fhir_facets.specs.Ranges.{Range, range_holds}
 use Rattle.fhir_facets.specs.Targets.{targets_hold}
 use Rattle.fhir_facets.specs.Bindings.{binding_to, binding_holds, IsFair}
 use Rattle.fhir_facets.specs.Cardinality.{are_enough, are_within}
+use Rattle.fhir_facets.specs.Order.{may_follow}
 use Rattle.fhir_slicing.specs.Belonging.{is_apart, is_sliced}
-use Rattle.fhir_conformance.specs.Asks.{ElementRuleName, root_type, fixed, pattern, range, length_limit, binding, too_few, too_many, too_few_in, too_many_in, apart, in_a_slice, constraint}
+use Rattle.fhir_conformance.specs.Asks.{ElementRuleName, root_type, fixed, pattern, range, length_limit, binding, too_few, too_many, too_few_in, too_many_in, apart, in_a_slice, in_order, in_the_rest, constraint}
 use Rattle.fhir_conformance.specs.Asks.{Ask, own, types as of_types, profile as as_profile, root as as_root, child, places_of, root_asks, inner_asks}
-use Rattle.fhir_conformance.specs.Positions.{at_kid, members}
+use Rattle.fhir_conformance.specs.Positions.{at_kid, members, slice_place}
 
 abbrev pub seen : Item → Seen
 seen x = record { type = type_of x; json = json_of x; has_kids = has_kids x }
@@ -113,6 +114,8 @@ module _ (s : SchemaValue) (m : Meaning) (resource x : Item) where
   rule_holds (too_many_in name) n = at_element s (λ e. are_within e (count_in s n name x)) n
   rule_holds (apart position) n = at_kid true (is_apart s n) x position
   rule_holds (in_a_slice position) n = at_kid true (is_sliced s n) x position
+  rule_holds (in_order earlier position) n = may_follow (slice_place s x n earlier) (slice_place s x n position)
+  rule_holds (in_the_rest position) n = is_none (slice_place s x n position)
   rule_holds (constraint position) n = option_map_or (constraint_passes s m resource x) (constraint_at s n position) true
 
   -- ---- all that a node asks, where these are the roots that the item conforms to, and these the tests of its children

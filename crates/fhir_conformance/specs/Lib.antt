@@ -6,4 +6,5 @@ pub mod Example
 pub mod Recipes
 pub mod Letters
 pub mod Questions
+pub mod Standing
 pub mod Views

@@ -10,7 +10,7 @@ use Rattle.std.specs.Ordering.{nat_cmp}
 use Rattle.std.specs.Str.{bytes_eq}
 use Rattle.fhir_json.specs.Tree.{Text}
 use Rattle.fhir_instance.specs.Items.{Item}
-use Rattle.fhir_conformance.specs.Asks.{ElementRuleName, root_type, fixed, pattern, range, length_limit, binding, too_few, too_many, too_few_in, too_many_in, apart, in_a_slice, constraint}
+use Rattle.fhir_conformance.specs.Asks.{ElementRuleName, root_type, fixed, pattern, range, length_limit, binding, too_few, too_many, too_few_in, too_many_in, apart, in_a_slice, in_order, in_the_rest, constraint}
 use Rattle.fhir_conformance.specs.Asks.{own, types, profile, root, child, places_of}
 use Rattle.fhir_conformance.specs.Asks.{Ask as Asked}
 use Rattle.fhir_conformance.specs.declared.ask.Ask.{Ask}
@@ -31,6 +31,8 @@ rule_name (rules.TooFewIn name) = too_few_in name.now
 rule_name (rules.TooManyIn name) = too_many_in name.now
 rule_name (rules.Apart position) = apart position
 rule_name (rules.InASlice position) = in_a_slice position
+rule_name (rules.InOrder earlier position) = in_order earlier position
+rule_name (rules.InTheRest position) = in_the_rest position
 rule_name (rules.Constraint position) = constraint position
 
 abbrev pub ask_seen : Ask → Asked

@@ -29,6 +29,10 @@ pub enum ElementRule<'s> {
     Apart(usize),
     /// The child at that position among all children is in one of the element's slices.
     InASlice(usize),
+    /// The child at the second position isn't in a slice before that of the child at the first, which stands before it.
+    InOrder(usize, usize),
+    /// The child at that position, which stands behind one that is in none of the element's slices, is in none either.
+    InTheRest(usize),
     /// The constraint at that position among the element's is true.
     Constraint(usize),
 }

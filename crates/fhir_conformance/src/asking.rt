@@ -83,6 +83,7 @@ fn put_constraints(asked: &mut Vec<Ask<'_>>, schema: &Schema, node: NodeRef) -> 
 }
 
 fn put_slot<'s>(
+    alloc: Global,
     asked: &mut Vec<Ask<'s>>,
     schema: &Schema,
     item: &Typed<'_, '_>,
@@ -99,10 +100,11 @@ fn put_slot<'s>(
         element: slot.entry(),
     };
     let places = kids_by_name.places(slot.name());
-    put_named(asked, schema, item, slot.name(), places, entry)
+    put_named(alloc, asked, schema, item, slot.name(), places, entry)
 }
 
 fn put_slots<'s>(
+    alloc: Global,
     asked: &mut Vec<Ask<'s>>,
     schema: &Schema,
     item: &Typed<'_, '_>,
@@ -115,13 +117,14 @@ fn put_slots<'s>(
         ≡ asks_seen asked.old.items ++ flat_map (slot_asks schema.now (item_of item.now) node) slots.now) }
 {
     for slot in slots {
-        put_slot(asked, schema, item, kids_by_name, node, slot)?;
+        put_slot(alloc, asked, schema, item, kids_by_name, node, slot)?;
     }
     Ok(())
 }
 
 // What is asked of the children, by the slots of the node that has a node's.
 fn put_kids<'s>(
+    alloc: Global,
     asked: &mut Vec<Ask<'s>>,
     schema: &'s Schema,
     item: &Typed<'_, '_>,
@@ -134,6 +137,7 @@ fn put_kids<'s>(
 {
     match schema.holder(node) {
         Some(holder) => put_slots(
+            alloc,
             asked,
             schema,
             item,
@@ -160,6 +164,7 @@ fn put_own_root(
 }
 
 fn put_root_asks<'s>(
+    alloc: Global,
     asked: &mut Vec<Ask<'s>>,
     schema: &'s Schema,
     item: &Typed<'_, '_>,
@@ -173,10 +178,11 @@ fn put_root_asks<'s>(
     asked.push(Ask::Own(ElementRule::RootType, root))?;
     put_facets(asked, root)?;
     put_constraints(asked, schema, root)?;
-    put_kids(asked, schema, item, kids_by_name, root)
+    put_kids(alloc, asked, schema, item, kids_by_name, root)
 }
 
 fn put_inner_asks<'s>(
+    alloc: Global,
     asked: &mut Vec<Ask<'s>>,
     schema: &'s Schema,
     item: &Typed<'_, '_>,
@@ -192,10 +198,11 @@ fn put_inner_asks<'s>(
     put_constraints(asked, schema, node)?;
     put_own_root(asked, schema, item)?;
     put_profiles(asked, schema, item, node)?;
-    put_kids(asked, schema, item, kids_by_name, node)
+    put_kids(alloc, asked, schema, item, kids_by_name, node)
 }
 
 fn put_asks<'s>(
+    alloc: Global,
     asked: &mut Vec<Ask<'s>>,
     schema: &'s Schema,
     item: &Typed<'_, '_>,
@@ -207,9 +214,9 @@ fn put_asks<'s>(
         ≡ asks_seen asked.old.items ++ asks schema.now (item_of item.now) node) }
 {
     if schema.is_root(node) {
-        put_root_asks(asked, schema, item, kids_by_name, node)
+        put_root_asks(alloc, asked, schema, item, kids_by_name, node)
     } else {
-        put_inner_asks(asked, schema, item, kids_by_name, node)
+        put_inner_asks(alloc, asked, schema, item, kids_by_name, node)
     }
 }
 
@@ -229,6 +236,6 @@ pub fn asks<'s>(
     ensures { Gives (λ asked. asks_seen asked.items) result (asks schema.now (item_of item.now) node) }
 {
     let mut asked: Vec<Ask<'s>> = Vec::new(alloc);
-    put_asks(&mut asked, schema, item, kids_by_name, node)?;
+    put_asks(alloc, &mut asked, schema, item, kids_by_name, node)?;
     Ok(asked)
 }

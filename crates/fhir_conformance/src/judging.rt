@@ -1,6 +1,6 @@
 //! Whether a rule holds of an item.
 
-ghost use Rattle.std.specs.Prelude.{◌≡◌, [], IfOk, IsTrue};
+ghost use Rattle.std.specs.Prelude.{◌≡◌, [], is_none, IfOk, IsTrue};
 ghost use Rattle.std.specs.Option.{option_copied, option_map, option_map_or};
 ghost use Rattle.fhir_elements.specs.Constraint.{must_hold};
 ghost use Rattle.fhir_fp_syntax.specs.Expression.{expression_of as tree_of};
@@ -10,20 +10,22 @@ ghost use Rattle.fhir_schema.specs.Schemas.{element_at};
 ghost use Rattle.fhir_instance.specs.View.{item_of};
 ghost use Rattle.fhir_facets.specs.Carried.{range_unread, constraint_unread};
 ghost use Rattle.fhir_facets.specs.Cardinality.{are_enough, are_within};
+ghost use Rattle.fhir_facets.specs.Order.{may_follow};
 ghost use Rattle.fhir_facets.specs.Unread.{Reading, meaning_of};
 ghost use Rattle.fhir_facets.specs.Views.{view_seen, holding_at, IsVouched, IsCarried};
 ghost use Rattle.fhir_conformance.specs.Conformance.{seen, constraint_passes, constraint_holds, fixed_at, pattern_at, range_at, length_at, binding_at, at_element, entry_allows, count_in, rule_holds};
 ghost use Rattle.fhir_conformance.specs.Asks.{constraint as constraint_rule};
 ghost use Rattle.fhir_conformance.specs.Meeting.{entry_unread, set_unread, rule_unread};
+ghost use Rattle.fhir_conformance.specs.Positions.{slice_place};
 ghost use Rattle.fhir_conformance.specs.Views.{rule_name, IsIndexOf};
 
 use crate::ask::ElementRule;
 use crate::kids_by_name::KidsByName;
-use crate::members::{count_in, is_apart_at, is_sliced_at};
+use crate::members::{count_in, is_apart_at, is_sliced_at, slice_place};
 use fhir_elements::{ConstraintDef, ElementDef, TypeEntry};
 use fhir_facets::{
     Binding, Facet, Fixed, Holding, Length, Pattern, Range, Targets, Unread, View, are_enough,
-    are_within,
+    are_within, may_follow,
 };
 use fhir_fp_eval::{Env, holds};
 use fhir_fp_syntax::Expr;
@@ -287,6 +289,26 @@ fn has_no_more_in(
     )
 }
 
+// Whether the child at a position isn't in a slice before that of an earlier one.
+fn is_in_order(
+    schema: &Schema,
+    item: &Typed<'_, '_>,
+    node: NodeRef,
+    earlier: usize,
+    position: usize,
+) -> bool
+    ensures { result ≡ may_follow (slice_place schema.now (item_of item.now) node earlier) (slice_place schema.now (item_of item.now) node position) }
+{
+    let before = slice_place(schema, item, node, earlier);
+    may_follow(before, slice_place(schema, item, node, position))
+}
+
+fn is_in_the_rest(schema: &Schema, item: &Typed<'_, '_>, node: NodeRef, position: usize) -> bool
+    ensures { result ≡ is_none (slice_place schema.now (item_of item.now) node position) }
+{
+    slice_place(schema, item, node, position).is_none()
+}
+
 /// Whether a rule of a node's element holds of an item, of which these are the children, and that the nearest resource at
 /// or around it (FHIR R4, ElementDefinition). Where unread rules decide it, it answers one of the rule's: one whose text is
 /// given, where those do that are given. The one refusal is want of memory.
@@ -342,6 +364,12 @@ pub fn judge<'s, 't, 'a, 'j>(
         ))),
         ElementRule::Apart(position) => Ok(Holding::of(is_apart_at(schema, item, node, position))),
         ElementRule::InASlice(position) => Ok(Holding::of(is_sliced_at(
+            schema, item, node, position,
+        ))),
+        ElementRule::InOrder(earlier, position) => Ok(Holding::of(is_in_order(
+            schema, item, node, earlier, position,
+        ))),
+        ElementRule::InTheRest(position) => Ok(Holding::of(is_in_the_rest(
             schema, item, node, position,
         ))),
         ElementRule::Constraint(position) => {

@@ -5,7 +5,8 @@
 //! asks holds. Where a type names profiles, it is asked whether the item conforms to each of them, and one is enough.
 //!
 //! An element may have slices. A child that belongs to a slice, as `fhir_slicing` tells, conforms to the slice too. No child
-//! may be in two slices.
+//! may be in two slices. Where a slicing is ordered, the children stand in the order of its slices, and where it is open at its end,
+//! those in none of them stand behind the others.
 //!
 //! ```
 //! /// How many things a node asks of an item.
@@ -36,6 +37,7 @@ mod kids_by_name;
 mod laws;
 mod members;
 mod profiles;
+mod sequence;
 mod sliced;
 
 pub use ask::{Ask, ElementRule};
@@ -47,4 +49,4 @@ pub use laws::{
     letters_example, meanings_agree, positive, questions_example, roots_ask_no_root,
     slices_example, values_example,
 };
-pub use members::{count_in, kid_at, nearest_to};
+pub use members::{count_in, kid_at, nearest_to, slice_at};

@@ -1,19 +1,19 @@
 //! Children by their positions, and the slices to which they belong.
 
 ghost use Rattle.std.specs.Prelude.{◌≡◌, length, true, false};
-ghost use Rattle.std.specs.Option.{option_map};
+ghost use Rattle.std.specs.Option.{option_copied, option_map};
 ghost use Rattle.fhir_schema.specs.Schemas.{criteria};
 ghost use Rattle.fhir_instance.specs.Items.{kids_of};
 ghost use Rattle.fhir_instance.specs.View.{item_of};
 ghost use Rattle.fhir_slicing.specs.Belonging.{belongs, is_apart, is_sliced};
-ghost use Rattle.fhir_conformance.specs.Positions.{kid_at, at_kid, members};
+ghost use Rattle.fhir_conformance.specs.Positions.{kid_at, at_kid, members, slice_at, slice_place};
 ghost use Rattle.fhir_conformance.specs.Conformance.{count_in, nearest_to};
 ghost use Rattle.fhir_conformance.specs.Views.{IsIndexOf};
 
 use crate::kids_by_name::KidsByName;
 use fhir_instance::Typed;
-use fhir_schema::{NodeRef, Schema};
-use fhir_slicing::{belongs, is_apart, is_sliced};
+use fhir_schema::{NodeRef, Schema, Slot};
+use fhir_slicing::{belongs, is_apart, is_sliced, slice_of};
 
 /// The child of an item at a position among all its children, if it has one.
 pub fn kid_at<'t, 'a, 'j>(item: &'t Typed<'a, 'j>, position: usize) -> Option<&'t Typed<'a, 'j>>
@@ -84,6 +84,36 @@ pub(crate) fn is_sliced_at(
     match kid_at(item, position) {
         Some(kid) => is_sliced(schema, node, kid),
         None => true,
+    }
+}
+
+/// The first slice of a node's element that the child at a position is in, if it is in one. It takes no memory.
+pub fn slice_at<'s>(
+    schema: &'s Schema,
+    item: &Typed<'_, '_>,
+    node: NodeRef,
+    position: usize,
+) -> Option<&'s Slot>
+    ensures { option_copied result ≡ slice_at schema.now (item_of item.now) node position }
+{
+    match kid_at(item, position) {
+        Some(kid) => slice_of(schema, node, kid),
+        None => None,
+    }
+}
+
+/// The place of that slice in the definition.
+pub(crate) fn slice_place(
+    schema: &Schema,
+    item: &Typed<'_, '_>,
+    node: NodeRef,
+    position: usize,
+) -> Option<usize>
+    ensures { result ≡ slice_place schema.now (item_of item.now) node position }
+{
+    match slice_at(schema, item, node, position) {
+        Some(slice) => Some(slice.entry()),
+        None => None,
     }
 }
 

@@ -11,9 +11,11 @@ ghost use Rattle.fhir_conformance.specs.Views.{asks_seen};
 
 use crate::ask::{Ask, ElementRule};
 use crate::members::is_member;
+use crate::sequence::put_sequence;
 use fhir_instance::Typed;
 use fhir_json::NoMemory;
 use fhir_schema::{NodeRef, Schema, Slot};
+use std::alloc::Global;
 
 fn put_places(asked: &mut Vec<Ask<'_>>, entry: NodeRef, places: &[usize]) -> Result<(), NoMemory>
     ensures { OnOk result (asks_seen asked.new.items ≡ asks_seen asked.old.items ++ map (child_ask entry) places.now) }
@@ -131,6 +133,7 @@ fn put_closed(
 }
 
 fn put_sliced<'s>(
+    alloc: Global,
     asked: &mut Vec<Ask<'s>>,
     schema: &Schema,
     item: &Typed<'_, '_>,
@@ -147,11 +150,13 @@ fn put_sliced<'s>(
     }
     put_apart(asked, node, places)?;
     put_slices(asked, schema, item, name, places, node, slices)?;
-    put_closed(asked, schema, node, places)
+    put_closed(asked, schema, node, places)?;
+    put_sequence(alloc, asked, schema, item, node, places)
 }
 
 /// What an element asks of the children of a name, which stand at these places.
 pub(crate) fn put_named<'s>(
+    alloc: Global,
     asked: &mut Vec<Ask<'s>>,
     schema: &Schema,
     item: &Typed<'_, '_>,
@@ -165,5 +170,5 @@ pub(crate) fn put_named<'s>(
     asked.push(Ask::Own(ElementRule::TooFew(name), node))?;
     asked.push(Ask::Own(ElementRule::TooMany(name), node))?;
     put_places(asked, node, places)?;
-    put_sliced(asked, schema, item, name, places, node)
+    put_sliced(alloc, asked, schema, item, name, places, node)
 }

@@ -17,7 +17,7 @@ use Rattle.fhir_instance.specs.Items.{Item, Kids, no_kids, kid, kids_of}
 use Rattle.fhir_facets.specs.Cardinality.{least_of, are_enough}
 use Rattle.fhir_slicing.specs.Belonging.{belongs}
 use Rattle.fhir_conformance.specs.Positions.{kid_at, at_kid, members}
-use Rattle.fhir_conformance.specs.Asks.{Ask, own, child, too_few, too_many, too_few_in, too_many_in, places_from, places_of, child_ask, apart_ask, in_slice_ask, slice_asks, sliced_asks, named_asks, slot_asks, slots_ask, kids_asks}
+use Rattle.fhir_conformance.specs.Asks.{Ask, own, child, too_few, too_many, too_few_in, too_many_in, places_from, places_of, child_ask, apart_ask, in_slice_ask, sequence_asks, slice_asks, sliced_asks, named_asks, slot_asks, slots_ask, kids_asks}
 use Rattle.fhir_conformance.specs.Conformance.{Interpretation, Around, inside, below, at_element, conforms, kid_tests}
 use Rattle.fhir_contradictions.specs.Typing.{IsTypedBy, children_of, codes_under, allows_code}
 use Rattle.fhir_contradictions.specs.Contradictions.{names_differ, is_required, lacks_type}
@@ -152,7 +152,7 @@ module _ (s : SchemaValue) (x : Item) (n h : NodeRef) (slot : Slot) (held : hold
         last = if_closed (is_closed s m)
           where
             if_closed : Bool → List Ask
-            if_closed b = cond b (map (in_slice_ask m) places) []
+            if_closed b = cond b (map (in_slice_ask m) places) [] ++ sequence_asks s x m places
 
         go : (b : Bool) → b ≡ false → Contains (cond b [] (map (apart_ask m) places ++ (flat_map (slice_asks s x slot.name places m) (slices s m) ++ last))) ask
         go true e = absurd (both_ways true e refl)

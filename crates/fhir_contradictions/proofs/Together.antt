@@ -19,7 +19,7 @@ use Rattle.fhir_facets.specs.Unread.{Meaning}
 use Rattle.fhir_facets.specs.Cardinality.{least_of, are_enough, are_within}
 use Rattle.fhir_slicing.specs.Belonging.{belongs, is_in, is_apart}
 use Rattle.fhir_conformance.specs.Asks.{too_few, too_many, too_few_in, too_many_in}
-use Rattle.fhir_conformance.specs.Asks.{Ask, own, places_of, child_ask, apart_ask, in_slice_ask, slice_asks, sliced_asks}
+use Rattle.fhir_conformance.specs.Asks.{Ask, own, places_of, child_ask, apart_ask, in_slice_ask, sequence_asks, slice_asks, sliced_asks}
 use Rattle.fhir_conformance.specs.Positions.{kid_at, at_kid, members}
 use Rattle.fhir_conformance.specs.Conformance.{ask_holds, item_holds}
 use Rattle.fhir_contradictions.specs.Contradictions.{names_differ, slice_least, asks_too_many}
@@ -100,11 +100,12 @@ module _ (s : SchemaValue) (m : Meaning) (resource x : Item) (kids : List (NodeR
             → IsTrue (list_all Of
             (if is_empty ss then []
             else map (apart_ask n) places
-            ++ (flat_map (slice_asks s x name places n) ss ++ (if is_closed s n then map (in_slice_ask n) places else []))))
+            ++ (flat_map (slice_asks s x name places n) ss
+            ++ ((if is_closed s n then map (in_slice_ask n) places else []) ++ sequence_asks s x n places))))
             → sum_by (slice_least s n) ss ≤ length places
         by_case [] are named all = omega arith
         by_case (slice ∷ ss) are named all =
-            let closed = if is_closed s n then map (in_slice_ask n) places else [] in
+            let closed = (if is_closed s n then map (in_slice_ask n) places else []) ++ sequence_asks s x n places in
             let each = flat_map (slice_asks s x name places n) (slice ∷ ss) in
             let aparts = all_front Of (map (apart_ask n) places) (each ++ closed) all in
             let of_slices = all_front Of each closed (all_back Of (map (apart_ask n) places) (each ++ closed) all) in

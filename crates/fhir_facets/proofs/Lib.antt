@@ -6,5 +6,8 @@ mod KeptBounds
 mod KeptTargets
 mod KeptBindings
 mod Among
+pub mod Sequences
+pub mod Ordered
+pub mod KeptOrder
 mod Readings
 mod Itself

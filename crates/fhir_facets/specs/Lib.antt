@@ -6,6 +6,7 @@ pub mod Ranges
 pub mod Targets
 pub mod Bindings
 pub mod Cardinality
+pub mod Order
 pub mod Carried
 pub mod Views
 pub mod Example

@@ -1,14 +1,16 @@
 //! Laws: what the definitions say of one another.
 
 ghost use Rattle.std.specs.Prelude.{◌≡◌, ◌↔◌, ℕ, ℤ, List, Bool, true, None, Some, IsTrue, codes};
-ghost use Rattle.std.specs.List.{Contains};
+ghost use Rattle.std.specs.List.{Contains, list_all};
 ghost use Rattle.fhir_json.specs.Tree.{Text, Tree};
 ghost use Rattle.fhir_elements.specs.Element.{Element};
 ghost use Rattle.fhir_elements.specs.TypeEntry.{TypeEntry};
+ghost use Rattle.fhir_nodes.specs.declared.node.NodeRef.{NodeRef};
 ghost use Rattle.fhir_schema.specs.Schemas.{SchemaValue};
 ghost use Rattle.fhir_facets.specs.Bindings.{Binding, binding_to, binding_holds, binding_narrower, IsFair};
 ghost use Rattle.fhir_facets.specs.Example.{reference};
 ghost use Rattle.fhir_facets.specs.Cardinality.{cardinality_holds, cardinality_narrower};
+ghost use Rattle.fhir_facets.specs.Order.{order_holds, order_narrower, may_be_in};
 ghost use Rattle.fhir_facets.specs.Ranges.{Range, range_holds, range_narrower};
 ghost use Rattle.fhir_facets.specs.Seen.{Seen};
 ghost use Rattle.fhir_facets.specs.Targets.{referred_type, targets_hold, targets_narrower};
@@ -39,6 +41,10 @@ pub fn narrower_holds()
     ensures binding { (s : SchemaValue) (m : Meaning) (own base : Text) (x : Seen) → IsFair s m
         → IsTrue (binding_narrower (binding_to s own) (binding_to s base))
         → IsTrue (binding_holds m (binding_to s own) x) → IsTrue (binding_holds m (binding_to s base) x) }
+    // An order, of names that a slot's items may have: each is a slice in which items may be, or, where the narrower one isn't closed, a
+    // slice of neither.
+    ensures order { (s : SchemaValue) (n m : NodeRef) (names : List Text) → IsTrue (order_narrower s n m)
+        → IsTrue (list_all (may_be_in s n m) names) → IsTrue (order_holds s n names) → IsTrue (order_holds s m names) }
     ensures count { (e base : Element) (n : ℕ) → IsTrue (cardinality_narrower e base)
         → IsTrue (cardinality_holds e n) → IsTrue (cardinality_holds base n) }
 {

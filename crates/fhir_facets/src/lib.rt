@@ -25,6 +25,7 @@ mod holding;
 mod identity;
 mod laws;
 mod lookup;
+mod order;
 mod ranges;
 mod scale;
 mod targets;
@@ -42,6 +43,7 @@ pub use laws::{
     fair_meanings, given_rules, narrower_holds, narrower_itself, other_references, positive,
 };
 pub use lookup::Lookup;
+pub use order::{Order, is_open_at_end, is_ordered, may_follow, ordered_narrower};
 pub use ranges::Range;
 pub use targets::Targets;
 pub use unread::Unread;

@@ -19,7 +19,7 @@ use Rattle.fhir_definition.specs.Snapshot.{slice_place}
 use Rattle.fhir_definition.specs.Definition.{Definition}
 use Rattle.fhir_nodes.specs.Slots.{Slot, slots_of}
 use Rattle.fhir_forms.specs.Forms.{is_choice}
-use Rattle.fhir_forms.specs.Slicings.{discriminators_of, is_unordered}
+use Rattle.fhir_forms.specs.Slicings.{discriminators_of}
 
 -- what is looked for among the items at the end of a path
 pub data Sought : Type 0 where
@@ -129,10 +129,9 @@ module _ (slots : List (List Slot)) (es : List Element) (place : ℕ) where
   abbrev pub is_told : Discriminator → Bool
   is_told d = is_some (criterion_of d)
 
-  -- there is a discriminator, and each of them can be told; nothing hangs on the order of the items
+  -- there is a discriminator, and each of them can be told
   abbrev pub is_told_by : Element → Bool
-  is_told_by sliced =
-      nat_lt 0 (length (discriminators_of sliced)) && list_all is_told (discriminators_of sliced) && is_unordered sliced
+  is_told_by sliced = nat_lt 0 (length (discriminators_of sliced)) && list_all is_told (discriminators_of sliced)
 
   -- where the element that it is a slice of says so; a slice that can't be told has none
   abbrev pub criteria_by : Element → List Criterion

@@ -1,5 +1,5 @@
 -- How an element is sliced (FHIR R4, Profiling, slicing; ElementDefinition, slicing).
-use Rattle.std.specs.Prelude.{List, [], ◌∷◌, ◌++◌, map, fold, Bool, true, false, not, ◌&&◌, ◌||◌, Some, if◌then◌else◌, codes}
+use Rattle.std.specs.Prelude.{List, [], ◌∷◌, ◌++◌, map, fold, Bool, true, false, ◌||◌, Some, if◌then◌else◌, codes}
 use Rattle.std.specs.Option.{option_map_or, option_and_then}
 use Rattle.std.specs.Str.{bytes_eq}
 use Rattle.fhir_json.specs.Tree.{Text}
@@ -53,17 +53,6 @@ is_closing Closed = true
 is_closing Open = false
 is_closing OpenAtEnd = false
 
-abbrev pub is_ending : SlicingRules → Bool
-is_ending Closed = false
-is_ending Open = false
-is_ending OpenAtEnd = true
-
 -- no item may be in none of the slices
 abbrev pub is_closed : Element → Bool
 is_closed e = option_map_or is_closing (option_and_then (λ s. s.rules) e.slicing) false
-
--- the items may stand in any order
-abbrev pub is_unordered : Element → Bool
-is_unordered e =
-    not (option_map_or (λ ordered. ordered) (option_and_then (λ s. s.ordered) e.slicing) false)
-    && not (option_map_or is_ending (option_and_then (λ s. s.rules) e.slicing) false)

@@ -8,7 +8,7 @@ ghost use Rattle.fhir_names.specs.Places.{Finds};
 ghost use Rattle.fhir_elements.specs.declared.reason.Reason.TheVariants.{UnsupportedSlicing};
 ghost use Rattle.fhir_elements.specs.Causes.{reason_of, reason_unless};
 ghost use Rattle.fhir_elements.specs.Slicing.{Discriminator};
-ghost use Rattle.fhir_forms.specs.Slicings.{is_extension, implied_discriminators, word_of, key_of, put_new, distinct, discriminators_of, is_closing, is_ending, is_closed, is_unordered};
+ghost use Rattle.fhir_forms.specs.Slicings.{is_extension, implied_discriminators, word_of, key_of, put_new, distinct, discriminators_of, is_closing, is_closed};
 ghost use Rattle.fhir_forms.specs.CriteriaSeen.{test_seen, tests_seen, lists_of_tests};
 
 use crate::property_name::is_choice;
@@ -165,25 +165,10 @@ fn is_closing(rules: SlicingRules) -> bool
     matches!(rules, SlicingRules::Closed)
 }
 
-fn is_ending(rules: SlicingRules) -> bool
-    ensures { result ≡ is_ending rules }
-{
-    matches!(rules, SlicingRules::OpenAtEnd)
-}
-
 fn rules_of(element: &ElementDef) -> Option<SlicingRules>
     ensures { result ≡ option_and_then (λ s. s.rules) element.now.slicing }
 {
     element.slicing()?.rules()
-}
-
-fn is_ordered(element: &ElementDef) -> bool
-    ensures { result ≡ option_map_or (λ ordered. ordered) (option_and_then (λ s. s.ordered) element.now.slicing) false }
-{
-    match element.slicing() {
-        Some(slicing) => slicing.ordered().unwrap_or(false),
-        None => false,
-    }
 }
 
 /// Whether each of an element's items has to be in one of its slices.
@@ -191,20 +176,6 @@ pub fn is_closed(element: &ElementDef) -> bool
     ensures { result ≡ is_closed element.now }
 {
     rules_of(element).is_some_and(|rules| is_closing(rules))
-}
-
-// Why an element's items may not stand in any order.
-fn order_cause(element: &ElementDef) -> Option<Cause>
-    ensures { option_map reason_of result ≡ reason_unless (is_unordered element.now) UnsupportedSlicing }
-{
-    let ends = rules_of(element).is_some_and(|rules| is_ending(rules));
-    if is_ordered(element) {
-        Some(Cause::OrderedSlicing)
-    } else if ends {
-        Some(Cause::OpenAtEnd)
-    } else {
-        None
-    }
 }
 
 // Why the discriminator at a place tells nothing; one that its name implies is of no slicing.
@@ -224,12 +195,8 @@ pub(crate) fn slicing_cause(
     untold: Option<usize>,
 ) -> Option<Cause>
     ensures { option_map reason_of result
-        ≡ reason_unless (nat_lt 0 (length tests.now) && is_none untold && is_unordered element.now) UnsupportedSlicing }
+        ≡ reason_unless (nat_lt 0 (length tests.now) && is_none untold) UnsupportedSlicing }
 {
-    let order = order_cause(element);
-    if order.is_some() {
-        return order;
-    }
     if tests.is_empty() {
         return Some(Cause::NoDiscriminator);
     }

@@ -12,7 +12,6 @@ ghost use Rattle.fhir_fp_eval.specs.Paths.{takes, taken, onward, then_step, then
 use crate::lists::path_name;
 use crate::step::{Step, Steps};
 use crate::value::Env;
-use crate::words::is_of_type;
 use fhir_fp_syntax::{Expr, Function};
 use fhir_instance::{Kid, Typed};
 
@@ -185,7 +184,7 @@ fn by_name<'e, 'a, 'j>(
     ensures { IfSome result (λ p. given_by p ≡ onward (steps_in steps.entry)
         (starts (world_of env.now).schema name.now (node (item_of from.now)))) }
 {
-    if is_of_type(env.schema, from, name) {
+    if env.schema.derives(from.code(), name) {
         return Some(Path { from, steps });
     }
     if steps.put_first(Step::Named(name)) {

@@ -3,9 +3,6 @@
 ghost use Rattle.std.specs.Prelude.{◌≡◌, ◌∷◌, [], option_map, Ok};
 ghost use Rattle.fhir_json.specs.Memory.{GivesOr};
 ghost use Rattle.fhir_decimal.specs.Numbers.{number_seen};
-ghost use Rattle.fhir_schema.specs.Covers.{derives};
-ghost use Rattle.fhir_instance.specs.Items.{type_of};
-ghost use Rattle.fhir_instance.specs.View.{item_of};
 ghost use Rattle.fhir_fp_eval.specs.Faults.{is_no_memory};
 ghost use Rattle.fhir_fp_eval.specs.Views.{plain_of, plains_of, system_value_seen};
 ghost use Rattle.fhir_fp_eval.specs.Meaning.{starts, function_result, has_value, of_type, of_types, type_test_result, at_from, at_system_value, at_index};
@@ -19,7 +16,6 @@ use crate::truths::{kleene_not, truth_of};
 use crate::value::Value;
 use fhir_decimal::Number;
 use fhir_fp_syntax::{Function, TypeTest};
-use fhir_instance::Typed;
 use fhir_schema::Schema;
 use std::alloc::Global;
 
@@ -74,16 +70,6 @@ pub(crate) fn type_test_result<'e, 'a, 'j>(
     }
 }
 
-/// Whether an item's type is that of a name, or derives from it. Most names at the start of a path are of no type: one look-up tells that.
-pub(crate) fn is_of_type(schema: &Schema, item: &Typed<'_, '_>, name: &str) -> bool
-    ensures { result ≡ derives schema.now (type_of (item_of item.now)) name.now }
-{
-    if schema.type_place(name).is_none() {
-        return item.code() == name;
-    }
-    schema.derives(item.code(), name)
-}
-
 /// What a name gives at the start of a path.
 pub(crate) fn starts<'e, 'a, 'j>(
     alloc: Global,
@@ -97,7 +83,7 @@ pub(crate) fn starts<'e, 'a, 'j>(
         return Ok(Vec::new(alloc));
     };
     let focus = single(alloc, value)?;
-    if is_of_type(schema, item, name) {
+    if schema.derives(item.code(), name) {
         Ok(focus)
     } else {
         children_of(alloc, name, &focus)

@@ -8,7 +8,7 @@ use Rattle.fhir_reach.specs.declared.key.Key.{Key}
 use Rattle.fhir_schema.specs.Schemas.{SchemaValue}
 use Rattle.fhir_commands.specs.Commands.{question_seen}
 use Rattle.fhir_commands.specs.declared.question.Question.{Question}
-use Rattle.fhir_commands.specs.Replies.{reply_seen}
+use Rattle.fhir_commands.specs.Replies.{ReplyValue, reply_seen}
 use Rattle.fhir_commands.specs.declared.reply.Reply.{Reply}
 use Rattle.fhir_registry.specs.declared.kept.Kept.{Kept}
 use Rattle.fhir_registry.specs.Session.{IsReplyBy, starts_by, reach_of}
@@ -16,7 +16,7 @@ use Rattle.fhir_registry.specs.Sound.{IsAnswerBy, IsRightFor, IsFirst, KeepsNew}
 use Rattle.fhir_registry.proofs.Elsewhere.{replies_by}
 
 pub replied : {E Y : Type 0} (r : Result Reply E) (texts : Option (List Text)) (p : Definitions) (q : Question) (cache : LruCache (Vec Key Y) (Kept SchemaValue))
-    (old new : LruCache Question (Kept Reply)) → IsFirst p (starts_by (question_seen q)) cache
+    (old new : LruCache Question (Kept ReplyValue)) → IsFirst p (starts_by (question_seen q)) cache
     → IfOk r (λ reply. IsSomeAnd (slice_get cache.entries 0) (λ e. IsAnswerBy texts e.1.value (question_seen q) (reply_seen reply) × KeepsNew q (reply_seen reply) e.1.keys old new))
     → IfOk r (λ reply. IsReplyBy texts p (question_seen q) (reply_seen reply))
 replied (Err e) texts p q cache old new first answered = tt

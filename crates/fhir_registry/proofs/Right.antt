@@ -113,23 +113,23 @@ module _ (tests : (keys others : List KeyValue) → same_keys keys others ≡ tr
       is_question (Validate profile bytes) = tt
       is_question (Derive derived base) = tt
 
-      moved_reply : (e : Question × Kept Reply) → is_untouched changed e.1 ≡ true → IsRightReply texts p e → IsRightReply texts q e
+      moved_reply : (e : Question × Kept ReplyValue) → is_untouched changed e.1 ≡ true → IsRightReply texts p e → IsRightReply texts q e
       moved_reply e stays right =
           let c = question_seen e.0 in
           let free = untouched e.1 (reach_of p c) changed right.same stays in
           record {
             same = subst (λ (keys : List KeyValue). same_keys e.1.keys keys ≡ true) (sym (reach (starts_by c) free)) right.same;
-            reply = by_reach texts p q c (reply_seen e.1.value) (is_question e.0) (sym (same (reach_of p c) free)) (reach (starts_by c) free) right.reply;
+            reply = by_reach texts p q c e.1.value (is_question e.0) (sym (same (reach_of p c) free)) (reach (starts_by c) free) right.reply;
             answers = right.answers;
           }
 
-      pub moved_replies : (old new : LruCache Question (Kept Reply)) → Retains changed old new → AreRightReplies texts p old → AreRightReplies texts q new
+      pub moved_replies : (old new : LruCache Question (Kept ReplyValue)) → Retains changed old new → AreRightReplies texts p old → AreRightReplies texts q new
       moved_replies old new left right = elim left [
         | inl is ↦ subst (AreRightReplies texts q) (sym is) (λ e c. let from = of_filter (λ e. is_untouched changed e.1) old.entries e c in moved_reply e from.1 (right e from.0))
         | inr is ↦ subst (AreRightReplies texts q) (sym is) (none_are (IsRightReply texts q) old.cap)
       ]
 
-      pub moved_sound : {Y : Type 0} (schemas new : LruCache (Vec Key Y) (Kept SchemaValue)) (replies others : LruCache Question (Kept Reply))
+      pub moved_sound : {Y : Type 0} (schemas new : LruCache (Vec Key Y) (Kept SchemaValue)) (replies others : LruCache Question (Kept ReplyValue))
           → Retains changed schemas new → Retains changed replies others → IsSound texts p schemas replies → IsSound texts q new others
       moved_sound schemas new replies others left rest sound = record {
         right_schemas = moved_schemas schemas new left sound.right_schemas;
@@ -146,7 +146,7 @@ left_schemas p changed old new left right = elim left [
   | inr is ↦ subst (AreRightSchemas p) (sym is) (none_are (IsRightSchema p) old.cap)
 ]
 
-pub left_replies : (texts : Option (List Text)) (p : Definitions) (changed : List KeyValue) (old new : LruCache Question (Kept Reply)) → Retains changed old new
+pub left_replies : (texts : Option (List Text)) (p : Definitions) (changed : List KeyValue) (old new : LruCache Question (Kept ReplyValue)) → Retains changed old new
     → AreRightReplies texts p old → AreRightReplies texts p new
 left_replies texts p changed old new left right = elim left [
   | inl is ↦ subst (AreRightReplies texts p) (sym is) (λ e c. right e (of_filter (λ e. is_untouched changed e.1) old.entries e c).0)
@@ -154,7 +154,7 @@ left_replies texts p changed old new left right = elim left [
 ]
 
 pub left_sound : {Y : Type 0} (texts : Option (List Text)) (p : Definitions) (changed : List KeyValue) (schemas new : LruCache (Vec Key Y) (Kept SchemaValue))
-    (replies others : LruCache Question (Kept Reply)) → Retains changed schemas new → Retains changed replies others → IsSound texts p schemas replies
+    (replies others : LruCache Question (Kept ReplyValue)) → Retains changed schemas new → Retains changed replies others → IsSound texts p schemas replies
     → IsSound texts p new others
 left_sound texts p changed schemas new replies others left rest sound = record {
   right_schemas = left_schemas p changed schemas new left sound.right_schemas;
@@ -165,7 +165,7 @@ left_sound texts p changed schemas new replies others left rest sound = record {
 
 -- whether memory was refused or not
 pub either_sound : {B E Y : Type 0} (r : Result B E) (texts : Option (List Text)) (p q now : Definitions) (schemas : LruCache (Vec Key Y) (Kept SchemaValue))
-    (replies : LruCache Question (Kept Reply)) → OnOk r (now ≡ q) → OnErr r (now ≡ p) → IsSound texts q schemas replies → IsSound texts p schemas replies
+    (replies : LruCache Question (Kept ReplyValue)) → OnOk r (now ≡ q) → OnErr r (now ≡ p) → IsSound texts q schemas replies → IsSound texts p schemas replies
     → IsSound texts now schemas replies
 either_sound (Ok x) texts p q now schemas replies ok err new old = subst (λ (d : Definitions). IsSound texts d schemas replies) (sym ok) new
 either_sound (Err x) texts p q now schemas replies ok err new old = subst (λ (d : Definitions). IsSound texts d schemas replies) (sym err) old
@@ -176,18 +176,18 @@ either_sound (Err x) texts p q now schemas replies ok err new old = subst (λ (d
 pub same_schema : {Y : Type 0} (p : Definitions) (k q : Vec Key Y) (kept : Kept SchemaValue) → starts_eq k q ≡ true → IsRightSchema p (k, kept) → IsRightSchema p (q, kept)
 same_schema p k q kept eq right = subst (λ (start : List KeyValue). IsRightFor p (reached p start) kept) (same_start k q eq) right
 
-pub same_reply : (texts : Option (List Text)) (p : Definitions) (k q : Question) (kept : Kept Reply) → asks_same (question_seen k) (question_seen q) ≡ true
+pub same_reply : (texts : Option (List Text)) (p : Definitions) (k q : Question) (kept : Kept ReplyValue) → asks_same (question_seen k) (question_seen q) ≡ true
     → IsRightReply texts p (k, kept) → IsRightReply texts p (q, kept)
 same_reply texts p k q kept eq right =
     let one = asks_one (question_seen k) (question_seen q) eq in
     record {
       same = subst (λ (c : CommandValue). same_keys kept.keys (reach_of p c) ≡ true) one right.same;
-      reply = subst (λ (c : CommandValue). IsReplyBy texts p c (reply_seen kept.value)) one right.reply;
+      reply = subst (λ (c : CommandValue). IsReplyBy texts p c (kept.value)) one right.reply;
       answers = right.answers;
     }
 
 -- a reply that is right may be kept
-pub kept_right : (texts : Option (List Text)) (p : Definitions) (q : Question) (reply : ReplyValue) (keys : List KeyValue) (old new : LruCache Question (Kept Reply))
+pub kept_right : (texts : Option (List Text)) (p : Definitions) (q : Question) (reply : ReplyValue) (keys : List KeyValue) (old new : LruCache Question (Kept ReplyValue))
     → KeepsNew q reply keys old new → same_keys keys (reach_of p (question_seen q)) ≡ true → IsReplyBy texts p (question_seen q) reply
     → AreRightReplies texts p old → AreRightReplies texts p new
 kept_right texts p q reply keys old new keeps same told right = elim keeps [
@@ -210,9 +210,9 @@ any_seen holds (k ∷ keys) = ap (λ (b : Bool). holds (key_seen k) || b) (any_s
 
 -- ---- the cache's own test
 
-pub adds_reply : {B E : Type 0} (r : Result B E) → IsQuestionTest → (q : Question) (kept : Kept Reply) (reply : ReplyValue) (keys : List KeyValue)
-    (old new : LruCache Question (Kept Reply)) → OnOk r (new ≡ lru_cache (put_entries questions.eq-value.it old q kept) old.cap) → OnErr r (new ≡ old)
-    → reply_seen kept.value ≡ reply → kept.keys ≡ keys → AddsReply q reply keys old new
+pub adds_reply : {B E : Type 0} (r : Result B E) → IsQuestionTest → (q : Question) (kept : Kept ReplyValue) (reply : ReplyValue) (keys : List KeyValue)
+    (old new : LruCache Question (Kept ReplyValue)) → OnOk r (new ≡ lru_cache (put_entries questions.eq-value.it old q kept) old.cap) → OnErr r (new ≡ old)
+    → kept.value ≡ reply → kept.keys ≡ keys → AddsReply q reply keys old new
 adds_reply (Ok x) is q kept reply keys old new put same said with =
     inr (kept, said, with, put ∙ ap (λ (eq : Question → Question → Bool). lru_cache (put_entries eq old q kept) old.cap) (one_equality is))
 adds_reply (Err x) is q kept reply keys old new put same said with = inl same

@@ -9,9 +9,13 @@ use Rattle.fhir_registry.specs.Keeping.{RegistryValue}
 -- Of definitions p a line that is a command leaves what the command leaves, and a reply to it is written; any other changes nothing, and is
 -- told to be none. Which replies are right is a relation.
 module _ (IsRight : CommandValue → ReplyValue → Type 0) where
+  -- a line of a right reply
+  abbrev pub WritesReply : CommandValue → List ℕ → Type 0
+  WritesReply c written = (r : ReplyValue) × IsRight c r × (written ≡ line_of (reply_tree r))
+
   abbrev pub AnswersBy : Definitions → Option CommandValue → Definitions → List ℕ → Type 0
   AnswersBy p None q written = (q ≡ p) × (written ≡ line_of (fault_tree (codes "line")))
-  AnswersBy p (Some c) q written = (q ≡ after c p) × (r : ReplyValue) × IsRight c r × (written ≡ line_of (reply_tree r))
+  AnswersBy p (Some c) q written = (q ≡ after c p) × WritesReply c written
 
 -- want of memory changes no definition, and is told
 abbrev pub WantsMemory : Definitions → Definitions → List ℕ → Type 0

@@ -22,8 +22,8 @@ use Rattle.fhir_registry.specs.declared.kept.Kept.{Kept}
 use Rattle.fhir_registry.specs.Session.{IsReplyBy, reach_of}
 
 -- as a caller sees what is kept
-abbrev pub entry_seen : Question × Kept Reply → CommandValue × ReplyValue
-entry_seen e = (question_seen e.0, reply_seen e.1.value)
+abbrev pub entry_seen : Question × Kept ReplyValue → CommandValue × ReplyValue
+entry_seen e = (question_seen e.0, e.1.value)
 
 -- ---- what is answered by a schema
 
@@ -60,23 +60,23 @@ abbrev pub IsFirst : {Y : Type 0} → Definitions → List KeyValue → LruCache
 IsFirst p start cache = IsSomeAnd (slice_get cache.entries 0) (λ e. IsRightFor p (reached p start) e.1)
 
 -- the reply is one to the question by the definitions, and no refusal, and is kept with the keys that the question reaches
-pub record IsRightReply (texts : Option (List Text)) (p : Definitions) (e : Question × Kept Reply) : Type 0 where
+pub record IsRightReply (texts : Option (List Text)) (p : Definitions) (e : Question × Kept ReplyValue) : Type 0 where
   pub same : same_keys e.1.keys (reach_of p (question_seen e.0)) ≡ true
-  pub reply : IsReplyBy texts p (question_seen e.0) (reply_seen e.1.value)
-  pub answers : refuses (reply_seen e.1.value) ≡ false
+  pub reply : IsReplyBy texts p (question_seen e.0) e.1.value
+  pub answers : refuses e.1.value ≡ false
 
-abbrev pub AreRightReplies : Option (List Text) → Definitions → LruCache Question (Kept Reply) → Type 0
-AreRightReplies texts p cache = (e : Question × Kept Reply) → Contains cache.entries e → IsRightReply texts p e
+abbrev pub AreRightReplies : Option (List Text) → Definitions → LruCache Question (Kept ReplyValue) → Type 0
+AreRightReplies texts p cache = (e : Question × Kept ReplyValue) → Contains cache.entries e → IsRightReply texts p e
 
 -- the reply is kept under the question, with the keys; or nothing is
-abbrev pub AddsReply : Question → ReplyValue → List KeyValue → LruCache Question (Kept Reply) → LruCache Question (Kept Reply) → Type 0
+abbrev pub AddsReply : Question → ReplyValue → List KeyValue → LruCache Question (Kept ReplyValue) → LruCache Question (Kept ReplyValue) → Type 0
 AddsReply q reply keys old new =
     (new ≡ old)
-    ⊎ ((kept : Kept Reply) × (reply_seen kept.value ≡ reply) × (kept.keys ≡ keys)
+    ⊎ ((kept : Kept ReplyValue) × (kept.value ≡ reply) × (kept.keys ≡ keys)
     × (new ≡ lru_cache (put_entries (λ p r. asks_same (question_seen p) (question_seen r)) old q kept) old.cap))
 
 -- a refusal isn't kept
-abbrev pub KeepsNew : Question → ReplyValue → List KeyValue → LruCache Question (Kept Reply) → LruCache Question (Kept Reply) → Type 0
+abbrev pub KeepsNew : Question → ReplyValue → List KeyValue → LruCache Question (Kept ReplyValue) → LruCache Question (Kept ReplyValue) → Type 0
 KeepsNew q reply keys old new = ((refuses reply ≡ true) × (new ≡ old)) ⊎ ((refuses reply ≡ false) × AddsReply q reply keys old new)
 
 -- ---- what is left
@@ -93,7 +93,7 @@ Retains changed old new = (new ≡ lru_cache (filter (λ e. is_untouched changed
 
 -- All that is kept is right by the definitions, and there is room for 16 schemas and for 256 replies.
 pub record IsSound {Y : Type 0} (texts : Option (List Text)) (p : Definitions) (schemas : LruCache (Vec Key Y) (Kept SchemaValue))
-    (replies : LruCache Question (Kept Reply)) : Type 0 where
+    (replies : LruCache Question (Kept ReplyValue)) : Type 0 where
   pub right_schemas : AreRightSchemas p schemas
   pub right_replies : AreRightReplies texts p replies
   pub schemas_bound : schemas.cap ≡ 16

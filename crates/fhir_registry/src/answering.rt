@@ -21,6 +21,7 @@ fn answer_line(registry: &mut Registry, alloc: Global, line: &[u8]) -> Result<Li
 {
     fixed_lines();
     match Command::of_line(alloc, line)? {
+        Some(Command::Ask(question)) => registry.ask_line(alloc, question),
         Some(command) => registry.apply(alloc, command)?.line(alloc),
         None => Ok(Line::Fixed(LINE_FAULT)),
     }

@@ -30,6 +30,7 @@ mod registry;
 mod replies;
 mod schemas;
 mod shared;
+mod written;
 
 pub use laws::same_replies;
 pub use registry::Registry;

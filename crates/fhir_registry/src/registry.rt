@@ -7,15 +7,16 @@ ghost use Rattle.fhir_package.specs.Changing.{put_each, without, has_url};
 ghost use Rattle.fhir_reach.specs.Reach.{all_put_keys};
 ghost use Rattle.lru.specs.LruCache.{lru_cache};
 ghost use Rattle.fhir_commands.specs.Commands.{CommandValue, put, remove, command_seen, question_seen};
-ghost use Rattle.fhir_commands.specs.Replies.{ReplyValue, reply_seen, refuses};
+ghost use Rattle.fhir_commands.specs.Replies.{ReplyValue, reply_seen, refuses, line_seen};
 ghost use Rattle.fhir_registry.specs.Session.{definitions_of, put_answer, put_after, remove_answer, after, IsReplyBy, after_all, AreRepliesBy};
 ghost use Rattle.fhir_registry.specs.Keeping.{reply_kept, ForgetsAll, Forgets, KeepsFor, Keeps};
+ghost use Rattle.fhir_registry.specs.Lines.{WritesReply};
 
 use crate::asking::compute;
 use crate::forgetting::{forget_put, forget_removed};
-use crate::replies::{Replies, recall};
+use crate::replies::{Replies, recall, recall_line};
 use crate::schemas::Schemas;
-use fhir_commands::{Command, PutAnswer, Question, RemoveAnswer, Reply, equal_questions};
+use fhir_commands::{Command, Line, PutAnswer, Question, RemoveAnswer, Reply, equal_questions};
 use fhir_json::{Json, NoMemory};
 use fhir_package::{Definition, Package, has_twice};
 use fhir_reach::{changes_elsewhere, same_sets};
@@ -245,6 +246,18 @@ impl Registry {
             Command::Remove(url) => Ok(Reply::Remove(self.remove(alloc, url.as_str()))),
             Command::Ask(question) => self.ask(alloc, question),
         }
+    }
+
+    /// The line of the reply to a question. One that is kept is not written again. The one refusal is want of memory.
+    pub(crate) fn ask_line(&mut self, alloc: Global, question: Question) -> Result<Line, NoMemory>
+        ensures told { IfOk result (λ line. WritesReply (IsReplyBy self.old.texts self.old.definitions) (question_seen question) (line_seen line)) }
+        ensures definitions { self.new.definitions ≡ self.old.definitions }
+        ensures texts { self.new.texts ≡ self.old.texts }
+    {
+        if let Some(line) = recall_line(alloc, &mut self.replies, &question)? {
+            return Ok(line);
+        }
+        self.ask(alloc, question)?.line(alloc)
     }
 
     /// Does what commands ask, one after the other, and gives the replies. The one refusal is want of memory: then the registry holds what

@@ -129,7 +129,9 @@ fn rule_code(rule: &BrokenRule<'_>) -> &'static str {
         | BrokenRule::Types
         | BrokenRule::TooMany { .. }
         | BrokenRule::InSlices(_, _)
-        | BrokenRule::InNoSlice => "structure",
+        | BrokenRule::InNoSlice
+        | BrokenRule::After(_, _)
+        | BrokenRule::AfterRest(_) => "structure",
         BrokenRule::Fixed | BrokenRule::Pattern | BrokenRule::Range | BrokenRule::Length => "value",
         BrokenRule::Binding(_) => "code-invalid",
         BrokenRule::TooFew { .. } => "required",

@@ -190,6 +190,12 @@ fn shown_of(rule: Rule<'_>) -> Shown<'_> {
         Rule::Closed(_) => Shown::Lacking(
             "the base allows items in slices alone, and the derived profile others",
         ),
+        Rule::Ordered(_) => Shown::Lacking(
+            "the base has items in the order of its slices, and the derived profile in another order, or in any",
+        ),
+        Rule::End(_) => Shown::Lacking(
+            "the base has items that are in no slice at the end, and the derived profile elsewhere too",
+        ),
         Rule::Slice { .. } => Shown::Lacking(
             "the derived profile has no such slice, or no `item` line pairs the two",
         ),

@@ -24,9 +24,13 @@ fn reaches_type(table: &Table, lineage: &Lineage, from: &str, code: &str) -> boo
     requires { IsLineage table.now lineage.now }
     ensures { result ≡ reaches_type table.now from.now code.now }
 {
-    match (table.type_place(from), table.type_place(code)) {
-        (Some(start), Some(goal)) => reaches(table, lineage, start, goal),
-        _ => false,
+    // Most codes that are asked for here are names that are no type's: one look-up tells that.
+    let Some(goal) = table.type_place(code) else {
+        return false;
+    };
+    match table.type_place(from) {
+        Some(start) => reaches(table, lineage, start, goal),
+        None => false,
     }
 }
 

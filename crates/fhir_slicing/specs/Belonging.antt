@@ -65,6 +65,10 @@ belongs s cs x = list_all (criterion_holds s x) cs
 abbrev pub is_in : SchemaValue → NodeRef → Item → Slot → Bool
 is_in s n x slice = belongs s (criteria s (entry_of n slice)) x
 
+-- the first to which it belongs
+abbrev pub slice_of : SchemaValue → NodeRef → Item → Option Slot
+slice_of s n x = find (is_in s n x) (slices s n)
+
 -- of no two of them, by their names
 abbrev pub is_apart : SchemaValue → NodeRef → Item → Bool
 is_apart s n x =
@@ -76,7 +80,7 @@ other_slice s n x one = find (λ other. is_in s n x other && not (bytes_eq one.n
 
 abbrev pub two_slices : SchemaValue → NodeRef → Item → Option (Slot × Slot)
 two_slices s n x =
-    option_and_then (λ one. option_map (λ other. (one, other)) (other_slice s n x one)) (find (is_in s n x) (slices s n))
+    option_and_then (λ one. option_map (λ other. (one, other)) (other_slice s n x one)) (slice_of s n x)
 
 abbrev pub is_sliced : SchemaValue → NodeRef → Item → Bool
 is_sliced s n x = list_any (is_in s n x) (slices s n)

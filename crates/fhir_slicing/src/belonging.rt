@@ -2,14 +2,14 @@
 
 ghost use Rattle.std.specs.Prelude.{◌≡◌, ◌++◌, codes, map, string_bytes};
 ghost use Rattle.std.specs.List.{list_any};
-ghost use Rattle.std.specs.Option.{option_map};
+ghost use Rattle.std.specs.Option.{option_copied, option_map};
 ghost use Rattle.std.specs.Str.{bytes_eq};
 ghost use Rattle.fhir_json.specs.Views.{tree_of};
 ghost use Rattle.fhir_forms.specs.CriteriaSeen.{sought_seen, criterion_seen, criteria_seen};
 ghost use Rattle.fhir_schema.specs.Schemas.{entry_of};
 ghost use Rattle.fhir_instance.specs.Items.{type_of};
 ghost use Rattle.fhir_instance.specs.View.{item_of};
-ghost use Rattle.fhir_slicing.specs.Belonging.{is_called, items_at, is_value, has_pattern, is_typed, criterion_holds, belongs, is_in, is_apart, is_sliced, two_slices};
+ghost use Rattle.fhir_slicing.specs.Belonging.{is_called, items_at, is_value, has_pattern, is_typed, criterion_holds, belongs, is_in, slice_of, is_apart, is_sliced, two_slices};
 ghost use Rattle.fhir_slicing.specs.Finding.{decides};
 
 use fhir_instance::Typed;
@@ -124,6 +124,19 @@ fn is_in(schema: &Schema, node: NodeRef, item: &Typed<'_, '_>, slice: &Slot) -> 
         element: slice.entry(),
     };
     belongs(schema, schema.criteria(entry), item)
+}
+
+/// The first slice of a node's element to which an item belongs, if it is in one (FHIR R4, Profiling, slicing). It takes no
+/// memory.
+pub fn slice_of<'s>(schema: &'s Schema, node: NodeRef, item: &Typed<'_, '_>) -> Option<&'s Slot>
+    ensures { option_copied result ≡ slice_of schema.now node (item_of item.now) }
+{
+    for slice in schema.slices(node) {
+        if is_in(schema, node, item, slice) {
+            return Some(slice);
+        }
+    }
+    None
 }
 
 /// The first slice of a node's element to which an item belongs, and the first of another name; none where the item is in no

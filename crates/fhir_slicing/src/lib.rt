@@ -21,6 +21,6 @@ mod belonging;
 mod laws;
 mod sameness;
 
-pub use belonging::{belongs, is_apart, is_sliced, two_slices};
+pub use belonging::{belongs, is_apart, is_sliced, slice_of, two_slices};
 pub use laws::{belonging_examples, equal_criteria};
 pub use sameness::same_criteria;

@@ -102,6 +102,8 @@ one_carried s x (asked.too_few_in name) n other = one_none
 one_carried s x (asked.too_many_in name) n other = one_none
 one_carried s x (asked.apart position) n other = one_none
 one_carried s x (asked.in_a_slice position) n other = one_none
+one_carried s x (asked.in_order earlier position) n other = one_none
+one_carried s x (asked.in_the_rest position) n other = one_none
 one_carried s x (asked.constraint position) n other =
     one_of constraint_unread (λ c. one_if (must_hold c && is_none (expression_of c)) (unread_constraint c)) (constraint_at s n position)
 

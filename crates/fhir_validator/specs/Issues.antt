@@ -19,11 +19,11 @@ use Rattle.fhir_facets.specs.Views.{unread_seen}
 use Rattle.fhir_slicing.specs.Belonging.{two_slices}
 use Rattle.fhir_conformance.specs.Asks as asked
 use Rattle.fhir_conformance.specs.Asks.{ElementRuleName, Ask, own, asks}
-use Rattle.fhir_conformance.specs.Positions.{kid_at}
+use Rattle.fhir_conformance.specs.Positions.{kid_at, slice_at}
 use Rattle.fhir_conformance.specs.Conformance.{count_of, count_in, constant, as_read, around_of, ask_conforms}
 use Rattle.fhir_conformance.specs.Meeting.{Met, ask_unread}
 use Rattle.fhir_validator.specs.declared.broken_rule.BrokenRule.{BrokenRule}
-use Rattle.fhir_validator.specs.declared.broken_rule.BrokenRule.TheVariants.{RootType, Types as OfTypes, Fixed, Pattern, Range, Length, Binding, TooFew, TooMany, InSlices, InNoSlice, Constraint}
+use Rattle.fhir_validator.specs.declared.broken_rule.BrokenRule.TheVariants.{RootType, Types as OfTypes, Fixed, Pattern, Range, Length, Binding, TooFew, TooMany, InSlices, InNoSlice, After, AfterRest, Constraint}
 use Rattle.fhir_validator.specs.declared.issue.Breach.{Breach}
 use Rattle.fhir_validator.specs.declared.issue.Issue.{Issue}
 use Rattle.fhir_validator.specs.declared.issue.Issue.TheVariants.{Misfit, Broken}
@@ -43,6 +43,9 @@ pub data Said : Type 0 where
   -- two slices that an item is in, by their names; or that it is in none
   in_slices : (one other : List ℕ) → Said
   in_no_slice : Said
+  -- the slice that an item is in, and that of an earlier one, which it may not follow; or an earlier one is in none
+  after : (slice other : List ℕ) → Said
+  after_rest : (slice : List ℕ) → Said
   -- the constraint's key
   constraint : (key : List ℕ) → Said
 
@@ -58,6 +61,8 @@ rule_said (TooFew min found) = too_few min found
 rule_said (TooMany max found) = too_many max found
 rule_said (InSlices one other) = in_slices one.now other.now
 rule_said InNoSlice = in_no_slice
+rule_said (After slice other) = after slice.now other.now
+rule_said (AfterRest slice) = after_rest slice.now
 rule_said (Constraint key) = constraint key.now
 
 -- the value set that a node asks for, or the empty text
@@ -73,6 +78,10 @@ abbrev pub slices_said : SchemaValue → NodeRef → Option Item → Said
 slices_said s n child =
     option_map_or (λ two. in_slices two.0.name two.1.name) (option_and_then (two_slices s n) child) (in_slices [] [])
 
+-- the name of the first slice of a node's element that the child at a position is in, or the empty text
+abbrev pub slice_name : SchemaValue → Item → NodeRef → ℕ → Text
+slice_name s x n position = option_map_or (λ slice. slice.name) (slice_at s x n position) []
+
 -- what is to be said of a rule of a node, at an item
 abbrev pub says : SchemaValue → Item → ElementRuleName → NodeRef → Said
 says s x asked.root_type n = root_type (type_at s n)
@@ -87,7 +96,17 @@ says s x (asked.too_few_in name) n = too_few (option_map_or least_of (element_at
 says s x (asked.too_many_in name) n = too_many (option_and_then (λ e. e.max) (element_at s n)) (count_in s n name x)
 says s x (asked.apart position) n = slices_said s n (kid_at (kids_of x) position)
 says s x (asked.in_a_slice position) n = in_no_slice
+says s x (asked.in_order earlier position) n = after (slice_name s x n position) (slice_name s x n earlier)
+says s x (asked.in_the_rest position) n = after_rest (slice_name s x n position)
 says s x (asked.constraint position) n = constraint (key_at s n position)
+
+-- the child at which a rule is told, where it is one of a child; of two, the later
+abbrev pub told_child : ElementRuleName → Option ℕ
+told_child (asked.apart position) = Some position
+told_child (asked.in_a_slice position) = Some position
+told_child (asked.in_order earlier position) = Some position
+told_child (asked.in_the_rest position) = Some position
+told_child _ = None
 
 -- ---- issues
 

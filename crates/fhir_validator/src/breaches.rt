@@ -8,7 +8,7 @@ ghost use Rattle.fhir_conformance.specs.Positions.{kid_at};
 ghost use Rattle.fhir_conformance.specs.Views.{rule_name, IsIndexOf};
 ghost use Rattle.fhir_instance.specs.Items.{kids_of};
 ghost use Rattle.fhir_instance.specs.View.{item_of};
-ghost use Rattle.fhir_validator.specs.Issues.{rule_said, types, too_few, too_many, says, slices_said, set_at, key_at, told_at, IsNamed};
+ghost use Rattle.fhir_validator.specs.Issues.{rule_said, types, too_few, too_many, after, after_rest, says, slices_said, slice_name, set_at, key_at, told_child, told_at, IsNamed};
 ghost use Rattle.fhir_validator.specs.Layouts.{item_at};
 
 use crate::broken_rule::BrokenRule;
@@ -16,7 +16,7 @@ use crate::issue::{Breach, Site};
 use crate::judging::Judge;
 use crate::pair::ItemPair;
 use crate::place::Place;
-use fhir_conformance::{ElementRule, KidsByName, count_in, kid_at};
+use fhir_conformance::{ElementRule, KidsByName, count_in, kid_at, slice_at};
 use fhir_elements::Max;
 use fhir_facets::Unread;
 use fhir_instance::Typed;
@@ -108,6 +108,46 @@ fn slices_of_kid<'s>(
     }
 }
 
+// The name of the slice of a node's element that the child at a position is in, or the empty text.
+fn slice_name<'s>(
+    schema: &'s Schema,
+    item: &Typed<'_, '_>,
+    node: NodeRef,
+    position: usize,
+) -> &'s str
+    ensures { result.now ≡ slice_name schema.now (item_of item.now) node position }
+{
+    match slice_at(schema, item, node, position) {
+        Some(slice) => slice.name(),
+        None => "",
+    }
+}
+
+fn out_of_order<'s>(
+    schema: &'s Schema,
+    item: &Typed<'_, '_>,
+    node: NodeRef,
+    earlier: usize,
+    position: usize,
+) -> BrokenRule<'s>
+    ensures { rule_said result
+        ≡ after (slice_name schema.now (item_of item.now) node position) (slice_name schema.now (item_of item.now) node earlier) }
+{
+    let own = slice_name(schema, item, node, position);
+    BrokenRule::After(own, slice_name(schema, item, node, earlier))
+}
+
+fn out_of_rest<'s>(
+    schema: &'s Schema,
+    item: &Typed<'_, '_>,
+    node: NodeRef,
+    position: usize,
+) -> BrokenRule<'s>
+    ensures { rule_said result ≡ after_rest (slice_name schema.now (item_of item.now) node position) }
+{
+    BrokenRule::AfterRest(slice_name(schema, item, node, position))
+}
+
 // What is to be said of a rule of a node, at the item that has these children.
 fn broken_rule<'s>(
     schema: &'s Schema,
@@ -144,7 +184,24 @@ fn broken_rule<'s>(
         }
         ElementRule::Apart(position) => slices_of_kid(schema, item, position, node),
         ElementRule::InASlice(_position) => BrokenRule::InNoSlice,
+        ElementRule::InOrder(earlier, position) => {
+            out_of_order(schema, item, node, earlier, position)
+        }
+        ElementRule::InTheRest(position) => out_of_rest(schema, item, node, position),
         ElementRule::Constraint(position) => BrokenRule::Constraint(key_of(schema, node, position)),
+    }
+}
+
+// The child at which a rule is told, where it is one of a child; of two, the later.
+fn told_child(rule: ElementRule<'_>) -> Option<usize>
+    ensures { result ≡ told_child (rule_name rule.entry) }
+{
+    match rule {
+        ElementRule::Apart(position) => Some(position),
+        ElementRule::InASlice(position) => Some(position),
+        ElementRule::InOrder(_earlier, position) => Some(position),
+        ElementRule::InTheRest(position) => Some(position),
+        _ => None,
     }
 }
 
@@ -169,14 +226,15 @@ impl<'s, 't, 'a, 'j> Judge<'s, 't, 'a, 'j> {
 
     // Where a rule is broken at a pair's item.
     fn place_of(&self, pair: ItemPair, rule: ElementRule<'_>) -> Result<Place, NoMemory> {
+        if let Some(position) = told_child(rule) {
+            return self.place_of_kid(pair, position);
+        }
         let (alloc, layout) = (self.alloc(), self.layout());
         match rule {
             ElementRule::TooFew(name) => Place::below(alloc, layout, pair.item, name),
             ElementRule::TooMany(name) => Place::below(alloc, layout, pair.item, name),
             ElementRule::TooFewIn(name) => Place::below(alloc, layout, pair.item, name),
             ElementRule::TooManyIn(name) => Place::below(alloc, layout, pair.item, name),
-            ElementRule::Apart(position) => self.place_of_kid(pair, position),
-            ElementRule::InASlice(position) => self.place_of_kid(pair, position),
             _ => Place::of(alloc, layout, pair.item),
         }
     }

@@ -39,6 +39,10 @@ pub enum BrokenRule<'s> {
     InSlices(&'s str, &'s str),
     /// Each item is in one of the slices.
     InNoSlice,
+    /// No item in the slice of the first name stands behind one in the slice of the second.
+    After(&'s str, &'s str),
+    /// No item in the slice of that name stands behind one that is in none of the slices.
+    AfterRest(&'s str),
     /// The expression of the constraint with that key is true.
     Constraint(&'s str),
 }
@@ -68,6 +72,8 @@ impl fmt::Display for BrokenRule<'_> {
             BrokenRule::TooMany { max, found } => write_most(f, max, found),
             BrokenRule::InSlices(one, other) => write!(f, "in slices {one} and {other}"),
             BrokenRule::InNoSlice => f.write_str("in no slice"),
+            BrokenRule::After(own, other) => write!(f, "slice {own} after {other}"),
+            BrokenRule::AfterRest(own) => write!(f, "slice {own} after the rest"),
             BrokenRule::Constraint(key) => write!(f, "invariant {key}"),
         }
     }

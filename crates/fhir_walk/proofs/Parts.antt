@@ -1,5 +1,7 @@
 -- What a node asks, part by part.
-use Rattle.std.proofs.Common.{◌≡◌, ℕ, Bool, true, false, List, [], ◌∷◌, ◌++◌, map, refl, sym, ap, ◌∙◌, ◌&&◌, IsTrue, Option, Some, None, cond}
+use Rattle.std.proofs.Common.{◌≡◌, ℕ, Bool, true, false, List, [], ◌∷◌, ◌++◌, map, refl, sym, ap, ◌∙◌, ◌&&◌, ◌||◌, IsTrue, Option, Some, None, cond}
+use Rattle.std.proofs.lemmas.Bool.{true≢false}
+use Rattle.std.proofs.lemmas.List.{append-nil}
 use Rattle.std.specs.List.{list_all, flat_map}
 use Rattle.std.specs.Option.{option_map_or}
 use Rattle.std.proofs.lemmas.List.Folds.{list_all-append}
@@ -12,9 +14,10 @@ use Rattle.fhir_schema.specs.Covers.{covers, type_at}
 use Rattle.fhir_schema.specs.Schemas.{SchemaValue, element_at, is_root_node, type_root, slices, is_closed, entry_of, types as node_types}
 use Rattle.fhir_instance.specs.Items.{Item, type_of}
 use Rattle.fhir_facets.specs.Cardinality.{are_enough, are_within}
+use Rattle.fhir_facets.specs.Order.{is_ordered, is_open_at_end}
 use Rattle.fhir_slicing.specs.Belonging.{is_apart, is_sliced}
 use Rattle.fhir_conformance.specs.Positions.{at_kid, members}
-use Rattle.fhir_conformance.specs.Asks.{Ask, own, too_few_in, too_many_in, profile, child_ask, facet_asks, constraint_asks, own_root, entry_roots, profile_asks, places_of, apart_ask, in_slice_ask, slice_asks, sliced_asks, slot_asks, kids_asks, root_asks, inner_asks}
+use Rattle.fhir_conformance.specs.Asks.{Ask, own, too_few_in, too_many_in, profile, child_ask, facet_asks, constraint_asks, own_root, entry_roots, profile_asks, places_of, apart_ask, in_slice_ask, order_asks, rest_ask, behind_rest, sequence_asks, slice_asks, sliced_asks, slot_asks, kids_asks, root_asks, inner_asks}
 use Rattle.fhir_conformance.specs.Conformance.{Around, constant, conforms, at_element, count_of, count_in, fixed_at, pattern_at, range_at, length_at, binding_at, types_hold}
 use Rattle.fhir_conformance.proofs.ByAsks.{IsOfType, IsOfCanonical, conforms_to}
 use Rattle.fhir_walk.specs.Walks.{none, passes, pass_all, is_rightly_sliced, facets_hold, rest_holds}
@@ -99,7 +102,7 @@ module _ (s : SchemaValue) (here : Around) (x : Item) where
   regrouped false b c = refl
 
   unsliced : (name : Text) (places : List ℕ) (n : NodeRef) → IsTrue (is_empty (slices s n)) → sliced_asks s x name places n ≡ []
-  unsliced name places n is = ap (λ b. cond b [] (map (apart_ask n) places ++ (flat_map (slice_asks s x name places n) (slices s n) ++ cond (is_closed s n) (map (in_slice_ask n) places) []))) is
+  unsliced name places n is = ap (λ b. cond b [] (map (apart_ask n) places ++ (flat_map (slice_asks s x name places n) (slices s n) ++ (cond (is_closed s n) (map (in_slice_ask n) places) [] ++ sequence_asks s x n places)))) is
 
   pub slot_parts : (h : NodeRef) (slot : Slot) → IsTrue (is_empty (slices s (entry_of h slot))) → pass_all s here x (slot_asks s x h slot)
       ≡ ((at_element s (λ e. are_enough e (count_of slot.name x)) (entry_of h slot) && at_element s (λ e. are_within e (count_of slot.name x)) (entry_of h slot))
@@ -151,14 +154,24 @@ module _ (s : SchemaValue) (here : Around) (x : Item) where
   closed_pass n places true = in_slices_pass n places
   closed_pass n places false = refl
 
-  pub sliced_split : (name : Text) (n : NodeRef) → is_empty (slices s n) ≡ false → pass_all s here x (sliced_asks s x name (places_of name x) n)
+  -- how the children stand is asked where the slicing says so
+  no_sequence : (n : NodeRef) (places : List ℕ) → (is_ordered s n || is_open_at_end s n) ≡ false → sequence_asks s x n places ≡ []
+  no_sequence n places none = by_case (is_ordered s n) (is_open_at_end s n) none
+    where
+      by_case : (a b : Bool) → (a || b) ≡ false → (cond a (order_asks s x n [] places) [] ++ cond b (map (rest_ask n) (behind_rest s x n places)) []) ≡ []
+      by_case true b none = absurd (true≢false none)
+      by_case false true none = absurd (true≢false none)
+      by_case false false none = refl
+
+  pub sliced_split : (name : Text) (n : NodeRef) → is_empty (slices s n) ≡ false → (is_ordered s n || is_open_at_end s n) ≡ false → pass_all s here x (sliced_asks s x name (places_of name x) n)
       ≡ (is_rightly_sliced s n name x && pass_all s here x (flat_map (slice_asks s x name (places_of name x) n) (slices s n)))
-  sliced_split name n is =
+  sliced_split name n is unordered =
       let places = places_of name x in
       let apart = map (apart_ask n) places in
       let each = flat_map (slice_asks s x name places n) (slices s n) in
       let closed = cond (is_closed s n) (map (in_slice_ask n) places) [] in
-      ap (λ b. pass_all s here x (cond b [] (apart ++ (each ++ closed)))) is
+      ap (λ b. pass_all s here x (cond b [] (apart ++ (each ++ (closed ++ sequence_asks s x n places))))) is
+      ∙ ap (λ asks. pass_all s here x (apart ++ (each ++ asks))) (ap (λ asks. closed ++ asks) (no_sequence n places unordered) ∙ append-nil closed)
       ∙ joined apart (each ++ closed)
       ∙ (λ i. apart_pass n places i && joined each closed i)
       ∙ (λ i. list_all (at_kid true (is_apart s n) x) places && (pass_all s here x each && closed_pass n places (is_closed s n) i))

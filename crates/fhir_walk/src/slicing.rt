@@ -1,13 +1,15 @@
 //! The slices of an element at the children of a name (FHIR R4, Profiling, slicing).
 
-ghost use Rattle.std.specs.Prelude.{◌≡◌, length, true, ◌&&◌, if◌then◌else◌};
+ghost use Rattle.std.specs.Prelude.{◌≡◌, length, true, ◌&&◌, ◌||◌, if◌then◌else◌};
 ghost use Rattle.std.specs.Str.{bytes_eq};
 ghost use Rattle.fhir_schema.specs.Schemas.{criteria, entry_of, is_closed};
+ghost use Rattle.fhir_facets.specs.Order.{is_ordered, is_open_at_end};
 ghost use Rattle.fhir_instance.specs.View.{item_of, named_of};
 ghost use Rattle.fhir_slicing.specs.Belonging.{belongs, is_apart, is_sliced};
 ghost use Rattle.fhir_conformance.specs.Conformance.{count_in};
 ghost use Rattle.fhir_walk.specs.Walks.{named_pass, is_rightly_sliced};
 
+use fhir_facets::{is_open_at_end, is_ordered};
 use fhir_instance::{Kid, Typed};
 use fhir_names::Name;
 use fhir_schema::{NodeRef, Schema, Slot};
@@ -72,6 +74,13 @@ fn are_sliced_if_closed(schema: &Schema, item: &Typed<'_, '_>, name: &Name, node
         return true;
     }
     are_sliced(schema, item, name, node)
+}
+
+/// Whether a node's slicing asks how the children stand to one another, which a walk doesn't tell.
+pub(crate) fn asks_sequence(schema: &Schema, node: NodeRef) -> bool
+    ensures { result ≡ (is_ordered schema.now node || is_open_at_end schema.now node) }
+{
+    is_ordered(schema, node) || is_open_at_end(schema, node)
 }
 
 /// Whether no child of a name is in two slices of a node's element, and each is in one, if the slicing is closed.

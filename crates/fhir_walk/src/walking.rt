@@ -16,7 +16,7 @@ use crate::children::count_named;
 use crate::facets::{facets_hold, is_held};
 use crate::known::{is_free, nearest_by, own_root};
 use crate::rules::{allows_count, constraints_hold};
-use crate::slicing::{count_members, entry_of, is_member, is_rightly_sliced};
+use crate::slicing::{asks_sequence, count_members, entry_of, is_member, is_rightly_sliced};
 use fhir_conformance::judge_entry;
 use fhir_elements::TypeEntry;
 use fhir_instance::{Kid, Typed};
@@ -358,6 +358,9 @@ fn sliced_conform<'t, 'a, 'j>(
     let slices = schema.slices(node);
     if slices.is_empty() {
         return Some(true);
+    }
+    if asks_sequence(schema, node) {
+        return None;
     }
     if !spend(left, slices.len().saturating_mul(item.kids().len())) {
         return None;

@@ -1,7 +1,7 @@
 -- What is asked of children by their positions is asked of them.
-use Rattle.std.proofs.Common.{◌≡◌, ◌+◌, ℕ, zero, suc, Bool, true, false, cond, not, List, [], ◌∷◌, ◌++◌, map, filter, length, get_or, Option, None, Some, refl, ap, ap₂, ◌∙◌, subst, ◌&&◌, ◌||◌, arith}
+use Rattle.std.proofs.Common.{◌≡◌, ◌+◌, ℕ, zero, suc, Bool, true, false, cond, not, List, [], ◌∷◌, ◌++◌, map, filter, length, get_or, Option, None, Some, is_some, is_none, refl, sym, ap, ap₂, ◌∙◌, subst, ◌&&◌, ◌||◌, arith}
 use Rattle.std.specs.List.{list_all, flat_map}
-use Rattle.std.specs.Option.{option_map_or}
+use Rattle.std.specs.Option.{option_map, option_map_or, option_and_then}
 use Rattle.std.specs.Str.{bytes_eq}
 use Rattle.std.proofs.lemmas.Bool.{true≢false, false≢true}
 use Rattle.std.proofs.lemmas.Option.{none-some, same_Some}
@@ -13,11 +13,14 @@ use Rattle.fhir_nodes.specs.Slots.{Slot}
 use Rattle.fhir_schema.specs.Schemas.{SchemaValue, slots, slices, criteria, entry_of, is_closed, holder}
 use Rattle.fhir_instance.specs.Items.{Item, Kids, no_kids, kid, kids_of}
 use Rattle.fhir_facets.specs.Cardinality.{are_enough, are_within}
-use Rattle.fhir_slicing.specs.Belonging.{belongs, is_apart, is_sliced}
-use Rattle.fhir_conformance.specs.Positions.{kid_at, at_kid}
-use Rattle.fhir_conformance.specs.Asks.{Ask, own, too_few_in, too_many_in, places_from, places_of, child_ask, apart_ask, in_slice_ask, slice_asks, sliced_asks, named_asks, slot_asks, slots_ask, kids_asks}
+use Rattle.fhir_facets.specs.Order.{may_follow, are_in_order, is_rest_last, is_ordered, is_open_at_end}
+use Rattle.fhir_facets.proofs.KeptOrder.{mapped_pairs}
+use Rattle.fhir_slicing.specs.Belonging.{belongs, slice_of, is_apart, is_sliced}
+use Rattle.fhir_conformance.specs.Positions.{kid_at, at_kid, slice_place}
+use Rattle.fhir_conformance.proofs.Sequenced.{order_is, rest_is}
+use Rattle.fhir_conformance.specs.Asks.{Ask, own, too_few_in, too_many_in, places_from, places_of, child_ask, apart_ask, in_slice_ask, order_asks, rest_ask, behind_rest, sequence_asks, slice_asks, sliced_asks, named_asks, slot_asks, slots_ask, kids_asks}
 use Rattle.fhir_conformance.specs.Conformance.{Interpretation, Around, inside, below, at_element, conforms, kid_tests, ask_conforms}
-use Rattle.further_laws.specs.Children.{Child, children_from, child_conforms, slice_holds, slices_hold, element_holds, slot_holds, slots_hold}
+use Rattle.further_laws.specs.Children.{Child, children_from, child_conforms, slice_holds, slice_places, sequence_holds, slices_hold, element_holds, slot_holds, slots_hold}
 
 -- ---- lists
 
@@ -61,6 +64,19 @@ module _ (around : Around) (name : Text) where
           → list_all p (cond b (i ∷ places_from (suc i) name kids) (places_from (suc i) name kids))
           ≡ list_all q (cond b (child i x ∷ children_from around (suc i) name kids) (children_from around (suc i) name kids))
       by true more = ap₂ (λ a b. a && b) (agree_here p q i other x kids agree) more
+      by false more = more
+
+  -- what is given by positions is given by the children at them
+  map_children : {A : Type 0} (p : ℕ → A) (q : Child → A) (i : ℕ) (kids : Kids) → Agree p q i kids
+      → map p (places_from i name kids) ≡ map q (children_from around i name kids)
+  map_children p q i no_kids agree = refl
+  map_children {A} p q i (kid other x kids) agree =
+      by (bytes_eq name other) (map_children p q (suc i) kids (agree_behind p q i other x kids agree))
+    where
+      by : (b : Bool) → map p (places_from (suc i) name kids) ≡ map q (children_from around (suc i) name kids)
+          → map p (cond b (i ∷ places_from (suc i) name kids) (places_from (suc i) name kids))
+          ≡ map q (cond b (child i x ∷ children_from around (suc i) name kids) (children_from around (suc i) name kids))
+      by true more = ap₂ (λ (y : A) ys. y ∷ ys) (agree_here p q i other x kids agree) more
       by false more = more
 
   count_children : (i : ℕ) (kids : Kids) → length (places_from i name kids) ≡ length (children_from around i name kids)
@@ -168,6 +184,37 @@ module _ (s : SchemaValue) (meaning : Interpretation) (around : Around) (x : Ite
       all_mapped holds (in_slice_ask n) places
       ∙ all_children within name (λ k. holds (in_slice_ask n k)) (λ c. is_sliced s n c.itself) 0 (kids_of x) (at_position true (is_sliced s n))
 
+  -- ---- how they stand
+
+  abbrev place : NodeRef → ℕ → Option ℕ
+  place n i = slice_place s x n i
+
+  abbrev their_places : NodeRef → List (Option ℕ)
+  their_places n = slice_places s meaning n children
+
+  placed : (n : NodeRef) → map (place n) places ≡ their_places n
+  placed n =
+      map_children within name (place n) (λ c. option_map (λ slice. slice.entry) (slice_of s n c.itself)) 0 (kids_of x)
+      (λ j y e.
+      let same : 0 + j ≡ j = omega arith in
+      ap (place n) same ∙ ap (λ o. option_map (λ slice. slice.entry) (option_and_then (slice_of s n) o)) e)
+
+  in_sequence : (n : NodeRef) → list_all holds (sequence_asks s x n places) ≡ sequence_holds s meaning children n
+  in_sequence n =
+      list_all-append holds (cond (is_ordered s n) (order_asks s x n [] places) []) (cond (is_open_at_end s n) (map (rest_ask n) (behind_rest s x n places)) [])
+      ∙ ap₂ (λ a b. a && b) (ordered (is_ordered s n)) (at_end (is_open_at_end s n))
+    where
+      ordered : (b : Bool) → list_all holds (cond b (order_asks s x n [] places) []) ≡ (not b || are_in_order (their_places n))
+      ordered true = order_is s x n holds (λ j i. refl) places ∙ sym (mapped_pairs may_follow (place n) places) ∙ ap are_in_order (placed n)
+      ordered false = refl
+
+      at_end : (b : Bool) → list_all holds (cond b (map (rest_ask n) (behind_rest s x n places)) []) ≡ (not b || is_rest_last (their_places n))
+      at_end true =
+          rest_is s x n holds (λ i. refl) places
+          ∙ sym (mapped_pairs (λ p q. not (is_none p && is_some q)) (place n) places)
+          ∙ ap is_rest_last (placed n)
+      at_end false = refl
+
   abbrev belonging : NodeRef → Child → Bool
   belonging m c = belongs s (criteria s m) c.itself
 
@@ -199,20 +246,20 @@ module _ (s : SchemaValue) (meaning : Interpretation) (around : Around) (x : Ite
       closing false = refl
 
       by : (none c : Bool)
-          → list_all holds (cond none [] (map (apart_ask n) places ++ (flat_map (slice_asks s x name places n) (slices s n) ++ cond c (map (in_slice_ask n) places) [])))
+          → list_all holds (cond none [] (map (apart_ask n) places ++ (flat_map (slice_asks s x name places n) (slices s n) ++ (cond c (map (in_slice_ask n) places) [] ++ sequence_asks s x n places))))
           ≡ (none || (list_all (λ (d : Child). is_apart s n d.itself) children
-          && (list_all (slice_holds s meaning children n) (slices s n) && (not c || list_all (λ (d : Child). is_sliced s n d.itself) children))))
+          && (list_all (slice_holds s meaning children n) (slices s n) && ((not c || list_all (λ (d : Child). is_sliced s n d.itself) children) && sequence_holds s meaning children n))))
       by true c = refl
       by false c =
           let last = cond c (map (in_slice_ask n) places) [] in
           let each = flat_map (slice_asks s x name places n) (slices s n) in
-          list_all-append holds (map (apart_ask n) places) (each ++ last)
+          list_all-append holds (map (apart_ask n) places) (each ++ (last ++ sequence_asks s x n places))
           ∙ ap₂ (λ a b. a && b) (each_apart n)
-          (list_all-append holds each last
+          (list_all-append holds each (last ++ sequence_asks s x n places)
           ∙ ap₂ (λ a b. a && b)
           (all_gathered holds (slice_asks s x name places n) (slices s n)
           ∙ all_alike (λ slice. list_all holds (slice_asks s x name places n slice)) (slice_holds s meaning children n) (of_slice n) (slices s n))
-          (closing c))
+          (list_all-append holds last (sequence_asks s x n places) ∙ ap₂ (λ a b. a && b) (closing c) (in_sequence n)))
 
   of_name : (n : NodeRef) → list_all holds (named_asks s x name places n) ≡ element_holds s meaning children n
   of_name n =

@@ -14,7 +14,7 @@ use Rattle.fhir_elements.specs.Tests.{all_hold}
 use Rattle.fhir_definition.specs.Definition.{Definition}
 use Rattle.fhir_nodes.specs.declared.node.NodeRef.{NodeRef}
 use Rattle.fhir_nodes.specs.Slots.{slots_of}
-use Rattle.fhir_forms.specs.Slicings.{discriminators_of, is_unordered}
+use Rattle.fhir_forms.specs.Slicings.{discriminators_of}
 use Rattle.fhir_forms.specs.Criteria.{Criterion, criterion_of, is_told, is_told_by, criteria_by, sliced_at, criteria_in, is_told_apart, criteria_of, are_told_apart}
 use Rattle.fhir_schema.specs.Settling.{reason_at, fault_of, types_are_usable, has_tree, targets_are_usable, lasting_tests}
 use Rattle.fhir_schema.specs.Usability.{IsClosed}
@@ -93,7 +93,7 @@ module _ (s : SchemaValue) (placed : (place : ℕ) (d : Definition) → slice_ge
     parts : (nat_lt 0 (length (discriminators_of sliced)) ≡ true) × (list_all (is_told (slots_of s.definitions d) d.elements n.element) (discriminators_of sliced) ≡ true)
     parts =
         and_parts (nat_lt 0 (length (discriminators_of sliced))) (list_all (is_told (slots_of s.definitions d) d.elements n.element) (discriminators_of sliced))
-        (and_parts _ (is_unordered sliced) told).0
+        told
 
     pub each_criterion : map (λ (c : Criterion). Some c) (criteria s n)
         ≡ map (criterion_of (slots_of s.definitions d) d.elements n.element) (discriminators_of sliced)

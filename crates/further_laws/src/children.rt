@@ -22,7 +22,8 @@ pub fn one_of_several_profiles()
 
 /// All that a node asks of an item's children holds exactly where, of each name that these may have, they are enough and not too many,
 /// each conforms to the element of that name, none is in two slices, those in a slice conform to it and are enough and not too many,
-/// and each is in a slice where the slicing is closed.
+/// each is in a slice where the slicing is closed, they stand in the order of the slices where it is ordered, so that the places of
+/// these in the definition never go down, and none in a slice stands behind one that is in none where it is open at its end.
 pub fn children_by_name()
     ensures { (s : SchemaValue) (meaning : Interpretation) (around : Around) (x : Item) (n : NodeRef)
         → list_all (ask_conforms s meaning around x) (kids_asks s x n) ≡ slots_hold s meaning around x n }

@@ -22,10 +22,10 @@ pub fn discriminators_example()
     ensures by_profile { reason_for (sliced_by (codes "profile") (codes "c") no_members) any ≡ Some UnsupportedSlicing }
 {}
 
-/// Slicings whose items may stand in any order can be used, open or closed; those that are open at their end, or ordered, can't.
+/// Slicings can be used whatever their rules are, and whether they are ordered or not.
 pub fn orders_of_slices()
     ensures open { reason_for (sliced_by (codes "type") (codes "c") (of_rules (codes "open"))) any ≡ None }
     ensures closed { reason_for (sliced_by (codes "type") (codes "c") (of_rules (codes "closed"))) any ≡ None }
-    ensures open_at_end { reason_for (sliced_by (codes "type") (codes "c") (of_rules (codes "openAtEnd"))) any ≡ Some UnsupportedSlicing }
-    ensures ordered { reason_for (sliced_by (codes "type") (codes "c") ordered) any ≡ Some UnsupportedSlicing }
+    ensures open_at_end { reason_for (sliced_by (codes "type") (codes "c") (of_rules (codes "openAtEnd"))) any ≡ None }
+    ensures ordered { reason_for (sliced_by (codes "type") (codes "c") ordered) any ≡ None }
 {}

@@ -41,3 +41,15 @@ returns-in-Apart-clause-vouched c = c.of-in-Apart.ensures.vouched _
 
 pub returns-in-InASlice-clause-vouched : goal.returns-in-InASlice-clause-vouched
 returns-in-InASlice-clause-vouched c = c.of-in-InASlice.ensures.vouched _
+
+pub returns-in-InOrder-clause-carried : goal.returns-in-InOrder-clause-carried
+returns-in-InOrder-clause-carried c = c.of-in-InOrder.ensures.carried _
+
+pub returns-in-InTheRest-clause-carried : goal.returns-in-InTheRest-clause-carried
+returns-in-InTheRest-clause-carried c = c.of-in-InTheRest.ensures.carried _
+
+pub returns-in-InOrder-clause-vouched : goal.returns-in-InOrder-clause-vouched
+returns-in-InOrder-clause-vouched c = c.of-in-InOrder.ensures.vouched _
+
+pub returns-in-InTheRest-clause-vouched : goal.returns-in-InTheRest-clause-vouched
+returns-in-InTheRest-clause-vouched c = c.of-in-InTheRest.ensures.vouched _

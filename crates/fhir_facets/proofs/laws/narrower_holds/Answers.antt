@@ -3,6 +3,7 @@ use Rattle.fhir_facets.proofs.Keeping.{fixed_kept, pattern_kept, fitted_kept}
 use Rattle.fhir_facets.proofs.KeptBounds.{range_kept}
 use Rattle.fhir_facets.proofs.KeptTargets.{targets_kept}
 use Rattle.fhir_facets.proofs.KeptBindings.{binding_kept}
+use Rattle.fhir_facets.proofs.KeptOrder.{order_kept}
 use Rattle.fhir_facets.proofs.laws.narrower_holds.Goals as goal
 
 pub returns-clause-fixed : goal.returns-clause-fixed
@@ -24,3 +25,6 @@ returns-clause-targets c s m = targets_kept s m (c.covering_codes.ensures.transi
 pub returns-clause-binding : goal.returns-clause-binding
 returns-clause-binding c s m own base x fair =
     binding_kept (λ a b. (c.subsets.ensures a b).0) c.codes_of_subset.ensures s m fair x own base
+
+pub returns-clause-order : goal.returns-clause-order
+returns-clause-order c s n m names narrower each own = order_kept s n m names each own narrower

@@ -4,7 +4,7 @@ use Rattle.std.specs.List.{list_all, flat_map}
 use Rattle.std.proofs.lemmas.List.{length-map}
 use Rattle.fhir_elements.specs.declared.reason.Reason.TheVariants.{UnsupportedSlicing}
 use Rattle.fhir_elements.specs.Causes.{reason_of, reason_unless}
-use Rattle.fhir_forms.specs.Slicings.{discriminators_of, is_unordered}
+use Rattle.fhir_forms.specs.Slicings.{discriminators_of}
 use Rattle.fhir_forms.specs.Criteria.{told_criteria, is_told, is_told_by}
 use Rattle.fhir_forms.specs.CriteriaSeen.{criteria_seen, test_seen}
 use Rattle.fhir_forms.proofs.Distinct.{none_told}
@@ -22,8 +22,8 @@ returns-then-is_some-clause-criteria c =
     let all : is_none untold ≡ list_all (is_told slots elements c.args.place) by =
     c.in_ok-criteria.ensures.all ∙ ap (list_all (is_told slots elements c.args.place)) c.requires in
     let reason : option_map reason_of c.slicing_cause-cause.result ≡ reason_unless (is_told_by slots elements c.args.place sliced) UnsupportedSlicing =
-    c.slicing_cause-cause.ensures ∙ ap (λ n. reason_unless (nat_lt 0 n && is_none untold && is_unordered sliced) UnsupportedSlicing) count
-    ∙ ap (λ b. reason_unless (nat_lt 0 (length by) && b && is_unordered sliced) UnsupportedSlicing) all in
+    c.slicing_cause-cause.ensures ∙ ap (λ n. reason_unless (nat_lt 0 n && is_none untold) UnsupportedSlicing) count
+    ∙ ap (λ b. reason_unless (nat_lt 0 (length by) && b) UnsupportedSlicing) all in
     ap criteria_seen c.new-criteria.ensures.items
     ∙ none_told (is_told_by slots elements c.args.place sliced) c.slicing_cause-cause.result UnsupportedSlicing (flat_map (told_criteria slots elements c.args.place) by)
     there reason

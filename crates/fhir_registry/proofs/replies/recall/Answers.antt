@@ -9,7 +9,7 @@ use Rattle.fhir_registry.proofs.replies.recall.Goals as goal
 pub returns-clause-found : goal.returns-clause-found
 returns-clause-found c =
     c.in_ok-found.ensures
-    ∙ ap (option_map (λ k. reply_seen k.value)) (c.peek.ensures ∙ ap (λ (test : Question → Bool). lookup test c.args.replies.now.entries) (one_test c.equal_questions.ensures c.args.question.now))
+    ∙ ap (option_map (λ k. k.value)) (c.peek.ensures ∙ ap (λ (test : Question → Bool). lookup test c.args.replies.now.entries) (one_test c.equal_questions.ensures c.args.question.now))
 
 pub returns-clause-promoted : goal.returns-clause-promoted
 returns-clause-promoted c =

@@ -205,7 +205,7 @@ sliced_conform-returns-then-not-is_rightly_sliced t c = λ here stands.
     sym (empty_is c.slices-slices.result.now ∙ ap is_empty c.slices-slices.ensures) ∙ sym c.is_empty.ensures ∙ c.if-is_empty.false in
     both_failed (pass_all s here x (sliced_asks s x name (places_of name x) n)) (is_rightly_sliced s n name x)
     (pass_all s here x (flat_map (slice_asks s x name (places_of name x) n) (slices s n)))
-    (sliced_split s here x name n some) (sym c.is_rightly_sliced.ensures ∙ c.if-not-is_rightly_sliced.true)
+    (sliced_split s here x name n some (sym c.asks_sequence.ensures ∙ c.if-asks_sequence.false)) (sym c.is_rightly_sliced.ensures ∙ c.if-not-is_rightly_sliced.true)
 
 pub sliced_conform-returns : goal.sliced_conform-returns
 sliced_conform-returns t c =
@@ -221,7 +221,7 @@ sliced_conform-returns t c =
     (λ told tells here stands. tells here stands
     ∙ sym (both_left (pass_all s here x (sliced_asks s x name (places_of name x) n)) (is_rightly_sliced s n name x)
     (pass_all s here x (flat_map (slice_asks s x name (places_of name x) n) (slices s n)))
-    (sliced_split s here x name n some) (sym c.is_rightly_sliced.ensures ∙ c.if-not-is_rightly_sliced.false)))
+    (sliced_split s here x name n some (sym c.asks_sequence.ensures ∙ c.if-asks_sequence.false)) (sym c.is_rightly_sliced.ensures ∙ c.if-not-is_rightly_sliced.false)))
     c.slices_conform.result c.slices_conform.ensures
 
 pub slices_conform-returns-then-not-branch : goal.slices_conform-returns-then-not-branch

@@ -70,7 +70,7 @@ pub returns-clause-held : goal.returns-clause-held
 returns-clause-held c =
     let asked = question_seen c.args.question in
     let none = none_of _ (sym (ap (option_map reply_seen) c.in_default.is) ∙ c.in_ok-reply.ensures.found) in
-    if_none _ _ (ap (λ (v : RegistryValue). reply_kept asked v.replies) (sym c.self.view_is) ∙ lookup_seen asked c.self.inside.replies.entries ∙ ap (option_map (λ kept. reply_seen kept.value)) none)
+    if_none _ _ (ap (λ (v : RegistryValue). reply_kept asked v.replies) (sym c.self.view_is) ∙ lookup_seen asked c.self.inside.replies.entries ∙ ap (option_map (λ kept. kept.value)) none)
 
 pub returns-clause-keeps : goal.returns-clause-keeps
 returns-clause-keeps c =
@@ -78,6 +78,6 @@ returns-clause-keeps c =
     let asked = question_seen c.args.question in
     let none = none_of _ (sym (ap (option_map reply_seen) c.in_default.is) ∙ c.in_ok-reply.ensures.found) in
     let same = unfound (λ q. asks_same asked (question_seen q)) was.replies c.recall.new.replies c.in_ok-reply.ensures.promoted none in
-    let kept = subst (λ (cache : LruCache Question (Kept Reply)). IsComputed c.compute.result was.definitions c.args.question cache c.compute.new.replies) same c.compute.ensures.kept in
+    let kept = subst (λ (cache : LruCache Question (Kept ReplyValue)). IsComputed c.compute.result was.definitions c.args.question cache c.compute.new.replies) same c.compute.ensures.kept in
     subst (λ (v : RegistryValue). IfOk c.compute.result (λ r. KeepsFor asked (reply_seen r) (reply_kept asked v.replies) v.replies (map entry_seen c.compute.new.replies.entries))) c.self.view_is
     (computed_keeps c.compute.result was.definitions c.args.question was.replies c.compute.new.replies c.self.invariant.replies_bound none kept)
