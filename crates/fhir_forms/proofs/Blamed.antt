@@ -1,15 +1,13 @@
 -- What is first to blame, and that each blame names an element of its definition.
-use Rattle.std.proofs.Common.{◌≡◌, ℕ, zero, suc, ◌+◌, ◌<◌, ◌⊎◌, inl, inr, Bool, true, false, ◌&&◌, List, [], ◌∷◌, ◌++◌, length, map, take, get_or, Option, None, Some, is_some, refl, ap, sym, subst, ◌∙◌, true≢false, arith}
-use Rattle.std.specs.Option.{option_map, option_or}
+use Rattle.std.proofs.Common.{◌≡◌, ℕ, zero, suc, ◌+◌, ◌<◌, ◌⊎◌, inl, inr, Bool, true, false, ◌&&◌, List, [], ◌∷◌, ◌++◌, length, map, take, get_or, Option, None, Some, refl, ap, sym, subst, ◌∙◌, arith}
+use Rattle.std.specs.Option.{option_or}
 use Rattle.std.specs.List.{slice_get, list_all}
-use Rattle.std.proofs.lemmas.Bool.{false≢true}
 use Rattle.std.proofs.lemmas.List.{map-append, length-map, length-take, take_more, get_or_push}
 use Rattle.std.proofs.lemmas.List.Folds.{list_all-append}
 use Rattle.std.proofs.lemmas.Option.{same_Some}
 use Rattle.fhir_elements.specs.declared.reason.Reason.{Reason}
-use Rattle.fhir_elements.specs.declared.cause.Cause.{Cause}
 use Rattle.fhir_elements.specs.declared.cause.Blame.{Blame}
-use Rattle.fhir_elements.specs.Causes.{reason_of, reason_unless, is_blame_among}
+use Rattle.fhir_elements.specs.Causes.{reason_unless, is_blame_among}
 use Rattle.fhir_definition.specs.Snapshot.{child_place}
 use Rattle.fhir_definition.specs.Children.{under_each_from, children_of}
 use Rattle.fhir_definition.specs.Definition.{Definition}
@@ -36,19 +34,6 @@ all_more p xs i x within is =
     last : (b : Bool) → b ≡ (b && true)
     last true = refl
     last false = refl
-
--- a cause stays one, whatever else is asked
-pub stays : (a b holds : Bool) (r : Reason) (cause : Option Cause) → is_some cause ≡ true → option_map reason_of cause ≡ reason_unless holds r
-    → option_map reason_of cause ≡ reason_unless (a && b && holds) r
-stays a b holds r None there is = absurd (false≢true there)
-stays a b true r (Some cause) there is = absurd (true≢false (ap is_some is))
-stays a b false r (Some cause) there is = is ∙ ap (λ x. reason_unless x r) (sym (never a b))
-  where
-    never : (a b : Bool) → (a && b && false) ≡ false
-    never true true = refl
-    never true false = refl
-    never false true = refl
-    never false false = refl
 
 -- ---- one item more
 
