@@ -19,8 +19,7 @@ use Rattle.fhir_schema.specs.Schemas.{SchemaValue}
 use Rattle.fhir_commands.specs.Commands.{CommandValue, asks_same, question_seen}
 use Rattle.fhir_commands.specs.declared.question.Question.{Question}
 use Rattle.fhir_commands.specs.declared.question.Question.TheVariants.{Validate, Derive}
-use Rattle.fhir_commands.specs.Replies.{ReplyValue, reply_seen, refuses}
-use Rattle.fhir_commands.specs.declared.reply.Reply.{Reply}
+use Rattle.fhir_commands.specs.Replies.{ReplyValue, refuses}
 use Rattle.fhir_registry.specs.declared.kept.Kept.{Kept}
 use Rattle.fhir_registry.specs.Session.{IsQuestion, IsReplyBy, starts_by, reach_of}
 use Rattle.fhir_registry.specs.Sound.{IsSchemaOf, IsRightFor, IsRightSchema, AreRightSchemas, IsRightReply, AreRightReplies, AddsReply, KeepsNew, is_untouched, Retains, IsSound}

@@ -14,7 +14,6 @@ use Rattle.fhir_commands.specs.Commands.{CommandValue, put, remove, validate, de
 use Rattle.fhir_commands.specs.declared.question.Question.{Question}
 use Rattle.fhir_commands.specs.Replies.{DeriveValue, ReplyValue, reply_seen, refuses}
 use Rattle.fhir_commands.specs.Replies as replies
-use Rattle.fhir_commands.specs.declared.reply.Reply.{Reply}
 use Rattle.fhir_commands.specs.declared.reply.Standing.{Standing}
 use Rattle.fhir_replies.specs.Judging.{IsJudged, IsJudgedAsGiven}
 use Rattle.fhir_replies.specs.Deriving.{IsDeriveAnswer}

@@ -1,7 +1,7 @@
 //! Lines that a registry answers.
 
-ghost use Rattle.std.specs.Prelude.{◌≡◌, IfOk, OnErr};
-ghost use Rattle.fhir_commands.specs.Commands.{line_command};
+ghost use Rattle.std.specs.Prelude.{◌≡◌, Some, IfOk, OnErr};
+ghost use Rattle.fhir_commands.specs.Commands.{line_command, command_seen};
 ghost use Rattle.fhir_commands.specs.Replies.{line_seen};
 ghost use Rattle.fhir_registry.specs.Lines.{AnswersCommand, AnswersLine};
 
@@ -13,6 +13,19 @@ use std::alloc::Global;
 use std::io;
 use std::io::Write;
 
+// The line of the reply to a command. Where definitions are changed it takes no memory, so that what was done is always told.
+fn apply_line(
+    registry: &mut Registry,
+    alloc: Global,
+    command: Command<'_>,
+) -> Result<Line, NoMemory>
+    ensures told { IfOk result (λ written. AnswersCommand registry.old (Some (command_seen command.entry)) registry.new (line_seen written)) }
+    ensures unchanged { OnErr result (registry.new.definitions ≡ registry.old.definitions) }
+    ensures texts { registry.new.texts ≡ registry.old.texts }
+{
+    registry.apply(alloc, command)?.line(alloc)
+}
+
 // The answer to a line, unless memory runs out.
 fn answer_line(registry: &mut Registry, alloc: Global, line: &[u8]) -> Result<Line, NoMemory>
     ensures told { IfOk result (λ written. AnswersCommand registry.old (line_command line.now) registry.new (line_seen written)) }
@@ -22,7 +35,7 @@ fn answer_line(registry: &mut Registry, alloc: Global, line: &[u8]) -> Result<Li
     fixed_lines();
     match Command::of_line(alloc, line)? {
         Some(Command::Ask(question)) => registry.ask_line(alloc, question),
-        Some(command) => registry.apply(alloc, command)?.line(alloc),
+        Some(command) => apply_line(registry, alloc, command),
         None => Ok(Line::Fixed(LINE_FAULT)),
     }
 }

@@ -2,7 +2,6 @@ use Rattle.std.proofs.Common.{ap, ◌∙◌, Bool, option_map}
 use Rattle.std.specs.Map.{lookup}
 use Rattle.lru.specs.LruCache.{lru_cache, promoted}
 use Rattle.fhir_commands.specs.declared.question.Question.{Question}
-use Rattle.fhir_commands.specs.Replies.{reply_seen}
 use Rattle.fhir_registry.proofs.Equal.{one_test}
 use Rattle.fhir_registry.proofs.replies.recall.Goals as goal
 

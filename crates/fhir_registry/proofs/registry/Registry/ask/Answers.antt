@@ -5,7 +5,6 @@ use Rattle.lru.specs.LruCache.{LruCache}
 use Rattle.fhir_json.specs.Tree.{Text}
 use Rattle.fhir_commands.specs.Commands.{asks_same, question_seen}
 use Rattle.fhir_commands.specs.declared.question.Question.{Question}
-use Rattle.fhir_commands.specs.declared.reply.Reply.{Reply}
 use Rattle.fhir_commands.specs.Replies.{ReplyValue, reply_seen, refuses}
 use Rattle.fhir_registry.specs.declared.kept.Kept.{Kept}
 use Rattle.fhir_registry.specs.Session.{IsReplyBy}

@@ -1,4 +1,4 @@
-use Rattle.std.proofs.Common.{◌≡◌, ◌∙◌, ap, sym, subst, Option}
+use Rattle.std.proofs.Common.{◌∙◌, ap, sym, subst}
 use Rattle.std.specs.Option.{option_map}
 use Rattle.fhir_commands.specs.Commands.{asks_same, question_seen}
 use Rattle.fhir_commands.specs.Replies.{line_seen}
