@@ -1,6 +1,6 @@
 //! Sets of concepts.
 
-ghost use Rattle.std.specs.Prelude.{◌≡◌, IsTrue, is_some};
+ghost use Rattle.std.specs.Prelude.{◌≡◌, IsTrue, is_some, true, IfSome};
 ghost use Rattle.std.specs.List.Sorted.{IsSorted};
 ghost use Rattle.std.specs.List.{list_all, list_any};
 ghost use Rattle.std.specs.Ordering.{eq_by_cmp};
@@ -84,6 +84,14 @@ impl ConceptSet {
             .as_slice()
             .binary_search_by(|c| c.cmp_code(code))
             .is_ok()
+    }
+
+    /// The system and the code of the concept at a position, in the order of the codes' bytes, and then of the systems'.
+    pub fn at(&self, position: usize) -> Option<(&str, &str)>
+        ensures { IfSome result (λ c. set.contains self.now (concept c.0.now c.1.now) ≡ true) }
+    {
+        let concept = self.table.as_slice().get(position)?;
+        Some((concept.system(), concept.code()))
     }
 
     pub(crate) fn has(&self, concept: &SharedConcept) -> bool

@@ -1,0 +1,58 @@
+//! What is made: a way, with the change at its end.
+
+use crate::demand::Demand;
+use crate::step::{Change, Step};
+use fhir_schema::Schema;
+
+/// What is made of a candidate.
+#[derive(Clone, Copy)]
+pub(crate) struct Task<'c, 's> {
+    pub(crate) schema: &'s Schema,
+    pub(crate) steps: &'c [Step<'s>],
+    pub(crate) change: Change<'s>,
+    /// The code of a type of resources, for where any will do.
+    pub(crate) plain: &'s str,
+}
+
+impl<'s> Task<'_, 's> {
+    // The change, if the way ends here.
+    fn change_of(&self, demand: Demand<'s>) -> Option<Change<'s>> {
+        match demand {
+            Demand::Way(at) if at == self.steps.len() => Some(self.change),
+            _ => None,
+        }
+    }
+
+    /// What is changed of an item that is asked for so.
+    pub(crate) fn change_at(&self, demands: &[Demand<'s>]) -> Change<'s> {
+        for demand in demands {
+            if let Some(change) = self.change_of(*demand) {
+                return change;
+            }
+        }
+        Change::Nothing
+    }
+
+    // The step to a child of a name, with its number.
+    fn step_of(&self, demand: Demand<'s>, name: &str) -> Option<(usize, Step<'s>)> {
+        let Demand::Way(at) = demand else {
+            return None;
+        };
+        let step = self.steps.get(at).copied()?;
+        if step.name == name {
+            Some((at, step))
+        } else {
+            None
+        }
+    }
+
+    /// The step to a child of that name, with its number, if the way leads there.
+    pub(crate) fn step_to(&self, demands: &[Demand<'s>], name: &str) -> Option<(usize, Step<'s>)> {
+        for demand in demands {
+            if let Some(step) = self.step_of(*demand, name) {
+                return Some(step);
+            }
+        }
+        None
+    }
+}
