@@ -6,11 +6,9 @@ ghost use Rattle.fhir_json.specs.Tree.{Tree};
 ghost use Rattle.fhir_json.specs.Grammar.{Reads};
 ghost use Rattle.fhir_validator.specs.Verdicts.{is_conforming, is_violating, conforms_as_given};
 
-use crate::kinds::plain_code;
-use crate::making::make;
-use crate::step::Candidate;
-use crate::ways::candidates;
+use fhir_candidates::{candidate, plain_code};
 use fhir_certificate::{NodePair, Pair};
+use fhir_differences::{Difference, differences};
 use fhir_json::{NoMemory, one_tree};
 use fhir_schema::Schema;
 use fhir_validator::{Fault, Verdict, Vouched, validate, validate_given};
@@ -121,18 +119,18 @@ fn shows_given(
 
 // ---- candidates
 
-// What is to be made of two profiles, and from what.
-fn candidates_for<'s>(
+// Where two profiles may differ.
+fn differences_of<'s>(
     alloc: Global,
     schema: &'s Schema,
     derived: &str,
     base: &str,
     pair: Pair,
-) -> Result<Vec<Candidate<'s>>, NoMemory> {
+) -> Result<Vec<Difference<'s>>, NoMemory> {
     let (Some(derived), Some(base)) = (schema.root(derived), schema.root(base)) else {
         return Ok(Vec::new(alloc));
     };
-    candidates(alloc, schema, NodePair { derived, base }, pair)
+    differences(alloc, schema, NodePair { derived, base }, pair)
 }
 
 fn made<'s>(
@@ -140,10 +138,10 @@ fn made<'s>(
     schema: &'s Schema,
     derived: &str,
     plain: &'s str,
-    candidate: &Candidate<'s>,
+    difference: &Difference<'s>,
 ) -> Result<Option<Vec<u8>>, NoMemory> {
     match schema.root(derived) {
-        Some(root) => make(alloc, schema, root, plain, candidate),
+        Some(root) => candidate(alloc, schema, root, plain, difference),
         None => Ok(None),
     }
 }
@@ -204,9 +202,9 @@ pub fn counterexample(
 {
     one_tree();
     let plain = plain_code(schema);
-    let candidates = candidates_for(alloc, schema, derived, base, pair)?;
-    for candidate in &candidates {
-        let bytes = made(alloc, schema, derived, plain, candidate)?;
+    let differences = differences_of(alloc, schema, derived, base, pair)?;
+    for difference in &differences {
+        let bytes = made(alloc, schema, derived, plain, difference)?;
         let found = shown(alloc, schema, derived, base, bytes)?;
         if found.is_some() {
             return Ok(found);
@@ -229,9 +227,9 @@ pub fn counterexample_given(
 {
     one_tree();
     let plain = plain_code(schema);
-    let candidates = candidates_for(alloc, schema, derived, base, pair)?;
-    for candidate in &candidates {
-        let bytes = made(alloc, schema, derived, plain, candidate)?;
+    let differences = differences_of(alloc, schema, derived, base, pair)?;
+    for difference in &differences {
+        let bytes = made(alloc, schema, derived, plain, difference)?;
         let found = shown_given(alloc, schema, derived, base, bytes, given)?;
         if found.is_some() {
             return Ok(found);
