@@ -201,13 +201,7 @@ impl<'f> Session<'f> {
                 base,
                 given,
                 ..
-            } => {
-                let texts = NamedFile {
-                    name: *given,
-                    bytes: first,
-                };
-                self.counter_given(alloc, *derived, *base, texts)
-            }
+            } => self.counter_given(alloc, *derived, *base, *given, first),
             Request::Check {
                 certificate,
                 prefixes,
@@ -369,15 +363,19 @@ impl<'f> Session<'f> {
         alloc: Global,
         derived: &str,
         base: &str,
-        given: NamedFile<'_>,
+        name: &str,
+        file: Option<&[u8]>,
     ) -> Result<Reply, NoMemory>
         ensures told { IfOk result (λ r. IsReply (package_answer (refusal self.now.survey)
-            (counter_given_answer self.now derived.now base.now given.entry.name.now (bytes_seen given.entry.bytes))) (reply_seen r)) }
+            (counter_given_answer self.now derived.now base.now name.now (bytes_seen file.entry))) (reply_seen r)) }
         ensures promised { IfOk result (λ r. status_of (reply_seen r) ≡ 0
             → (self.now.survey.faults ≡ []) × Derived (schema_in self.now) derived.now base.now) }
     {
         match self.package() {
-            Ok(_schema) => counter_given(alloc, self, derived, base, given),
+            Ok(_schema) => {
+                let given = NamedFile { name, bytes: file };
+                counter_given(alloc, self, derived, base, given)
+            }
             Err(fault) => Ok(refused_reply(alloc, fault)?),
         }
     }
