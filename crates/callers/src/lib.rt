@@ -3,7 +3,7 @@
 //! in any case.
 #![tactic(auto)]
 
-ghost use Rattle.std.specs.Prelude.{◌≡◌, ◌∷◌, ◌++◌, ◌↔◌, ◌||◌, [], map, Some, length, get_or, false, None, Ok, OnOk, OnErr, All, is_ok, is_some, List, Option, Result, if◌then◌else◌, IsTrue, IfOk, codes, string_bytes, option_map};
+ghost use Rattle.std.specs.Prelude.{◌≡◌, ◌∷◌, ◌++◌, ◌↔◌, ◌||◌, [], map, Some, length, get_or, false, None, Ok, OnOk, OnErr, All, is_ok, is_some, List, Option, Result, if◌then◌else◌, IsTrue, IfOk, IfSome, codes, string_bytes, option_map};
 ghost use Rattle.std.specs.FinSet as set;
 ghost use Rattle.std.specs.List.{list_any};
 ghost use Rattle.std.specs.Option.{option_map_or};
@@ -51,6 +51,7 @@ ghost use Rattle.fhir_certificate.specs.Certificate.{CertificateValue};
 ghost use Rattle.fhir_certificate.specs.Judging.{Stands};
 ghost use Rattle.fhir_cert_check.specs.Checking.{SpellsCertificate};
 ghost use Rattle.fhir_entail.specs.Entailment.{entails};
+ghost use Rattle.fhir_counter.specs.Shows.{Shows};
 ghost use Rattle.fhir_derive_check.specs.Reaching.{HasCertificate};
 ghost use Rattle.fhir_findings.specs.Finding.{selected_unusable};
 ghost use Rattle.fhir_positions.specs.Positions.{IsOfValue};
@@ -76,14 +77,18 @@ ghost use Rattle.fhir_registry.specs.Session.{IsReply};
 
 use fhir_archives::PackageJson;
 use fhir_asking::{Asks, settle};
+use fhir_candidates::{candidate, plain_code};
 use fhir_cert_check::{Answer, check_bytes};
-use fhir_certificate::CertFault;
+use fhir_certificate::{CertFault, NodePair, Pair};
 use fhir_codes::expand;
 use fhir_commands::{Command, Reply, Standing};
 use fhir_conformance::{KidsByName, asks};
+use fhir_counter::counterexample;
 use fhir_decimal::Decimal;
 use fhir_definition::Definition;
+use fhir_demands::{Demand, below};
 use fhir_derive_check::{DeriveFault, Outcome, derive};
+use fhir_differences::{Difference, differences};
 use fhir_elements::{ElementDef, ElementFault};
 use fhir_entail::entails;
 use fhir_facets::{Facet, Pattern, narrower_holds};
@@ -387,6 +392,52 @@ pub fn has_certificate(
     match derive(alloc, schema, derived, base)? {
         Outcome::Derives(_) => Ok(true),
         Outcome::NoCertificate(_, _) => Ok(false),
+    }
+}
+
+/// In how many places two profiles may differ, of which a pair fails.
+pub fn difference_count(
+    alloc: Global,
+    schema: &Schema,
+    roots: NodePair,
+    pair: Pair,
+) -> Result<usize, NoMemory> {
+    Ok(differences(alloc, schema, roots, pair)?.len())
+}
+
+/// How many things each child of a name is asked for, by what its parent is.
+pub fn demand_count<'s>(
+    alloc: Global,
+    schema: &'s Schema,
+    demands: &[Demand<'s>],
+    name: &str,
+) -> Result<usize, NoMemory> {
+    Ok(below(alloc, schema, demands, name)?.len())
+}
+
+/// Whether a resource is made of a profile, by its root, with a change at some place.
+pub fn has_candidate<'s>(
+    alloc: Global,
+    schema: &'s Schema,
+    root: NodeRef,
+    difference: &Difference<'s>,
+) -> Result<bool, NoMemory> {
+    Ok(candidate(alloc, schema, root, plain_code(schema), difference)?.is_some())
+}
+
+/// A resource that shows that a profile doesn't narrow its base, if one is found where no certificate exists.
+pub fn refutation(
+    alloc: Global,
+    schema: &Schema,
+    derived: &str,
+    base: &str,
+) -> Result<Option<Vec<u8>>, NoMemory>
+    ensures { IfOk result (λ found. IfSome found (λ bytes. Shows schema.now derived.now base.now bytes.items)) }
+{
+    match derive(alloc, schema, derived, base) {
+        Ok(Outcome::NoCertificate(pair, _)) => counterexample(alloc, schema, derived, base, pair),
+        Err(DeriveFault::NoMemory) => Err(NoMemory),
+        _ => Ok(None),
     }
 }
 

@@ -47,7 +47,7 @@ conforms_by_given s texts profile bytes (Ok (vouched.Violates issues)) so zero =
 conforms_by_given s texts profile bytes (Ok (vouched.Open sites)) so zero = absurd cc
 conforms_by_given s texts profile bytes (Err fault) so zero = absurd cc
 
-status_noted : (told out : Text) (n : ℕ) → status_of (answer_noted told n out) ≡ n
+pub status_noted : (told out : Text) (n : ℕ) → status_of (answer_noted told n out) ≡ n
 status_noted [] out n = refl
 status_noted (b ∷ told) out n = refl
 

@@ -1,3 +1,4 @@
 pub mod Derived
+pub mod Countered
 pub mod Judging
 pub mod Sessions

@@ -27,21 +27,25 @@ use Rattle.fhir_unread.specs.Unread.{unread_texts}
 use Rattle.fhir_report.specs.Faultless.{CertificateValue}
 use Rattle.fhir_answers.specs.Replying.{ReplyValue, written, noted, told, answer_noted, fault_reply, refused_reply, unreadable_reply, certificate_reply, migrated_reply, derivation_reply}
 use Rattle.fhir_answers.specs.Reporting.{IsAllRight, IsReportOf}
-use Rattle.fhir_words.specs.Requests.{RequestValue, certify, migrate, validate, validate_given, snapshot, derive, check, unread}
+use Rattle.fhir_words.specs.Requests.{RequestValue, certify, migrate, validate, validate_given, snapshot, derive, counter, counter_given, check, unread}
 use Rattle.fhir_answers.specs.Session.{SessionValue, schema_in}
+use Rattle.fhir_answers.specs.Showing.{IsCounterReply, IsGivenCounter}
 use Rattle.fhir_answers.specs.Status.{code_of, standing_status, report_status}
 use Rattle.fhir_answers.specs.Views.{file_at}
 
 -- ---- answers, and the replies that are theirs
 
 -- a reply that is stated; one on the bytes of a resource and a profile, also where a user vouches for unread rules by the bytes of a file of a
--- name; one on the definition at a url; one on a derived profile and its base; or a report on what is selected of a session, and on a certificate
+-- name; one on the definition at a url; one on a derived profile and its base, whether a certificate is derived, or a resource is looked for
+-- that shows that there is none, also by the bytes of such a file; or a report on what is selected of a session, and on a certificate
 pub data AnswerValue : Type 0 where
   stated : ReplyValue → AnswerValue
   judged : SchemaValue → (profile bytes : List ℕ) → AnswerValue
   judged_as_given : SessionValue → (profile bytes name given : List ℕ) → AnswerValue
   listed : Definitions → List ℕ → AnswerValue
   between : SchemaValue → (derived base : List ℕ) → AnswerValue
+  countered : SchemaValue → (derived base : List ℕ) → AnswerValue
+  countered_as_given : SessionValue → (derived base name given : List ℕ) → AnswerValue
   reported : Manner → SelectionValue → SessionValue → Option CertificateValue → AnswerValue
 
 -- The status says how the resource stands, and an outcome that says so is written, with a line feed.
@@ -103,6 +107,8 @@ IsReply (judged s profile bytes) reply = IsAnswered s profile bytes reply
 IsReply (judged_as_given s profile bytes name given) reply = IsGivenReply s profile bytes name given reply
 IsReply (listed p url) reply = IsListed p url reply
 IsReply (between s derived base) reply = IsDerivationReply s derived base reply
+IsReply (countered s derived base) reply = IsCounterReply None s [] derived base reply
+IsReply (countered_as_given s derived base name given) reply = IsGivenCounter s derived base name given reply
 IsReply (reported manner selection s certificate) reply = IsReported manner selection s certificate reply
 
 -- ---- the answer to a request
@@ -130,6 +136,10 @@ validate_answer s profile name file = file_answer (λ bytes. judged s profile by
 abbrev pub given_answer : SessionValue → (profile name : Text) → Option Text → (given_name : Text) → Option Text → AnswerValue
 given_answer s profile name file given_name given =
     file_answer (λ bytes. file_answer (λ texts. judged_as_given s profile bytes given_name texts) given_name given) name file
+
+-- of the bytes of the texts' file
+abbrev pub counter_given_answer : SessionValue → (derived base name : Text) → Option Text → AnswerValue
+counter_given_answer s derived base name file = file_answer (λ lines. countered_as_given s derived base name lines) name file
 
 abbrev pub report_answer : Manner → SelectionValue → SessionValue → Option Text → Option Text → AnswerValue
 report_answer manner selection s None file = reported manner selection s None
@@ -173,6 +183,9 @@ answer_of (validate_given folder profile name given) s first second =
     package_answer (refusal s.survey) (given_answer s profile name first given second)
 answer_of (snapshot folder url) s first second = package_answer (refusal s.survey) (listed s.survey.definitions url)
 answer_of (derive folder derived base) s first second = package_answer (refusal s.survey) (between (schema_in s) derived base)
+answer_of (counter folder derived base) s first second = package_answer (refusal s.survey) (countered (schema_in s) derived base)
+answer_of (counter_given folder derived base given) s first second =
+    package_answer (refusal s.survey) (counter_given_answer s derived base given first)
 answer_of (check folder certificate prefixes manner) s first second = check_answer manner prefixes s certificate first
 answer_of (unread folder profile) s first second = package_answer (refusal s.survey) (stated (unread_reply s profile))
 

@@ -4,5 +4,6 @@ pub mod Views
 pub mod Session
 pub mod Reporting
 pub mod Replying
+pub mod Showing
 pub mod Answering
 pub mod Promising

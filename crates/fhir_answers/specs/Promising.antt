@@ -17,7 +17,7 @@ use Rattle.fhir_replies.specs.Standing.{AlwaysConforms, ConformsAsGiven}
 use Rattle.fhir_report.specs.Faultless.{CertificateValue, Promises, IsRightIfAny, PromisesIfAny}
 use Rattle.fhir_unread.specs.Given.{texts_given, AreSame}
 use Rattle.fhir_answers.specs.Reporting.{asked}
-use Rattle.fhir_words.specs.Requests.{RequestValue, certify, migrate, validate, validate_given, snapshot, derive, check, unread}
+use Rattle.fhir_words.specs.Requests.{RequestValue, certify, migrate, validate, validate_given, snapshot, derive, counter, counter_given, check, unread}
 use Rattle.fhir_answers.specs.Session.{SessionValue}
 use Rattle.fhir_answers.specs.Views.{file_at}
 
@@ -82,6 +82,8 @@ PromisedOf (validate folder profile name) p first second = Validated (schema_of 
 PromisedOf (validate_given folder profile name given) p first second = ValidatedAsGiven (schema_of p) profile first second
 PromisedOf (snapshot folder url) p first second = Listed p url
 PromisedOf (derive folder derived base) p first second = Derived (schema_of p) derived base
+PromisedOf (counter folder derived base) p first second = Derived (schema_of p) derived base
+PromisedOf (counter_given folder derived base given) p first second = Derived (schema_of p) derived base
 PromisedOf (check folder certificate prefixes manner) p first second = Checked prefixes p certificate first
 PromisedOf (unread folder profile) p first second = CanBeListed p profile
 

@@ -98,6 +98,12 @@ derivation_reply s derived base (fails pair rule) = written 1 (wrong_text s pair
 derivation_reply s derived base (missing side) = fault_reply (codes "D1") (on_side side derived base)
 derivation_reply s derived base (unusable side) = fault_reply (codes "D2") (on_side side derived base)
 
+-- What is written of two profiles between which no certificate exists: a resource that was found, on a line; or the pair that fails a rule.
+-- Notes are told beside it.
+abbrev pub shown_reply : SchemaValue → (notes : Text) → Pair → RuleName → Option Text → ReplyValue
+shown_reply s notes pair rule (Some bytes) = answer_noted notes 1 (bytes ++ codes "\n")
+shown_reply s notes pair rule None = answer_noted notes 2 (wrong_text s pair rule)
+
 -- of a certificate's bytes, whose file has that name
 abbrev pub certificate_reply : Text → SchemaValue → Text → ReplyValue
 certificate_reply name s bytes = checked_reply name s (answer_of (reading s bytes) s)

@@ -54,8 +54,8 @@ fn refuted_reply(
     })
 }
 
-// A fault of the profile on a side.
-fn side_reply(
+/// A fault of the profile on a side.
+pub(crate) fn side_reply(
     alloc: Global,
     number: &str,
     side: Side,

@@ -21,6 +21,7 @@
 #![tactic(auto)]
 
 mod answering;
+mod counter_reply;
 mod derive_reply;
 mod given;
 mod migrate_reply;

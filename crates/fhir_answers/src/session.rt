@@ -8,7 +8,7 @@ ghost use Rattle.fhir_report.specs.Faultless.{certificate_seen};
 ghost use Rattle.fhir_unread.specs.Given.{texts_given, AreSame, notes};
 ghost use Rattle.fhir_unread.specs.Listing.{listing};
 ghost use Rattle.fhir_unread.specs.Unread.{unread_texts};
-ghost use Rattle.fhir_answers.specs.Answering.{IsReported, IsReply, stated, listed, between, package_answer, certify_answer, migrate_answer, validate_answer, given_answer, report_answer, check_answer, unread_reply, answer_of, answer_by};
+ghost use Rattle.fhir_answers.specs.Answering.{IsReported, IsReply, stated, listed, between, countered, package_answer, certify_answer, migrate_answer, validate_answer, given_answer, counter_given_answer, report_answer, check_answer, unread_reply, answer_of, answer_by};
 ghost use Rattle.fhir_answers.specs.Promising.{Certified, Migrated, Validated, ValidatedAsGiven, CanBeListed, Listed, Derived, AreRight, CheckedOf, Checked, PromisedOf, SessionPromise};
 ghost use Rattle.fhir_answers.specs.Replying.{reply_seen, status_of, fault_reply, refused_reply};
 ghost use Rattle.fhir_answers.specs.Session.{IsCompleted, IsSessionOf, schema_in};
@@ -17,6 +17,7 @@ ghost use Rattle.fhir_answers.specs.Views.{bytes_seen, files_seen};
 ghost use Rattle.fhir_words.specs.Views.{request_seen};
 
 use crate::answering::{certify, list_snapshot, validate_file};
+use crate::counter_reply::{counter_between, counter_given};
 use crate::derive_reply::derive_between;
 use crate::given::{NamedFile, file_at, list_unread, validate_given};
 use crate::migrate_reply::migrate_file;
@@ -194,6 +195,13 @@ impl<'f> Session<'f> {
             }
             Request::Snapshot { url, .. } => self.snapshot(alloc, *url),
             Request::Derive { derived, base, .. } => self.derive(alloc, *derived, *base),
+            Request::Counter { derived, base, .. } => self.counter(alloc, *derived, *base),
+            Request::CounterGiven {
+                derived,
+                base,
+                given,
+                ..
+            } => self.counter_given(alloc, *derived, *base, *given, first),
             Request::Check {
                 certificate,
                 prefixes,
@@ -334,6 +342,40 @@ impl<'f> Session<'f> {
     {
         match self.package() {
             Ok(schema) => derive_between(alloc, schema, derived, base),
+            Err(fault) => Ok(refused_reply(alloc, fault)?),
+        }
+    }
+
+    fn counter(&self, alloc: Global, derived: &str, base: &str) -> Result<Reply, NoMemory>
+        ensures told { IfOk result (λ r. IsReply
+            (package_answer (refusal self.now.survey) (countered (schema_in self.now) derived.now base.now)) (reply_seen r)) }
+        ensures promised { IfOk result (λ r. status_of (reply_seen r) ≡ 0
+            → (self.now.survey.faults ≡ []) × Derived (schema_in self.now) derived.now base.now) }
+    {
+        match self.package() {
+            Ok(schema) => counter_between(alloc, schema, derived, base),
+            Err(fault) => Ok(refused_reply(alloc, fault)?),
+        }
+    }
+
+    fn counter_given(
+        &self,
+        alloc: Global,
+        derived: &str,
+        base: &str,
+        name: &str,
+        file: Option<&[u8]>,
+    ) -> Result<Reply, NoMemory>
+        ensures told { IfOk result (λ r. IsReply (package_answer (refusal self.now.survey)
+            (counter_given_answer self.now derived.now base.now name.now (bytes_seen file.entry))) (reply_seen r)) }
+        ensures promised { IfOk result (λ r. status_of (reply_seen r) ≡ 0
+            → (self.now.survey.faults ≡ []) × Derived (schema_in self.now) derived.now base.now) }
+    {
+        match self.package() {
+            Ok(_schema) => {
+                let given = NamedFile { name, bytes: file };
+                counter_given(alloc, self, derived, base, given)
+            }
             Err(fault) => Ok(refused_reply(alloc, fault)?),
         }
     }

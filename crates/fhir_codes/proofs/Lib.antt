@@ -1,5 +1,6 @@
 mod Searching
 mod Members
+mod Firsts
 mod CodesKept
 mod Looping
 mod Wholes

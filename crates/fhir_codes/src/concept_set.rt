@@ -1,8 +1,8 @@
 //! Sets of concepts.
 
-ghost use Rattle.std.specs.Prelude.{◌≡◌, IsTrue, is_some};
+ghost use Rattle.std.specs.Prelude.{◌≡◌, IsTrue, IfSome, is_some, is_none, option_map, not, true, false};
 ghost use Rattle.std.specs.List.Sorted.{IsSorted};
-ghost use Rattle.std.specs.List.{list_all, list_any};
+ghost use Rattle.std.specs.List.{find, list_all, list_any};
 ghost use Rattle.std.specs.Ordering.{eq_by_cmp};
 ghost use Rattle.std.specs.FinSet as set;
 ghost use Rattle.fhir_json.specs.Memory.{Gives};
@@ -50,6 +50,52 @@ fn search(concepts: &[SharedConcept], system: &str, code: &str) -> Option<usize>
     concepts.binary_search_by(|c| c.cmp_to(system, code)).ok()
 }
 
+// The system and the code of a concept.
+fn parts(found: Option<&SharedConcept>) -> Option<(&str, &str)>
+    ensures { option_map (λ c. concept c.0.now c.1.now) result ≡ option_map (λ c. c.now) found.entry }
+{
+    match found {
+        Some(concept) => Some((concept.system(), concept.code())),
+        None => None,
+    }
+}
+
+fn first_outside<'c>(concepts: &'c [SharedConcept], other: &ConceptSet) -> Option<&'c SharedConcept>
+    ensures { option_map (λ c. c.now) result ≡ find (λ c. not (set.contains other.now c)) concepts.entry.now }
+{
+    for concept in concepts {
+        if !other.has(concept) {
+            return Some(concept);
+        }
+    }
+    None
+}
+
+fn first_code_outside<'c>(
+    concepts: &'c [SharedConcept],
+    other: &ConceptSet,
+) -> Option<&'c SharedConcept>
+    ensures { option_map (λ c. c.now) result ≡ find (λ c. not (has_code c.code other.now)) concepts.entry.now }
+{
+    for concept in concepts {
+        if !other.contains_code(concept.code()) {
+            return Some(concept);
+        }
+    }
+    None
+}
+
+fn first_common<'c>(concepts: &'c [SharedConcept], other: &ConceptSet) -> Option<&'c SharedConcept>
+    ensures { option_map (λ c. c.now) result ≡ find (set.contains other.now) concepts.entry.now }
+{
+    for concept in concepts {
+        if other.has(concept) {
+            return Some(concept);
+        }
+    }
+    None
+}
+
 impl ConceptSet {
     /// The set of these concepts, in any order.
     pub(crate) fn of(mut concepts: Vec<SharedConcept>) -> Result<ConceptSet, NoMemory>
@@ -84,6 +130,33 @@ impl ConceptSet {
             .as_slice()
             .binary_search_by(|c| c.cmp_code(code))
             .is_ok()
+    }
+
+    /// The system and the code of the first concept that another set doesn't have, in the order of the codes' bytes, and then of the
+    /// systems'.
+    pub fn first_outside(&self, other: &ConceptSet) -> Option<(&str, &str)>
+        ensures none { is_none result ≡ set.is_subset self.now other.now }
+        ensures found { IfSome result (λ c. (set.contains self.now (concept c.0.now c.1.now) ≡ true)
+            × (set.contains other.now (concept c.0.now c.1.now) ≡ false)) }
+    {
+        parts(first_outside(self.table.as_slice(), other))
+    }
+
+    /// The first whose code no concept of another set has.
+    pub fn first_code_outside(&self, other: &ConceptSet) -> Option<(&str, &str)>
+        ensures some { is_some result ≡ list_any (λ c. not (has_code c.code other.now)) (set.items self.now) }
+        ensures found { IfSome result (λ c. (set.contains self.now (concept c.0.now c.1.now) ≡ true) × (has_code c.1.now other.now ≡ false)) }
+    {
+        parts(first_code_outside(self.table.as_slice(), other))
+    }
+
+    /// The first that another set has too.
+    pub fn first_common(&self, other: &ConceptSet) -> Option<(&str, &str)>
+        ensures some { is_some result ≡ list_any (set.contains other.now) (set.items self.now) }
+        ensures found { IfSome result (λ c. (set.contains self.now (concept c.0.now c.1.now) ≡ true)
+            × (set.contains other.now (concept c.0.now c.1.now) ≡ true)) }
+    {
+        parts(first_common(self.table.as_slice(), other))
     }
 
     pub(crate) fn has(&self, concept: &SharedConcept) -> bool

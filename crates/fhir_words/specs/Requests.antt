@@ -18,6 +18,10 @@ pub data RequestValue : Type 0 where
   snapshot : (folder url : List ℕ) → RequestValue
   -- the certificate that the profile at a url narrows that at another, over the definitions in a folder
   derive : (folder derived base : List ℕ) → RequestValue
+  -- a resource that conforms to the profile at a url and not to that at another, where the one doesn't narrow the other
+  counter : (folder derived base : List ℕ) → RequestValue
+  -- the same where the unread rules hold whose texts a file gives
+  counter_given : (folder derived base given : List ℕ) → RequestValue
   -- What is wrong with the files of a folder, and with the certificate in a file, if there is one. Where there are prefixes, it is asked of
   -- the definitions whose urls begin with one of them, and of those that they reach.
   check : (folder : List ℕ) → (certificate : Option (List ℕ)) → (prefixes : List (List ℕ)) → Manner → RequestValue
@@ -31,6 +35,8 @@ folder_of (validate folder profile file) = folder
 folder_of (validate_given folder profile file given) = folder
 folder_of (snapshot folder url) = folder
 folder_of (derive folder derived base) = folder
+folder_of (counter folder derived base) = folder
+folder_of (counter_given folder derived base given) = folder
 folder_of (check folder certificate prefixes manner) = folder
 folder_of (unread folder profile) = folder
 
@@ -47,6 +53,8 @@ files_of (validate folder profile file) = file ∷ []
 files_of (validate_given folder profile file given) = file ∷ given ∷ []
 files_of (snapshot folder url) = []
 files_of (derive folder derived base) = []
+files_of (counter folder derived base) = []
+files_of (counter_given folder derived base given) = given ∷ []
 files_of (check folder certificate prefixes manner) = one_file certificate
 files_of (unread folder profile) = []
 

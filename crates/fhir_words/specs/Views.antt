@@ -4,14 +4,14 @@ use Rattle.std.specs.Borrow.{Bor}
 use Rattle.fhir_json.specs.Tree.{Text}
 use Rattle.fhir_json.specs.Views.{text_seen}
 use Rattle.fhir_words.specs.declared.request.Request.{Request}
-use Rattle.fhir_words.specs.declared.request.Request.TheVariants.{Certify, Migrate, Validate, ValidateGiven, Snapshot, Derive, Check, Unread}
+use Rattle.fhir_words.specs.declared.request.Request.TheVariants.{Certify, Migrate, Validate, ValidateGiven, Snapshot, Derive, Counter, CounterGiven, Check, Unread}
 use Rattle.fhir_words.specs.declared.request.Invocation.{Invocation}
 use Rattle.fhir_words.specs.declared.request.Invocation.TheVariants.{Request as Asked, Version}
 use Rattle.fhir_words.specs.declared.request.Task.{Task}
 use Rattle.fhir_words.specs.declared.request.Task.TheVariants.{Answer, Serve, Gather, ValidateAll}
 use Rattle.fhir_words.specs.declared.request.BulkRequest.{BulkRequest}
 use Rattle.fhir_words.specs.declared.request.WordsFault.{WordsFault}
-use Rattle.fhir_words.specs.Requests.{RequestValue, certify, migrate, validate, validate_given, snapshot, derive, check, unread, InvocationValue, request, version, BulkValue, TaskValue, answer, serve, gather, validate_all}
+use Rattle.fhir_words.specs.Requests.{RequestValue, certify, migrate, validate, validate_given, snapshot, derive, counter, counter_given, check, unread, InvocationValue, request, version, BulkValue, TaskValue, answer, serve, gather, validate_all}
 
 abbrev pub texts_seen : List (Bor Text) → List Text
 texts_seen texts = map (λ t. t.now) texts
@@ -23,6 +23,8 @@ request_seen (Validate folder profile file) = validate folder.now profile.now fi
 request_seen (ValidateGiven folder profile file given) = validate_given folder.now profile.now file.now given.now
 request_seen (Snapshot folder url) = snapshot folder.now url.now
 request_seen (Derive folder derived base) = derive folder.now derived.now base.now
+request_seen (Counter folder derived base) = counter folder.now derived.now base.now
+request_seen (CounterGiven folder derived base given) = counter_given folder.now derived.now base.now given.now
 request_seen (Check folder certificate prefixes manner) = check folder.now (text_seen certificate) (map string_bytes prefixes.items) manner
 request_seen (Unread folder profile) = unread folder.now (text_seen profile)
 

@@ -6,7 +6,7 @@ use Rattle.fhir_json.specs.Tree.{Text}
 use Rattle.fhir_words.specs.declared.request.Format.TheVariants.{Text as AsText}
 use Rattle.fhir_words.specs.declared.request.Detail.TheVariants.{Once}
 use Rattle.fhir_words.specs.declared.request.Manner.{Manner}
-use Rattle.fhir_words.specs.Requests.{RequestValue, certify, migrate, validate, validate_given, snapshot, derive, check, unread, InvocationValue, request, BulkValue, TaskValue, answer, serve, gather, validate_all}
+use Rattle.fhir_words.specs.Requests.{RequestValue, certify, migrate, validate, validate_given, snapshot, derive, counter, counter_given, check, unread, InvocationValue, request, BulkValue, TaskValue, answer, serve, gather, validate_all}
 
 abbrev pub is_option : Text → Bool
 is_option word = starts_with nat_eq word (codes "-")
@@ -43,6 +43,16 @@ derive_request command first second third =
     if bytes_eq command (codes "derive") && not (is_option first) && are_plain second third
     then Some (derive first second third) else None
 
+abbrev pub counter_request : Text → Text → Text → Text → Option RequestValue
+counter_request command first second third =
+    if bytes_eq command (codes "counter") && not (is_option first) && are_plain second third
+    then Some (counter first second third) else None
+
+abbrev pub counter_given_request : Text → Text → Text → Text → Text → Option RequestValue
+counter_given_request command first second third fourth =
+    if bytes_eq command (codes "counter-given") && are_plain first second && are_plain third fourth
+    then Some (counter_given first second third fourth) else None
+
 -- a report in texts, in which what several elements carry is told once
 abbrev pub plain_manner : Manner
 plain_manner = record { format = AsText; detail = Once }
@@ -76,8 +86,10 @@ command_request command (first ∷ second ∷ []) =
     (first_some (snapshot_request command first second)
     (first_some (check_beside command first second) (unread_of_profile command first second)))
 command_request command (first ∷ second ∷ third ∷ []) =
-    first_some (validate_request command first second third) (derive_request command first second third)
-command_request command (first ∷ second ∷ third ∷ fourth ∷ []) = validate_given_request command first second third fourth
+    first_some (validate_request command first second third)
+    (first_some (derive_request command first second third) (counter_request command first second third))
+command_request command (first ∷ second ∷ third ∷ fourth ∷ []) =
+    first_some (validate_given_request command first second third fourth) (counter_given_request command first second third fourth)
 command_request command _ = None
 
 -- the same behind the program's name

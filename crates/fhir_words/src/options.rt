@@ -52,6 +52,21 @@ fn derive<'a>(alloc: Global) -> Result<Command<'a>, AllocError> {
         .arg(Arg::new(alloc, "BASE").required(true))
 }
 
+fn counter<'a>(alloc: Global) -> Result<Command<'a>, AllocError> {
+    Command::new(alloc, "counter")
+        .arg(Arg::new(alloc, "PACKAGE").required(true))?
+        .arg(Arg::new(alloc, "DERIVED").required(true))?
+        .arg(Arg::new(alloc, "BASE").required(true))
+}
+
+fn counter_given<'a>(alloc: Global) -> Result<Command<'a>, AllocError> {
+    Command::new(alloc, "counter-given")
+        .arg(Arg::new(alloc, "PACKAGE").required(true))?
+        .arg(Arg::new(alloc, "DERIVED").required(true))?
+        .arg(Arg::new(alloc, "BASE").required(true))?
+        .arg(Arg::new(alloc, "FILE").required(true))
+}
+
 fn flag<'a>(alloc: Global, name: &'static str) -> Arg<'a> {
     Arg::new(alloc, name).long(name).action(ArgAction::SetTrue)
 }
@@ -114,6 +129,8 @@ fn program<'a>(alloc: Global) -> Result<Command<'a>, AllocError> {
         .subcommand(validate_given(alloc)?)?
         .subcommand(snapshot(alloc)?)?
         .subcommand(derive(alloc)?)?
+        .subcommand(counter(alloc)?)?
+        .subcommand(counter_given(alloc)?)?
         .subcommand(check(alloc)?)?
         .subcommand(unread(alloc)?)?
         .subcommand(serve(alloc)?)?
@@ -167,6 +184,8 @@ fn matched<'w>(
         "validate-given" => validate_given_matched(matches),
         "snapshot" => snapshot_matched(matches),
         "derive" => derive_matched(matches),
+        "counter" => counter_matched(matches),
+        "counter-given" => counter_given_matched(matches),
         "check" => check_matched(alloc, matches),
         "unread" => unread_matched(matches),
         _ => Err(WordsFault::Usage),
@@ -216,6 +235,23 @@ fn derive_matched<'w>(matches: &ArgMatches<'w>) -> Result<Request<'w>, WordsFaul
         folder: word(matches, "PACKAGE")?,
         derived: word(matches, "DERIVED")?,
         base: word(matches, "BASE")?,
+    })
+}
+
+fn counter_matched<'w>(matches: &ArgMatches<'w>) -> Result<Request<'w>, WordsFault> {
+    Ok(Request::Counter {
+        folder: word(matches, "PACKAGE")?,
+        derived: word(matches, "DERIVED")?,
+        base: word(matches, "BASE")?,
+    })
+}
+
+fn counter_given_matched<'w>(matches: &ArgMatches<'w>) -> Result<Request<'w>, WordsFault> {
+    Ok(Request::CounterGiven {
+        folder: word(matches, "PACKAGE")?,
+        derived: word(matches, "DERIVED")?,
+        base: word(matches, "BASE")?,
+        given: word(matches, "FILE")?,
     })
 }
 

@@ -3,7 +3,7 @@
 ghost use Rattle.std.specs.Prelude.{◌≡◌, ◌∷◌, ◌++◌, [], not, map, string_bytes, option_map, IfOk, OnOk};
 ghost use Rattle.std.specs.List.{list_any};
 ghost use Rattle.fhir_words.specs.Requests.{check, answer, gather};
-ghost use Rattle.fhir_words.specs.Words.{is_option, are_plain, plain_manner, certify_request, migrate_request, validate_request, validate_given_request, snapshot_request, derive_request, check_request, check_beside, unread_request, unread_of_profile, first_some, command_request, plain_request, plain_invocation, serve_task, serve_given_task, plain_serving, gather_task, plain_gathering, plain_bulk, plain_task};
+ghost use Rattle.fhir_words.specs.Words.{is_option, are_plain, plain_manner, certify_request, migrate_request, validate_request, validate_given_request, snapshot_request, derive_request, counter_request, counter_given_request, check_request, check_beside, unread_request, unread_of_profile, first_some, command_request, plain_request, plain_invocation, serve_task, serve_given_task, plain_serving, gather_task, plain_gathering, plain_bulk, plain_task};
 ghost use Rattle.fhir_json.specs.Views.{text_seen};
 ghost use Rattle.fhir_words.specs.Views.{texts_seen, request_seen, task_seen};
 
@@ -116,6 +116,46 @@ fn derive_request<'w>(
             folder: first,
             derived: second,
             base: third,
+        })
+    } else {
+        None
+    }
+}
+
+fn counter_request<'w>(
+    command: &str,
+    folder: &'w str,
+    first: &'w str,
+    second: &'w str,
+) -> Option<Request<'w>>
+    ensures { option_map request_seen result ≡ counter_request command.now folder.now first.now second.now }
+{
+    if command == "counter" && !is_option(folder) && are_plain(first, second) {
+        Some(Request::Counter {
+            folder,
+            derived: first,
+            base: second,
+        })
+    } else {
+        None
+    }
+}
+
+fn counter_given_request<'w>(
+    command: &str,
+    folder: &'w str,
+    derived: &'w str,
+    base: &'w str,
+    texts: &'w str,
+) -> Option<Request<'w>>
+    ensures { option_map request_seen result ≡ counter_given_request command.now folder.now derived.now base.now texts.now }
+{
+    if command == "counter-given" && are_plain(folder, derived) && are_plain(base, texts) {
+        Some(Request::CounterGiven {
+            folder,
+            derived,
+            base,
+            given: texts,
         })
     } else {
         None
@@ -254,6 +294,21 @@ fn request_of_two<'w>(
     }
 }
 
+fn derive_or_counter<'w>(
+    command: &str,
+    first: &'w str,
+    second: &'w str,
+    third: &'w str,
+) -> Option<Request<'w>>
+    ensures { option_map request_seen result ≡ first_some (derive_request command.now first.now second.now third.now)
+        (counter_request command.now first.now second.now third.now) }
+{
+    match derive_request(command, first, second, third) {
+        Some(request) => Some(request),
+        None => counter_request(command, first, second, third),
+    }
+}
+
 fn request_of_three<'w>(
     command: &str,
     first: &'w str,
@@ -261,11 +316,29 @@ fn request_of_three<'w>(
     third: &'w str,
 ) -> Option<Request<'w>>
     ensures { option_map request_seen result ≡ first_some (validate_request command.now first.now second.now third.now)
-        (derive_request command.now first.now second.now third.now) }
+        (first_some (derive_request command.now first.now second.now third.now)
+        (counter_request command.now first.now second.now third.now)) }
 {
     match validate_request(command, first, second, third) {
         Some(request) => Some(request),
-        None => derive_request(command, first, second, third),
+        None => derive_or_counter(command, first, second, third),
+    }
+}
+
+fn request_of_four<'w>(
+    command: &str,
+    first: &'w str,
+    second: &'w str,
+    third: &'w str,
+    fourth: &'w str,
+) -> Option<Request<'w>>
+    ensures { option_map request_seen result
+        ≡ first_some (validate_given_request command.now first.now second.now third.now fourth.now)
+        (counter_given_request command.now first.now second.now third.now fourth.now) }
+{
+    match validate_given_request(command, first, second, third, fourth) {
+        Some(request) => Some(request),
+        None => counter_given_request(command, first, second, third, fourth),
     }
 }
 
@@ -278,7 +351,7 @@ fn command_request<'w>(alloc: Global, command: &str, words: &'w [String]) -> Opt
         [first, second, third] => {
             request_of_three(command, first.as_str(), second.as_str(), third.as_str())
         }
-        [first, second, third, fourth] => validate_given_request(
+        [first, second, third, fourth] => request_of_four(
             command,
             first.as_str(),
             second.as_str(),

@@ -12,6 +12,7 @@ use std::alloc::Global;
 
 /// What the words ask for, of which the first is the program's name: `certify PACKAGE CERTIFICATE`, `validate PACKAGE PROFILE RESOURCE`,
 /// `validate-given PACKAGE PROFILE RESOURCE FILE`, `snapshot PACKAGE URL`, `derive PACKAGE DERIVED BASE`,
+/// `counter PACKAGE DERIVED BASE`, `counter-given PACKAGE DERIVED BASE FILE`,
 /// `check PACKAGE [CERTIFICATE] [--only PREFIX].. [--each] [--json]`, `unread PACKAGE [PROFILE]`, `serve PACKAGE`, `serve-given PACKAGE FILE`,
 /// `gather OUT FOLDER.. [--each]`, `validate-all PACKAGE PROFILE INPUT.. [--json] [--given FILE] [--only-bad] [--skip-unknown]` or `--version`. Words without options are read as they stand, and all others by `clap`.
 pub fn task_of<'w>(alloc: Global, words: &'w [String]) -> Result<Task<'w>, WordsFault>

@@ -88,6 +88,26 @@ pub enum Request<'w> {
         /// The url of the base.
         base: &'w str,
     },
+    /// A resource that conforms to the profile at a url and not to that at another, where the one doesn't narrow the other.
+    Counter {
+        /// The folder.
+        folder: &'w str,
+        /// The url of the derived profile.
+        derived: &'w str,
+        /// The url of the base.
+        base: &'w str,
+    },
+    /// The same where the unread rules hold whose texts a file gives.
+    CounterGiven {
+        /// The folder.
+        folder: &'w str,
+        /// The url of the derived profile.
+        derived: &'w str,
+        /// The url of the base.
+        base: &'w str,
+        /// The file of the texts.
+        given: &'w str,
+    },
     /// What is wrong with the files of a folder.
     Check {
         /// The folder.
@@ -130,6 +150,8 @@ impl<'w> Request<'w> {
             | Request::ValidateGiven { folder, .. }
             | Request::Snapshot { folder, .. }
             | Request::Derive { folder, .. }
+            | Request::Counter { folder, .. }
+            | Request::CounterGiven { folder, .. }
             | Request::Check { folder, .. }
             | Request::Unread { folder, .. } => *folder,
         }
@@ -144,9 +166,11 @@ impl<'w> Request<'w> {
             | Request::Migrate { file, .. }
             | Request::Validate { file, .. } => Ok(vec![in alloc; *file]?),
             Request::ValidateGiven { file, given, .. } => Ok(vec![in alloc; *file, *given]?),
-            Request::Snapshot { .. } | Request::Derive { .. } | Request::Unread { .. } => {
-                Ok(Vec::new(alloc))
-            }
+            Request::CounterGiven { given, .. } => Ok(vec![in alloc; *given]?),
+            Request::Snapshot { .. }
+            | Request::Derive { .. }
+            | Request::Counter { .. }
+            | Request::Unread { .. } => Ok(Vec::new(alloc)),
             Request::Check { certificate, .. } => one_file(alloc, *certificate),
         }
     }

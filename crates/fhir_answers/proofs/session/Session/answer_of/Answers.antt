@@ -28,3 +28,19 @@ returns-in-ValidateGiven-clause-promised c =
     (λ r. status_of (reply_seen r) ≡ 0 → (c.args.self.now.survey.faults ≡ [])
     × PromisedOf (request_seen q) c.args.self.now.survey.definitions (bytes_seen c.args.first) (bytes_seen c.args.second)))
     (sym c.in-ValidateGiven.is) c.validate_given.ensures.promised
+
+pub returns-in-Counter-clause-promised : goal.returns-in-Counter-clause-promised
+returns-in-Counter-clause-promised c =
+    subst
+    (λ q. IfOk c.counter.result
+    (λ r. status_of (reply_seen r) ≡ 0 → (c.args.self.now.survey.faults ≡ [])
+    × PromisedOf (request_seen q) c.args.self.now.survey.definitions (bytes_seen c.args.first) (bytes_seen c.args.second)))
+    (sym c.in-Counter.is) c.counter.ensures.promised
+
+pub returns-in-CounterGiven-clause-promised : goal.returns-in-CounterGiven-clause-promised
+returns-in-CounterGiven-clause-promised c =
+    subst
+    (λ q. IfOk c.counter_given.result
+    (λ r. status_of (reply_seen r) ≡ 0 → (c.args.self.now.survey.faults ≡ [])
+    × PromisedOf (request_seen q) c.args.self.now.survey.definitions (bytes_seen c.args.first) (bytes_seen c.args.second)))
+    (sym c.in-CounterGiven.is) c.counter_given.ensures.promised

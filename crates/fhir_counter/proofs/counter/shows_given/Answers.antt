@@ -1,0 +1,11 @@
+use Rattle.std.proofs.Common.{IsTrue, arith}
+use Rattle.std.proofs.lemmas.Result.{IfOk-weaker}
+use Rattle.fhir_counter.proofs.counter.shows_given.Goals as goal
+
+pub returns : goal.returns
+returns c =
+    let yes : IsTrue c.in_ok-conforms_given.field-0 = grind arith in
+    let it = c.in_ok-conforms_given.ensures.read yes in
+    IfOk-weaker c.violates.result _ _
+    (λ v never violates. (it.0, it.1, c.in_ok-conforms_given.ensures.conforms it.0 it.1 yes, never violates))
+    (c.violates.ensures it.0 it.1)

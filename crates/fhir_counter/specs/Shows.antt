@@ -1,0 +1,29 @@
+-- What a counterexample shows: that a profile doesn't narrow another.
+use Rattle.std.specs.Prelude.{List}
+use Rattle.fhir_json.specs.Tree.{Text, Tree}
+use Rattle.fhir_json.specs.Grammar.{Reads}
+use Rattle.fhir_schema.specs.Schemas.{SchemaValue}
+use Rattle.fhir_conformance.specs.Conformance.{Interpretation, Conforms}
+use Rattle.fhir_validator.specs.Verdicts.{AreGiven}
+use Rattle.fhir_validator.specs.Needed.{ConstraintsHold, ConstraintsHoldAsGiven}
+
+-- a resource conforms, whatever unread rules mean, and its constraints are true
+abbrev pub AlwaysConforms : SchemaValue → Text → Tree → Type 0
+AlwaysConforms s profile t = ((meaning : Interpretation) → Conforms s meaning profile t) × ConstraintsHold s profile t
+
+-- it conforms by each meaning by which the given rules hold, and its constraints are true, or given
+abbrev pub ConformsAsGiven : SchemaValue → List Text → Text → Tree → Type 0
+ConformsAsGiven s texts profile t =
+    ((meaning : Interpretation) → AreGiven texts meaning → Conforms s meaning profile t) × ConstraintsHoldAsGiven s texts profile t
+
+-- it doesn't conform, whatever unread rules mean
+abbrev pub NeverConforms : SchemaValue → Text → Tree → Type 0
+NeverConforms s profile t = (meaning : Interpretation) → ¬ Conforms s meaning profile t
+
+-- the bytes are a resource that conforms to the derived profile and not to the base
+abbrev pub Shows : SchemaValue → Text → Text → Text → Type 0
+Shows s derived base bytes = (t : Tree) × Reads bytes t × AlwaysConforms s derived t × NeverConforms s base t
+
+-- the same where a user vouches for unread rules by their texts
+abbrev pub ShowsAsGiven : SchemaValue → List Text → Text → Text → Text → Type 0
+ShowsAsGiven s texts derived base bytes = (t : Tree) × Reads bytes t × ConformsAsGiven s texts derived t × NeverConforms s base t

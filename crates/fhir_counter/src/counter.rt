@@ -1,0 +1,239 @@
+//! Candidates are judged, and one that shows what is wanted is given.
+
+ghost use Rattle.std.specs.Prelude.{◌≡◌, IfOk, IfSome, IsTrue};
+ghost use Rattle.fhir_counter.specs.Shows.{Shows, ShowsAsGiven, AlwaysConforms, NeverConforms, ConformsAsGiven};
+ghost use Rattle.fhir_json.specs.Tree.{Tree};
+ghost use Rattle.fhir_json.specs.Grammar.{Reads};
+ghost use Rattle.fhir_validator.specs.Verdicts.{is_conforming, is_violating, conforms_as_given};
+
+use fhir_candidates::{candidate, plain_code};
+use fhir_certificate::{NodePair, Pair};
+use fhir_differences::{Difference, differences};
+use fhir_json::{NoMemory, one_tree};
+use fhir_schema::Schema;
+use fhir_validator::{Fault, Verdict, Vouched, validate, validate_given};
+use fhir_vouching::Vouching;
+use std::alloc::Global;
+
+fn is_conforming(verdict: &Verdict<'_>) -> bool
+    ensures { result ≡ is_conforming verdict.now }
+{
+    match verdict {
+        Verdict::Conforms => true,
+        Verdict::Violates(_) => false,
+        Verdict::Open(_) => false,
+    }
+}
+
+fn is_violating(verdict: &Verdict<'_>) -> bool
+    ensures { result ≡ is_violating verdict.now }
+{
+    match verdict {
+        Verdict::Conforms => false,
+        Verdict::Violates(_) => true,
+        Verdict::Open(_sites) => false,
+    }
+}
+
+fn conforms_as_given(verdict: &Vouched<'_>) -> bool
+    ensures { result ≡ conforms_as_given verdict.now }
+{
+    match verdict {
+        Vouched::Conforms(_) => true,
+        Vouched::Violates(_) => false,
+        Vouched::Open(_) => false,
+    }
+}
+
+// Whether a resource conforms to a profile, and its constraints are true. What can't be judged doesn't.
+fn conforms(alloc: Global, schema: &Schema, profile: &str, bytes: &[u8]) -> Result<bool, NoMemory>
+    ensures always { (t : Tree) → Reads bytes.now t → IfOk result (λ yes. IsTrue yes → AlwaysConforms schema.now profile.now t) }
+    ensures read { IfOk result (λ yes. IsTrue yes → (t : Tree) × Reads bytes.now t) }
+{
+    match validate(alloc, schema, profile, bytes) {
+        Ok(verdict) => Ok(is_conforming(&verdict)),
+        Err(Fault::NoMemory) => Err(NoMemory),
+        Err(_) => Ok(false),
+    }
+}
+
+// The same where a user vouches for unread rules.
+fn conforms_given(
+    alloc: Global,
+    schema: &Schema,
+    profile: &str,
+    bytes: &[u8],
+    given: &Vouching,
+) -> Result<bool, NoMemory>
+    ensures conforms { (t : Tree) → Reads bytes.now t → IfOk result (λ yes. IsTrue yes → ConformsAsGiven schema.now given.now profile.now t) }
+    ensures read { IfOk result (λ yes. IsTrue yes → (t : Tree) × Reads bytes.now t) }
+{
+    match validate_given(alloc, schema, profile, bytes, given) {
+        Ok(verdict) => Ok(conforms_as_given(&verdict)),
+        Err(Fault::NoMemory) => Err(NoMemory),
+        Err(_) => Ok(false),
+    }
+}
+
+// Whether a resource violates a profile.
+fn violates(alloc: Global, schema: &Schema, profile: &str, bytes: &[u8]) -> Result<bool, NoMemory>
+    ensures { (t : Tree) → Reads bytes.now t → IfOk result (λ yes. IsTrue yes → NeverConforms schema.now profile.now t) }
+{
+    match validate(alloc, schema, profile, bytes) {
+        Ok(verdict) => Ok(is_violating(&verdict)),
+        Err(Fault::NoMemory) => Err(NoMemory),
+        Err(_) => Ok(false),
+    }
+}
+
+fn shows(
+    alloc: Global,
+    schema: &Schema,
+    derived: &str,
+    base: &str,
+    bytes: &[u8],
+) -> Result<bool, NoMemory>
+    ensures { IfOk result (λ yes. IsTrue yes → Shows schema.now derived.now base.now bytes.now) }
+{
+    if !conforms(alloc, schema, derived, bytes)? {
+        return Ok(false);
+    }
+    violates(alloc, schema, base, bytes)
+}
+
+fn shows_given(
+    alloc: Global,
+    schema: &Schema,
+    derived: &str,
+    base: &str,
+    bytes: &[u8],
+    given: &Vouching,
+) -> Result<bool, NoMemory>
+    ensures { IfOk result (λ yes. IsTrue yes → ShowsAsGiven schema.now given.now derived.now base.now bytes.now) }
+{
+    if !conforms_given(alloc, schema, derived, bytes, given)? {
+        return Ok(false);
+    }
+    violates(alloc, schema, base, bytes)
+}
+
+// ---- candidates
+
+// Where two profiles may differ.
+fn differences_of<'s>(
+    alloc: Global,
+    schema: &'s Schema,
+    derived: &str,
+    base: &str,
+    pair: Pair,
+) -> Result<Vec<Difference<'s>>, NoMemory> {
+    let (Some(derived), Some(base)) = (schema.root(derived), schema.root(base)) else {
+        return Ok(Vec::new(alloc));
+    };
+    differences(alloc, schema, NodePair { derived, base }, pair)
+}
+
+fn made<'s>(
+    alloc: Global,
+    schema: &'s Schema,
+    derived: &str,
+    plain: &'s str,
+    difference: &Difference<'s>,
+) -> Result<Option<Vec<u8>>, NoMemory> {
+    match schema.root(derived) {
+        Some(root) => candidate(alloc, schema, root, plain, difference),
+        None => Ok(None),
+    }
+}
+
+// The candidate, if it shows what is wanted.
+fn shown(
+    alloc: Global,
+    schema: &Schema,
+    derived: &str,
+    base: &str,
+    made: Option<Vec<u8>>,
+) -> Result<Option<Vec<u8>>, NoMemory>
+    ensures { IfOk result (λ found. IfSome found (λ bytes. Shows schema.now derived.now base.now bytes.items)) }
+{
+    let Some(bytes) = made else {
+        return Ok(None);
+    };
+    if shows(alloc, schema, derived, base, &bytes)? {
+        Ok(Some(bytes))
+    } else {
+        Ok(None)
+    }
+}
+
+fn shown_given(
+    alloc: Global,
+    schema: &Schema,
+    derived: &str,
+    base: &str,
+    made: Option<Vec<u8>>,
+    given: &Vouching,
+) -> Result<Option<Vec<u8>>, NoMemory>
+    ensures { IfOk result (λ found. IfSome found (λ bytes. ShowsAsGiven schema.now given.now derived.now base.now bytes.items)) }
+{
+    let Some(bytes) = made else {
+        return Ok(None);
+    };
+    if shows_given(alloc, schema, derived, base, &bytes, given)? {
+        Ok(Some(bytes))
+    } else {
+        Ok(None)
+    }
+}
+
+/// A resource that conforms to the derived profile and not to the base, if one was found. It is looked for at the place of a pair that
+/// fails, as `derive` names one: at most 200 candidates are made, each the least resource that the derived profile admits with one change
+/// there, and both verdicts on each are asked of `validate`. That none was found says nothing of the profiles. The one refusal is want of
+/// memory.
+pub fn counterexample(
+    alloc: Global,
+    schema: &Schema,
+    derived: &str,
+    base: &str,
+    pair: Pair,
+) -> Result<Option<Vec<u8>>, NoMemory>
+    // What is found shows that the derived profile doesn't narrow the base.
+    ensures { IfOk result (λ found. IfSome found (λ bytes. Shows schema.now derived.now base.now bytes.items)) }
+{
+    one_tree();
+    let plain = plain_code(schema);
+    let differences = differences_of(alloc, schema, derived, base, pair)?;
+    for difference in &differences {
+        let bytes = made(alloc, schema, derived, plain, difference)?;
+        let found = shown(alloc, schema, derived, base, bytes)?;
+        if found.is_some() {
+            return Ok(found);
+        }
+    }
+    Ok(None)
+}
+
+/// The same where a user vouches for unread rules by their texts: the resource conforms to the derived profile as the given rules hold,
+/// and fails the base whatever unread rules mean.
+pub fn counterexample_given(
+    alloc: Global,
+    schema: &Schema,
+    derived: &str,
+    base: &str,
+    pair: Pair,
+    given: &Vouching,
+) -> Result<Option<Vec<u8>>, NoMemory>
+    ensures { IfOk result (λ found. IfSome found (λ bytes. ShowsAsGiven schema.now given.now derived.now base.now bytes.items)) }
+{
+    one_tree();
+    let plain = plain_code(schema);
+    let differences = differences_of(alloc, schema, derived, base, pair)?;
+    for difference in &differences {
+        let bytes = made(alloc, schema, derived, plain, difference)?;
+        let found = shown_given(alloc, schema, derived, base, bytes, given)?;
+        if found.is_some() {
+            return Ok(found);
+        }
+    }
+    Ok(None)
+}

@@ -1,0 +1,113 @@
+//! Of which type an item is made.
+
+use crate::demand::Demand;
+use crate::task::Task;
+use fhir_differences::Change;
+use fhir_schema::{Content, Form, NodeRef, Schema, Sought};
+
+fn is_of_some(schema: &Schema, node: NodeRef, code: &str) -> bool {
+    let entries = schema.types(node);
+    entries.is_empty()
+        || entries
+            .iter()
+            .any(|entry| schema.covers(entry.code(), code))
+}
+
+fn is_sought(schema: &Schema, sought: &Sought, code: &str) -> bool {
+    match sought {
+        Sought::Typed(codes) => codes
+            .iter()
+            .any(|other| schema.covers(other.as_str(), code)),
+        _ => true,
+    }
+}
+
+// Whether an item of a type can be what it is asked for.
+fn suits(schema: &Schema, demand: Demand<'_>, code: &str) -> bool {
+    match demand {
+        Demand::Node(node) => is_of_some(schema, node, code),
+        Demand::Sought([], sought) => is_sought(schema, sought, code),
+        Demand::Type(other) => code == other,
+        _ => true,
+    }
+}
+
+fn suits_change(change: Change<'_>, code: &str) -> bool {
+    match change {
+        Change::OfType(other) => code == other,
+        _ => true,
+    }
+}
+
+fn suits_all(task: &Task<'_, '_>, demands: &[Demand<'_>], code: &str) -> bool {
+    for demand in demands {
+        if !suits(task.schema, *demand, code) {
+            return false;
+        }
+    }
+    suits_change(task.change_at(demands), code)
+}
+
+fn is_form_for(task: &Task<'_, '_>, form: &Form, name: &str, demands: &[Demand<'_>]) -> bool {
+    if form.name() != name {
+        return false;
+    }
+    match form.content() {
+        Content::Resource => true,
+        _ => suits_all(task, demands, form.code()),
+    }
+}
+
+/// The form of a child that is asked for so, by the node that types its parent.
+pub fn form_for<'s>(
+    task: &Task<'_, 's>,
+    typing: NodeRef,
+    name: &str,
+    demands: &[Demand<'s>],
+) -> Option<&'s Form> {
+    for form in task.schema.forms(typing) {
+        if is_form_for(task, form, name, demands) {
+            return Some(form);
+        }
+    }
+    None
+}
+
+// ---- resources
+
+fn code_of_node<'s>(schema: &'s Schema, node: NodeRef) -> Option<&'s str> {
+    for entry in schema.types(node) {
+        if schema.resource_root(entry.code()).is_some() {
+            return Some(entry.code());
+        }
+    }
+    None
+}
+
+fn code_asked<'s>(schema: &'s Schema, demand: Demand<'s>) -> Option<&'s str> {
+    match demand {
+        Demand::Type(code) if schema.resource_root(code).is_some() => Some(code),
+        Demand::Node(node) => code_of_node(schema, node),
+        _ => None,
+    }
+}
+
+fn code_changed<'s>(change: Change<'s>) -> Option<&'s str> {
+    match change {
+        Change::OfType(code) => Some(code),
+        _ => None,
+    }
+}
+
+/// The code of a resource's type, where it is asked for so.
+pub fn resource_code<'s>(task: &Task<'_, 's>, demands: &[Demand<'s>]) -> &'s str {
+    if let Some(code) = code_changed(task.change_at(demands)) {
+        return code;
+    }
+    for demand in demands {
+        if let Some(code) = code_asked(task.schema, *demand) {
+            return code;
+        }
+    }
+    task.plain
+}

@@ -1,0 +1,667 @@
+//! What could be changed at the place of a pair, so that what conforms to the derived node doesn't conform to the base's.
+
+use crate::extremes::{extremes, has_length};
+use crate::nodes::{entry_of, least_at, most_at, profile_for};
+use crate::step::{Change, Difference, Slice, Step};
+use fhir_codes::ConceptSet;
+use fhir_elements::{ElementDef, TypeEntry};
+use fhir_json::{Member, NoMemory};
+use fhir_schema::{NodeRef, Schema, Slot};
+use std::alloc::Global;
+
+// Memory is all that can be wanting.
+type Done = Result<(), NoMemory>;
+
+// How many there are at most.
+const MOST_DIFFERENCES: usize = 200;
+// How many levels below a pair are looked through.
+const MOST_LEVELS: usize = 3;
+// How many children of a name are put over a greatest number.
+const MOST_CHILDREN: usize = 256;
+// How long a text is that is too long for another element.
+const MOST_LETTERS: usize = 65_536;
+// How many types of resources are tried where any may be.
+const MOST_TYPES: usize = 4;
+
+/// The differences so far.
+#[derive(Drop)]
+pub(crate) struct Finder<'s> {
+    alloc: Global,
+    schema: &'s Schema,
+    // The way to the place of the pair.
+    way: Vec<Step<'s>>,
+    found: Vec<Difference<'s>>,
+    // How many there may be.
+    room: usize,
+}
+
+fn text_is(left: Option<&str>, right: Option<&str>) -> bool {
+    match (left, right) {
+        (Some(left), Some(right)) => left == right,
+        _ => false,
+    }
+}
+
+fn set_of<'s>(schema: &'s Schema, element: &ElementDef) -> Option<&'s ConceptSet> {
+    schema.concepts(element.required_value_set()?)
+}
+
+fn has_constraint(element: &ElementDef, expression: Option<&str>) -> bool {
+    for constraint in element.constraints() {
+        if constraint.must_hold() && text_is(constraint.expression(), expression) {
+            return true;
+        }
+    }
+    false
+}
+
+fn is_same(own: &Member<'static>, base: &Member<'static>) -> bool {
+    match (own.value.as_number(), base.value.as_number()) {
+        (Some(own), Some(base)) => own == base,
+        _ => text_is(own.value.as_text(), base.value.as_text()),
+    }
+}
+
+// Whether there is no bound of the base's, or the own one is the same.
+fn is_within(own: Option<&Member<'static>>, base: Option<&Member<'static>>) -> bool {
+    match (own, base) {
+        (_, None) => true,
+        (None, Some(_)) => false,
+        (Some(own), Some(base)) => is_same(own, base),
+    }
+}
+
+fn covers_code(schema: &Schema, entries: &[TypeEntry], code: &str) -> bool {
+    entries.is_empty()
+        || entries
+            .iter()
+            .any(|entry| schema.covers(entry.code(), code))
+}
+
+fn targets_code(schema: &Schema, entry: &TypeEntry, code: &str) -> bool {
+    if entry.targets().is_empty() {
+        return true;
+    }
+    for target in entry.targets() {
+        if let Some(root) = schema.loaded(target.as_str()) {
+            if schema.covers(schema.type_code(root), code) {
+                return true;
+            }
+        }
+    }
+    false
+}
+
+fn some_targets_code(schema: &Schema, entries: &[TypeEntry], code: &str) -> bool {
+    for entry in entries {
+        if entry.code() == "Reference" && targets_code(schema, entry, code) {
+            return true;
+        }
+    }
+    false
+}
+
+fn has_targets(entries: &[TypeEntry]) -> bool {
+    for entry in entries {
+        if entry.code() == "Reference" && !entry.targets().is_empty() {
+            return true;
+        }
+    }
+    false
+}
+
+fn type_name_of<'s>(schema: &'s Schema, node: NodeRef) -> &'s str {
+    match schema.types(node) {
+        [entry, ..] => entry.code(),
+        [] => schema.type_code(node),
+    }
+}
+
+// The node that has the children of what a node's items are.
+fn kids_node(schema: &Schema, node: NodeRef) -> Option<NodeRef> {
+    if let Some(holder) = schema.child_holder(node) {
+        return Some(holder);
+    }
+    let code = type_name_of(schema, node);
+    if let Some(root) = profile_for(schema, node, code) {
+        return Some(root);
+    }
+    schema.type_root(code)
+}
+
+impl<'s> Finder<'s> {
+    fn push(&mut self, extra: &[Step<'s>], change: Change<'s>) -> Done {
+        if self.is_full() {
+            return Ok(());
+        }
+        let mut steps = self.way.to_vec(self.alloc)?;
+        steps.extend_from_slice(extra)?;
+        self.found.push(Difference { steps, change })?;
+        Ok(())
+    }
+
+    // ---- facets
+
+    fn push_values(&mut self, extra: &[Step<'s>], own: &ElementDef, base: &ElementDef) -> Done {
+        let is_free = own.fixed().is_none() && own.pattern().is_none();
+        let is_bound = base.fixed().is_some() || base.pattern().is_some();
+        if is_free && is_bound {
+            self.push(extra, Change::OtherValue)?;
+        }
+        if is_bound {
+            self.push(extra, Change::Nothing)?;
+        }
+        Ok(())
+    }
+
+    fn push_extremes(&mut self, extra: &[Step<'s>], code: &str) -> Done {
+        if let Some((least, greatest)) = extremes(code) {
+            self.push(extra, Change::Spelled(least))?;
+            self.push(extra, Change::Spelled(greatest))?;
+        }
+        Ok(())
+    }
+
+    fn push_bounds(&mut self, extra: &[Step<'s>], own: &'s ElementDef, code: &str) -> Done {
+        if let Some(bound) = own.min_value() {
+            self.push(extra, Change::Value(&bound.value))?;
+        }
+        if let Some(bound) = own.max_value() {
+            self.push(extra, Change::Value(&bound.value))?;
+        }
+        self.push_extremes(extra, code)
+    }
+
+    fn push_range(
+        &mut self,
+        extra: &[Step<'s>],
+        own: &'s ElementDef,
+        base: &ElementDef,
+        code: &str,
+    ) -> Done {
+        if is_within(own.min_value(), base.min_value())
+            && is_within(own.max_value(), base.max_value())
+        {
+            return Ok(());
+        }
+        self.push_bounds(extra, own, code)
+    }
+
+    fn push_length(
+        &mut self,
+        extra: &[Step<'s>],
+        own: &ElementDef,
+        base: &ElementDef,
+        code: &str,
+    ) -> Done {
+        let Some(most) = base.max_length() else {
+            return Ok(());
+        };
+        if own.max_length().is_some_and(|own| own <= most) {
+            return Ok(());
+        }
+        let count = usize::try_from(most).unwrap_or(0).saturating_add(1);
+        if count <= MOST_LETTERS && has_length(code) {
+            self.push(extra, Change::Long(count))?;
+        }
+        Ok(())
+    }
+
+    fn push_outside(&mut self, extra: &[Step<'s>], own: &'s ConceptSet, base: &ConceptSet) -> Done {
+        if let Some((system, code)) = own.first_code_outside(base) {
+            self.push(extra, Change::Concept(system, code))?;
+        }
+        if let Some((system, code)) = own.first_outside(base) {
+            self.push(extra, Change::Concept(system, code))?;
+        }
+        Ok(())
+    }
+
+    fn push_binding(&mut self, extra: &[Step<'s>], own: &'s ElementDef, base: &ElementDef) -> Done {
+        let Some(base) = set_of(self.schema, base) else {
+            return Ok(());
+        };
+        match set_of(self.schema, own) {
+            Some(own) => self.push_outside(extra, own, base),
+            None => self.push(extra, Change::OtherValue),
+        }
+    }
+
+    fn push_facets(
+        &mut self,
+        extra: &[Step<'s>],
+        own: &'s ElementDef,
+        base: &'s ElementDef,
+        code: &str,
+    ) -> Done {
+        self.push_values(extra, own, base)?;
+        self.push_binding(extra, own, base)?;
+        self.push_length(extra, own, base, code)?;
+        self.push_range(extra, own, base, code)
+    }
+
+    // ---- types
+
+    // Types of resources that the base doesn't allow.
+    fn push_resources(&mut self, extra: &[Step<'s>], base: &[TypeEntry]) -> Done {
+        let mut count = 0;
+        for definition in self.schema.definitions() {
+            let code = definition.type_code();
+            let is_new = definition.is_type() && !covers_code(self.schema, base, code);
+            if is_new && self.schema.resource_root(code).is_some() && count < MOST_TYPES {
+                self.push(extra, Change::OfType(code))?;
+                count += 1;
+            }
+        }
+        Ok(())
+    }
+
+    fn push_type(&mut self, extra: &[Step<'s>], own: &'s TypeEntry, base: &[TypeEntry]) -> Done {
+        if self.schema.is_resource(own.code()) {
+            return self.push_resources(extra, base);
+        }
+        if !covers_code(self.schema, base, own.code()) {
+            self.push(extra, Change::OfType(own.code()))?;
+        }
+        Ok(())
+    }
+
+    fn push_types(&mut self, extra: &[Step<'s>], own: &'s [TypeEntry], base: &[TypeEntry]) -> Done {
+        if base.is_empty() {
+            return Ok(());
+        }
+        for entry in own {
+            self.push_type(extra, entry, base)?;
+        }
+        Ok(())
+    }
+
+    // References to types that the derived node allows and the base doesn't.
+    fn push_targets(
+        &mut self,
+        extra: &[Step<'s>],
+        own: &'s [TypeEntry],
+        base: &[TypeEntry],
+    ) -> Done {
+        if !has_targets(base) {
+            return Ok(());
+        }
+        let mut count = 0;
+        for definition in self.schema.definitions() {
+            let code = definition.type_code();
+            let is_wanted = definition.is_type()
+                && self.schema.is_resource(code)
+                && some_targets_code(self.schema, own, code)
+                && !some_targets_code(self.schema, base, code);
+            if is_wanted && count < MOST_TYPES {
+                self.push(extra, Change::Target(code))?;
+                count += 1;
+            }
+        }
+        Ok(())
+    }
+
+    // ---- constraints
+
+    fn push_untrue(
+        &mut self,
+        extra: &[Step<'s>],
+        own: &ElementDef,
+        node: NodeRef,
+        base: &'s ElementDef,
+    ) -> Done {
+        let schema = self.schema;
+        for (position, constraint) in base.constraints().iter().enumerate() {
+            if constraint.must_hold() && !has_constraint(own, constraint.expression()) {
+                if let Some(expression) = schema.expression(node, position) {
+                    self.push(extra, Change::Untrue(expression))?;
+                }
+            }
+        }
+        Ok(())
+    }
+
+    // ---- children
+
+    fn push_counts(
+        &mut self,
+        extra: &[Step<'s>],
+        name: &'s str,
+        own: Option<NodeRef>,
+        base: NodeRef,
+    ) -> Done {
+        let (own_least, own_most) = match own {
+            Some(own) => (least_at(self.schema, own), most_at(self.schema, own)),
+            None => (0, usize::MAX),
+        };
+        let (least, most) = (least_at(self.schema, base), most_at(self.schema, base));
+        if least > own_least {
+            self.push(extra, Change::Count(name, least.saturating_sub(1)))?;
+        }
+        if most < own_most && most < MOST_CHILDREN {
+            self.push(extra, Change::Count(name, most + 1))?;
+        }
+        Ok(())
+    }
+
+    fn push_slice_counts(
+        &mut self,
+        extra: &[Step<'s>],
+        name: &'s str,
+        own: Option<NodeRef>,
+        slice: NodeRef,
+    ) -> Done {
+        let (own_least, own_most) = match own {
+            Some(own) => (least_at(self.schema, own), most_at(self.schema, own)),
+            None => (0, usize::MAX),
+        };
+        let (least, most) = (least_at(self.schema, slice), most_at(self.schema, slice));
+        if least > own_least {
+            self.push(extra, Change::InSlice(name, slice, least.saturating_sub(1)))?;
+        }
+        if most < own_most && most < MOST_CHILDREN {
+            self.push(extra, Change::InSlice(name, slice, most + 1))?;
+        }
+        Ok(())
+    }
+
+    // One item in a slice that the base doesn't have.
+    fn push_own_slices(
+        &mut self,
+        extra: &[Step<'s>],
+        name: &'s str,
+        own: NodeRef,
+        base: NodeRef,
+    ) -> Done {
+        for slice in self.schema.slices(own) {
+            if self.schema.slice(base, slice.name()).is_none() {
+                self.push_step(extra, step_to(name, Slice::Own(entry_of(own, slice))))?;
+            }
+        }
+        Ok(())
+    }
+
+    fn push_step(&mut self, extra: &[Step<'s>], step: Step<'s>) -> Done {
+        let mut steps = extra.to_vec(self.alloc)?;
+        steps.push(step)?;
+        self.push(&steps, Change::Nothing)
+    }
+
+    fn push_closed(
+        &mut self,
+        extra: &[Step<'s>],
+        name: &'s str,
+        own: Option<NodeRef>,
+        base: NodeRef,
+    ) -> Done {
+        if !self.schema.is_closed(base) {
+            return Ok(());
+        }
+        self.push(extra, Change::OneMore(name))?;
+        match own {
+            Some(own) => self.push_own_slices(extra, name, own, base),
+            None => Ok(()),
+        }
+    }
+
+    fn push_slices(
+        &mut self,
+        extra: &[Step<'s>],
+        name: &'s str,
+        own: Option<NodeRef>,
+        base: NodeRef,
+    ) -> Done {
+        let schema = self.schema;
+        for slice in schema.slices(base) {
+            let own = own_slice(schema, own, slice.name());
+            self.push_slice_counts(extra, name, own, entry_of(base, slice))?;
+        }
+        Ok(())
+    }
+
+    fn push_slot(
+        &mut self,
+        extra: &[Step<'s>],
+        own: NodeRef,
+        base: NodeRef,
+        slot: &'s Slot,
+    ) -> Done {
+        let name = slot.name();
+        let entry = entry_of(base, slot);
+        let own = own_slot(self.schema, own, name);
+        self.push_counts(extra, name, own, entry)?;
+        self.push_closed(extra, name, own, entry)?;
+        self.push_slices(extra, name, own, entry)
+    }
+
+    fn push_slots(&mut self, extra: &[Step<'s>], own: NodeRef, base: NodeRef) -> Done {
+        let schema = self.schema;
+        for slot in schema.slots(base) {
+            self.push_slot(extra, own, base, slot)?;
+        }
+        Ok(())
+    }
+}
+
+fn own_slot(schema: &Schema, own: NodeRef, name: &str) -> Option<NodeRef> {
+    let slot = schema.slot(own, name)?;
+    Some(entry_of(own, slot))
+}
+
+fn own_slice(schema: &Schema, own: Option<NodeRef>, name: &str) -> Option<NodeRef> {
+    let own = own?;
+    let slice = schema.slice(own, name)?;
+    Some(entry_of(own, slice))
+}
+
+fn step_to<'s>(name: &'s str, slice: Slice) -> Step<'s> {
+    Step {
+        name,
+        slice,
+        code: None,
+    }
+}
+
+// ---- what the elements of two nodes suggest, and what stands below them
+
+// What two elements suggest by themselves.
+fn push_elements<'s>(
+    finder: &mut Finder<'s>,
+    extra: &[Step<'s>],
+    own: NodeRef,
+    base: NodeRef,
+) -> Done {
+    let schema = finder.schema;
+    let (Some(element), Some(other)) = (schema.element(own), schema.element(base)) else {
+        return Ok(());
+    };
+    finder.push_types(extra, schema.types(own), schema.types(base))?;
+    finder.push_facets(extra, element, other, type_name_of(schema, own))?;
+    finder.push_targets(extra, schema.types(own), schema.types(base))?;
+    finder.push_untrue(extra, element, base, other)
+}
+
+#[cycle(changing)]
+fn push_item<'s>(
+    finder: &mut Finder<'s>,
+    levels: usize,
+    extra: &[Step<'s>],
+    own: NodeRef,
+    base: NodeRef,
+) -> Done {
+    push_elements(finder, extra, own, base)?;
+    push_profiles(finder, levels, extra, own, base)?;
+    match (
+        kids_node(finder.schema, own),
+        finder.schema.child_holder(base),
+    ) {
+        (Some(own), Some(base)) => push_kids(finder, levels, extra, own, base),
+        _ => Ok(()),
+    }
+}
+
+#[cycle(changing)]
+fn push_profiles<'s>(
+    finder: &mut Finder<'s>,
+    levels: usize,
+    extra: &[Step<'s>],
+    own: NodeRef,
+    base: NodeRef,
+) -> Done {
+    let schema = finder.schema;
+    for entry in schema.types(base) {
+        for profile in entry.profiles() {
+            if let Some(root) = schema.loaded(profile.as_str()) {
+                push_root(finder, levels, extra, own, root)?;
+            }
+        }
+    }
+    Ok(())
+}
+
+// What a profile that the base names for its items suggests.
+#[cycle(changing)]
+fn push_root<'s>(
+    finder: &mut Finder<'s>,
+    levels: usize,
+    extra: &[Step<'s>],
+    own: NodeRef,
+    root: NodeRef,
+) -> Done {
+    push_elements(finder, extra, own, root)?;
+    match kids_node(finder.schema, own) {
+        Some(own) => push_kids(finder, levels, extra, own, root),
+        None => Ok(()),
+    }
+}
+
+#[cycle(changing)]
+fn push_kids<'s>(
+    finder: &mut Finder<'s>,
+    levels: usize,
+    extra: &[Step<'s>],
+    own: NodeRef,
+    base: NodeRef,
+) -> Done {
+    finder.push_slots(extra, own, base)?;
+    if levels == 0 {
+        return Ok(());
+    }
+    let schema = finder.schema;
+    for slot in schema.slots(base) {
+        push_entry(finder, levels - 1, extra, own, base, slot)?;
+    }
+    Ok(())
+}
+
+#[cycle(changing)]
+fn push_entry<'s>(
+    finder: &mut Finder<'s>,
+    levels: usize,
+    extra: &[Step<'s>],
+    own: NodeRef,
+    base: NodeRef,
+    slot: &'s Slot,
+) -> Done {
+    let base = entry_of(base, slot);
+    let Some(own) = own_slot(finder.schema, own, slot.name()) else {
+        return Ok(());
+    };
+    push_below(
+        finder,
+        levels,
+        extra,
+        step_to(slot.name(), Slice::Any),
+        own,
+        base,
+    )?;
+    let schema = finder.schema;
+    for slice in schema.slices(base) {
+        let step = step_to(slot.name(), Slice::Base(entry_of(base, slice)));
+        push_below(finder, levels, extra, step, own, entry_of(base, slice))?;
+    }
+    Ok(())
+}
+
+// What two elements below suggest, if they aren't the same.
+#[cycle(changing)]
+fn push_below<'s>(
+    finder: &mut Finder<'s>,
+    levels: usize,
+    extra: &[Step<'s>],
+    step: Step<'s>,
+    own: NodeRef,
+    base: NodeRef,
+) -> Done {
+    if own == base {
+        return Ok(());
+    }
+    let mut steps = extra.to_vec(finder.alloc)?;
+    steps.push(step)?;
+    push_item(finder, levels, &steps, own, base)
+}
+
+impl<'s> Finder<'s> {
+    /// One without any.
+    pub(crate) fn new(alloc: Global, schema: &'s Schema) -> Finder<'s> {
+        Finder {
+            alloc,
+            schema,
+            way: Vec::new(alloc),
+            found: Vec::new(alloc),
+            room: MOST_DIFFERENCES / 2,
+        }
+    }
+
+    /// From here on the changes are at the end of another way.
+    pub(crate) fn go(&mut self, way: Vec<Step<'s>>) {
+        self.way = way;
+    }
+
+    /// From here on there may be as many as ever.
+    pub(crate) fn make_room(&mut self) {
+        self.room = MOST_DIFFERENCES;
+    }
+
+    /// Whether there is no room for more.
+    pub(crate) fn is_full(&self) -> bool {
+        self.found.len() >= self.room
+    }
+
+    /// The differences.
+    pub(crate) fn into_found(self) -> Vec<Difference<'s>> {
+        self.found
+    }
+}
+
+/// All that a pair of items and what stands below it suggest.
+pub(crate) fn suggest_of_items<'s>(finder: &mut Finder<'s>, own: NodeRef, base: NodeRef) -> Done {
+    finder.push(&[], Change::Nothing)?;
+    push_item(finder, MOST_LEVELS, &[], own, base)
+}
+
+/// All that a pair of children and what stands below it suggest.
+pub(crate) fn suggest_of_kids<'s>(finder: &mut Finder<'s>, own: NodeRef, base: NodeRef) -> Done {
+    finder.push(&[], Change::Nothing)?;
+    push_kids(finder, MOST_LEVELS, &[], own, base)
+}
+
+/// What a pair of items suggests by itself.
+pub(crate) fn suggest_of_elements<'s>(
+    finder: &mut Finder<'s>,
+    own: NodeRef,
+    base: NodeRef,
+) -> Done {
+    if own == base {
+        return Ok(());
+    }
+    push_elements(finder, &[], own, base)
+}
+
+/// What a pair of children suggests by itself.
+pub(crate) fn suggest_of_slots<'s>(finder: &mut Finder<'s>, own: NodeRef, base: NodeRef) -> Done {
+    if own == base {
+        return Ok(());
+    }
+    finder.push_slots(&[], own, base)
+}

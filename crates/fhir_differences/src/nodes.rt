@@ -1,0 +1,58 @@
+//! What nodes say of their items.
+
+use fhir_elements::{ElementDef, Max, TypeEntry};
+use fhir_schema::{NodeRef, Schema, Slot};
+
+/// A node of a slot, or of a slice.
+pub fn entry_of(node: NodeRef, slot: &Slot) -> NodeRef {
+    NodeRef {
+        definition: node.definition,
+        element: slot.entry(),
+    }
+}
+
+fn profile_of(schema: &Schema, entry: &TypeEntry) -> Option<NodeRef> {
+    for profile in entry.profiles() {
+        if let Some(root) = schema.loaded(profile.as_str()) {
+            return Some(root);
+        }
+    }
+    None
+}
+
+/// The root of a profile that a node names for a type.
+pub fn profile_for(schema: &Schema, node: NodeRef, code: &str) -> Option<NodeRef> {
+    for entry in schema.types(node) {
+        if schema.covers(entry.code(), code) {
+            return profile_of(schema, entry);
+        }
+    }
+    None
+}
+
+fn least_of(element: &ElementDef) -> usize {
+    element.min().unwrap_or(0) as usize
+}
+
+fn most_of(element: &ElementDef) -> usize {
+    match element.max() {
+        Some(Max::UpTo(most)) => most as usize,
+        Some(Max::Unbounded) | None => usize::MAX,
+    }
+}
+
+/// How many items a node's element has to have.
+pub fn least_at(schema: &Schema, node: NodeRef) -> usize {
+    match schema.element(node) {
+        Some(element) => least_of(element),
+        None => 0,
+    }
+}
+
+/// How many it may have.
+pub fn most_at(schema: &Schema, node: NodeRef) -> usize {
+    match schema.element(node) {
+        Some(element) => most_of(element),
+        None => usize::MAX,
+    }
+}
