@@ -10,9 +10,10 @@ use Rattle.std.proofs.lemmas.List.{take-append-drop}
 use Rattle.fhir_json.specs.declared.json.Json.{Json}
 use Rattle.fhir_json.specs.declared.json.Member.{Member, fold_out-Member}
 use Rattle.fhir_json.specs.Tree.{Text, Tree, no_items, names}
-use Rattle.fhir_json.specs.Views.{property_of, items_view, members_view}
+use Rattle.fhir_json.specs.Views.{tree_of, property_of, items_view, members_view}
 use Rattle.fhir_json.specs.Sound.{is_among}
 use Rattle.fhir_matching.specs.Equality.{equal, items_equal, members_within, has_passing}
+use Rattle.fhir_matching.specs.Fitting.{pattern_test, some_passing, has_fitting}
 
 or_swap : (a b : Bool) → (a || b) ≡ (b || a)
 or_swap true true = refl
@@ -122,3 +123,47 @@ no_equal ms ns i m lt is h =
 pub no_more : (vs : List Json) → items_equal no_items (items_view vs) ≡ eqb (length vs) 0
 no_more [] = refl
 no_more (v ∷ vs) = sym (ne_eqb (suc (length vs)) 0 (λ e. omega arith))
+
+-- so a pattern of that name isn't fitted
+pub no_fitting : (ps ms : List Member) (i : ℕ) (p : Member) → i < length ps → get_or ps i p ≡ p → naming (property_of p).0 ms ≡ false
+    → has_fitting (members_view (drop i ps)) (members_view ms) ≡ false
+no_fitting ps ms i p lt is h =
+    rw (drop-cons ps i p lt, is)
+    (ap (λ (b : Bool). b && has_fitting (members_view (drop (suc i) ps)) (members_view ms))
+    (none_passing (property_of p).0 (pattern_test (property_of p).1) ms h))
+
+-- ---- items
+
+abbrev pub fitting_one : (Tree → Bool) → List Json → Bool
+fitting_one p vs = some_passing p (items_view vs)
+
+fitting_append : (p : Tree → Bool) (xs ys : List Json) → fitting_one p (xs ++ ys) ≡ (fitting_one p xs || fitting_one p ys)
+fitting_append p [] ys = refl
+fitting_append p (v ∷ xs) ys =
+    ap (λ (b : Bool). p (tree_of v) || b) (fitting_append p xs ys) ∙ or_regroup (p (tree_of v)) (fitting_one p xs) (fitting_one p ys)
+
+pub fitting_behind_it : (p : Tree → Bool) (vs : List Json) (k : ℕ) (v : Json) → k < length vs → get_or vs k v ≡ v
+    → fitting_one p (drop k vs) ≡ (p (tree_of v) || fitting_one p (drop (k + 1) vs))
+fitting_behind_it p vs k v lt is = rw (add-one, drop-cons vs k v lt, is) refl
+
+pub fitting_before_it : (p : Tree → Bool) (vs : List Json) (k : ℕ) (v : Json) → k < length vs → get_or vs k v ≡ v
+    → fitting_one p (take (k + 1) vs) ≡ (fitting_one p (take k vs) || p (tree_of v))
+fitting_before_it p vs k v lt is =
+    rw (add-one, take-suc vs k v lt, is)
+    (fitting_append p (take k vs) (v ∷ []) ∙ ap (λ (b : Bool). fitting_one p (take k vs) || b) (or_false (p (tree_of v))))
+
+fitting_sides : (p : Tree → Bool) (vs : List Json) (k : ℕ) → fitting_one p vs ≡ (fitting_one p (drop k vs) || fitting_one p (take k vs))
+fitting_sides p vs k =
+    ap (fitting_one p) (sym (take-append-drop k vs))
+    ∙ fitting_append p (take k vs) (drop k vs)
+    ∙ or_swap (fitting_one p (take k vs)) (fitting_one p (drop k vs))
+
+pub fitting_found : (p : Tree → Bool) (vs : List Json) (k : ℕ) → fitting_one p (drop k vs) ≡ true → fitting_one p vs ≡ true
+fitting_found p vs k h = fitting_sides p vs k ∙ ap (λ (b : Bool). b || fitting_one p (take k vs)) h
+
+-- an item that fits is among those so far from a place, on one side or on the other
+abbrev pub fitting_outside : (Tree → Bool) → List Json → ℕ → ℕ → Bool
+fitting_outside p vs near k = fitting_one p (drop (near + k) vs) || fitting_one p (take (near - k) vs)
+
+pub fitting_outside_none : (p : Tree → Bool) (vs : List Json) (near : ℕ) → fitting_one p vs ≡ fitting_outside p vs near 0
+fitting_outside_none p vs near = simp unary_clauses (fitting_sides p vs near)
