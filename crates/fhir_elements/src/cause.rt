@@ -66,10 +66,6 @@ pub enum Cause {
     ContentOfProfile(usize),
     /// `U8`: the chain of `baseDefinition` runs in a cycle.
     BaseCycle,
-    /// `U9`: the items of the sliced element have an order.
-    OrderedSlicing,
-    /// `U9`: the slicing is open at its end.
-    OpenAtEnd,
     /// `U9`: the sliced element has no slicing, or that has no discriminator.
     NoDiscriminator,
     /// `U9`: the discriminator at this place of the slicing finds nothing to look for, or lacks its type or its path.
@@ -103,10 +99,7 @@ impl Cause {
             Cause::MissingContent | Cause::UnusableContent { .. } | Cause::ContentOfProfile(_) =>
                 Reason::MissingContent,
             Cause::BaseCycle => Reason::BaseCycle,
-            Cause::OrderedSlicing
-            | Cause::OpenAtEnd
-            | Cause::NoDiscriminator
-            | Cause::UntoldDiscriminator(_) => Reason::UnsupportedSlicing,
+            Cause::NoDiscriminator | Cause::UntoldDiscriminator(_) => Reason::UnsupportedSlicing,
             Cause::NoSnapshot => Reason::NoSnapshot,
             Cause::SecondType => Reason::SecondType,
         }

@@ -24,8 +24,6 @@ fn fixed_text(cause: Cause) -> &'static str {
         Cause::RepeatedId => "the `id` stands twice in the snapshot",
         Cause::NoRoot => "the snapshot has no root",
         Cause::SecondRoot => "it is a second root",
-        Cause::OrderedSlicing => "a slicing whose items have an order isn't supported",
-        Cause::OpenAtEnd => "a slicing that is open at its end isn't supported",
         Cause::NoSnapshot => "it has no snapshot",
         _ => "it can't be used",
     }
@@ -298,8 +296,6 @@ impl<'s> Blamed<'s> {
             | Cause::RepeatedId
             | Cause::NoRoot
             | Cause::SecondRoot
-            | Cause::OrderedSlicing
-            | Cause::OpenAtEnd
             | Cause::NoSnapshot => { String::from_str(alloc, fixed_text(self.blame.cause)) }
         }
     }

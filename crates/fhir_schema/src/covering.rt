@@ -24,7 +24,7 @@ fn reaches_type(table: &Table, lineage: &Lineage, from: &str, code: &str) -> boo
     requires { IsLineage table.now lineage.now }
     ensures { result ≡ reaches_type table.now from.now code.now }
 {
-    // Most codes that are asked for here are names that are no type's: one look-up tells that.
+    // Where a path begins, most codes that are asked for are names that are no type's: one look-up tells that.
     let Some(goal) = table.type_place(code) else {
         return false;
     };
