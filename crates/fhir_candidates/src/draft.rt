@@ -9,6 +9,10 @@ pub(crate) type Done = Result<(), NoMemory>;
 
 // How many items a candidate may have.
 const MOST_ITEMS: usize = 4096;
+// How long its text may be where one more item begins.
+const MOST_BYTES: usize = 1_048_576;
+// How much is looked at as it is made: each child's name with each thing that its parent is asked for.
+const MOST_LOOKS: usize = 1_000_000;
 
 /// The text of a candidate, so far.
 #[derive(Drop)]
@@ -17,6 +21,8 @@ pub(crate) struct Draft {
     bytes: Vec<u8>,
     // How many items may still come.
     left: usize,
+    // How many looks are left.
+    looks: usize,
     // Whether it can become a candidate.
     is_sound: bool,
 }
@@ -28,6 +34,7 @@ impl Draft {
             alloc,
             bytes: Vec::new(alloc),
             left: MOST_ITEMS,
+            looks: MOST_LOOKS,
             is_sound: true,
         }
     }
@@ -53,11 +60,21 @@ impl Draft {
 
     /// Whether one more item may come.
     pub(crate) fn takes_item(&mut self) -> bool {
-        if self.left == 0 || !self.is_sound {
+        if self.left == 0 || self.bytes.len() > MOST_BYTES || !self.is_sound {
             self.is_sound = false;
             return false;
         }
         self.left -= 1;
+        true
+    }
+
+    /// Whether so much more may be looked at.
+    pub(crate) fn takes_looks(&mut self, count: usize) -> bool {
+        if self.looks < count {
+            self.is_sound = false;
+            return false;
+        }
+        self.looks -= count;
         true
     }
 

@@ -13,7 +13,7 @@ use std::alloc::Global;
 
 // How many levels of items a candidate may have.
 const MOST_LEVELS: usize = 40;
-// How many items of one name are made.
+// How many items of one name are made at most.
 const MOST_CHILDREN: usize = 1024;
 
 // What each of several items is asked for.
@@ -27,6 +27,9 @@ fn push_item<'s>(
     special: &[Demand<'s>],
     into: &mut Items<'s>,
 ) -> Done {
+    if into.len() >= MOST_CHILDREN {
+        return Ok(());
+    }
     let mut item = common.to_vec(alloc)?;
     item.extend_from_slice(special)?;
     into.push(item)?;
@@ -263,6 +266,21 @@ fn fixed_value<'s>(demands: &[Demand<'s>]) -> Option<&'s Json<'static>> {
     None
 }
 
+// How many children of each name an object gets. Where that is too much to look at, the candidate is given up.
+fn plan_within<'s>(
+    draft: &mut Draft,
+    task: &Task<'_, 's>,
+    demands: &[Demand<'s>],
+    typing: NodeRef,
+) -> Result<Vec<Planned<'s>>, NoMemory> {
+    let names = task.schema.slots(typing).len();
+    if draft.takes_looks(names.saturating_mul(demands.len())) {
+        plan_of(draft.alloc(), task, demands, typing)
+    } else {
+        Ok(Vec::new(draft.alloc()))
+    }
+}
+
 #[cycle(making)]
 fn put_item<'s>(
     draft: &mut Draft,
@@ -302,7 +320,7 @@ fn put_resource<'s>(
         return Ok(());
     };
     let all = whole(draft.alloc(), task, demands, code)?;
-    let plan = plan_of(draft.alloc(), task, &all, typing)?;
+    let plan = plan_within(draft, task, &all, typing)?;
     draft.open(b'{')?;
     draft.put_name("resourceType")?;
     draft.put_text(code)?;
@@ -321,7 +339,7 @@ fn put_object<'s>(
     if let Some(value) = fixed_value(demands) {
         return draft.put_json(value);
     }
-    let mut plan = plan_of(draft.alloc(), task, demands, typing)?;
+    let mut plan = plan_within(draft, task, demands, typing)?;
     fill(&mut plan);
     draft.open(b'{')?;
     put_children(draft, levels, task, demands, typing, &plan)?;

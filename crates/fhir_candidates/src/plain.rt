@@ -1,5 +1,8 @@
 //! The type of the resources that are made where any will do.
 
+ghost use Rattle.std.specs.Prelude.{◌≡◌, ◌⊎◌, [], IsTrue, IsSome};
+ghost use Rattle.fhir_schema.specs.Schemas.{resource_root};
+
 use fhir_differences::{entry_of, least_at};
 use fhir_schema::{NodeRef, Schema};
 
@@ -13,7 +16,9 @@ fn asks_nothing(schema: &Schema, root: NodeRef) -> bool {
     true
 }
 
-fn is_plain(schema: &Schema, code: &str) -> bool {
+fn is_plain(schema: &Schema, code: &str) -> bool
+    ensures { IsTrue result → IsSome (resource_root schema.now code.now) }
+{
     match schema.resource_root(code) {
         Some(root) => asks_nothing(schema, root),
         None => false,
@@ -21,10 +26,13 @@ fn is_plain(schema: &Schema, code: &str) -> bool {
 }
 
 /// The code of the first type of resources that needn't have any children, or an empty text.
-pub fn plain_code(schema: &Schema) -> &str {
+pub fn plain_code(schema: &Schema) -> &str
+    ensures { (result.now ≡ []) ⊎ IsSome (resource_root schema.now result.now) }
+{
     for definition in schema.definitions() {
-        if definition.is_type() && is_plain(schema, definition.type_code()) {
-            return definition.type_code();
+        let code = definition.type_code();
+        if definition.is_type() && is_plain(schema, code) {
+            return code;
         }
     }
     ""

@@ -1,5 +1,7 @@
 //! Of which type an item is made.
 
+ghost use Rattle.std.specs.Prelude.{◌≡◌, IfSome, IsTrue};
+
 use crate::demand::Demand;
 use crate::task::Task;
 use fhir_differences::Change;
@@ -48,7 +50,9 @@ fn suits_all(task: &Task<'_, '_>, demands: &[Demand<'_>], code: &str) -> bool {
     suits_change(task.change_at(demands), code)
 }
 
-fn is_form_for(task: &Task<'_, '_>, form: &Form, name: &str, demands: &[Demand<'_>]) -> bool {
+fn is_form_for(task: &Task<'_, '_>, form: &Form, name: &str, demands: &[Demand<'_>]) -> bool
+    ensures { IsTrue result → form.now.name ≡ name.now }
+{
     if form.name() != name {
         return false;
     }
@@ -64,7 +68,9 @@ pub fn form_for<'s>(
     typing: NodeRef,
     name: &str,
     demands: &[Demand<'s>],
-) -> Option<&'s Form> {
+) -> Option<&'s Form>
+    ensures { IfSome result (λ form. form.now.name ≡ name.now) }
+{
     for form in task.schema.forms(typing) {
         if is_form_for(task, form, name, demands) {
             return Some(form);

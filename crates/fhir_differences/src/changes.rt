@@ -1,6 +1,7 @@
 //! What could be changed at the place of a pair, so that what conforms to the derived node doesn't conform to the base's.
 
 use crate::extremes::{extremes, has_length};
+use crate::finder::{Done, Finder};
 use crate::nodes::{entry_of, least_at, most_at, profile_for};
 use crate::step::{Change, Difference, Slice, Step};
 use fhir_codes::ConceptSet;
@@ -9,11 +10,6 @@ use fhir_json::{Member, NoMemory};
 use fhir_schema::{NodeRef, Schema, Slot};
 use std::alloc::Global;
 
-// Memory is all that can be wanting.
-type Done = Result<(), NoMemory>;
-
-// How many there are at most.
-const MOST_DIFFERENCES: usize = 200;
 // How many levels below a pair are looked through.
 const MOST_LEVELS: usize = 3;
 // How many children of a name are put over a greatest number.
@@ -22,18 +18,6 @@ const MOST_CHILDREN: usize = 256;
 const MOST_LETTERS: usize = 65_536;
 // How many types of resources are tried where any may be.
 const MOST_TYPES: usize = 4;
-
-/// The differences so far.
-#[derive(Drop)]
-pub(crate) struct Finder<'s> {
-    alloc: Global,
-    schema: &'s Schema,
-    // The way to the place of the pair.
-    way: Vec<Step<'s>>,
-    found: Vec<Difference<'s>>,
-    // How many there may be.
-    room: usize,
-}
 
 fn text_is(left: Option<&str>, right: Option<&str>) -> bool {
     match (left, right) {
@@ -101,6 +85,25 @@ fn some_targets_code(schema: &Schema, entries: &[TypeEntry], code: &str) -> bool
     false
 }
 
+// How much there is to look at in entries.
+fn size_of(entries: &[TypeEntry]) -> usize {
+    let mut size = entries.len();
+    for entry in entries {
+        size = size.saturating_add(entry.profiles().len());
+        size = size.saturating_add(entry.targets().len());
+    }
+    size
+}
+
+// How much there is to look at in a node's element.
+fn size_at(schema: &Schema, node: NodeRef) -> usize {
+    size_of(schema.types(node)).saturating_add(1)
+}
+
+fn product(left: usize, right: usize) -> usize {
+    left.saturating_mul(right)
+}
+
 fn has_targets(entries: &[TypeEntry]) -> bool {
     for entry in entries {
         if entry.code() == "Reference" && !entry.targets().is_empty() {
@@ -130,16 +133,6 @@ fn kids_node(schema: &Schema, node: NodeRef) -> Option<NodeRef> {
 }
 
 impl<'s> Finder<'s> {
-    fn push(&mut self, extra: &[Step<'s>], change: Change<'s>) -> Done {
-        if self.is_full() {
-            return Ok(());
-        }
-        let mut steps = self.way.to_vec(self.alloc)?;
-        steps.extend_from_slice(extra)?;
-        self.found.push(Difference { steps, change })?;
-        Ok(())
-    }
-
     // ---- facets
 
     fn push_values(&mut self, extra: &[Step<'s>], own: &ElementDef, base: &ElementDef) -> Done {
@@ -218,10 +211,10 @@ impl<'s> Finder<'s> {
     }
 
     fn push_binding(&mut self, extra: &[Step<'s>], own: &'s ElementDef, base: &ElementDef) -> Done {
-        let Some(base) = set_of(self.schema, base) else {
+        let Some(base) = set_of(self.schema(), base) else {
             return Ok(());
         };
-        match set_of(self.schema, own) {
+        match set_of(self.schema(), own) {
             Some(own) => self.push_outside(extra, own, base),
             None => self.push(extra, Change::OtherValue),
         }
@@ -242,38 +235,61 @@ impl<'s> Finder<'s> {
 
     // ---- types
 
-    // Types of resources that the base doesn't allow.
-    fn push_resources(&mut self, extra: &[Step<'s>], base: &[TypeEntry]) -> Done {
-        let mut count = 0;
-        for definition in self.schema.definitions() {
-            let code = definition.type_code();
-            let is_new = definition.is_type() && !covers_code(self.schema, base, code);
-            if is_new && self.schema.resource_root(code).is_some() && count < MOST_TYPES {
-                self.push(extra, Change::OfType(code))?;
-                count += 1;
+    // The first types of resources that an entry allows and others don't.
+    fn new_resources(&self, own: &TypeEntry, base: &[TypeEntry]) -> Result<Vec<&'s str>, NoMemory> {
+        let mut codes = Vec::new(self.alloc());
+        for code in self.resources() {
+            let is_new = self.schema().covers(own.code(), *code)
+                && !covers_code(self.schema(), base, *code);
+            if is_new && codes.len() < MOST_TYPES {
+                codes.push(*code)?;
             }
+        }
+        Ok(codes)
+    }
+
+    fn push_resources(&mut self, extra: &[Step<'s>], own: &TypeEntry, base: &[TypeEntry]) -> Done {
+        if !self.takes_looks(product(self.resources().len(), base.len())) {
+            return Ok(());
+        }
+        let codes = self.new_resources(own, base)?;
+        for code in &codes {
+            self.push(extra, Change::OfType(*code))?;
         }
         Ok(())
     }
 
     fn push_type(&mut self, extra: &[Step<'s>], own: &'s TypeEntry, base: &[TypeEntry]) -> Done {
-        if self.schema.is_resource(own.code()) {
-            return self.push_resources(extra, base);
+        if self.schema().is_resource(own.code()) {
+            return self.push_resources(extra, own, base);
         }
-        if !covers_code(self.schema, base, own.code()) {
+        if !covers_code(self.schema(), base, own.code()) {
             self.push(extra, Change::OfType(own.code()))?;
         }
         Ok(())
     }
 
     fn push_types(&mut self, extra: &[Step<'s>], own: &'s [TypeEntry], base: &[TypeEntry]) -> Done {
-        if base.is_empty() {
+        if base.is_empty() || !self.takes_looks(product(own.len(), base.len())) {
             return Ok(());
         }
         for entry in own {
             self.push_type(extra, entry, base)?;
         }
         Ok(())
+    }
+
+    // The first types of resources that some entries allow as targets and others don't.
+    fn new_targets(&self, own: &[TypeEntry], base: &[TypeEntry]) -> Result<Vec<&'s str>, NoMemory> {
+        let mut codes = Vec::new(self.alloc());
+        for code in self.resources() {
+            let is_new = some_targets_code(self.schema(), own, *code)
+                && !some_targets_code(self.schema(), base, *code);
+            if is_new && codes.len() < MOST_TYPES {
+                codes.push(*code)?;
+            }
+        }
+        Ok(codes)
     }
 
     // References to types that the derived node allows and the base doesn't.
@@ -283,20 +299,13 @@ impl<'s> Finder<'s> {
         own: &'s [TypeEntry],
         base: &[TypeEntry],
     ) -> Done {
-        if !has_targets(base) {
+        let size = size_of(own).saturating_add(size_of(base));
+        if !has_targets(base) || !self.takes_looks(product(self.resources().len(), size)) {
             return Ok(());
         }
-        let mut count = 0;
-        for definition in self.schema.definitions() {
-            let code = definition.type_code();
-            let is_wanted = definition.is_type()
-                && self.schema.is_resource(code)
-                && some_targets_code(self.schema, own, code)
-                && !some_targets_code(self.schema, base, code);
-            if is_wanted && count < MOST_TYPES {
-                self.push(extra, Change::Target(code))?;
-                count += 1;
-            }
+        let codes = self.new_targets(own, base)?;
+        for code in &codes {
+            self.push(extra, Change::Target(*code))?;
         }
         Ok(())
     }
@@ -310,7 +319,10 @@ impl<'s> Finder<'s> {
         node: NodeRef,
         base: &'s ElementDef,
     ) -> Done {
-        let schema = self.schema;
+        if !self.takes_looks(product(own.constraints().len(), base.constraints().len())) {
+            return Ok(());
+        }
+        let schema = self.schema();
         for (position, constraint) in base.constraints().iter().enumerate() {
             if constraint.must_hold() && !has_constraint(own, constraint.expression()) {
                 if let Some(expression) = schema.expression(node, position) {
@@ -331,10 +343,10 @@ impl<'s> Finder<'s> {
         base: NodeRef,
     ) -> Done {
         let (own_least, own_most) = match own {
-            Some(own) => (least_at(self.schema, own), most_at(self.schema, own)),
+            Some(own) => (least_at(self.schema(), own), most_at(self.schema(), own)),
             None => (0, usize::MAX),
         };
-        let (least, most) = (least_at(self.schema, base), most_at(self.schema, base));
+        let (least, most) = (least_at(self.schema(), base), most_at(self.schema(), base));
         if least > own_least {
             self.push(extra, Change::Count(name, least.saturating_sub(1)))?;
         }
@@ -352,10 +364,13 @@ impl<'s> Finder<'s> {
         slice: NodeRef,
     ) -> Done {
         let (own_least, own_most) = match own {
-            Some(own) => (least_at(self.schema, own), most_at(self.schema, own)),
+            Some(own) => (least_at(self.schema(), own), most_at(self.schema(), own)),
             None => (0, usize::MAX),
         };
-        let (least, most) = (least_at(self.schema, slice), most_at(self.schema, slice));
+        let (least, most) = (
+            least_at(self.schema(), slice),
+            most_at(self.schema(), slice),
+        );
         if least > own_least {
             self.push(extra, Change::InSlice(name, slice, least.saturating_sub(1)))?;
         }
@@ -373,8 +388,8 @@ impl<'s> Finder<'s> {
         own: NodeRef,
         base: NodeRef,
     ) -> Done {
-        for slice in self.schema.slices(own) {
-            if self.schema.slice(base, slice.name()).is_none() {
+        for slice in self.schema().slices(own) {
+            if self.schema().slice(base, slice.name()).is_none() {
                 self.push_step(extra, step_to(name, Slice::Own(entry_of(own, slice))))?;
             }
         }
@@ -382,8 +397,7 @@ impl<'s> Finder<'s> {
     }
 
     fn push_step(&mut self, extra: &[Step<'s>], step: Step<'s>) -> Done {
-        let mut steps = extra.to_vec(self.alloc)?;
-        steps.push(step)?;
+        let steps = with_step(self.alloc(), extra, step)?;
         self.push(&steps, Change::Nothing)
     }
 
@@ -394,7 +408,7 @@ impl<'s> Finder<'s> {
         own: Option<NodeRef>,
         base: NodeRef,
     ) -> Done {
-        if !self.schema.is_closed(base) {
+        if !self.schema().is_closed(base) {
             return Ok(());
         }
         self.push(extra, Change::OneMore(name))?;
@@ -411,7 +425,7 @@ impl<'s> Finder<'s> {
         own: Option<NodeRef>,
         base: NodeRef,
     ) -> Done {
-        let schema = self.schema;
+        let schema = self.schema();
         for slice in schema.slices(base) {
             let own = own_slice(schema, own, slice.name());
             self.push_slice_counts(extra, name, own, entry_of(base, slice))?;
@@ -428,14 +442,17 @@ impl<'s> Finder<'s> {
     ) -> Done {
         let name = slot.name();
         let entry = entry_of(base, slot);
-        let own = own_slot(self.schema, own, name);
+        let own = own_slot(self.schema(), own, name);
+        if !self.takes_looks(slices_at(self.schema(), own, entry)) {
+            return Ok(());
+        }
         self.push_counts(extra, name, own, entry)?;
         self.push_closed(extra, name, own, entry)?;
         self.push_slices(extra, name, own, entry)
     }
 
     fn push_slots(&mut self, extra: &[Step<'s>], own: NodeRef, base: NodeRef) -> Done {
-        let schema = self.schema;
+        let schema = self.schema();
         for slot in schema.slots(base) {
             self.push_slot(extra, own, base, slot)?;
         }
@@ -454,12 +471,32 @@ fn own_slice(schema: &Schema, own: Option<NodeRef>, name: &str) -> Option<NodeRe
     Some(entry_of(own, slice))
 }
 
+// How many slices two slots have, and one more.
+fn slices_at(schema: &Schema, own: Option<NodeRef>, base: NodeRef) -> usize {
+    let own = match own {
+        Some(own) => schema.slices(own).len(),
+        None => 0,
+    };
+    own.saturating_add(schema.slices(base).len())
+        .saturating_add(1)
+}
+
 fn step_to<'s>(name: &'s str, slice: Slice) -> Step<'s> {
     Step {
         name,
         slice,
         code: None,
     }
+}
+
+fn with_step<'s>(
+    alloc: Global,
+    steps: &[Step<'s>],
+    step: Step<'s>,
+) -> Result<Vec<Step<'s>>, NoMemory> {
+    let mut more = steps.to_vec(alloc)?;
+    more.push(step)?;
+    Ok(more)
 }
 
 // ---- what the elements of two nodes suggest, and what stands below them
@@ -471,7 +508,11 @@ fn push_elements<'s>(
     own: NodeRef,
     base: NodeRef,
 ) -> Done {
-    let schema = finder.schema;
+    let schema = finder.schema();
+    let size = size_at(schema, own).saturating_add(size_at(schema, base));
+    if !finder.takes_looks(size) {
+        return Ok(());
+    }
     let (Some(element), Some(other)) = (schema.element(own), schema.element(base)) else {
         return Ok(());
     };
@@ -490,10 +531,13 @@ fn push_item<'s>(
     base: NodeRef,
 ) -> Done {
     push_elements(finder, extra, own, base)?;
+    if finder.is_done() {
+        return Ok(());
+    }
     push_profiles(finder, levels, extra, own, base)?;
     match (
-        kids_node(finder.schema, own),
-        finder.schema.child_holder(base),
+        kids_node(finder.schema(), own),
+        finder.schema().child_holder(base),
     ) {
         (Some(own), Some(base)) => push_kids(finder, levels, extra, own, base),
         _ => Ok(()),
@@ -508,7 +552,7 @@ fn push_profiles<'s>(
     own: NodeRef,
     base: NodeRef,
 ) -> Done {
-    let schema = finder.schema;
+    let schema = finder.schema();
     for entry in schema.types(base) {
         for profile in entry.profiles() {
             if let Some(root) = schema.loaded(profile.as_str()) {
@@ -529,7 +573,7 @@ fn push_root<'s>(
     root: NodeRef,
 ) -> Done {
     push_elements(finder, extra, own, root)?;
-    match kids_node(finder.schema, own) {
+    match kids_node(finder.schema(), own) {
         Some(own) => push_kids(finder, levels, extra, own, root),
         None => Ok(()),
     }
@@ -544,10 +588,10 @@ fn push_kids<'s>(
     base: NodeRef,
 ) -> Done {
     finder.push_slots(extra, own, base)?;
-    if levels == 0 {
+    if levels == 0 || finder.is_done() {
         return Ok(());
     }
-    let schema = finder.schema;
+    let schema = finder.schema();
     for slot in schema.slots(base) {
         push_entry(finder, levels - 1, extra, own, base, slot)?;
     }
@@ -564,7 +608,7 @@ fn push_entry<'s>(
     slot: &'s Slot,
 ) -> Done {
     let base = entry_of(base, slot);
-    let Some(own) = own_slot(finder.schema, own, slot.name()) else {
+    let Some(own) = own_slot(finder.schema(), own, slot.name()) else {
         return Ok(());
     };
     push_below(
@@ -575,7 +619,7 @@ fn push_entry<'s>(
         own,
         base,
     )?;
-    let schema = finder.schema;
+    let schema = finder.schema();
     for slice in schema.slices(base) {
         let step = step_to(slot.name(), Slice::Base(entry_of(base, slice)));
         push_below(finder, levels, extra, step, own, entry_of(base, slice))?;
@@ -596,42 +640,8 @@ fn push_below<'s>(
     if own == base {
         return Ok(());
     }
-    let mut steps = extra.to_vec(finder.alloc)?;
-    steps.push(step)?;
+    let steps = with_step(finder.alloc(), extra, step)?;
     push_item(finder, levels, &steps, own, base)
-}
-
-impl<'s> Finder<'s> {
-    /// One without any.
-    pub(crate) fn new(alloc: Global, schema: &'s Schema) -> Finder<'s> {
-        Finder {
-            alloc,
-            schema,
-            way: Vec::new(alloc),
-            found: Vec::new(alloc),
-            room: MOST_DIFFERENCES / 2,
-        }
-    }
-
-    /// From here on the changes are at the end of another way.
-    pub(crate) fn go(&mut self, way: Vec<Step<'s>>) {
-        self.way = way;
-    }
-
-    /// From here on there may be as many as ever.
-    pub(crate) fn make_room(&mut self) {
-        self.room = MOST_DIFFERENCES;
-    }
-
-    /// Whether there is no room for more.
-    pub(crate) fn is_full(&self) -> bool {
-        self.found.len() >= self.room
-    }
-
-    /// The differences.
-    pub(crate) fn into_found(self) -> Vec<Difference<'s>> {
-        self.found
-    }
 }
 
 /// All that a pair of items and what stands below it suggest.

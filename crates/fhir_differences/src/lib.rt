@@ -18,6 +18,7 @@
 
 mod changes;
 mod extremes;
+mod finder;
 mod nodes;
 mod step;
 mod ways;

@@ -1,10 +1,16 @@
 //! What nodes say of their items.
 
+ghost use Rattle.std.specs.Prelude.{◌≡◌};
+ghost use Rattle.std.specs.Option.{option_map_or};
+ghost use Rattle.fhir_schema.specs.Schemas.{entry_of, element_at};
+
 use fhir_elements::{ElementDef, Max, TypeEntry};
 use fhir_schema::{NodeRef, Schema, Slot};
 
 /// A node of a slot, or of a slice.
-pub fn entry_of(node: NodeRef, slot: &Slot) -> NodeRef {
+pub fn entry_of(node: NodeRef, slot: &Slot) -> NodeRef
+    ensures { result ≡ entry_of node slot.now }
+{
     NodeRef {
         definition: node.definition,
         element: slot.entry(),
@@ -30,7 +36,9 @@ pub fn profile_for(schema: &Schema, node: NodeRef, code: &str) -> Option<NodeRef
     None
 }
 
-fn least_of(element: &ElementDef) -> usize {
+fn least_of(element: &ElementDef) -> usize
+    ensures { result ≡ option_map_or (λ n. n) element.now.min 0 }
+{
     element.min().unwrap_or(0) as usize
 }
 
@@ -42,7 +50,9 @@ fn most_of(element: &ElementDef) -> usize {
 }
 
 /// How many items a node's element has to have.
-pub fn least_at(schema: &Schema, node: NodeRef) -> usize {
+pub fn least_at(schema: &Schema, node: NodeRef) -> usize
+    ensures { result ≡ option_map_or (λ e. option_map_or (λ n. n) e.min 0) (element_at schema.now node) 0 }
+{
     match schema.element(node) {
         Some(element) => least_of(element),
         None => 0,

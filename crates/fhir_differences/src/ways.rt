@@ -1,8 +1,9 @@
 //! The places of pairs, from the pair of two roots, and what may differ at each.
 
-use crate::changes::{
-    Finder, suggest_of_elements, suggest_of_items, suggest_of_kids, suggest_of_slots,
-};
+ghost use Rattle.std.specs.Prelude.{◌≤◌, length, IfOk};
+
+use crate::changes::{suggest_of_elements, suggest_of_items, suggest_of_kids, suggest_of_slots};
+use crate::finder::{Done, Finder};
 use crate::step::{Difference, Slice, Step};
 use fhir_cert_check::{PairSet, asked_for};
 use fhir_certificate::{NodePair, Pair};
@@ -11,8 +12,8 @@ use fhir_names::{name_of, slice_of};
 use fhir_schema::{NodeRef, Schema};
 use std::alloc::Global;
 
-// Memory is all that can be wanting.
-type Done = Result<(), NoMemory>;
+// How many pairs a way goes through at most. What lies deeper isn't made.
+const MOST_PAIRS: usize = 200;
 
 // A pair that is found, and the place of the one that asked for it first.
 #[derive(Clone, Copy)]
@@ -112,22 +113,25 @@ fn code_between<'s>(schema: &'s Schema, from: Pair, to: Pair) -> Option<&'s str>
     }
 }
 
-// The steps to a place, from its end.
+// The steps to a place, from its end, if it doesn't lie too deep.
 fn steps_back<'s>(
     alloc: Global,
     schema: &'s Schema,
     visits: &[Visit],
     place: usize,
-) -> Result<Vec<Step<'s>>, NoMemory> {
+) -> Result<Option<Vec<Step<'s>>>, NoMemory> {
     let mut steps = Vec::new(alloc);
     let mut at = place;
     let mut code = None;
-    for _ in 0..visits.len() {
+    for _ in 0..MOST_PAIRS {
+        if at == 0 {
+            return Ok(Some(steps));
+        }
         let Some(visit) = visits.get(at).copied() else {
-            return Ok(steps);
+            return Ok(None);
         };
         let Some(from) = visits.get(visit.from).copied() else {
-            return Ok(steps);
+            return Ok(None);
         };
         match step_between(schema, from.pair, visit.pair, code) {
             Some(step) => {
@@ -136,24 +140,23 @@ fn steps_back<'s>(
             }
             None => code = code.or(code_between(schema, from.pair, visit.pair)),
         }
-        if at == 0 {
-            return Ok(steps);
-        }
         at = visit.from;
     }
-    Ok(steps)
+    Ok(None)
 }
 
-// The way to a place.
+// The way to a place, if it doesn't lie too deep.
 fn way_to<'s>(
     alloc: Global,
     schema: &'s Schema,
     visits: &[Visit],
     place: usize,
-) -> Result<Vec<Step<'s>>, NoMemory> {
-    let mut steps = steps_back(alloc, schema, visits, place)?;
+) -> Result<Option<Vec<Step<'s>>>, NoMemory> {
+    let Some(mut steps) = steps_back(alloc, schema, visits, place)? else {
+        return Ok(None);
+    };
     steps.reverse();
-    Ok(steps)
+    Ok(Some(steps))
 }
 
 // What the pair that fails suggests, with what stands below it.
@@ -167,7 +170,10 @@ fn suggest_first<'s>(
     let Some(place) = place_of(visits, wanted) else {
         return Ok(());
     };
-    finder.go(way_to(alloc, schema, visits, place)?);
+    let Some(way) = way_to(alloc, schema, visits, place)? else {
+        return Ok(());
+    };
+    finder.go(way);
     match wanted {
         Pair::Item(nodes) => suggest_of_items(finder, nodes.derived, nodes.base),
         Pair::Kids(nodes) => suggest_of_kids(finder, nodes.derived, nodes.base),
@@ -185,10 +191,13 @@ fn suggest<'s>(
     let Some(visit) = visits.get(place).copied() else {
         return Ok(());
     };
-    if finder.is_full() {
+    if finder.is_done() {
         return Ok(());
     }
-    finder.go(way_to(alloc, schema, visits, place)?);
+    let Some(way) = way_to(alloc, schema, visits, place)? else {
+        return Ok(());
+    };
+    finder.go(way);
     match visit.pair {
         Pair::Item(nodes) => suggest_of_elements(finder, nodes.derived, nodes.base),
         Pair::Kids(nodes) => suggest_of_slots(finder, nodes.derived, nodes.base),
@@ -196,15 +205,18 @@ fn suggest<'s>(
 }
 
 /// Where the profiles of two roots may differ, of which a pair fails, the likeliest first: what this pair suggests, and then what the
-/// others do. A pair that fails needn't be what parts the two profiles. There are 200 at most.
+/// others do. A pair that fails needn't be what parts the two profiles. There are 200 at most, and where the profiles name others by the
+/// thousand not all is looked through.
 pub fn differences<'s>(
     alloc: Global,
     schema: &'s Schema,
     roots: NodePair,
     wanted: Pair,
-) -> Result<Vec<Difference<'s>>, NoMemory> {
+) -> Result<Vec<Difference<'s>>, NoMemory>
+    ensures { IfOk result (λ found. length found.items ≤ 200) }
+{
     let visits = visits_from(alloc, schema, Pair::Item(roots))?;
-    let mut finder = Finder::new(alloc, schema);
+    let mut finder = Finder::new(alloc, schema)?;
     suggest_first(alloc, &mut finder, schema, &visits, wanted)?;
     finder.make_room();
     for place in 0..visits.len() {
