@@ -1,5 +1,5 @@
 -- What a reply on a resource says, from how the resource stands.
-use Rattle.std.proofs.Common.{◌≡◌, ◌++◌, ℕ, List, [], ◌∷◌, None, Result, Ok, Err, codes, refl, sym, ap, subst, ◌∙◌, inl, IsUtf8}
+use Rattle.std.proofs.Common.{◌≡◌, ◌++◌, ℕ, List, [], ◌∷◌, Result, Ok, Err, codes, refl, sym, ap, ◌∙◌}
 use Rattle.fhir_json.specs.Tree.{Text, Tree}
 use Rattle.fhir_json.specs.Compact.{compact}
 use Rattle.fhir_schema.specs.Schemas.{SchemaValue}
@@ -12,11 +12,7 @@ use Rattle.fhir_validator.specs.declared.verdict.Vouched.TheVariants as vouched
 use Rattle.fhir_replies.specs.Judging.{standing_of, IsJudged, standing_given, IsJudgedAsGiven}
 use Rattle.fhir_replies.specs.Standing.{AlwaysConforms, Stands, ConformsAsGiven, StandsAsGiven}
 use Rattle.fhir_answers.specs.declared.reply.Status.{Status}
-use Rattle.fhir_unread.specs.Given.{texts_given, AreSame, notes}
-use Rattle.fhir_unread.specs.Unread.{unread_texts}
-use Rattle.fhir_answers.specs.Answering.{IsJudgedReply, IsGivenReply}
 use Rattle.fhir_answers.specs.Replying.{ReplyValue, status_of, written, answer_noted}
-use Rattle.fhir_answers.specs.Session.{SessionValue, schema_in}
 use Rattle.fhir_answers.specs.Status.{code_of, standing_status}
 
 conforms_by : (s : SchemaValue) (profile bytes : Text) (v : Result Verdict Fault) → Stands s profile bytes v
@@ -58,18 +54,3 @@ pub given_by : (s : SchemaValue) (texts : List Text) (profile bytes told out : T
 given_by s texts profile bytes told out standing outcome judged zero =
     conforms_by_given s texts profile bytes judged.validated judged.stands
     (ap (λ (it : Standing). code_of (standing_status it)) (sym judged.stands_so) ∙ sym (status_noted told out (code_of (standing_status standing))) ∙ zero)
-
--- the reply is the one where a user vouches for what the lines of a file give, from what is known of the set and of the notes
-pub answered_by : (s : SessionValue) (schema : SchemaValue) (texts : List Text) (told profile bytes name lines : Text) (reply : ReplyValue)
-    → schema ≡ schema_in s → (¬ ¬ IsUtf8 lines) → AreSame texts (texts_given lines) → told ≡ notes name (unread_texts None (schema_in s) s.survey) lines
-    → IsJudgedReply schema texts told profile bytes reply → IsGivenReply s profile bytes name lines reply
-answered_by s schema texts told profile bytes name lines reply same utf8 are is judged =
-    inl (
-      utf8,
-      (
-        texts,
-        are,
-        subst (λ x. IsJudgedReply x texts (notes name (unread_texts None (schema_in s) s.survey) lines) profile bytes reply) same
-            (subst (λ n. IsJudgedReply schema texts n profile bytes reply) is judged),
-      ),
-    )

@@ -1,5 +1,5 @@
 -- What is answered.
-use Rattle.std.specs.Prelude.{◌≡◌, ◌↔◌, ◌⊎◌, List, [], ℕ, ◌++◌, get_or, Bool, true, false, IsTrue, IsUtf8, Option, None, Some, codes}
+use Rattle.std.specs.Prelude.{◌≡◌, ◌↔◌, List, [], ℕ, ◌++◌, get_or, Bool, true, false, IsTrue, Option, None, Some, codes}
 use Rattle.std.specs.Option.{option_map_or}
 use Rattle.fhir_json.specs.Tree.{Text, Tree}
 use Rattle.fhir_json.specs.Compact.{compact}
@@ -21,10 +21,9 @@ use Rattle.fhir_replies.specs.Judging.{IsJudged, IsJudgedAsGiven}
 use Rattle.fhir_replies.specs.Deriving.{Derivation, IsDerivationOf}
 use Rattle.fhir_words.specs.declared.request.Manner.{Manner}
 use Rattle.fhir_findings.specs.Selecting.{SelectionValue, unknown_place, asked_selection, profile_selection}
-use Rattle.fhir_unread.specs.Given.{texts_given, AreSame, notes}
 use Rattle.fhir_unread.specs.Listing.{listing}
-use Rattle.fhir_unread.specs.Unread.{unread_texts}
 use Rattle.fhir_report.specs.Faultless.{CertificateValue}
+use Rattle.fhir_answers.specs.ByLines.{IsByLines}
 use Rattle.fhir_answers.specs.Replying.{ReplyValue, written, noted, told, answer_noted, fault_reply, refused_reply, unreadable_reply, certificate_reply, migrated_reply, derivation_reply}
 use Rattle.fhir_answers.specs.Reporting.{IsAllRight, IsReportOf}
 use Rattle.fhir_words.specs.Requests.{RequestValue, certify, migrate, validate, validate_given, snapshot, derive, counter, counter_given, check, unread}
@@ -62,16 +61,10 @@ pub record IsJudgedReply (s : SchemaValue) (texts : List Text) (notes profile by
   pub is_judged : IsJudgedAsGiven s texts profile bytes standing outcome
   pub is_reply : reply ≡ answer_noted notes (code_of (standing_status standing)) (compact outcome ++ codes "\n")
 
--- The texts are those that the lines of a file give. The lines that give none which a definition carries are told.
-abbrev pub IsAnsweredAsGiven : SessionValue → (profile bytes name given : Text) → ReplyValue → Type 0
-IsAnsweredAsGiven s profile bytes name given reply =
-    (texts : List Text) × AreSame texts (texts_given given)
-    × IsJudgedReply (schema_in s) texts (notes name (unread_texts None (schema_in s) s.survey) given) profile bytes reply
-
--- That file is read, unless it isn't UTF-8; or it can't be, and then it isn't.
-abbrev pub IsGivenReply : SessionValue → (profile bytes name given : Text) → ReplyValue → Type 0
-IsGivenReply s profile bytes name given reply =
-    ((¬ ¬ IsUtf8 given) × IsAnsweredAsGiven s profile bytes name given reply) ⊎ ((¬ IsUtf8 given) × (reply ≡ unreadable_reply name))
+-- The same by the lines of a file.
+abbrev pub IsGivenReply : SessionValue → (profile bytes name lines : Text) → ReplyValue → Type 0
+IsGivenReply s profile bytes name lines reply =
+    IsByLines (λ texts notes. IsJudgedReply (schema_in s) texts notes profile bytes) s name lines reply
 
 -- whether the number is that of want of memory
 abbrev pub is_of_memory : SnapNumber → Bool

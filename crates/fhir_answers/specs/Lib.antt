@@ -4,6 +4,7 @@ pub mod Views
 pub mod Session
 pub mod Reporting
 pub mod Replying
+pub mod ByLines
 pub mod Showing
 pub mod Answering
 pub mod Promising

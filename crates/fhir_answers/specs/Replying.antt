@@ -98,11 +98,18 @@ derivation_reply s derived base (fails pair rule) = written 1 (wrong_text s pair
 derivation_reply s derived base (missing side) = fault_reply (codes "D1") (on_side side derived base)
 derivation_reply s derived base (unusable side) = fault_reply (codes "D2") (on_side side derived base)
 
--- What is written of two profiles between which no certificate exists: a resource that was found, on a line; or the pair that fails a rule.
--- Notes are told beside it.
+-- where no certificate exists: the resource that was found, on a line; or, where none was, the pair that fails a rule
 abbrev pub shown_reply : SchemaValue → (notes : Text) → Pair → RuleName → Option Text → ReplyValue
 shown_reply s notes pair rule (Some bytes) = answer_noted notes 1 (bytes ++ codes "\n")
 shown_reply s notes pair rule None = answer_noted notes 2 (wrong_text s pair rule)
+
+-- what comes of two profiles where a resource is looked for, and perhaps found: that a certificate exists; or that none does; or, as where one is
+-- to be derived, that a profile isn't there, or can't be used
+abbrev pub counter_reply : SchemaValue → (notes derived base : Text) → (found : Option Text) → Derivation → ReplyValue
+counter_reply s notes derived base found (derives c) = answer_noted notes 0 (codes "yes\n")
+counter_reply s notes derived base found (fails pair rule) = shown_reply s notes pair rule found
+counter_reply s notes derived base found (missing side) = derivation_reply s derived base (missing side)
+counter_reply s notes derived base found (unusable side) = derivation_reply s derived base (unusable side)
 
 -- of a certificate's bytes, whose file has that name
 abbrev pub certificate_reply : Text → SchemaValue → Text → ReplyValue

@@ -6,7 +6,7 @@ ghost use Rattle.fhir_answers.specs.Answering.{IsReply, counter_given_answer};
 ghost use Rattle.fhir_answers.specs.Promising.{Derived};
 ghost use Rattle.fhir_answers.specs.Replying.{reply_seen, status_of, answer_noted, shown_reply};
 ghost use Rattle.fhir_answers.specs.Session.{schema_in};
-ghost use Rattle.fhir_answers.specs.Showing.{IsShownBy, IsShownReply, IsCounterReply, IsGivenCounter};
+ghost use Rattle.fhir_answers.specs.Showing.{IsShownBy, IsCounterReply, IsGivenCounter};
 ghost use Rattle.fhir_answers.specs.Views.{bytes_seen};
 
 use crate::derive_reply::side_reply;
@@ -78,24 +78,6 @@ fn counterexample_by(
     }
 }
 
-// Where a pair fails a rule, and no certificate exists.
-fn refuted_by(
-    alloc: Global,
-    schema: &Schema,
-    derived: &str,
-    base: &str,
-    pair: Pair,
-    rule: Rule<'_>,
-    given: Option<&Vouching>,
-    notes: String,
-) -> Result<Reply, NoMemory>
-    ensures { IfOk result (λ r. IsShownReply (option_map (λ texts. texts.now) given.entry) schema.now (string_bytes notes)
-        derived.now base.now pair (rule_name rule.entry) (reply_seen r)) }
-{
-    let found = counterexample_by(alloc, schema, derived, base, pair, given)?;
-    shown_reply(alloc, schema, pair, rule, found, notes)
-}
-
 fn counter_by(
     alloc: Global,
     schema: &Schema,
@@ -111,7 +93,8 @@ fn counter_by(
     match derive(alloc, schema, derived, base) {
         Ok(Outcome::Derives(_)) => yes_reply(alloc, notes),
         Ok(Outcome::NoCertificate(pair, rule)) => {
-            refuted_by(alloc, schema, derived, base, pair, rule, given, notes)
+            let found = counterexample_by(alloc, schema, derived, base, pair, given)?;
+            shown_reply(alloc, schema, pair, rule, found, notes)
         }
         Err(DeriveFault::Missing(side)) => side_reply(alloc, "D1", side, derived, base),
         Err(DeriveFault::Unusable(side)) => side_reply(alloc, "D2", side, derived, base),

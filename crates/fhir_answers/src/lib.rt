@@ -24,11 +24,13 @@ mod answering;
 mod counter_reply;
 mod derive_reply;
 mod given;
+mod laws;
 mod migrate_reply;
 mod reply;
 mod session;
 mod wrong_reply;
 
 pub use given::{NamedFile, profile_refusal};
+pub use laws::wrong_text_is_a_line;
 pub use reply::{Reply, Status, fault_reply, unreadable_reply};
 pub use session::{Session, refused_reply};

@@ -182,17 +182,7 @@ impl<'f> Session<'f> {
                 file,
                 given,
                 ..
-            } => {
-                let resource = NamedFile {
-                    name: *file,
-                    bytes: first,
-                };
-                let texts = NamedFile {
-                    name: *given,
-                    bytes: second,
-                };
-                self.validate_given(alloc, *profile, resource, texts)
-            }
+            } => self.validate_given(alloc, *profile, *file, first, *given, second),
             Request::Snapshot { url, .. } => self.snapshot(alloc, *url),
             Request::Derive { derived, base, .. } => self.derive(alloc, *derived, *base),
             Request::Counter { derived, base, .. } => self.counter(alloc, *derived, *base),
@@ -258,16 +248,25 @@ impl<'f> Session<'f> {
         &self,
         alloc: Global,
         profile: &str,
-        resource: NamedFile<'_>,
-        given: NamedFile<'_>,
+        name: &str,
+        file: Option<&[u8]>,
+        given_name: &str,
+        given: Option<&[u8]>,
     ) -> Result<Reply, NoMemory>
         ensures told { IfOk result (λ r. IsReply (package_answer (refusal self.now.survey)
-            (given_answer self.now profile.now resource.entry.name.now (bytes_seen resource.entry.bytes) given.entry.name.now (bytes_seen given.entry.bytes))) (reply_seen r)) }
+            (given_answer self.now profile.now name.now (bytes_seen file.entry) given_name.now (bytes_seen given.entry))) (reply_seen r)) }
         ensures promised { IfOk result (λ r. status_of (reply_seen r) ≡ 0 → (self.now.survey.faults ≡ [])
-            × ValidatedAsGiven (schema_in self.now) profile.now (bytes_seen resource.entry.bytes) (bytes_seen given.entry.bytes)) }
+            × ValidatedAsGiven (schema_in self.now) profile.now (bytes_seen file.entry) (bytes_seen given.entry)) }
     {
         match self.package() {
-            Ok(_schema) => validate_given(alloc, self, profile, resource, given),
+            Ok(_schema) => {
+                let resource = NamedFile { name, bytes: file };
+                let texts = NamedFile {
+                    name: given_name,
+                    bytes: given,
+                };
+                validate_given(alloc, self, profile, resource, texts)
+            }
             Err(fault) => Ok(refused_reply(alloc, fault)?),
         }
     }

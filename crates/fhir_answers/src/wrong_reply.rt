@@ -8,11 +8,12 @@ ghost use Rattle.fhir_answers.specs.Replying.{reply_seen, wrong_reply};
 use crate::reply::{Reply, Status};
 use fhir_cert_check::{Answer, Rule, rule_text};
 use fhir_certificate::Pair;
+use fhir_lines::push_escaped;
 use fhir_report::no_text;
 use fhir_schema::Schema;
 use std::alloc::{AllocError, Global};
 
-/// What is printed of a pair that fails a rule.
+/// What is printed of a pair that fails a rule: a line, whatever texts the package has.
 pub(crate) fn wrong_text(
     alloc: Global,
     schema: &Schema,
@@ -22,7 +23,9 @@ pub(crate) fn wrong_text(
     ensures { IfOk result (λ text. string_bytes text ≡ wrong_text schema.now pair (rule_name rule.entry)) }
 {
     let rule = rule_text(alloc, rule)?;
-    let mut text = no_text(alloc, schema, pair, rule.as_str())?;
+    let words = no_text(alloc, schema, pair, rule.as_str())?;
+    let mut text = String::new(alloc);
+    push_escaped(words.as_str(), &mut text)?;
     text.push_str("\n")?;
     Ok(text)
 }

@@ -12,40 +12,40 @@ use Rattle.fhir_answers.proofs.counter_reply.counter_by.Goals as goal
 pub returns-in-Ok-Derives-clause-told : goal.returns-in-Ok-Derives-clause-told
 returns-in-Ok-Derives-clause-told c =
     let found = c.in-Ok-Derives in
-    let is : found.field-0 ≡ Derives found.certificate = search rules in
+    let is : found.field-0 ≡ Derives found.field-0-0 = search rules in
     IfOk-weaker c.yes_reply.result _ _
     (λ r told.
     derives_so (option_map (λ x. x.now) c.args.given) c.args.schema.now (string_bytes c.args.notes) c.args.derived.now c.args.base.now
-    found.field-0 found.certificate (reply_seen r) is found.ensures.reached found.ensures.right told)
+    found.field-0 found.field-0-0 (reply_seen r) is found.ensures.reached found.ensures.right told)
     c.yes_reply.ensures
 
 pub returns-in-Ok-Derives-clause-promised : goal.returns-in-Ok-Derives-clause-promised
 returns-in-Ok-Derives-clause-promised c =
     let found = c.in-Ok-Derives in
-    let is : found.field-0 ≡ Derives found.certificate = search rules in
+    let is : found.field-0 ≡ Derives found.field-0-0 = search rules in
     IfOk-weaker c.yes_reply.result _ _
     (λ r told zero.
-    promised_so c.args.schema.now c.args.derived.now c.args.base.now found.field-0 found.certificate is found.ensures.reached found.ensures.right found.ensures.includes)
+    promised_so c.args.schema.now c.args.derived.now c.args.base.now found.field-0 found.field-0-0 is found.ensures.reached found.ensures.right found.ensures.includes)
     c.yes_reply.ensures
 
 pub returns-in-Ok-NoCertificate-clause-told : goal.returns-in-Ok-NoCertificate-clause-told
 returns-in-Ok-NoCertificate-clause-told c =
-    let found = c.in-Ok-NoCertificate in
-    let is : found.field-0 ≡ NoCertificate found.pair found.rule = search rules in
-    IfOk-weaker c.refuted_by.result _ _
-    (λ r shown.
+    let of = c.in-Ok-NoCertificate in
+    let is : of.field-0 ≡ NoCertificate of.pair of.rule = search rules in
+    let found = c.in_ok-found-in-Ok-NoCertificate in
+    IfOk-weaker c.shown_reply.result _ _
+    (λ r told.
     fails_so (option_map (λ x. x.now) c.args.given) c.args.schema.now (string_bytes c.args.notes) c.args.derived.now c.args.base.now
-    found.field-0 found.pair found.rule (reply_seen r) is found.ensures.derives found.ensures.refused shown)
-    c.refuted_by.ensures
+    of.field-0 of.pair of.rule (λ bytes. bytes.items) found.found (reply_seen r) is of.ensures.derives of.ensures.refused found.ensures told)
+    c.shown_reply.ensures
 
 pub returns-in-Ok-NoCertificate-clause-promised : goal.returns-in-Ok-NoCertificate-clause-promised
 returns-in-Ok-NoCertificate-clause-promised c =
-    let found = c.in-Ok-NoCertificate in
-    IfOk-weaker c.refuted_by.result _ _
-    (λ r shown zero.
-    shown_not_zero (option_map (λ x. x.now) c.args.given) c.args.schema.now (string_bytes c.args.notes) c.args.derived.now c.args.base.now
-    found.pair (rule_name found.rule) (reply_seen r) _ shown zero)
-    c.refuted_by.ensures
+    IfOk-weaker c.shown_reply.result _ _
+    (λ r told zero.
+    shown_not_zero c.args.schema.now (string_bytes c.args.notes) c.in-Ok-NoCertificate.pair (rule_name c.in-Ok-NoCertificate.rule)
+    (option_map (λ bytes. bytes.items) c.in_ok-found-in-Ok-NoCertificate.found) (reply_seen r) _ told zero)
+    c.shown_reply.ensures
 
 pub returns-in-Err-Missing-clause-told : goal.returns-in-Err-Missing-clause-told
 returns-in-Err-Missing-clause-told c =

@@ -1,8 +1,9 @@
-use Rattle.std.proofs.Common.{string_bytes, subst}
+use Rattle.std.proofs.Common.{string_bytes, Some, subst}
 use Rattle.std.proofs.lemmas.Result.{IfOk-weaker}
 use Rattle.fhir_answers.specs.Promising.{Derived}
 use Rattle.fhir_answers.specs.Replying.{reply_seen}
-use Rattle.fhir_answers.proofs.Countered.{countered_by}
+use Rattle.fhir_answers.specs.Showing.{IsCounterReply}
+use Rattle.fhir_answers.proofs.LinesRead.{by_lines}
 use Rattle.fhir_answers.proofs.counter_reply.lines_reply.Goals as goal
 
 pub returns-in-Ok-clause-told : goal.returns-in-Ok-clause-told
@@ -10,8 +11,8 @@ returns-in-Ok-clause-told c =
     let given = c.in-Ok.given in
     IfOk-weaker c.vouched_reply.result _ _
     (λ r told.
-    countered_by c.args.session.now c.schema.result.now given.vouching (string_bytes given.notes) c.args.derived.now c.args.base.now c.args.name.now
-    c.args.lines.now (reply_seen r) c.schema.ensures (λ not_utf8. let is = c.in-Ok.ensures.not_utf8.1 not_utf8 in absurd cc) c.in-Ok.ensures.given c.in-Ok.ensures.told told)
+    by_lines (λ s texts told. IsCounterReply (Some texts) s told c.args.derived.now c.args.base.now) c.args.session.now c.schema.result.now given.vouching
+    (string_bytes given.notes) c.args.name.now c.args.lines.now (reply_seen r) c.schema.ensures (λ not_utf8. let is = c.in-Ok.ensures.not_utf8.1 not_utf8 in absurd cc) c.in-Ok.ensures.given c.in-Ok.ensures.told told)
     c.vouched_reply.ensures.told
 
 pub returns-in-Ok-clause-promised : goal.returns-in-Ok-clause-promised
