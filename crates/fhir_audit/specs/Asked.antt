@@ -1,6 +1,6 @@
 -- Which profiles are asked about, and what they rest on (FHIR R4, StructureDefinition, derivation and baseDefinition).
-use Rattle.std.specs.Prelude.{◌≡◌, ◌↔◌, ◌<◌, ℕ, List, [], ◌∷◌, filter, length, Bool, ◌&&◌, Option, None, Some, is_some, IsTrue, codes, if◌then◌else◌}
-use Rattle.std.specs.List.{enumerate_from, slice_get}
+use Rattle.std.specs.Prelude.{◌≡◌, ◌↔◌, ◌<◌, ℕ, List, [], ◌∷◌, length, Bool, ◌&&◌, Option, None, Some, is_some, IsTrue, codes, if◌then◌else◌}
+use Rattle.std.specs.List.{enumerate_from, flat_map, slice_get}
 use Rattle.std.specs.Option.{option_map, option_and_then}
 use Rattle.std.specs.Result.{result_ok}
 use Rattle.std.specs.Str.{bytes_eq}
@@ -56,6 +56,10 @@ AreAsked (prefix ∷ prefixes) p set =
 abbrev pub Placed : Type 0
 Placed = ℕ × (Text × Tree)
 
+-- the one there, if it is of a set, and a profile
+abbrev pub profile_in : (ℕ → Bool) → Placed → List Placed
+profile_in set e = if set e.0 && is_profile e.1.1 then e ∷ [] else []
+
 -- those of a set that are profiles, in order
 abbrev pub profiles_in : (ℕ → Bool) → Definitions → List Placed
-profiles_in set p = filter (λ e. set e.0 && is_profile e.1.1) (enumerate_from 0 p.structure_definitions)
+profiles_in set p = flat_map (profile_in set) (enumerate_from 0 p.structure_definitions)

@@ -1,4 +1,5 @@
 pub mod Asked
+pub mod Placing
 pub mod Marks
 pub mod Verdicts
 pub mod Unread

@@ -1,5 +1,5 @@
 -- What is said of a profile and its base.
-use Rattle.std.specs.Prelude.{◌≡◌, ℕ, List, Bool, true, false, Option, None, Some}
+use Rattle.std.specs.Prelude.{◌≡◌, ℕ, List, Bool, true, false, Option, None, Some, IfSome}
 use Rattle.fhir_json.specs.Tree.{Text}
 use Rattle.fhir_schema.specs.Schemas.{SchemaValue}
 use Rattle.fhir_certificate.specs.declared.pair.Pair.{Pair}
@@ -47,6 +47,16 @@ pub record IsRefuted (s : SchemaValue) (url base : Text) (pair : Pair) (rule : R
 abbrev pub IsShownBy : Option (List Text) → SchemaValue → (url base bytes : Text) → Type 0
 IsShownBy None s url base bytes = Shows s url base bytes
 IsShownBy (Some texts) s url base bytes = ShowsAsGiven s texts url base bytes
+
+-- where there is no certificate, and a resource was found or none
+abbrev pub verdict_by : Pair → RuleName → Option Text → VerdictValue
+verdict_by pair rule None = is_not_shown pair rule
+verdict_by pair rule (Some resource) = does_not_narrow pair rule resource
+
+-- what was found shows it
+abbrev pub IsShownVerdict : Option (List Text) → SchemaValue → (url base : Text) → Pair → RuleName → VerdictValue → Type 0
+IsShownVerdict texts s url base pair rule verdict =
+    (found : Option Text) × IfSome found (IsShownBy texts s url base) × (verdict ≡ verdict_by pair rule found)
 
 -- of a profile and its base
 abbrev pub IsSaid : Option (List Text) → SchemaValue → (url base : Text) → VerdictValue → Type 0

@@ -1,9 +1,11 @@
 //! Which definitions are asked about: those whose urls begin with a prefix, and what these rest on.
 
-ghost use Rattle.std.specs.Prelude.{◌≡◌, ◌<◌, ℕ, length, map, string_bytes, false, get_or, IfOk, OnOk, IsTrue};
+ghost use Rattle.std.specs.Prelude.{◌≡◌, ◌<◌, ℕ, length, map, string_bytes, Bool, None, Some, IfOk, IsTrue};
+ghost use Rattle.std.specs.List.{slice_get};
+ghost use Rattle.fhir_json.specs.Tree.{Text, Tree};
 ghost use Rattle.fhir_findings.specs.Selecting.{is_own};
-ghost use Rattle.fhir_audit.specs.Asked.{AreAsked};
-ghost use Rattle.fhir_audit.specs.Marks.{marked, HasClimbed, HasTaken};
+ghost use Rattle.fhir_audit.specs.Asked.{IsClosed, AreAsked};
+ghost use Rattle.fhir_audit.specs.Marks.{marked, IsMarked, RestsWithin, AreWithin};
 
 use crate::profile::base_place;
 use fhir_json::NoMemory;
@@ -24,7 +26,7 @@ pub(crate) fn is_own(prefixes: &[String], url: &str) -> bool
 
 /// Whether a place is marked.
 pub(crate) fn is_marked(marks: &[bool], place: usize) -> bool
-    ensures { result ≡ get_or marks.now place false }
+    ensures { result ≡ marked marks.now place }
 {
     match marks.get(place) {
         Some(mark) => *mark,
@@ -32,7 +34,10 @@ pub(crate) fn is_marked(marks: &[bool], place: usize) -> bool
     }
 }
 
-fn marks_of(alloc: Global, count: usize, mark: bool) -> Result<Vec<bool>, AllocError> {
+fn marks_of(alloc: Global, count: usize, mark: bool) -> Result<Vec<bool>, AllocError>
+    ensures long { IfOk result (λ marks. length marks.items ≡ count) }
+    ensures each { IfOk result (λ marks. (place : ℕ) → place < count → marked marks.items place ≡ mark) }
+{
     let mut marks = Vec::with_capacity(alloc, count)?;
     for _ in 0..count {
         marks.push(mark)?;
@@ -41,7 +46,14 @@ fn marks_of(alloc: Global, count: usize, mark: bool) -> Result<Vec<bool>, AllocE
 }
 
 // Marks a definition, and what it rests on, as far as that isn't marked.
-fn climb(package: &Package<'_>, from: usize, marks: &mut [bool]) {
+fn climb(package: &Package<'_>, from: usize, marks: &mut [bool])
+    requires long { length marks.old ≡ length «package».now.structure_definitions }
+    requires there { from < length marks.old }
+    ensures kept { (place : ℕ) → IsMarked marks.old place → IsMarked marks.new place }
+    ensures from { IsMarked marks.new from }
+    ensures within { AreWithin «package».now marks.old from marks.new }
+    ensures rests { RestsWithin «package».now marks.old None → RestsWithin «package».now marks.new None }
+{
     let mut at = Some(from);
     while let Some(place) = at {
         if place >= marks.len() || marks[place] {
@@ -53,7 +65,15 @@ fn climb(package: &Package<'_>, from: usize, marks: &mut [bool]) {
 }
 
 // Marks the definition at a place, if its url begins with a prefix, and what it rests on.
-fn take(package: &Package<'_>, prefixes: &[String], place: usize, marks: &mut [bool]) {
+fn take(package: &Package<'_>, prefixes: &[String], place: usize, marks: &mut [bool])
+    requires { length marks.old ≡ length «package».now.structure_definitions }
+    ensures kept { (other : ℕ) → IsMarked marks.old other → IsMarked marks.new other }
+    ensures own { (e : Text × Tree) → slice_get «package».now.structure_definitions place ≡ Some e → IsTrue (is_own (map string_bytes prefixes.now) e.0)
+        → IsMarked marks.new place }
+    ensures within { (set : ℕ → Bool) → IsClosed (map string_bytes prefixes.now) «package».now set
+        → ((other : ℕ) → IsMarked marks.old other → IsTrue (set other)) → (other : ℕ) → IsMarked marks.new other → IsTrue (set other) }
+    ensures rests { RestsWithin «package».now marks.old None → RestsWithin «package».now marks.new None }
+{
     if let Some((url, _definition)) = package.at(Kind::StructureDefinition, place) {
         if is_own(prefixes, url) {
             climb(package, place, marks);
@@ -65,7 +85,11 @@ fn marked_by(
     alloc: Global,
     package: &Package<'_>,
     prefixes: &[String],
-) -> Result<Vec<bool>, AllocError> {
+) -> Result<Vec<bool>, AllocError>
+    ensures closed { IfOk result (λ marks. IsClosed (map string_bytes prefixes.now) «package».now (marked marks.items)) }
+    ensures least { IfOk result (λ marks. (set : ℕ → Bool) → IsClosed (map string_bytes prefixes.now) «package».now set
+        → (place : ℕ) → IsMarked marks.items place → IsTrue (set place)) }
+{
     let count = package.len(Kind::StructureDefinition);
     let mut marks = marks_of(alloc, count, false)?;
     for place in 0..count {
@@ -80,7 +104,9 @@ pub(crate) fn asked_about(
     alloc: Global,
     package: &Package<'_>,
     prefixes: &[String],
-) -> Result<Vec<bool>, NoMemory> {
+) -> Result<Vec<bool>, NoMemory>
+    ensures { IfOk result (λ marks. AreAsked (map string_bytes prefixes.now) «package».now (marked marks.items)) }
+{
     match prefixes {
         [] => Ok(marks_of(alloc, package.len(Kind::StructureDefinition), true)?),
         [_, ..] => Ok(marked_by(alloc, package, prefixes)?),

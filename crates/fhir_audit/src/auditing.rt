@@ -1,6 +1,16 @@
 //! Each profile of a package, with what is said of it.
 
-ghost use Rattle.std.specs.Prelude.{◌≡◌};
+ghost use Rattle.std.specs.Prelude.{◌≡◌, ◌++◌, [], ℕ, Bool, map, string_bytes, option_map, if◌then◌else◌, IfOk, OnOk};
+ghost use Rattle.std.specs.List.{flat_map, list_all, slice_get};
+ghost use Rattle.std.specs.Option.{option_map_or};
+ghost use Rattle.fhir_findings.specs.Carrying.{all_carriers};
+ghost use Rattle.fhir_audit.specs.Asked.{profile_in, profiles_in};
+ghost use Rattle.fhir_audit.specs.Auditing.{IsAudited, AreAudited, IsAudit, are_narrowing};
+ghost use Rattle.fhir_audit.specs.Kept.{AreGrouped};
+ghost use Rattle.fhir_audit.specs.Marks.{marked};
+ghost use Rattle.fhir_audit.specs.Placing.{placed, all_placed};
+ghost use Rattle.fhir_audit.specs.Verdicts.{is_narrowing};
+ghost use Rattle.fhir_audit.specs.Views.{verdict_seen, audited_seen, all_audited};
 
 use crate::above::{asked_about, is_marked};
 use crate::carrying::{Carriers, all_carried, unread_of};
@@ -18,89 +28,90 @@ use std::alloc::{AllocError, Global};
 
 // A profile that is asked about, and where it stands.
 #[derive(Clone, Copy)]
-struct Profile<'s> {
-    place: usize,
-    url: &'s str,
-    canonical: Option<&'s str>,
-    base: Option<&'s str>,
+pub(crate) struct Profile<'s, 'f> {
+    pub(crate) place: usize,
+    pub(crate) url: &'s str,
+    pub(crate) definition: &'s Json<'f>,
 }
 
-fn profile_of<'s>(
-    package: &'s Package<'_>,
-    place: usize,
-    url: &'s str,
-    definition: &'s Json<'_>,
-) -> Profile<'s> {
-    Profile {
-        place,
-        url,
-        canonical: definition.text_in("baseDefinition"),
-        base: base_of(package, definition),
+// Puts in a definition, if it is marked and a profile.
+fn push_if<'s, 'f>(
+    is_marked: bool,
+    profile: Profile<'s, 'f>,
+    into: &mut Vec<Profile<'s, 'f>>,
+) -> Result<(), AllocError>
+    ensures { OnOk result (all_placed into.new.items ≡ all_placed into.old.items ++ profile_in (λ place. is_marked) (placed profile.entry)) }
+{
+    if is_marked && is_profile(profile.definition) {
+        into.push(profile)?;
     }
+    Ok(())
 }
 
-// Puts in the definition at a place, if it is a profile.
-fn push_profile<'s>(
-    package: &'s Package<'_>,
+// Puts in the definition at a place, if it is marked and a profile.
+fn push_profile<'s, 'f>(
+    package: &'s Package<'f>,
+    marks: &[bool],
     place: usize,
-    into: &mut Vec<Profile<'s>>,
-) -> Result<(), AllocError> {
+    into: &mut Vec<Profile<'s, 'f>>,
+) -> Result<(), AllocError>
+    ensures { OnOk result (all_placed into.new.items ≡ all_placed into.old.items
+        ++ option_map_or (λ e. profile_in (marked marks.now) (place, e)) (slice_get «package».now.structure_definitions place) []) }
+{
     match package.at(Kind::StructureDefinition, place) {
-        Some((url, definition)) if is_profile(definition) => {
-            into.push(profile_of(package, place, url, definition))?;
-            Ok(())
-        }
-        _ => Ok(()),
+        Some((url, definition)) => push_if(
+            is_marked(marks, place),
+            Profile {
+                place,
+                url,
+                definition,
+            },
+            into,
+        ),
+        None => Ok(()),
     }
 }
 
-fn push_marked<'s>(
-    package: &'s Package<'_>,
-    marks: &[bool],
-    place: usize,
-    into: &mut Vec<Profile<'s>>,
-) -> Result<(), AllocError> {
-    if is_marked(marks, place) {
-        push_profile(package, place, into)
-    } else {
-        Ok(())
-    }
-}
-
-fn marked_profiles<'s>(
+fn marked_profiles<'s, 'f>(
     alloc: Global,
-    package: &'s Package<'_>,
+    package: &'s Package<'f>,
     marks: &[bool],
-) -> Result<Vec<Profile<'s>>, AllocError> {
-    let mut profiles: Vec<Profile<'s>> = Vec::new(alloc);
+) -> Result<Vec<Profile<'s, 'f>>, AllocError>
+    ensures { IfOk result (λ profiles. all_placed profiles.items ≡ profiles_in (marked marks.now) «package».now) }
+{
+    let mut profiles: Vec<Profile<'s, 'f>> = Vec::new(alloc);
     for place in 0..package.len(Kind::StructureDefinition) {
-        push_marked(package, marks, place, &mut profiles)?;
+        push_profile(package, marks, place, &mut profiles)?;
     }
     Ok(profiles)
 }
 
 // ---- what is said of them
 
-// What all profiles are judged by.
-#[derive(Clone, Copy)]
-struct Judge<'s, 'a> {
-    schema: &'s Schema,
-    carriers: &'a Carriers<'s>,
-    given: Option<&'a Vouching>,
-}
-
 fn audited<'s>(
     alloc: Global,
-    judge: Judge<'s, '_>,
-    profile: &Profile<'s>,
-) -> Result<Audited<'s>, NoMemory> {
-    let verdict = verdict_of(alloc, judge.schema, profile.url, profile.base, judge.given)?;
-    let unread = unread_of(alloc, judge.carriers, judge.given, profile.url)?;
+    survey: &'s Survey<'_>,
+    schema: &'s Schema,
+    carriers: &Carriers<'s>,
+    given: Option<&Vouching>,
+    profile: Profile<'s, '_>,
+) -> Result<Audited<'s>, NoMemory>
+    requires { AreGrouped (all_carriers None schema.now survey.now) carriers.now }
+    ensures { IfOk result (λ a. IsAudited (option_map (λ texts. texts.now) given.entry) schema.now survey.now (placed profile.entry) (audited_seen a)) }
+{
+    let Profile {
+        place,
+        url,
+        definition,
+    } = profile;
+    let base = base_of(survey.package(), definition);
+    let verdict = verdict_of(alloc, schema, url, base, given)?;
+    let unread = unread_of(alloc, carriers, given, url)?;
     Ok(Audited {
-        place: profile.place,
-        url: profile.url,
-        canonical: profile.canonical,
-        base: profile.base,
+        place,
+        url,
+        canonical: definition.text_in("baseDefinition"),
+        base,
         verdict,
         unread,
     })
@@ -108,14 +119,22 @@ fn audited<'s>(
 
 fn judge_each<'s, V: Watch>(
     alloc: Global,
-    judge: Judge<'s, '_>,
-    profiles: &[Profile<'s>],
+    survey: &'s Survey<'_>,
+    schema: &'s Schema,
+    carriers: &Carriers<'s>,
+    given: Option<&Vouching>,
+    profiles: &[Profile<'s, '_>],
     watch: &mut V,
-) -> Result<Vec<Audited<'s>>, NoMemory> {
+) -> Result<Vec<Audited<'s>>, NoMemory>
+    requires { AreGrouped (all_carriers None schema.now survey.now) carriers.now }
+    ensures { IfOk result (λ told. AreAudited (option_map (λ texts. texts.now) given.entry) schema.now survey.now (all_placed profiles.now)
+        (all_audited told.items)) }
+{
     let mut all: Vec<Audited<'s>> = Vec::new(alloc);
     for (place, profile) in profiles.iter().enumerate() {
         watch.tell(place, profiles.len());
-        all.push(audited(alloc, judge, profile)?)?;
+        let one = audited(alloc, survey, schema, carriers, given, *profile)?;
+        all.push(one)?;
     }
     Ok(all)
 }
@@ -130,20 +149,22 @@ pub fn audit<'s, V: Watch>(
     prefixes: &[String],
     given: Option<&Vouching>,
     watch: &mut V,
-) -> Result<Vec<Audited<'s>>, NoMemory> {
+) -> Result<Vec<Audited<'s>>, NoMemory>
+    // Each profile that is asked about is told once, in the order of the package: that it narrows its base exactly where a certificate of the
+    // two exists.
+    ensures { IfOk result (λ told. IsAudit (map string_bytes prefixes.now) (option_map (λ texts. texts.now) given.entry) schema.now survey.now
+        (all_audited told.items)) }
+{
     let package = survey.package();
     let marks = asked_about(alloc, package, prefixes)?;
     let profiles = marked_profiles(alloc, package, &marks)?;
     let carriers = all_carried(alloc, survey, schema)?;
-    let judge = Judge {
-        schema,
-        carriers: &carriers,
-        given,
-    };
-    judge_each(alloc, judge, &profiles, watch)
+    judge_each(alloc, survey, schema, &carriers, given, &profiles, watch)
 }
 
-fn is_narrowing(audited: &Audited<'_>) -> bool {
+fn is_narrowing(audited: &Audited<'_>) -> bool
+    ensures { result ≡ is_narrowing (verdict_seen audited.now.verdict) }
+{
     match &audited.verdict {
         Verdict::Narrows(_) => true,
         Verdict::DoesNotNarrow { .. }
@@ -154,6 +175,8 @@ fn is_narrowing(audited: &Audited<'_>) -> bool {
 }
 
 /// Whether each profile narrows its base.
-pub fn are_narrowing(audited: &[Audited<'_>]) -> bool {
+pub fn are_narrowing(audited: &[Audited<'_>]) -> bool
+    ensures { result ≡ are_narrowing (all_audited audited.now) }
+{
     audited.iter().all(is_narrowing)
 }

@@ -3,7 +3,7 @@
 ghost use Rattle.std.specs.Prelude.{◌≡◌, IfOk, IfSome, option_map};
 ghost use Rattle.fhir_json.specs.Views.{text_seen};
 ghost use Rattle.fhir_cert_check.specs.Views.{rule_name};
-ghost use Rattle.fhir_audit.specs.Verdicts.{IsRefuted, IsShownBy, IsSaid, IsVerdict};
+ghost use Rattle.fhir_audit.specs.Verdicts.{IsShownBy, verdict_by, IsShownVerdict, IsSaid, IsVerdict};
 ghost use Rattle.fhir_audit.specs.Views.{verdict_seen};
 
 use crate::verdict::Verdict;
@@ -34,7 +34,9 @@ fn resource_by(
     }
 }
 
-fn with_resource<'s>(pair: Pair, rule: Rule<'s>, found: Option<Vec<u8>>) -> Verdict<'s> {
+fn with_resource<'s>(pair: Pair, rule: Rule<'s>, found: Option<Vec<u8>>) -> Verdict<'s>
+    ensures { verdict_seen result ≡ verdict_by pair (rule_name rule.entry) (option_map (λ bytes. bytes.items) found) }
+{
     match found {
         Some(resource) => Verdict::DoesNotNarrow {
             pair,
@@ -54,7 +56,10 @@ fn refuted<'s>(
     pair: Pair,
     rule: Rule<'s>,
     given: Option<&Vouching>,
-) -> Result<Verdict<'s>, NoMemory> {
+) -> Result<Verdict<'s>, NoMemory>
+    ensures { IfOk result (λ v. IsShownVerdict (option_map (λ texts. texts.now) given.entry) schema.now url.now base.now pair (rule_name rule.entry)
+        (verdict_seen v)) }
+{
     let found = resource_by(alloc, schema, url, base, pair, given)?;
     Ok(with_resource(pair, rule, found))
 }
@@ -73,7 +78,7 @@ fn said_of<'s>(
         Ok(Outcome::NoCertificate(pair, rule)) => {
             refuted(alloc, schema, url, base, pair, rule, given)
         }
-        Err(DeriveFault::Missing(_)) => Ok(Verdict::HasNoBase),
+        Err(DeriveFault::Missing(_side)) => Ok(Verdict::HasNoBase),
         Err(DeriveFault::Unusable(side)) => Ok(Verdict::CannotBeUsed(side)),
         Err(DeriveFault::NoMemory) => Err(NoMemory),
     }

@@ -1,11 +1,17 @@
 //! An audit of the definitions in a folder.
 
+ghost use Rattle.std.specs.Prelude.{◌≡◌, map, string_bytes, IfOk, IsTrue};
+ghost use Rattle.fhir_answers.specs.Session.{schema_in};
+ghost use Rattle.fhir_audit.specs.Auditing.{are_narrowing, AllNarrow};
+ghost use Rattle.fhir_audit.specs.Views.{all_audited};
+ghost use Rattle.fhir_audit_engine.specs.Promising.{AllNarrowIn, AuditPromise};
+
 use crate::asked::{Asked, NamedBytes};
 use crate::certificate_files::{fault_text, write_certificates};
 use crate::new_file::NewFile;
 use crate::outputs::Outputs;
 use fhir_answers::{Reply, Session, Status, fault_reply, refused_reply};
-use fhir_audit::{Audited, Watch, are_narrowing, audit, held};
+use fhir_audit::{Audited, Watch, are_narrowing, audit, held, narrowing_profiles};
 use fhir_audit_lines::{HeldFile, Sources, are_holding, audit_text};
 use fhir_engine::{end_with, files_of, is_written, vouched};
 use fhir_findings::{SelectFault, Selection};
@@ -15,7 +21,6 @@ use fhir_package::{Folder, FolderFault, Progress};
 use fhir_page::page;
 use fhir_unread::Given;
 use fhir_vouching::Vouching;
-use fhir_words::Format;
 use std::alloc::{AllocError, Global};
 use std::io::Write;
 
@@ -83,12 +88,19 @@ fn all_held<'s>(
 
 // ---- what is written
 
-fn status_of(audited: &[Audited<'_>], held: Option<&[HeldFile<'_>]>) -> Status {
-    let holding = match held {
+fn are_held(held: Option<&[HeldFile<'_>]>) -> bool {
+    match held {
         Some(files) => are_holding(files),
         None => true,
-    };
-    if holding & are_narrowing(audited) {
+    }
+}
+
+fn status_of(audited: &[Audited<'_>], held: Option<&[HeldFile<'_>]>) -> Status
+    ensures { result ≡ Status.Yes → IsTrue (are_narrowing (all_audited audited.now)) }
+{
+    if !are_narrowing(audited) {
+        Status::No
+    } else if are_held(held) {
         Status::Yes
     } else {
         Status::No
@@ -246,7 +258,10 @@ fn run_vouched<N: NewFolder, G: NewFile, V: Watch, W: Write, E: Write>(
     watch: &mut V,
     out: &mut W,
     err: &mut E,
-) -> Result<Result<Status, Refusal>, NoMemory> {
+) -> Result<Result<Status, Refusal>, NoMemory>
+    ensures { IfOk result (λ r. IfOk r (λ status. status ≡ Status.Yes → AllNarrow (map string_bytes asked.entry.prefixes.now) (schema_in session.now) session.now.survey.definitions)) }
+{
+    narrowing_profiles();
     let sources = sources_of(session);
     let audited = audit(
         alloc,
@@ -278,7 +293,9 @@ fn run_given<N: NewFolder, G: NewFile, V: Watch, W: Write, E: Write>(
     watch: &mut V,
     out: &mut W,
     err: &mut E,
-) -> Result<Result<Status, Refusal>, NoMemory> {
+) -> Result<Result<Status, Refusal>, NoMemory>
+    ensures { IfOk result (λ r. IfOk r (λ status. status ≡ Status.Yes → AllNarrow (map string_bytes asked.entry.prefixes.now) (schema_in session.now) session.now.survey.definitions)) }
+{
     let Some(file) = asked.given else {
         return run_vouched(alloc, session, asked, None, outputs, watch, out, err);
     };
@@ -332,7 +349,9 @@ fn run_package<N: NewFolder, G: NewFile, V: Watch, W: Write, E: Write>(
     watch: &mut V,
     out: &mut W,
     err: &mut E,
-) -> Result<Result<Status, Refusal>, NoMemory> {
+) -> Result<Result<Status, Refusal>, NoMemory>
+    ensures { IfOk result (λ r. IfOk r (λ status. status ≡ Status.Yes → AllNarrow (map string_bytes asked.entry.prefixes.now) (schema_in session.now) session.now.survey.definitions)) }
+{
     match refusal_of(alloc, session, asked.prefixes)? {
         Some(refusal) => Ok(Err(refusal)),
         None => run_given(alloc, session, asked, outputs, watch, out, err),
@@ -347,7 +366,9 @@ fn run_session<N: NewFolder, G: NewFile, V: Watch, W: Write, E: Write>(
     watch: &mut V,
     out: &mut W,
     err: &mut E,
-) -> Result<Result<Status, Refusal>, NoMemory> {
+) -> Result<Result<Status, Refusal>, NoMemory>
+    ensures { IfOk result (λ r. IfOk r (λ status. status ≡ Status.Yes → AllNarrowIn (map string_bytes asked.entry.prefixes.now) session.now)) }
+{
     match session.package() {
         Ok(_schema) => run_package(alloc, session, asked, outputs, watch, out, err),
         Err(fault) => {
@@ -380,7 +401,9 @@ fn run_folder<
     watch: &mut V,
     out: &mut W,
     err: &mut E,
-) -> Result<Result<Status, Refusal>, NoMemory> {
+) -> Result<Result<Status, Refusal>, NoMemory>
+    ensures { IfOk result (λ r. IfOk r (λ status. status ≡ Status.Yes → AuditPromise (map string_bytes asked.entry.prefixes.now) (F.files folder))) }
+{
     match files_of(alloc, folder) {
         Ok(files) => {
             let session = Session::of(alloc, &files, progress)?;
@@ -413,7 +436,10 @@ pub fn audit_folder<
     watch: &mut V,
     out: &mut W,
     err: &mut E,
-) -> Status {
+) -> Status
+    // What a yes promises: the folder's files are a package, and each profile that is asked about narrows its base.
+    ensures { result ≡ Status.Yes → AuditPromise (map string_bytes asked.entry.prefixes.now) (F.files folder) }
+{
     let ended = run_folder(
         alloc, name, folder, asked, outputs, progress, watch, out, err,
     );
