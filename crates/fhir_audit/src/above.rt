@@ -93,7 +93,7 @@ fn marked_by(
     let count = package.len(Kind::StructureDefinition);
     let mut marks = marks_of(alloc, count, false)?;
     for place in 0..count {
-        take(package, prefixes, place, &mut marks);
+        take(package, prefixes, place, marks.as_mut_slice());
     }
     Ok(marks)
 }

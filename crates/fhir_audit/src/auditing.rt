@@ -174,9 +174,15 @@ fn is_narrowing(audited: &Audited<'_>) -> bool
     }
 }
 
+fn all_narrow(audited: &[Audited<'_>]) -> bool
+    ensures { result ≡ list_all (λ a. is_narrowing (verdict_seen a.verdict)) audited.now }
+{
+    audited.iter().all(|one| is_narrowing(one))
+}
+
 /// Whether each profile narrows its base.
 pub fn are_narrowing(audited: &[Audited<'_>]) -> bool
     ensures { result ≡ are_narrowing (all_audited audited.now) }
 {
-    audited.iter().all(is_narrowing)
+    all_narrow(audited)
 }

@@ -1,6 +1,9 @@
 //! The profiles of a package, and what they rest on.
 
 ghost use Rattle.std.specs.Prelude.{◌≡◌};
+ghost use Rattle.std.specs.Option.{option_and_then};
+ghost use Rattle.fhir_package.specs.declared.kind.Kind.TheVariants.{StructureDefinition};
+ghost use Rattle.fhir_package.specs.Definitions.{place_in};
 ghost use Rattle.fhir_json.specs.Views.{tree_of, text_seen};
 ghost use Rattle.fhir_audit.specs.Asked.{is_profile, url_named, base_url, base_of, base_place};
 
@@ -45,7 +48,9 @@ pub(crate) fn base_of<'p>(package: &Package<'_>, definition: &'p Json<'_>) -> Op
     }
 }
 
-fn place_under(package: &Package<'_>, definition: &Json<'_>) -> Option<usize> {
+fn place_under(package: &Package<'_>, definition: &Json<'_>) -> Option<usize>
+    ensures { result ≡ option_and_then (λ url. place_in StructureDefinition url «package».now) (base_of «package».now (tree_of definition.now)) }
+{
     let base = base_of(package, definition)?;
     package.place(Kind::StructureDefinition, base)
 }

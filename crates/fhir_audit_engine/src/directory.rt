@@ -155,10 +155,10 @@ fn standing<R: Files + AllocGlobal>(
     Ok(None)
 }
 
-fn outputs_of<'r, R: Files + AllocGlobal>(
+fn outputs_of<'r, 'w, R: Files + AllocGlobal>(
     rt: &'r R,
-    request: &AuditRequest<'r>,
-) -> Result<Outputs<'r, NewDirectory<'r, R>, PageFile<'r, R>>, NoMemory> {
+    request: &AuditRequest<'w>,
+) -> Result<Outputs<'w, NewDirectory<'r, R>, PageFile<'r, R>>, NoMemory> {
     let certificates = match request.certificates {
         Some(name) => Some((name, NewDirectory::new(rt, name)?)),
         None => None,

@@ -114,13 +114,13 @@ fn finish<N: NewFolder, G: NewFile>(
 ) -> Result<Result<(), Refusal>, AllocError> {
     if let Some((name, new)) = &mut outputs.certificates {
         if new.finish().is_err() {
-            let text = format!(in alloc; "write {name}\n")?;
+            let text = format!(in alloc; "write {}\n", *name)?;
             return Ok(Err(Refusal::Fault(text)));
         }
     }
     if let Some((name, page)) = &mut outputs.page {
         if page.finish().is_err() {
-            let text = format!(in alloc; "write {name}\n")?;
+            let text = format!(in alloc; "write {}\n", *name)?;
             return Ok(Err(Refusal::Fault(text)));
         }
     }
@@ -176,7 +176,7 @@ fn put_page<N, G: NewFile>(
     match file.write(&bytes) {
         Ok(()) => Ok(Ok(())),
         Err(WriteFault::Device) => {
-            let text = format!(in alloc; "write {name}\n")?;
+            let text = format!(in alloc; "write {}\n", *name)?;
             Ok(Err(Refusal::Fault(text)))
         }
         Err(WriteFault::NoMemory) => Err(NoMemory),

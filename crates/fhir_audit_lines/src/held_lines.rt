@@ -5,9 +5,9 @@ use crate::texts::{push_failing, push_line};
 use crate::trees::{Members, push_object, put_count, put_failing, put_text};
 use fhir_audit::{Audited, Held, Standing};
 use fhir_json::NoMemory;
+use fhir_names::Index;
 use fhir_words::Format;
 use std::alloc::{AllocError, Global};
-use std::collections::BTreeMap;
 
 /// A file of a certificate, with how that stands.
 #[derive(Drop)]
@@ -110,16 +110,31 @@ fn push_bad(
 
 // ---- profiles without one
 
-// The profiles of which certificates say that they narrow a base, each with the bases.
-fn put_profiles<'h>(
+// A profile and a base in one text: no url of a certificate has a line feed.
+fn key_of(alloc: Global, derived: &str, base: &str) -> Result<String, AllocError> {
+    format!(in alloc; "{derived}\n{base}")
+}
+
+fn put_file(
     alloc: Global,
-    files: &'h [HeldFile<'_>],
-) -> Result<BTreeMap<(&'h str, &'h str), ()>, AllocError> {
-    let mut named = BTreeMap::new(alloc);
-    for file in files {
-        if let Some((derived, base)) = &file.held.profiles {
-            named.insert((derived.as_str(), base.as_str()), ())?;
+    file: &HeldFile<'_>,
+    place: usize,
+    named: &mut Index,
+) -> Result<(), NoMemory> {
+    match &file.held.profiles {
+        Some((derived, base)) => {
+            let key = key_of(alloc, derived.as_str(), base.as_str())?;
+            named.add(alloc, key.as_str(), place)
         }
+        None => Ok(()),
+    }
+}
+
+// The profiles of which certificates say that they narrow a base, each with the bases.
+fn named_in(alloc: Global, files: &[HeldFile<'_>]) -> Result<Index, NoMemory> {
+    let mut named = Index::new(alloc);
+    for (place, file) in files.iter().enumerate() {
+        put_file(alloc, file, place, &mut named)?;
     }
     Ok(named)
 }
@@ -144,10 +159,25 @@ fn push_without(
     }
 }
 
-fn has_one(named: &BTreeMap<(&str, &str), ()>, audited: &Audited<'_>) -> bool {
-    match audited.base {
-        Some(base) => named.contains_key(&(audited.url, base)),
-        None => false,
+fn has_one(alloc: Global, named: &Index, audited: &Audited<'_>) -> Result<bool, NoMemory> {
+    let Some(base) = audited.base else {
+        return Ok(false);
+    };
+    let key = key_of(alloc, audited.url, base)?;
+    Ok(named.get(key.as_str()).is_some())
+}
+
+fn push_if_without(
+    alloc: Global,
+    format: Format,
+    named: &Index,
+    audited: &Audited<'_>,
+    into: &mut String,
+) -> Result<(), NoMemory> {
+    if has_one(alloc, named, audited)? {
+        Ok(())
+    } else {
+        push_without(alloc, format, audited.url, into)
     }
 }
 
@@ -163,11 +193,9 @@ pub(crate) fn push_held(
     for file in files {
         push_bad(alloc, format, sources, file, into)?;
     }
-    let named = put_profiles(alloc, files)?;
+    let named = named_in(alloc, files)?;
     for one in audited {
-        if !has_one(&named, one) {
-            push_without(alloc, format, one.url, into)?;
-        }
+        push_if_without(alloc, format, &named, one, into)?;
     }
     Ok(())
 }

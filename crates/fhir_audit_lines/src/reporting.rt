@@ -10,11 +10,11 @@ use fhir_json::NoMemory;
 use fhir_words::Format;
 use std::alloc::Global;
 
-fn push_one(
+fn push_one<'s, 'f: 's>(
     alloc: Global,
     format: Format,
-    sources: Sources<'_, '_>,
-    audited: &Audited<'_>,
+    sources: Sources<'s, 'f>,
+    audited: &Audited<'s>,
     into: &mut String,
 ) -> Result<(), NoMemory> {
     match format {
@@ -23,11 +23,11 @@ fn push_one(
     }
 }
 
-fn push_each(
+fn push_each<'s, 'f: 's>(
     alloc: Global,
     format: Format,
-    sources: Sources<'_, '_>,
-    audited: &[Audited<'_>],
+    sources: Sources<'s, 'f>,
+    audited: &[Audited<'s>],
     into: &mut String,
 ) -> Result<(), NoMemory> {
     for one in audited {
@@ -51,11 +51,11 @@ fn push_last(
 
 /// What an audit tells: the lines on each profile, then those on the certificates that were made before, if there are some, and a last one with
 /// counts. The one refusal is want of memory.
-pub fn audit_text(
+pub fn audit_text<'s, 'f: 's>(
     alloc: Global,
     format: Format,
-    sources: Sources<'_, '_>,
-    audited: &[Audited<'_>],
+    sources: Sources<'s, 'f>,
+    audited: &[Audited<'s>],
     held: Option<&[HeldFile<'_>]>,
 ) -> Result<String, NoMemory> {
     let mut text = String::new(alloc);

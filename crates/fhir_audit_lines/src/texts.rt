@@ -136,10 +136,10 @@ fn push_reason(line: Option<Line<'_>>, into: &mut String) -> Result<(), AllocErr
     push_part(Some(line.text.as_str()), into)
 }
 
-fn push_unusable(
+fn push_unusable<'s, 'f: 's>(
     alloc: Global,
-    sources: Sources<'_, '_>,
-    audited: &Audited<'_>,
+    sources: Sources<'s, 'f>,
+    audited: &Audited<'s>,
     side: Side,
     into: &mut String,
 ) -> Result<(), NoMemory> {
@@ -165,10 +165,10 @@ fn head_of(alloc: Global, audited: &Audited<'_>) -> Result<String, AllocError> {
     format!(in alloc; "{}: {word} {}", audited.url, audited.base.unwrap_or(""))
 }
 
-fn push_verdict(
+fn push_verdict<'s, 'f: 's>(
     alloc: Global,
-    sources: Sources<'_, '_>,
-    audited: &Audited<'_>,
+    sources: Sources<'s, 'f>,
+    audited: &Audited<'s>,
     into: &mut String,
 ) -> Result<(), NoMemory> {
     match &audited.verdict {
@@ -199,10 +199,10 @@ fn push_verdict(
 }
 
 /// Puts in the lines on a profile.
-pub(crate) fn push_texts(
+pub(crate) fn push_texts<'s, 'f: 's>(
     alloc: Global,
-    sources: Sources<'_, '_>,
-    audited: &Audited<'_>,
+    sources: Sources<'s, 'f>,
+    audited: &Audited<'s>,
     into: &mut String,
 ) -> Result<(), NoMemory> {
     push_verdict(alloc, sources, audited, into)?;

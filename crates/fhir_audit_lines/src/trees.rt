@@ -100,7 +100,10 @@ fn put_resource<'m>(
     Ok(put("counterexample", resource_in(alloc, bytes)?, into)?)
 }
 
-fn put_reason<'m>(line: Option<Line<'m>>, into: &mut Members<'m>) -> Result<(), AllocError> {
+fn put_reason<'m, 's: 'm>(
+    line: Option<Line<'s>>,
+    into: &mut Members<'m>,
+) -> Result<(), AllocError> {
     let Some(line) = line else {
         return Ok(());
     };
@@ -110,10 +113,10 @@ fn put_reason<'m>(line: Option<Line<'m>>, into: &mut Members<'m>) -> Result<(), 
 }
 
 // Which of the two can't be used, where that is the base, and why.
-fn put_unusable<'m>(
+fn put_unusable<'m, 's: 'm, 'f: 's>(
     alloc: Global,
-    sources: Sources<'m, '_>,
-    audited: &Audited<'m>,
+    sources: Sources<'s, 'f>,
+    audited: &Audited<'s>,
     side: Side,
     into: &mut Members<'m>,
 ) -> Result<(), NoMemory> {
@@ -136,10 +139,10 @@ fn put_not_looked_for(
     }
 }
 
-fn put_verdict<'m>(
+fn put_verdict<'m, 's: 'm, 'f: 's>(
     alloc: Global,
-    sources: Sources<'m, '_>,
-    audited: &'m Audited<'m>,
+    sources: Sources<'s, 'f>,
+    audited: &'m Audited<'s>,
     into: &mut Members<'m>,
 ) -> Result<(), NoMemory> {
     match &audited.verdict {
@@ -183,10 +186,10 @@ fn put_unread<'m>(
     }
 }
 
-fn tree_of<'m>(
+fn tree_of<'m, 's: 'm, 'f: 's>(
     alloc: Global,
-    sources: Sources<'m, '_>,
-    audited: &'m Audited<'m>,
+    sources: Sources<'s, 'f>,
+    audited: &'m Audited<'s>,
 ) -> Result<Json<'m>, NoMemory> {
     let mut members: Members<'m> = Vec::new(alloc);
     put_text("url", audited.url, &mut members)?;
@@ -208,10 +211,10 @@ pub(crate) fn push_object(
 }
 
 /// Puts in the object on a profile.
-pub(crate) fn push_tree(
+pub(crate) fn push_tree<'s, 'f: 's>(
     alloc: Global,
-    sources: Sources<'_, '_>,
-    audited: &Audited<'_>,
+    sources: Sources<'s, 'f>,
+    audited: &Audited<'s>,
     into: &mut String,
 ) -> Result<(), NoMemory> {
     let tree = tree_of(alloc, sources, audited)?;
