@@ -2,7 +2,7 @@
 
 use fhir_json::NoMemory;
 use fhir_new_folder::WriteFault;
-use std::fs::OpenOptions;
+use std::fs::{OpenFile, OpenOptions};
 use std::io::Write;
 use std::rt::Files;
 use std::{fs, io};

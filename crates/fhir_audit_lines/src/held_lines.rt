@@ -124,7 +124,7 @@ fn put_file(
     match &file.held.profiles {
         Some((derived, base)) => {
             let key = key_of(alloc, derived.as_str(), base.as_str())?;
-            named.add(alloc, key.as_str(), place)
+            Ok(named.add(alloc, key.as_str(), place)?)
         }
         None => Ok(()),
     }
