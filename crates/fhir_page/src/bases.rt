@@ -21,6 +21,7 @@ const LONGEST: usize = 64;
 const LETTER: usize = 8;
 
 // Profiles and the bases of them that aren't audited, which stand behind them.
+#[derive(Drop)]
 struct Forest<'s> {
     names: Vec<&'s str>,
     places: Index,
@@ -261,6 +262,7 @@ fn words(
 }
 
 // What is drawn of a row: who stands there, with the verdict as a shape and as a word.
+#[derive(Drop)]
 struct Drawn {
     element: Element,
     width: usize,

@@ -9,6 +9,7 @@ use fhir_schema::{NodeRef, Schema, Slot};
 use std::alloc::{AllocError, Global};
 
 /// What differs between an element and the base's.
+#[derive(Drop)]
 pub(crate) struct Change {
     pub(crate) aspect: Aspect,
     pub(crate) base: String,
@@ -16,6 +17,7 @@ pub(crate) struct Change {
 }
 
 /// An element with what differs.
+#[derive(Drop)]
 pub(crate) struct Changed<'s> {
     pub(crate) id: &'s str,
     pub(crate) node: NodeRef,
@@ -52,6 +54,7 @@ fn slice_or_all(schema: &Schema, node: NodeRef, name: &str) -> NodeRef {
 }
 
 // Which nodes of a base the elements of a profile are compared with, as far as they are known.
+#[derive(Drop)]
 struct Counterparts<'s> {
     schema: &'s Schema,
     definition: &'s Definition,

@@ -58,6 +58,7 @@ fn is_type(text: &str) -> bool {
 // ---- lines
 
 // Lines of JSON, with what stands in them so far.
+#[derive(Drop)]
 struct Listing {
     pre: Element,
     text: String,
@@ -236,6 +237,7 @@ fn put_items(
 // ---- what is failed
 
 // A rule that the resource breaks, and where.
+#[derive(Drop)]
 struct Broken {
     place: String,
     rule: String,
