@@ -1,14 +1,19 @@
 -- The marks of a page.
-use Rattle.std.proofs.Common.{◌≡◌, ℕ, List, [], ◌∷◌, ◌++◌, ◌/◌, ◌%◌, ◌==◌, ◌&&◌, filter, flat_map, Bool, true, false, cond, not, codes, encode_utf8, refl, ap, ap₂, ◌∙◌, arith}
+use Rattle.std.proofs.Common.{◌≡◌, ◌<◌, ◌+◌, ℕ, zero, suc, List, [], ◌∷◌, ◌++◌, ◌/◌, ◌%◌, ◌==◌, ◌&&◌, filter, flat_map, Bool, true, false, cond, not, codes, encode_utf8, refl, ap, ap₂, ◌∙◌, arith}
 use Rattle.std.proofs.lemmas.Bool.Decides.{nat_tests}
 use Rattle.std.proofs.lemmas.List.Elements.{filter-append}
 use Rattle.std.specs.Char.{is_control, digit_char}
-use Rattle.std.specs.Fmt.{decimal}
+use Rattle.std.specs.Fmt.{decimal, digits, digits_onto, digit_glyph}
+use lib.Utf8.{encode, next}
+use lib.Dec.{ltb}
 use Rattle.std.specs.Str.{chars}
 use Rattle.fhir_json.specs.Tree.{Text}
 use Rattle.fhir_markup.specs.declared.names.Tag.{Tag}
+use Rattle.fhir_markup.specs.declared.names.Tag.TheVariants as tags
 use Rattle.fhir_markup.specs.declared.names.AttributeName.{AttributeName}
+use Rattle.fhir_markup.specs.declared.names.AttributeName.TheVariants as names
 use Rattle.fhir_markup.specs.declared.names.Part.{Part}
+use Rattle.fhir_markup.specs.declared.names.Part.TheVariants as parts
 use Rattle.fhir_markup.specs.Markup.{AttributeValue, fixed, counted, place, link, labelled_by, Node, Nodes, words, element, none, also, coded, plain_character, escaped_character, escaped, tag_text, name_text, part_text, is_void, place_text, valued, attribute_text, start_tag, end_tag, html, html_each, is_mark, start_marks, end_marks, marks, marks_each}
 
 -- ---- texts have none
@@ -23,17 +28,31 @@ either : (b : Bool) (xs ys : Text) → (b ≡ true → Unmarked xs) → (b ≡ f
 either true xs ys of_xs of_ys = of_xs refl
 either false xs ys of_xs of_ys = of_ys refl
 
+skip : (x : ℕ) (xs : Text) → is_mark x ≡ false → Unmarked xs → Unmarked (x ∷ xs)
+skip x xs of_x of_xs = ap (λ (b : Bool). cond b (x ∷ filter is_mark xs) (filter is_mark xs)) of_x ∙ of_xs
+
+-- a byte above all marks
+above : (x : ℕ) → 62 < x → is_mark x ≡ false
+above x more = grind (arith, nat_tests)
+
 digit_unmarked : (d : ℕ) → is_mark (digit_char d) ≡ false
 digit_unmarked d = grind (arith, nat_tests)
 
 coded_unmarked : (c : ℕ) → Unmarked (coded c)
 coded_unmarked c =
-    ap₂ (λ (a b : Bool). cond a (digit_char (c / 16) ∷ cond b (digit_char (c % 16) ∷ []) []) (cond b (digit_char (c % 16) ∷ []) []))
-    (digit_unmarked (c / 16)) (digit_unmarked (c % 16))
+    skip (digit_char (c / 16)) (digit_char (c % 16) ∷ []) (digit_unmarked (c / 16)) (skip (digit_char (c % 16)) [] (digit_unmarked (c % 16)) refl)
 
 -- a character that is none of the marks has no mark among its bytes in UTF-8
 encoded_unmarked : (c : ℕ) → is_mark c ≡ false → Unmarked (encode_utf8 c)
-encoded_unmarked c is_none = ?
+unfolding encode
+encoded_unmarked c is_none =
+    let last = skip (next c) [] (above (next c) (omega arith)) refl in
+    let two = skip (next (c / 64)) (next c ∷ []) (above (next (c / 64)) (omega arith)) last in
+    let three = skip (next (c / 4096)) (next (c / 64) ∷ next c ∷ []) (above (next (c / 4096)) (omega arith)) two in
+    either (ltb c 128) (c ∷ []) _ (λ is. skip c [] is_none refl)
+    (λ is. either (ltb c 2048) _ _ (λ is. skip (192 + c / 64) _ (above (192 + c / 64) (omega arith)) last)
+    (λ is. either (ltb c 65536) _ _ (λ is. skip (224 + c / 4096) _ (above (224 + c / 4096) (omega arith)) two)
+    (λ is. skip (240 + c / 262144) _ (above (240 + c / 262144) (omega arith)) three)))
 
 none_of : (c : ℕ) → (c == 60) ≡ false → (c == 62) ≡ false → (c == 34) ≡ false → is_mark c ≡ false
 none_of c less greater quote = grind (arith, nat_tests)
@@ -46,9 +65,9 @@ character_unmarked : (c : ℕ) → Unmarked (escaped_character c)
 character_unmarked c =
     either (c == 38) _ _ (λ is. refl)
     (λ ampersand. either (c == 60) _ _ (λ is. refl)
-      (λ less. either (c == 62) _ _ (λ is. refl)
-        (λ greater. either (c == 34) _ _ (λ is. refl)
-          (λ quote. either (c == 39) _ _ (λ is. refl) (λ apostrophe. plain_unmarked c (none_of c less greater quote))))))
+    (λ less. either (c == 62) _ _ (λ is. refl)
+    (λ greater. either (c == 34) _ _ (λ is. refl)
+    (λ quote. either (c == 39) _ _ (λ is. refl) (λ apostrophe. plain_unmarked c (none_of c less greater quote))))))
 
 each_unmarked : (cs : List ℕ) → Unmarked (flat_map escaped_character cs)
 each_unmarked [] = refl
@@ -60,16 +79,81 @@ escaped_unmarked text = each_unmarked (chars text)
 -- ---- nor have names and numbers
 
 tag_unmarked : (tag : Tag) → Unmarked (tag_text tag)
-tag_unmarked tag = ?
+tag_unmarked tags.Html = refl
+tag_unmarked tags.Head = refl
+tag_unmarked tags.Meta = refl
+tag_unmarked tags.Title = refl
+tag_unmarked tags.Style = refl
+tag_unmarked tags.Body = refl
+tag_unmarked tags.Main = refl
+tag_unmarked tags.Header = refl
+tag_unmarked tags.Section = refl
+tag_unmarked tags.H1 = refl
+tag_unmarked tags.H2 = refl
+tag_unmarked tags.H3 = refl
+tag_unmarked tags.H4 = refl
+tag_unmarked tags.P = refl
+tag_unmarked tags.Dl = refl
+tag_unmarked tags.Dt = refl
+tag_unmarked tags.Dd = refl
+tag_unmarked tags.Ul = refl
+tag_unmarked tags.Li = refl
+tag_unmarked tags.Div = refl
+tag_unmarked tags.Span = refl
+tag_unmarked tags.A = refl
+tag_unmarked tags.Code = refl
+tag_unmarked tags.Strong = refl
+tag_unmarked tags.Pre = refl
+tag_unmarked tags.Mark = refl
+tag_unmarked tags.Table = refl
+tag_unmarked tags.Thead = refl
+tag_unmarked tags.Tbody = refl
+tag_unmarked tags.Tr = refl
+tag_unmarked tags.Th = refl
+tag_unmarked tags.Td = refl
+tag_unmarked tags.Svg = refl
+tag_unmarked tags.G = refl
+tag_unmarked tags.Path = refl
+tag_unmarked tags.Rect = refl
+tag_unmarked tags.Text = refl
+tag_unmarked tags.Tspan = refl
 
 name_unmarked : (name : AttributeName) → Unmarked (name_text name)
-name_unmarked name = ?
+name_unmarked names.Charset = refl
+name_unmarked names.HttpEquiv = refl
+name_unmarked names.Content = refl
+name_unmarked names.Name = refl
+name_unmarked names.Lang = refl
+name_unmarked names.Class = refl
+name_unmarked names.Scope = refl
+name_unmarked names.Colspan = refl
+name_unmarked names.Tabindex = refl
+name_unmarked names.Role = refl
+name_unmarked names.Width = refl
+name_unmarked names.Height = refl
+name_unmarked names.X = refl
+name_unmarked names.Y = refl
+name_unmarked names.D = refl
+name_unmarked names.Dx = refl
 
 part_unmarked : (part : Part) → Unmarked (part_text part)
-part_unmarked part = ?
+part_unmarked parts.Heading = refl
+part_unmarked parts.Profile = refl
+part_unmarked parts.Differences = refl
+
+glyph_unmarked : (d : ℕ) → is_mark (digit_glyph false d) ≡ false
+glyph_unmarked d = grind (arith, nat_tests)
+
+digits_unmarked : (k n : ℕ) (behind : Text) → Unmarked behind → Unmarked (digits_onto k 10 false n behind)
+digits_unmarked zero n behind of_behind = of_behind
+digits_unmarked (suc k) n behind of_behind =
+    let more = skip (digit_glyph false (n % 10)) behind (glyph_unmarked (n % 10)) of_behind in
+    either (n / 10 == 0) (digit_glyph false (n % 10) ∷ behind) (digits_onto k 10 false (n / 10) (digit_glyph false (n % 10) ∷ behind)) (λ is. more)
+    (λ is. digits_unmarked k (n / 10) (digit_glyph false (n % 10) ∷ behind) more)
 
 decimal_unmarked : (n : ℕ) → Unmarked (decimal n)
-decimal_unmarked n = ?
+unfolding digits
+decimal_unmarked n = digits_unmarked 64 n [] refl
 
 place_unmarked : (part : Part) (n : ℕ) → Unmarked (place_text part n)
 place_unmarked part n = both (part_text part) (decimal n) (part_unmarked part) (decimal_unmarked n)
@@ -83,7 +167,7 @@ valued_marked : (name value : Text) → Unmarked name → Unmarked value → fil
 valued_marked name value of_name of_value =
     marked (codes " ") (name ++ codes "=\"" ++ value ++ codes "\"") refl
     (marked name (codes "=\"" ++ value ++ codes "\"") of_name
-      (marked (codes "=\"") (value ++ codes "\"") refl (marked value (codes "\"") of_value refl)))
+    (marked (codes "=\"") (value ++ codes "\"") refl (marked value (codes "\"") of_value refl)))
 
 attribute_marked : (a : AttributeValue) → filter is_mark (attribute_text a) ≡ codes "\"\""
 attribute_marked (fixed name text) = valued_marked (name_text name) (escaped text) (name_unmarked name) (escaped_unmarked text)
@@ -103,7 +187,7 @@ start_marked : (tag : Tag) (xs : List AttributeValue) → filter is_mark (start_
 start_marked tag xs =
     marked (codes "<") (tag_text tag ++ flat_map attribute_text xs ++ codes ">") refl
     (marked (tag_text tag) (flat_map attribute_text xs ++ codes ">") (tag_unmarked tag)
-      (marked (flat_map attribute_text xs) (codes ">") (attributes_marked xs) refl))
+    (marked (flat_map attribute_text xs) (codes ">") (attributes_marked xs) refl))
 
 closing_marked : (b : Bool) (name : Text) → Unmarked name
     → filter is_mark (cond b [] (codes "</" ++ name ++ codes ">")) ≡ cond b [] (codes "<>")
