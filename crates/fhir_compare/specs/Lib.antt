@@ -1,0 +1,5 @@
+pub mod Mark
+pub mod Spreading
+pub mod Profiles
+pub mod Differing
+pub mod Naming

@@ -1,0 +1,57 @@
+//! What a profile names, and what that is in a package.
+
+ghost use Rattle.std.specs.Prelude.{◌≡◌, ◌++◌, IfOk, OnOk, map, string_bytes};
+ghost use Rattle.std.specs.List.{flat_map};
+ghost use Rattle.fhir_compare.specs.Naming.{place_named, name_stays, entry_names, element_names, names_of};
+
+use fhir_definition::Definition;
+use fhir_elements::{ElementDef, TypeEntry};
+use fhir_json::NoMemory;
+use fhir_names::Canonical;
+use fhir_package::{Kind, Package};
+use std::alloc::{AllocError, Global};
+
+/// The place of the definition of a kind that a canonical names.
+pub(crate) fn place_named(package: &Package<'_>, kind: Kind, canonical: &str) -> Option<usize>
+    ensures { result ≡ place_named kind «package».now canonical.now }
+{
+    match (package.get(kind, canonical), Canonical::parse(canonical)) {
+        (Some(_tree), Ok(canonical)) => package.place(kind, canonical.url()),
+        _ => None,
+    }
+}
+
+/// Whether a canonical names a definition of a kind in both packages, or in none.
+pub(crate) fn name_stays(old: &Package<'_>, new: &Package<'_>, kind: Kind, canonical: &str) -> bool
+    ensures { result ≡ name_stays kind old.now new.now canonical.now }
+{
+    old.get(kind, canonical).is_some() == new.get(kind, canonical).is_some()
+}
+
+fn push_texts<'d>(texts: &'d [String], names: &mut Vec<&'d str>) -> Result<(), AllocError> {
+    for text in texts {
+        names.push(text.as_str())?;
+    }
+    Ok(())
+}
+
+fn push_entry<'d>(entry: &'d TypeEntry, names: &mut Vec<&'d str>) -> Result<(), AllocError> {
+    push_texts(entry.profiles(), names)?;
+    push_texts(entry.targets(), names)
+}
+
+fn push_element<'d>(element: &'d ElementDef, names: &mut Vec<&'d str>) -> Result<(), AllocError> {
+    for entry in element.types() {
+        push_entry(entry, names)?;
+    }
+    Ok(())
+}
+
+/// The canonicals of the profiles and of the targets that a definition's elements name.
+pub(crate) fn names_of(alloc: Global, definition: &Definition) -> Result<Vec<&str>, NoMemory> {
+    let mut names = Vec::new(alloc);
+    for element in definition.elements() {
+        push_element(element, &mut names)?;
+    }
+    Ok(names)
+}
