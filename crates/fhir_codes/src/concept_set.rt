@@ -150,6 +150,13 @@ impl ConceptSet {
         parts(first_code_outside(self.table.as_slice(), other))
     }
 
+    /// How many concepts there are.
+    pub fn len(&self) -> usize
+        ensures { result ≡ set.len self.now }
+    {
+        self.table.as_slice().len()
+    }
+
     /// The system and the code of the concept at a place, in the order of the codes' bytes, and then of the systems'.
     pub fn at(&self, place: usize) -> Option<(&str, &str)>
         ensures { option_map (λ c. concept c.0.now c.1.now) result ≡ slice_get (set.items self.now) place }

@@ -47,6 +47,13 @@ enum Own<'s> {
     Other,
 }
 
+// The same, with its place in OLD.
+#[derive(Drop)]
+struct Placed<'s> {
+    place: usize,
+    own: Own<'s>,
+}
+
 // The first canonical that a profile names and that names something in one of the packages alone.
 fn lost_name<'s>(
     alloc: Global,
@@ -97,11 +104,12 @@ fn own_of<'s>(
     both_of(alloc, sides, profile)
 }
 
-fn all_own<'s>(alloc: Global, sides: Comparison<'s, '_, '_>) -> Result<Vec<Own<'s>>, NoMemory> {
+fn all_own<'s>(alloc: Global, sides: Comparison<'s, '_, '_>) -> Result<Vec<Placed<'s>>, NoMemory> {
     let count = sides.old.len(Kind::StructureDefinition);
-    let mut all: Vec<Own<'s>> = Vec::with_capacity(alloc, count)?;
+    let mut all: Vec<Placed<'s>> = Vec::with_capacity(alloc, count)?;
     for place in 0..count {
-        all.push(own_of(alloc, sides, place)?)?;
+        let own = own_of(alloc, sides, place)?;
+        all.push(Placed { place, own })?;
     }
     Ok(all)
 }
@@ -157,7 +165,7 @@ fn edges_of(alloc: Global, sides: Comparison<'_, '_, '_>) -> Result<Vec<Vec<usiz
 fn narrows(shown: &Shown<'_>) -> bool {
     match shown {
         Shown::Narrows => true,
-        Shown::Fails { .. } | Shown::CannotBeUsed(_) => false,
+        Shown::Fails { .. } | Shown::CannotBeUsed => false,
     }
 }
 
@@ -187,12 +195,20 @@ fn fails_in_new(own: &Own<'_>) -> bool {
     }
 }
 
-fn marks_in_old(alloc: Global, all: &[Own<'_>]) -> Result<Vec<bool>, AllocError> {
-    all.iter().map(|own| fails_in_old(own)).collect(alloc)
+fn marks_in_old(alloc: Global, all: &[Placed<'_>]) -> Result<Vec<bool>, AllocError> {
+    let mut marks = Vec::with_capacity(alloc, all.len())?;
+    for placed in all {
+        marks.push(fails_in_old(&placed.own))?;
+    }
+    Ok(marks)
 }
 
-fn marks_in_new(alloc: Global, all: &[Own<'_>]) -> Result<Vec<bool>, AllocError> {
-    all.iter().map(|own| fails_in_new(own)).collect(alloc)
+fn marks_in_new(alloc: Global, all: &[Placed<'_>]) -> Result<Vec<bool>, AllocError> {
+    let mut marks = Vec::with_capacity(alloc, all.len())?;
+    for placed in all {
+        marks.push(fails_in_new(&placed.own))?;
+    }
+    Ok(marks)
 }
 
 // ---- what is said of all
@@ -207,7 +223,7 @@ struct Blamed {
 fn blamed_of(
     alloc: Global,
     sides: Comparison<'_, '_, '_>,
-    all: &[Own<'_>],
+    all: &[Placed<'_>],
 ) -> Result<Blamed, NoMemory> {
     let edges = edges_of(alloc, sides)?;
     let in_old = marks_in_old(alloc, all)?;
@@ -272,10 +288,10 @@ fn verdict_of<'s>(
 fn push_verdict<'s>(
     old: &'s Package<'_>,
     blamed: &Blamed,
-    place: usize,
-    own: Own<'s>,
+    placed: Placed<'s>,
     into: &mut Vec<Compared<'s>>,
 ) -> Result<(), NoMemory> {
+    let Placed { place, own } = placed;
     if let (Some(verdict), Some((url, _definition))) = (
         verdict_of(old, blamed, place, own),
         old.at(Kind::StructureDefinition, place),
@@ -293,17 +309,17 @@ fn push_old<'s>(
 ) -> Result<(), NoMemory> {
     let all = all_own(alloc, sides)?;
     let blamed = blamed_of(alloc, sides, &all)?;
-    let mut place: usize = 0;
-    for own in all {
-        push_verdict(sides.old, &blamed, place, own, into)?;
-        place += 1;
+    for placed in all {
+        push_verdict(sides.old, &blamed, placed, into)?;
     }
     Ok(())
 }
 
 // Whether NEW alone has a profile of that url: one that isn't OLD's, and that OLD hasn't.
 fn is_new(sides: Comparison<'_, '_, '_>, url: &str, definition: &Json<'_>) -> bool {
-    is_profile(definition) && !url.starts_with(sides.mark) && !has_profile(sides.old, url)
+    is_profile(definition)
+        && !url.as_bytes().starts_with(sides.mark.as_bytes())
+        && !has_profile(sides.old, url)
 }
 
 // Those that NEW alone has.

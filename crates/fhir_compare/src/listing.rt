@@ -51,13 +51,24 @@ fn include_json<'o>(alloc: Global, system: &str, code: &str) -> Result<Json<'o>,
     Ok(Json::Obj(members))
 }
 
+// Puts in an include of the concept at a place.
+fn push_include<'o>(
+    alloc: Global,
+    concepts: &ConceptSet,
+    place: usize,
+    includes: &mut Vec<Json<'o>>,
+) -> Result<(), NoMemory> {
+    if let Some((system, code)) = concepts.at(place) {
+        includes.push(include_json(alloc, system, code)?)?;
+    }
+    Ok(())
+}
+
 // An include for each concept.
 fn includes_json<'o>(alloc: Global, concepts: &ConceptSet) -> Result<Json<'o>, NoMemory> {
-    let mut includes: Vec<Json<'o>> = Vec::new(alloc);
-    let mut place: usize = 0;
-    while let Some((system, code)) = concepts.at(place) {
-        includes.push(include_json(alloc, system, code)?)?;
-        place += 1;
+    let mut includes: Vec<Json<'o>> = Vec::with_capacity(alloc, concepts.len())?;
+    for place in 0..concepts.len() {
+        push_include(alloc, concepts, place, &mut includes)?;
     }
     Ok(Json::Arr(includes))
 }

@@ -2,7 +2,6 @@
 
 use fhir_cert_check::Rule;
 use fhir_certificate::Pair;
-use fhir_elements::Reason;
 
 /// What is shown of two profiles, in one way.
 #[derive(Drop)]
@@ -20,7 +19,7 @@ pub enum Shown<'s> {
         resource: Option<Vec<u8>>,
     },
     /// OLD's profile can't be used beside NEW's definitions.
-    CannotBeUsed(Reason),
+    CannotBeUsed,
 }
 
 /// One way of two: that NEW's profile narrows OLD's, or that OLD's narrows NEW's.

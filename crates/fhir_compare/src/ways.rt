@@ -4,8 +4,7 @@ use crate::verdict::Shown;
 use fhir_cert_check::Rule;
 use fhir_certificate::Pair;
 use fhir_counter::counterexample;
-use fhir_derive_check::{DeriveFault, Outcome, Side, derive};
-use fhir_elements::Reason;
+use fhir_derive_check::{DeriveFault, Outcome, derive};
 use fhir_json::NoMemory;
 use fhir_schema::Schema;
 use std::alloc::Global;
@@ -26,21 +25,6 @@ fn fails<'s>(
     })
 }
 
-fn on_side<'w>(side: Side, derived: &'w str, base: &'w str) -> &'w str {
-    match side {
-        Side::Derived => derived,
-        Side::Base => base,
-    }
-}
-
-// Why a definition that isn't loaded can't be used.
-fn reason_at(schema: &Schema, url: &str) -> Reason {
-    match schema.unusable(url) {
-        Some(reason) => reason,
-        None => Reason::UnusableType,
-    }
-}
-
 /// What is shown of a profile and another: that it narrows that one, or that no certificate exists, with a resource if one is found.
 pub(crate) fn shown<'s>(
     alloc: Global,
@@ -51,9 +35,7 @@ pub(crate) fn shown<'s>(
     match derive(alloc, schema, derived, base) {
         Ok(Outcome::Derives(_certificate)) => Ok(Shown::Narrows),
         Ok(Outcome::NoCertificate(pair, rule)) => fails(alloc, schema, derived, base, pair, rule),
-        Err(DeriveFault::Missing(side) | DeriveFault::Unusable(side)) => Ok(Shown::CannotBeUsed(
-            reason_at(schema, on_side(side, derived, base)),
-        )),
+        Err(DeriveFault::Missing(_)) | Err(DeriveFault::Unusable(_)) => Ok(Shown::CannotBeUsed),
         Err(DeriveFault::NoMemory) => Err(NoMemory),
     }
 }

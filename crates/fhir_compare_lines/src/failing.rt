@@ -72,6 +72,16 @@ fn why_fails(
     })
 }
 
+// That OLD's profile can't be used beside NEW's definitions.
+fn why_unusable(alloc: Global, sources: Sources<'_, '_, '_>, url: &str) -> Result<Why, NoMemory> {
+    let own = format!(in alloc; "{}{url}", sources.mark)?;
+    let number = match sources.new.schema.unusable(own.as_str()) {
+        Some(reason) => reason.number(),
+        None => "",
+    };
+    Ok(Why::Says(format!(in alloc; "OLD's can't be used beside NEW's definitions: {number}")?))
+}
+
 // Where the way is derived of the profiles themselves.
 fn why_blamed(alloc: Global, url: &str, blamed: &str, lost: Option<&str>) -> Result<Why, NoMemory> {
     match lost {
