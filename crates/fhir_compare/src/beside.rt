@@ -8,6 +8,7 @@ use crate::mark::mark_between;
 use crate::moving::moved;
 use crate::naming::place_named;
 use crate::profile::{has_profile, is_profile};
+use crate::types::types_differing;
 use crate::value_sets::Changes;
 use fhir_definition::Definition;
 use fhir_elements::ElementDef;
@@ -24,6 +25,8 @@ pub struct Made<'f> {
     pub mark: String,
     /// The definitions.
     pub package: Package<'f>,
+    /// How many types OLD and NEW don't have alike.
+    pub types: usize,
 }
 
 // A definition that is to be put in.
@@ -201,13 +204,14 @@ fn put_sets<'f>(
 
 // ---- all of them
 
+// What is to be put in, and how many types differ.
 fn puts_of<'f>(
     alloc: Global,
     old: &Package<'_>,
     schema: &Schema,
     new: &Package<'_>,
     mark: &str,
-) -> Result<Vec<Put<'f>>, NoMemory> {
+) -> Result<(Vec<Put<'f>>, usize), NoMemory> {
     let changes = Changes::between(alloc, old, new)?;
     let sides = Sides {
         old,
@@ -218,7 +222,8 @@ fn puts_of<'f>(
     let mut puts: Vec<Put<'f>> = Vec::new(alloc);
     put_profiles(alloc, sides, schema, &mut puts)?;
     put_sets(alloc, sides, schema, &mut puts)?;
-    Ok(puts)
+    let types = types_differing(alloc, sides, schema)?;
+    Ok((puts, types))
 }
 
 fn put_all<'f>(
@@ -245,8 +250,12 @@ pub fn beside<'f>(
     new: Package<'f>,
 ) -> Result<Made<'f>, NoMemory> {
     let mark = mark_between(alloc, old, &new)?;
-    let puts = puts_of(alloc, old, schema, &new, mark.as_str())?;
+    let (puts, types) = puts_of(alloc, old, schema, &new, mark.as_str())?;
     let mut package = new;
     put_all(alloc, &mut package, puts)?;
-    Ok(Made { mark, package })
+    Ok(Made {
+        mark,
+        package,
+        types,
+    })
 }

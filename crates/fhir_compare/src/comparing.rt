@@ -2,7 +2,7 @@
 
 use crate::beside::{Profile, profile_at};
 use crate::bindings::marked;
-use crate::naming::{name_stays, names_of, place_named};
+use crate::naming::{content_stays, names_of, place_named, profile_stays};
 use crate::profile::{has_profile, is_profile};
 use crate::spreading::spread;
 use crate::verdict::{Compared, Shown, Verdict, Way, Ways};
@@ -54,19 +54,43 @@ struct Placed<'s> {
     own: Own<'s>,
 }
 
-// The first canonical that a profile names and that names something in one of the packages alone.
-fn lost_name<'s>(
+// The first canonical of a profile or a target that a profile names, and that doesn't mean a profile, or none, in both packages.
+fn lost_profile<'s>(
     alloc: Global,
     sides: Comparison<'s, '_, '_>,
     profile: Profile<'s, '_>,
 ) -> Result<Option<&'s str>, NoMemory> {
     let names = names_of(alloc, profile.definition)?;
     for name in &names {
-        if !name_stays(sides.old, sides.new, Kind::StructureDefinition, *name) {
+        if !profile_stays(sides.old, sides.new, *name) {
             return Ok(Some(*name));
         }
     }
     Ok(None)
+}
+
+// The first reference of an element to the content of another one's that doesn't stay.
+fn lost_content<'s>(sides: Comparison<'s, '_, '_>, profile: Profile<'s, '_>) -> Option<&'s str> {
+    for element in profile.definition.elements() {
+        if let Some(reference) = element.content_reference() {
+            if !content_stays(sides.old, sides.new, reference) {
+                return Some(reference);
+            }
+        }
+    }
+    None
+}
+
+// What a profile names that doesn't stay.
+fn lost_name<'s>(
+    alloc: Global,
+    sides: Comparison<'s, '_, '_>,
+    profile: Profile<'s, '_>,
+) -> Result<Option<&'s str>, NoMemory> {
+    match lost_profile(alloc, sides, profile)? {
+        Some(name) => Ok(Some(name)),
+        None => Ok(lost_content(sides, profile)),
+    }
 }
 
 fn both_of<'s>(

@@ -6,17 +6,16 @@ ghost use Rattle.fhir_json.specs.Views.{tree_of, tree_seen};
 ghost use Rattle.fhir_json.specs.Memory.{Gives};
 ghost use Rattle.fhir_names.specs.Places.{place_of};
 ghost use Rattle.fhir_package.specs.Definitions.{of_kind};
-ghost use Rattle.fhir_compare.specs.Differing.{same_tree, is_same, Differ, differing_types};
+ghost use Rattle.fhir_compare.specs.Differing.{same_tree, is_same, Differ};
 
-use crate::profile::is_profile;
 use fhir_json::{Json, NoMemory};
 use fhir_matching::json_eq_in;
 use fhir_names::Index;
 use fhir_package::{Kind, Package};
 use std::alloc::Global;
 
-// Whether both are there and equal, or neither is there.
-fn same_tree(
+/// Whether both are there and equal, or neither is there.
+pub(crate) fn same_tree(
     alloc: Global,
     left: Option<&Json<'_>>,
     right: Option<&Json<'_>>,
@@ -103,64 +102,4 @@ impl Differing {
     {
         self.urls.get(url).is_some()
     }
-}
-
-// ---- types
-
-// Whether a definition is no profile, and the other package has another one or none.
-fn is_other_type(
-    alloc: Global,
-    other: &Package<'_>,
-    url: &str,
-    definition: &Json<'_>,
-) -> Result<bool, NoMemory>
-    ensures { Gives (λ b. b) result (is_other_type other.now (url.now, tree_of definition.now)) }
-{
-    if is_profile(definition) {
-        return Ok(false);
-    }
-    let there = other.at_url(Kind::StructureDefinition, url);
-    Ok(!same_tree(alloc, Some(definition), there)?)
-}
-
-// Whether a definition is no profile, and the other package has none.
-fn is_new_type(other: &Package<'_>, url: &str, definition: &Json<'_>) -> bool
-    ensures { result ≡ is_new_type other.now (url.now, tree_of definition.now) }
-{
-    !is_profile(definition) & other.at_url(Kind::StructureDefinition, url).is_none()
-}
-
-fn count_other(alloc: Global, old: &Package<'_>, new: &Package<'_>) -> Result<usize, NoMemory> {
-    let mut count: usize = 0;
-    for place in 0..old.len(Kind::StructureDefinition) {
-        if let Some((url, definition)) = old.at(Kind::StructureDefinition, place) {
-            if is_other_type(alloc, new, url, definition)? {
-                count = count.saturating_add(1);
-            }
-        }
-    }
-    Ok(count)
-}
-
-fn count_new(old: &Package<'_>, new: &Package<'_>) -> usize {
-    let mut count: usize = 0;
-    for place in 0..new.len(Kind::StructureDefinition) {
-        if let Some((url, definition)) = new.at(Kind::StructureDefinition, place) {
-            if is_new_type(old, url, definition) {
-                count = count.saturating_add(1);
-            }
-        }
-    }
-    count
-}
-
-/// How many StructureDefinitions that aren't profiles two packages don't have alike: those of OLD that NEW has otherwise or hasn't, and those that
-/// NEW alone has.
-pub fn types_differing(
-    alloc: Global,
-    old: &Package<'_>,
-    new: &Package<'_>,
-) -> Result<usize, NoMemory> {
-    let other = count_other(alloc, old, new)?;
-    Ok(other.saturating_add(count_new(old, new)))
 }

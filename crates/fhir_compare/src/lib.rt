@@ -14,12 +14,12 @@ mod moving;
 mod naming;
 mod profile;
 mod spreading;
+mod types;
 mod value_sets;
 mod verdict;
 mod ways;
 
 pub use beside::{Made, beside};
 pub use comparing::{Comparison, compare};
-pub use differing::types_differing;
 pub use profile::is_profile;
 pub use verdict::{Change, Compared, Shown, Verdict, Way, Ways};

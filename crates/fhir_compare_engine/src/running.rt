@@ -3,7 +3,7 @@
 ghost use Rattle.std.specs.Prelude.{◌≡◌, ⊥};
 
 use fhir_answers::{Reply, Session, Status, fault_reply, refused_reply};
-use fhir_compare::{Comparison, Made, beside, compare, types_differing};
+use fhir_compare::{Comparison, Made, beside, compare};
 use fhir_compare_lines::{Part, Side, Sources, comparison_text, part_of};
 use fhir_engine::{directory_at, end_with, files_of, write_reply};
 use fhir_json::NoMemory;
@@ -77,8 +77,11 @@ fn new_of<'n>(alloc: Global, old: &Session<'_>, survey: Survey<'n>) -> Result<Ne
     let mut definitions = survey.replace_package(Package::new(alloc));
     let faults = complete(alloc, &mut definitions)?;
     let lacking = LackingTable::of(alloc, faults)?;
-    let types = types_differing(alloc, old.survey().package(), &definitions)?;
-    let Made { mark, package } = beside(alloc, old.survey().package(), old.schema(), definitions)?;
+    let Made {
+        mark,
+        package,
+        types,
+    } = beside(alloc, old.survey().package(), old.schema(), definitions)?;
     let _none = survey.replace_package(package);
     Ok(New {
         survey,
