@@ -1,5 +1,5 @@
 -- A text that begins no text of two packages: it stands in front of what one of them has and the other hasn't.
-use Rattle.std.specs.Prelude.{ℕ, zero, suc, List, [], ◌∷◌, ◌++◌, length, drop, Bool, nat_le, Option, codes, if◌then◌else◌}
+use Rattle.std.specs.Prelude.{ℕ, zero, suc, List, [], ◌∷◌, ◌++◌, length, drop, Bool, nat_le, nat_eq, Option, codes, if◌then◌else◌}
 use Rattle.std.specs.List.{flat_map, starts_with}
 use Rattle.fhir_json.specs.Tree.{Text, Tree, null, boolean, number, string, array, object, Items, no_items, item, Members, no_members, member, Property}
 use Rattle.fhir_package.specs.declared.kind.Kind.{Kind}

@@ -13,7 +13,6 @@ use crate::value_sets::Changes;
 use fhir_definition::Definition;
 use fhir_elements::ElementDef;
 use fhir_json::{Json, NoMemory};
-use fhir_names::Canonical;
 use fhir_package::{Kind, Package};
 use fhir_schema::Schema;
 use std::alloc::Global;
@@ -161,6 +160,14 @@ fn bound_sets<'o>(
     Ok(bound)
 }
 
+// The version of a value set. One that is no text is none by which a canonical can name it.
+fn version_of<'t>(tree: &'t Json<'_>) -> Option<&'t str> {
+    match tree.field("version") {
+        Some(version) => Some(version.text_or_empty()),
+        None => None,
+    }
+}
+
 // The value set at a place of OLD, as the list of its concepts, if they can be read.
 fn put_set<'f>(
     alloc: Global,
@@ -170,15 +177,14 @@ fn put_set<'f>(
     canonical: &str,
     puts: &mut Vec<Put<'f>>,
 ) -> Result<(), NoMemory> {
-    let (Some((_url, tree)), Some(concepts), Ok(names)) = (
+    let (Some((url, tree)), Some(concepts)) = (
         sides.old.at(Kind::ValueSet, place),
         schema.concepts(canonical),
-        Canonical::parse(canonical),
     ) else {
         return Ok(());
     };
-    let url = marked(alloc, sides.mark, names.url())?;
-    let tree = listed(alloc, url.as_str(), tree.text_in("version"), concepts)?;
+    let url = marked(alloc, sides.mark, url)?;
+    let tree = listed(alloc, url.as_str(), version_of(tree), concepts)?;
     puts.push(Put {
         kind: Kind::ValueSet,
         url,
