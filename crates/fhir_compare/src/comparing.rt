@@ -1,6 +1,6 @@
 //! The profiles of two packages, url by url.
 
-use crate::beside::{Profile, profile_at};
+use crate::making::{Profile, profile_at};
 use crate::bindings::marked;
 use crate::naming::{content_stays, names_of, place_named, profile_stays};
 use crate::profile::{has_profile, is_profile};

@@ -4,11 +4,11 @@
 //! stands in `specs/Made.antt`, and what is said of it in `specs/Comparing.antt`.
 #![tactic(auto)]
 
-mod beside;
 mod bindings;
 mod comparing;
 mod differing;
 mod listing;
+mod making;
 mod mark;
 mod moving;
 mod naming;
@@ -19,7 +19,7 @@ mod value_sets;
 mod verdict;
 mod ways;
 
-pub use beside::{Made, beside};
 pub use comparing::{Comparison, compare};
+pub use making::{Made, beside};
 pub use profile::is_profile;
 pub use verdict::{Change, Compared, Shown, Verdict, Way, Ways};
