@@ -34,18 +34,18 @@ pub record IsAudited (given : Option (List Text)) (s : SchemaValue) (survey : Su
 -- Each is said of one of the profiles, in their order, and of each profile one is.
 abbrev pub AreAudited : Option (List Text) → SchemaValue → Surveyed → List Placed → List AuditedValue → Type 0
 AreAudited given s survey [] [] = Unit {0}
-AreAudited given s survey [] (a ∷ as) = ⊥
+AreAudited given s survey [] (a ∷ told) = ⊥
 AreAudited given s survey (e ∷ es) [] = ⊥
-AreAudited given s survey (e ∷ es) (a ∷ as) = IsAudited given s survey e a × AreAudited given s survey es as
+AreAudited given s survey (e ∷ es) (a ∷ told) = IsAudited given s survey e a × AreAudited given s survey es told
 
 -- Each profile that is asked about is told once, in the order of the package.
-pub record IsAudit (prefixes : List Text) (given : Option (List Text)) (s : SchemaValue) (survey : Surveyed) (as : List AuditedValue) : Type 0 where
+pub record IsAudit (prefixes : List Text) (given : Option (List Text)) (s : SchemaValue) (survey : Surveyed) (told : List AuditedValue) : Type 0 where
   pub asked : ℕ → Bool
   pub are_asked : AreAsked prefixes survey.definitions asked
-  pub are_audited : AreAudited given s survey (profiles_in asked survey.definitions) as
+  pub are_audited : AreAudited given s survey (profiles_in asked survey.definitions) told
 
 abbrev pub are_narrowing : List AuditedValue → Bool
-are_narrowing as = list_all (λ a. is_narrowing a.verdict) as
+are_narrowing told = list_all (λ a. is_narrowing a.verdict) told
 
 -- ---- what it is that all of them narrow
 

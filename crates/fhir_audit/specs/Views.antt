@@ -26,4 +26,4 @@ audited_seen a = record {
 }
 
 abbrev pub all_audited : List Audited → List AuditedValue
-all_audited as = map audited_seen as
+all_audited told = map audited_seen told

@@ -47,7 +47,8 @@ fn push_profile<'s>(
 ) -> Result<(), AllocError> {
     match package.at(Kind::StructureDefinition, place) {
         Some((url, definition)) if is_profile(definition) => {
-            into.push(profile_of(package, place, url, definition))
+            into.push(profile_of(package, place, url, definition))?;
+            Ok(())
         }
         _ => Ok(()),
     }

@@ -8,6 +8,6 @@ ghost use Rattle.fhir_audit.specs.Auditing.{AuditedValue, IsAudit, are_narrowing
 
 /// Where each profile that is told narrows its base, each that is asked about does.
 pub fn narrowing_profiles()
-    ensures { (prefixes : List Text) (given : Option (List Text)) (s : SchemaValue) (survey : Surveyed) (as : List AuditedValue)
-        → IsAudit prefixes given s survey as → IsTrue (are_narrowing as) → AllNarrow prefixes s survey.definitions }
+    ensures { (prefixes : List Text) (given : Option (List Text)) (s : SchemaValue) (survey : Surveyed) (told : List AuditedValue)
+        → IsAudit prefixes given s survey told → IsTrue (are_narrowing told) → AllNarrow prefixes s survey.definitions }
 {}

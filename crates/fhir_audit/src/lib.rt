@@ -19,14 +19,17 @@
 #![tactic(auto)]
 
 mod above;
+mod against;
 mod auditing;
 mod carrying;
+mod heading;
 mod judging;
 mod laws;
 mod profile;
 mod verdict;
 mod watch;
 
+pub use against::{Held, Standing, held};
 pub use auditing::{are_narrowing, audit};
 pub use laws::narrowing_profiles;
 pub use verdict::{Audited, Verdict};

@@ -4,6 +4,9 @@
 pub trait Watch {
     /// So many of the profiles are judged.
     fn tell(&mut self, done: usize, count: usize);
+
+    /// Something is written next, or nothing is told any more.
+    fn end(&mut self);
 }
 
 /// Nothing is told.
@@ -12,4 +15,6 @@ pub struct Unwatched;
 
 impl Watch for Unwatched {
     fn tell(&mut self, _done: usize, _count: usize) {}
+
+    fn end(&mut self) {}
 }
