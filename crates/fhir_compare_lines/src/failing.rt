@@ -109,10 +109,7 @@ fn why_of(
             rule,
             resource,
         } => Ok(Some(why_fails(alloc, sources, *pair, *rule, resource.as_ref())?)),
-        Shown::CannotBeUsed(reason) => Ok(Some(Why::Says(format!(in alloc;
-            "OLD's can't be used beside NEW's definitions: {}",
-            reason.number()
-        )?))),
+        Shown::CannotBeUsed => Ok(Some(why_unusable(alloc, sources, url)?)),
         Shown::Narrows => Ok(Some(why_blamed(alloc, url, blamed, lost)?)),
     }
 }
