@@ -8,3 +8,4 @@ pub mod Listing
 pub mod Made
 pub mod Types
 pub mod Comparing
+pub mod Views

@@ -1,7 +1,12 @@
 //! The profiles of two packages, url by url.
 
-use crate::making::{Profile, profile_at};
+ghost use Rattle.std.specs.Prelude.{◌≡◌, IfOk};
+ghost use Rattle.fhir_schema.specs.Schemas.{schema_of};
+ghost use Rattle.fhir_compare.specs.Comparing.{IsComparison, change_of};
+ghost use Rattle.fhir_compare.specs.Views.{all_said};
+
 use crate::bindings::marked;
+use crate::making::{Profile, profile_at};
 use crate::naming::{content_stays, names_of, place_named, profile_stays};
 use crate::profile::{has_profile, is_profile};
 use crate::spreading::spread;
@@ -371,7 +376,11 @@ fn push_new<'s>(
 pub fn compare<'s>(
     alloc: Global,
     sides: Comparison<'s, '_, '_>,
-) -> Result<Vec<Compared<'s>>, NoMemory> {
+) -> Result<Vec<Compared<'s>>, NoMemory>
+    requires schema { sides.entry.schema.now ≡ schema_of sides.entry.new.now }
+    requires old { sides.entry.old_schema.now ≡ schema_of sides.entry.old.now }
+    ensures { IfOk result (λ v. IsComparison sides.entry.old.now sides.entry.new.now sides.entry.mark.now (all_said v.items)) }
+{
     let mut all: Vec<Compared<'s>> = Vec::new(alloc);
     push_old(alloc, sides, &mut all)?;
     push_new(sides, &mut all)?;

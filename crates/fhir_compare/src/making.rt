@@ -1,6 +1,11 @@
 //! NEW's definitions with OLD's profiles beside them.
 
-ghost use Rattle.std.specs.Prelude.{◌≡◌, ◌++◌, IfOk, OnOk, map, string_bytes};
+ghost use Rattle.std.specs.Prelude.{◌≡◌, ◌++◌, IfOk, OnOk, Bool, map, string_bytes};
+ghost use Rattle.fhir_json.specs.Tree.{Text};
+ghost use Rattle.fhir_schema.specs.Schemas.{schema_of};
+ghost use Rattle.fhir_compare.specs.Made.{IsBeside};
+ghost use Rattle.fhir_compare.specs.Types.{types_differing};
+ghost use Rattle.fhir_compare.specs.ValueSets.{TellsKept};
 
 use crate::bindings::{Sides, marked, moved_set};
 use crate::listing::listed;
@@ -254,7 +259,11 @@ pub fn beside<'f>(
     old: &Package<'_>,
     schema: &Schema,
     new: Package<'f>,
-) -> Result<Made<'f>, NoMemory> {
+) -> Result<Made<'f>, NoMemory>
+    requires { schema.now ≡ schema_of old.now }
+    ensures beside { IfOk result (λ m. IsBeside old.now new (string_bytes m.mark) m.package) }
+    ensures types { IfOk result (λ m. (keeps : Text → Bool) × TellsKept old.now new keeps × (m.types ≡ types_differing old.now new keeps)) }
+{
     let mark = mark_between(alloc, old, &new)?;
     let (puts, types) = puts_of(alloc, old, schema, &new, mark.as_str())?;
     let mut package = new;

@@ -1,5 +1,9 @@
 //! What is said of the profiles of a url.
 
+ghost use Rattle.std.specs.Prelude.{◌≡◌};
+ghost use Rattle.fhir_compare.specs.Comparing.{change_of};
+ghost use Rattle.fhir_compare.specs.Views.{ways_seen};
+
 use fhir_cert_check::Rule;
 use fhir_certificate::Pair;
 
@@ -84,7 +88,9 @@ pub enum Change {
 
 impl<'s> Ways<'s> {
     /// Which ways hold.
-    pub fn change(&self) -> Change {
+    pub fn change(&self) -> Change
+        ensures { result ≡ change_of (ways_seen self.now) }
+    {
         match (self.new_in_old.blamed, self.old_in_new.blamed) {
             (None, None) => Change::Same,
             (None, Some(_)) => Change::Narrows,
