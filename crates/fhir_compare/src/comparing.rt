@@ -321,13 +321,13 @@ fn push_verdict<'s>(
     into: &mut Vec<Compared<'s>>,
 ) -> Result<(), NoMemory> {
     let Placed { place, own } = placed;
-    if let (Some(verdict), Some((url, _definition))) = (
-        verdict_of(old, blamed, place, own),
-        old.at(Kind::StructureDefinition, place),
-    ) {
-        into.push(Compared { url, verdict })?;
+    let Some((url, _definition)) = old.at(Kind::StructureDefinition, place) else {
+        return Ok(());
+    };
+    match verdict_of(old, blamed, place, own) {
+        Some(verdict) => Ok(into.push(Compared { url, verdict })?),
+        None => Ok(()),
     }
-    Ok(())
 }
 
 // Those of OLD's profiles.
