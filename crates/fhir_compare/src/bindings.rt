@@ -1,6 +1,9 @@
 //! Elements whose bindings mean value sets of OLD.
 
-ghost use Rattle.std.specs.Prelude.{◌≡◌, ◌++◌, IfOk, map, string_bytes};
+ghost use Rattle.std.specs.Prelude.{◌≡◌, ◌++◌, IfOk, map, option_map, string_bytes};
+ghost use Rattle.fhir_json.specs.Views.{text_seen};
+ghost use Rattle.fhir_compare.specs.Made.{moved_set, bound_to, bound_anew};
+ghost use Rattle.fhir_compare.specs.ValueSets.{kept_by};
 
 use crate::value_sets::Changes;
 use fhir_definition::Definition;
@@ -29,7 +32,9 @@ pub(crate) fn marked(alloc: Global, mark: &str, text: &str) -> Result<String, Al
 }
 
 /// The canonical of an element's required binding, if that means another value set in OLD than in NEW.
-pub(crate) fn moved_set<'e>(sides: Sides<'_, '_, '_>, element: &'e ElementDef) -> Option<&'e str> {
+pub(crate) fn moved_set<'e>(sides: Sides<'_, '_, '_>, element: &'e ElementDef) -> Option<&'e str>
+    ensures { text_seen result ≡ moved_set (kept_by sides.entry.old.now sides.entry.new.now sides.entry.changes.now.changed.items) element.entry.now }
+{
     let canonical = element.required_value_set()?;
     if sides.changes.keeps(sides.old, sides.new, canonical) {
         None
@@ -43,7 +48,9 @@ fn binding_to(
     sides: Sides<'_, '_, '_>,
     binding: Option<&BindingDef>,
     canonical: &str,
-) -> Result<Option<BindingDef>, AllocError> {
+) -> Result<Option<BindingDef>, AllocError>
+    ensures { IfOk result (λ b. b ≡ option_map (λ b. bound_to sides.entry.mark.now canonical.now b.now) binding.entry) }
+{
     match binding {
         Some(binding) => {
             let canonical = marked(alloc, sides.mark, canonical)?;
@@ -58,7 +65,9 @@ fn bound_anew(
     alloc: Global,
     sides: Sides<'_, '_, '_>,
     element: &ElementDef,
-) -> Result<ElementDef, NoMemory> {
+) -> Result<ElementDef, NoMemory>
+    ensures { IfOk result (λ e. e ≡ bound_anew (kept_by sides.entry.old.now sides.entry.new.now sides.entry.changes.now.changed.items) sides.entry.mark.now element.now) }
+{
     let mut fields = copied(alloc, element)?;
     if let Some(canonical) = moved_set(sides, element) {
         fields.binding = binding_to(alloc, sides, element.binding(), canonical)?;
@@ -71,7 +80,9 @@ pub(crate) fn all_bound_anew(
     alloc: Global,
     sides: Sides<'_, '_, '_>,
     definition: &Definition,
-) -> Result<Vec<ElementDef>, NoMemory> {
+) -> Result<Vec<ElementDef>, NoMemory>
+    ensures { IfOk result (λ v. v.items ≡ map (bound_anew (kept_by sides.entry.old.now sides.entry.new.now sides.entry.changes.now.changed.items) sides.entry.mark.now) definition.now.elements) }
+{
     let elements = definition.elements();
     let mut all = Vec::with_capacity(alloc, elements.len())?;
     for element in elements {

@@ -73,19 +73,25 @@ pub(crate) fn content_stays(old: &Package<'_>, new: &Package<'_>, reference: &st
     }
 }
 
-fn push_texts<'d>(texts: &'d [String], names: &mut Vec<&'d str>) -> Result<(), AllocError> {
+fn push_texts<'d>(texts: &'d [String], names: &mut Vec<&'d str>) -> Result<(), AllocError>
+    ensures { OnOk result (map (λ n. n.now) names.new.items ≡ map (λ n. n.now) names.old.items ++ map string_bytes texts.entry.now) }
+{
     for text in texts {
         names.push(text.as_str())?;
     }
     Ok(())
 }
 
-fn push_entry<'d>(entry: &'d TypeEntry, names: &mut Vec<&'d str>) -> Result<(), AllocError> {
+fn push_entry<'d>(entry: &'d TypeEntry, names: &mut Vec<&'d str>) -> Result<(), AllocError>
+    ensures { OnOk result (map (λ n. n.now) names.new.items ≡ map (λ n. n.now) names.old.items ++ entry_names entry.entry.now) }
+{
     push_texts(entry.profiles(), names)?;
     push_texts(entry.targets(), names)
 }
 
-fn push_element<'d>(element: &'d ElementDef, names: &mut Vec<&'d str>) -> Result<(), AllocError> {
+fn push_element<'d>(element: &'d ElementDef, names: &mut Vec<&'d str>) -> Result<(), AllocError>
+    ensures { OnOk result (map (λ n. n.now) names.new.items ≡ map (λ n. n.now) names.old.items ++ element_names element.entry.now) }
+{
     for entry in element.types() {
         push_entry(entry, names)?;
     }
@@ -93,7 +99,9 @@ fn push_element<'d>(element: &'d ElementDef, names: &mut Vec<&'d str>) -> Result
 }
 
 /// The canonicals of the profiles and of the targets that a definition's elements name.
-pub(crate) fn names_of(alloc: Global, definition: &Definition) -> Result<Vec<&str>, NoMemory> {
+pub(crate) fn names_of(alloc: Global, definition: &Definition) -> Result<Vec<&str>, NoMemory>
+    ensures { IfOk result (λ v. map (λ n. n.now) v.items ≡ names_of definition.now) }
+{
     let mut names = Vec::new(alloc);
     for element in definition.elements() {
         push_element(element, &mut names)?;

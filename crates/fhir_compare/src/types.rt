@@ -1,8 +1,9 @@
 //! How many types OLD and NEW don't have alike.
 
-ghost use Rattle.std.specs.Prelude.{◌≡◌, IfOk};
-ghost use Rattle.fhir_json.specs.Memory.{Gives};
-ghost use Rattle.fhir_json.specs.Views.{tree_of};
+ghost use Rattle.std.specs.Prelude.{◌≡◌, is_some};
+ghost use Rattle.std.specs.List.{list_any};
+ghost use Rattle.fhir_compare.specs.Made.{moved_set};
+ghost use Rattle.fhir_compare.specs.ValueSets.{kept_by};
 
 use crate::bindings::{Sides, moved_set};
 use crate::differing::same_tree;
@@ -14,7 +15,9 @@ use fhir_schema::Schema;
 use std::alloc::Global;
 
 // Whether an element of a definition is bound to a value set that isn't kept.
-fn binds_another_set(sides: Sides<'_, '_, '_>, definition: &Definition) -> bool {
+fn binds_another_set(sides: Sides<'_, '_, '_>, definition: &Definition) -> bool
+    ensures { result ≡ list_any (λ e. is_some (moved_set (kept_by sides.entry.old.now sides.entry.new.now sides.entry.changes.now.changed.items) e)) definition.now.elements }
+{
     for element in definition.elements() {
         if moved_set(sides, element).is_some() {
             return true;

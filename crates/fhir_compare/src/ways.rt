@@ -1,5 +1,9 @@
 //! What is derived of two profiles.
 
+ghost use Rattle.std.specs.Prelude.{IfOk};
+ghost use Rattle.fhir_compare.specs.Comparing.{IsShown};
+ghost use Rattle.fhir_compare.specs.Views.{shown_seen};
+
 use crate::verdict::Shown;
 use fhir_cert_check::Rule;
 use fhir_certificate::Pair;
@@ -31,7 +35,9 @@ pub(crate) fn shown<'s>(
     schema: &'s Schema,
     derived: &str,
     base: &str,
-) -> Result<Shown<'s>, NoMemory> {
+) -> Result<Shown<'s>, NoMemory>
+    ensures { IfOk result (λ w. IsShown schema.entry.now derived.now base.now (shown_seen w)) }
+{
     match derive(alloc, schema, derived, base) {
         Ok(Outcome::Derives(_certificate)) => Ok(Shown::Narrows),
         Ok(Outcome::NoCertificate(pair, rule)) => fails(alloc, schema, derived, base, pair, rule),
