@@ -1,8 +1,8 @@
 //! Marks that are carried along a graph, against its edges.
 
-ghost use Rattle.std.specs.Prelude.{◌≡◌, ◌<◌, ◌∷◌, [], List, ℕ, length, replicate, Option, None, Some, IfOk, OnOk};
+ghost use Rattle.std.specs.Prelude.{◌≡◌, length, replicate, None, IfOk, OnOk};
 ghost use Rattle.fhir_definition.specs.Views.{lists_in};
-ghost use Rattle.fhir_compare.specs.Spreading.{users_under, users_of, told_at, tell, tell_all, first_told, IsSpread, IsCarried};
+ghost use Rattle.fhir_compare.specs.Spreading.{users_under, users_of, told_at, tell, tell_all, first_told, carry, IsSpread};
 
 use fhir_definition::{empty_lists, put_at};
 use fhir_json::NoMemory;
@@ -95,7 +95,10 @@ fn first_told(alloc: Global, marks: &[bool]) -> Result<Told, NoMemory>
 }
 
 // Tells of those that lead to a place what is told of it.
-fn carry(told: &mut Told, users: &[Vec<usize>], place: usize) -> Result<(), NoMemory> {
+fn carry(told: &mut Told, users: &[Vec<usize>], place: usize) -> Result<(), NoMemory>
+    ensures { OnOk result ((told.new.marks.items, told.new.queue.items)
+        ≡ carry (lists_in users.now) place (told.old.marks.items, told.old.queue.items)) }
+{
     let (Some(marked), Some(places)) = (told_at(&told.marks, place), users.get(place)) else {
         return Ok(());
     };
