@@ -13,7 +13,8 @@ use Rattle.fhir_cert_check.specs.Rule.{RuleName}
 use Rattle.fhir_derive_check.specs.Deriving.{IsFirstFailing}
 use Rattle.fhir_derive_check.specs.Faults.{derive_refusal}
 use Rattle.fhir_derive_check.specs.Reaching.{HasCertificate}
-use Rattle.fhir_counter.specs.Shows.{Shows}
+use Rattle.fhir_counter.specs.Shows.{AlwaysConforms, NeverConforms}
+use Rattle.fhir_json.specs.Grammar.{Reads}
 use Rattle.fhir_compare.specs.Profiles.{is_profile, has_profile}
 use Rattle.fhir_compare.specs.Naming.{names_of, names_stay, place_named}
 use Rattle.fhir_compare.specs.Spreading.{Edges, Reaches}
@@ -33,23 +34,31 @@ is_narrowing narrows = true
 is_narrowing (fails pair rule resource) = false
 is_narrowing cannot_be_used = false
 
--- It is what `derive` says of them, and a resource shows it.
-abbrev pub IsShown : SchemaValue → (derived base : Text) → ShownValue → Type 0
-IsShown s derived base narrows = HasCertificate s derived base
-IsShown s derived base (fails pair rule resource) =
-    (HasCertificate s derived base → ⊥) × IsFirstFailing s derived base pair rule × IfSome resource (Shows s derived base)
-IsShown s derived base cannot_be_used = IsSome (derive_refusal s derived base)
-
 -- ---- the two ways
 
 -- that NEW's narrows OLD's, or that OLD's narrows NEW's
 pub data Direction : Type 0 where
   new_in_old old_in_new : Direction
 
--- a profile of NEW and the one of OLD beside it: the derived one and its base
-abbrev pub sides_of : Direction → (mark url : Text) → Text × Text
-sides_of new_in_old mark url = (url, mark ++ url)
-sides_of old_in_new mark url = (mark ++ url, url)
+-- A resource conforms to the profile of the one folder, and not to that of the other, as each folder by itself says.
+abbrev pub ShowsBetween : Direction → (old new : SchemaValue) → (url bytes : Text) → Type 0
+ShowsBetween new_in_old old new url bytes = (t : Tree) × Reads bytes t × AlwaysConforms new url t × NeverConforms old url t
+ShowsBetween old_in_new old new url bytes = (t : Tree) × Reads bytes t × AlwaysConforms old url t × NeverConforms new url t
+
+-- By the url and the one under which OLD's stands beside NEW's.
+abbrev pub sides_by : Direction → (url own : Text) → Text × Text
+sides_by new_in_old url own = (url, own)
+sides_by old_in_new url own = (own, url)
+
+-- It is what `derive` says of two profiles, in the package that is made, and a resource shows it.
+abbrev pub IsShownBy : SchemaValue → Text × Text → (Text → Type 0) → ShownValue → Type 0
+IsShownBy made sides shows narrows = HasCertificate made sides.0 sides.1
+IsShownBy made sides shows (fails pair rule resource) =
+    (HasCertificate made sides.0 sides.1 → ⊥) × IsFirstFailing made sides.0 sides.1 pair rule × IfSome resource shows
+IsShownBy made sides shows cannot_be_used = IsSome (derive_refusal made sides.0 sides.1)
+
+abbrev pub IsShown : Direction → (old made : SchemaValue) → (url own : Text) → ShownValue → Type 0
+IsShown way old made url own shown = IsShownBy made (sides_by way url own) (ShowsBetween way old made url) shown
 
 -- what is said of one way: what is shown, and the url of a profile that is reached of which the way isn't shown
 pub record WayValue : Type 0 where
@@ -113,7 +122,7 @@ module _ (old made : Definitions) (mark : Text) where
   abbrev pub IsDerivedAt : Direction → ℕ → Text × Tree → Type 0
   IsDerivedAt way place e =
       IsTrue (are_in_both e) × IsTrue (are_usable place e) × IsTrue (names_stay old made (definition_at place e))
-      × HasCertificate (schema_of made) (sides_of way mark e.0).0 (sides_of way mark e.0).1
+      × HasCertificate (schema_of made) (sides_by way e.0 (mark ++ e.0)).0 (sides_by way e.0 (mark ++ e.0)).1
 
   -- A way fails at a place: a profile stands there, of which it isn't derived.
   abbrev pub FailsAt : Direction → ℕ → Type 0
@@ -134,7 +143,7 @@ module _ (old made : Definitions) (mark : Text) where
 
   -- a way holds exactly where no profile is blamed
   pub record IsWay (way : Direction) (place : ℕ) (e : Text × Tree) (w : WayValue) : Type 0 where
-    pub is_shown : IsShown (schema_of made) (sides_of way mark e.0).0 (sides_of way mark e.0).1 w.shown
+    pub is_shown : IsShown way (schema_of old) (schema_of made) e.0 (mark ++ e.0) w.shown
     pub blamed : IfSome w.blamed (IsBlamed way place)
     pub holds : w.blamed ≡ None → Holds way place
 

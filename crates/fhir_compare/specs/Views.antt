@@ -3,6 +3,8 @@ use Rattle.std.specs.Prelude.{List, map, Option, Bool, is_some}
 use Rattle.std.specs.Option.{option_map}
 use Rattle.fhir_json.specs.Tree.{Text}
 use Rattle.fhir_cert_check.specs.Views.{rule_name}
+use Rattle.fhir_compare.specs.declared.ways.Direction.{Direction as WayDirection}
+use Rattle.fhir_compare.specs.declared.ways.Direction.TheVariants as directions
 use Rattle.fhir_compare.specs.declared.verdict.Shown.{Shown}
 use Rattle.fhir_compare.specs.declared.verdict.Shown.TheVariants as shown
 use Rattle.fhir_compare.specs.declared.verdict.Way.{Way}
@@ -11,6 +13,10 @@ use Rattle.fhir_compare.specs.declared.verdict.Verdict.{Verdict}
 use Rattle.fhir_compare.specs.declared.verdict.Verdict.TheVariants as verdicts
 use Rattle.fhir_compare.specs.declared.verdict.Compared.{Compared}
 use Rattle.fhir_compare.specs.Comparing.{ShownValue, narrows, fails, cannot_be_used, Direction, new_in_old, old_in_new, WayValue, WaysValue, VerdictValue, both, unusable_in, only_in_old, only_in_new, Said}
+
+abbrev pub direction_seen : WayDirection → Direction
+direction_seen directions.NewInOld = new_in_old
+direction_seen directions.OldInNew = old_in_new
 
 abbrev pub shown_seen : Shown → ShownValue
 shown_seen shown.Narrows = narrows

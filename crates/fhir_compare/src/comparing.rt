@@ -11,7 +11,7 @@ use crate::naming::{content_stays, names_of, place_named, profile_stays};
 use crate::profile::{has_profile, is_profile};
 use crate::spreading::spread;
 use crate::verdict::{Compared, Shown, Verdict, Way, Ways};
-use crate::ways::shown;
+use crate::ways::{Direction, Two, shown};
 use fhir_json::{Json, NoMemory};
 use fhir_package::{Kind, Package};
 use fhir_schema::Schema;
@@ -104,8 +104,14 @@ fn both_of<'s>(
     profile: Profile<'s, '_>,
 ) -> Result<Own<'s>, NoMemory> {
     let own = marked(alloc, sides.mark, profile.url)?;
-    let new_in_old = shown(alloc, sides.schema, profile.url, own.as_str())?;
-    let old_in_new = shown(alloc, sides.schema, own.as_str(), profile.url)?;
+    let two = Two {
+        old_schema: sides.old_schema,
+        schema: sides.schema,
+        url: profile.url,
+        own: own.as_str(),
+    };
+    let new_in_old = shown(alloc, Direction::NewInOld, two)?;
+    let old_in_new = shown(alloc, Direction::OldInNew, two)?;
     let lost = lost_name(alloc, sides, profile)?;
     Ok(Own::Both {
         new_in_old,

@@ -19,7 +19,7 @@ pub enum Shown<'s> {
         pair: Pair,
         /// The rule.
         rule: Rule<'s>,
-        /// The resource, as JSON.
+        /// The resource, as JSON: it conforms to the profile of the one folder, and not to that of the other, as each folder by itself says.
         resource: Option<Vec<u8>>,
     },
     /// OLD's profile can't be used beside NEW's definitions.
