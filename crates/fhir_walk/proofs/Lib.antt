@@ -4,3 +4,4 @@ pub mod Turns
 mod Free
 mod Alone
 pub mod Sliced
+pub mod Settled

@@ -1,5 +1,5 @@
 -- What a walk tells of an item: what of a node's asks it passes where no unread rule holds (used by private contracts alone).
-use Rattle.std.specs.Prelude.{◌≡◌, ℕ, List, Bool, true, false, ◌&&◌, Some, if◌then◌else◌}
+use Rattle.std.specs.Prelude.{◌≡◌, ℕ, List, [], Bool, true, false, ◌&&◌, Option, Some, IsTrue, if◌then◌else◌}
 use Rattle.std.specs.List.{list_all}
 use Rattle.std.specs.Option.{option_map_or}
 use Rattle.fhir_json.specs.Tree.{Text}
@@ -10,7 +10,7 @@ use Rattle.fhir_instance.specs.Items.{Item, kids_of}
 use Rattle.fhir_facets.specs.Unread.{Meaning}
 use Rattle.fhir_slicing.specs.Belonging.{is_apart, is_sliced}
 use Rattle.fhir_conformance.specs.Positions.{kid_at, at_kid}
-use Rattle.fhir_conformance.specs.Asks.{Ask, places_of, constraint_asks, kids_asks}
+use Rattle.fhir_conformance.specs.Asks.{Ask, places_of, own_constraint_asks, constraint_asks, kids_asks}
 use Rattle.fhir_conformance.specs.Conformance.{Around, constant, ask_conforms, resource_at, fixed_at, pattern_at, range_at, length_at, binding_at}
 
 -- no unread rule holds
@@ -27,6 +27,15 @@ pass_all s here x asks = list_all (passes s here x) asks
 -- it tells a test wherever the nearest resource around is that one
 abbrev pub Tells : Item → (Around → Bool) → Bool → Type 0
 Tells around test told = (here : Around) → here.nearest ≡ around → told ≡ test here
+
+-- an item passes a node's own constraints, if there is that node
+abbrev pub settled_pass : SchemaValue → Around → Item → Option NodeRef → Bool
+settled_pass s here x settled = pass_all s here x (option_map_or (own_constraint_asks s) settled [])
+
+-- it tells a test wherever the nearest resource around is that one, and the item passes the own constraints of a node
+abbrev pub TellsBeside : SchemaValue → Item → Option NodeRef → Item → (Around → Bool) → Bool → Type 0
+TellsBeside s x settled around test told =
+    (here : Around) → here.nearest ≡ around → IsTrue (settled_pass s here x settled) → told ≡ test here
 
 -- that is the nearest resource around the children of an item
 abbrev pub IsAroundKids : SchemaValue → Item → Item → Around → Type 0

@@ -3,14 +3,13 @@
 ghost use Rattle.std.specs.Prelude.{◌≡◌, ◌&&◌, map, true, false, string_bytes, IfSome, if◌then◌else◌};
 ghost use Rattle.std.specs.List.{flat_map};
 ghost use Rattle.std.specs.Str.{bytes_eq};
-ghost use Rattle.fhir_schema.specs.Schemas.{type_root, slices, criteria};
-ghost use Rattle.fhir_instance.specs.Items.{type_of};
+ghost use Rattle.fhir_schema.specs.Schemas.{slices, criteria};
 ghost use Rattle.fhir_instance.specs.View.{item_of, named_of};
 ghost use Rattle.fhir_slicing.specs.Belonging.{belongs};
 ghost use Rattle.fhir_conformance.specs.Positions.{members};
 ghost use Rattle.fhir_conformance.specs.Asks.{child_ask, own_root, places_of, slice_asks, sliced_asks, slot_asks, slots_ask, kids_asks, root_asks, inner_asks};
 ghost use Rattle.fhir_conformance.specs.Conformance.{conforms, constant, outermost, count_of, types_hold, entry_holds, profiles_hold, profile_holds};
-ghost use Rattle.fhir_walk.specs.Walks.{none, pass_all, rest_holds, Tells, TellsOfKids};
+ghost use Rattle.fhir_walk.specs.Walks.{none, pass_all, rest_holds, Tells, TellsBeside, TellsOfKids};
 
 use crate::children::count_named;
 use crate::facets::{facets_hold, is_held};
@@ -103,7 +102,7 @@ fn root_conforms<'t, 'a, 'j>(
     if !schema.covers(schema.type_code(root), item.code()) {
         return Some(false);
     }
-    rest_conforms(alloc, schema, around, item, root, depth, left)
+    rest_conforms(alloc, schema, around, item, root, None, depth, left)
 }
 
 // The same, where it is none.
@@ -119,16 +118,19 @@ fn inner_conforms<'t, 'a, 'j>(
 ) -> Option<bool>
     ensures { IfSome result (Tells (item_of around.now) (λ here. pass_all schema.now here (item_of item.now) (inner_asks schema.now (item_of item.now) node))) }
 {
+    roots_are_roots();
     if !types_hold(alloc, schema, around, item, node, depth, left)? {
         return Some(false);
     }
-    if !own_root_holds(alloc, schema, around, item, node, depth, left)? {
+    let root = own_root(schema, item, node);
+    if !own_root_holds(alloc, schema, around, item, root, depth, left)? {
         return Some(false);
     }
-    rest_conforms(alloc, schema, around, item, node, depth, left)
+    rest_conforms(alloc, schema, around, item, node, root, depth, left)
 }
 
-// Whether an item is as a node asks, but for the item's type: by its facets, its constraints, and what it asks of children.
+// Whether an item is as a node asks, but for the item's type: by its facets, its constraints, and what it asks of children. The own
+// constraints of another node are known to hold of the item.
 #[cycle(walking)]
 fn rest_conforms<'t, 'a, 'j>(
     alloc: Global,
@@ -136,10 +138,12 @@ fn rest_conforms<'t, 'a, 'j>(
     around: &'t Typed<'a, 'j>,
     item: &'t Typed<'a, 'j>,
     node: NodeRef,
+    settled: Option<NodeRef>,
     depth: usize,
     left: &mut usize,
 ) -> Option<bool>
-    ensures { IfSome result (Tells (item_of around.now) (λ here. rest_holds schema.now here (item_of item.now) node)) }
+    ensures { IfSome result (TellsBeside schema.now (item_of item.now) settled (item_of around.now)
+        (λ here. rest_holds schema.now here (item_of item.now) node)) }
 {
     if is_free(schema, item, node) {
         return Some(true);
@@ -147,27 +151,26 @@ fn rest_conforms<'t, 'a, 'j>(
     if !facets_hold(schema, item, node) {
         return Some(false);
     }
-    if !constraints_hold(alloc, schema, around, item, node)? {
+    if !constraints_hold(alloc, schema, around, item, node, settled)? {
         return Some(false);
     }
     kids_conform(alloc, schema, around, item, node, depth, left)
 }
 
-// Whether an item conforms to the definition of its own type, where that has a root.
+// Whether an item conforms to the root of its own type, where that has one.
 #[cycle(walking)]
 fn own_root_holds<'t, 'a, 'j>(
     alloc: Global,
     schema: &'t Schema,
     around: &'t Typed<'a, 'j>,
     item: &'t Typed<'a, 'j>,
-    node: NodeRef,
+    root: Option<NodeRef>,
     depth: usize,
     left: &mut usize,
 ) -> Option<bool>
-    ensures { IfSome result (Tells (item_of around.now)
-        (λ here. pass_all schema.now here (item_of item.now) (own_root (type_root schema.now (type_of (item_of item.now)))))) }
+    ensures { IfSome result (Tells (item_of around.now) (λ here. pass_all schema.now here (item_of item.now) (own_root root))) }
 {
-    match own_root(schema, item, node) {
+    match root {
         Some(root) => item_conforms(alloc, schema, around, item, root, depth, left),
         None => Some(true),
     }

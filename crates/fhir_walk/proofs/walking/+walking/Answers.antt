@@ -1,4 +1,4 @@
-use Rattle.std.proofs.Common.{◌≡◌, ◌+◌, ◌&&◌, true, false, ℕ, suc, map, drop, string_bytes, add-one, sym, ap, ◌∙◌}
+use Rattle.std.proofs.Common.{◌≡◌, ◌+◌, ◌&&◌, true, false, ℕ, suc, None, map, drop, string_bytes, add-one, refl, sym, ap, ◌∙◌}
 use Rattle.std.specs.List.{list_any, flat_map}
 use Rattle.std.proofs.lemmas.List.{drop_all}
 use Rattle.fhir_json.specs.Bytes.{is_empty}
@@ -9,9 +9,10 @@ use Rattle.fhir_instance.specs.View.{item_of}
 use Rattle.fhir_conformance.specs.Positions.{members}
 use Rattle.fhir_conformance.specs.Asks.{child_ask, places_from, places_of, slice_asks, sliced_asks, own_root, root_asks, inner_asks}
 use Rattle.fhir_conformance.specs.Conformance.{constant, conforms, types_hold, profile_holds}
-use Rattle.fhir_walk.specs.Walks.{none, pass_all, rest_holds, is_rightly_sliced, Tells, TellsOfKids}
+use Rattle.fhir_walk.specs.Walks.{none, pass_all, rest_holds, is_rightly_sliced, Tells, TellsBeside, TellsOfKids}
 use Rattle.fhir_walk.proofs.Parts.{joined, sliced_split, root_parts, inner_parts_last, root_told, inner_told}
 use Rattle.fhir_walk.proofs.Kids.{named_from, first_asked, named_first, told_there}
+use Rattle.fhir_walk.proofs.Settled.{settled_by}
 use Rattle.fhir_walk.proofs.Sliced.{member_asked, member_told, asked_from, asked_next}
 use Rattle.fhir_walk.proofs.Turns.{next, empty_is, both_left, both_failed, either_left, either_held, or_held, or_failed, empty_mapped, any_mapped, told_more}
 use Rattle.fhir_walk.proofs.walking.+walking.Goals as goal
@@ -43,8 +44,8 @@ root_conforms-returns t c =
     let r = c.args.root in
     let covered : covers s (type_at s r) (type_of x) ≡ true =
     (λ i. covers s (sym c.type_code.ensures i) (sym c.code.ensures i)) ∙ sym c.covers.ensures ∙ c.if-not-covers.false in
-    told_more (Tells (item_of c.args.around.now) (λ here. rest_holds s here x r)) (Tells (item_of c.args.around.now) (λ here. pass_all s here x (root_asks s x r)))
-    (λ told tells here near. tells here near
+    told_more (TellsBeside s x None (item_of c.args.around.now) (λ here. rest_holds s here x r)) (Tells (item_of c.args.around.now) (λ here. pass_all s here x (root_asks s x r)))
+    (λ told tells here near. tells here near refl
     ∙ sym (both_left (pass_all s here x (root_asks s x r)) (covers s (type_at s r) (type_of x)) (rest_holds s here x r) (root_parts s here x r) covered))
     c.rest_conforms.result c.rest_conforms.ensures
 
@@ -66,21 +67,23 @@ inner_conforms-returns-then-not-branch-2 t c = λ here near.
     both_failed (pass_all s here x (inner_asks s x n)) own (rest_holds s here x n)
     (both_left (pass_all s here x (inner_asks s x n)) (types_hold s none (conforms s (constant false) here x) x n) (own && rest_holds s here x n) (inner_parts_last s here x n)
     (sym (c.in_ok-types_hold.ensures here near) ∙ c.if-not-branch.false))
-    (sym (c.in_ok-own_root_holds.ensures here near) ∙ c.if-not-branch-2.true)
+    (ap (λ o. pass_all s here x (own_root o)) (sym c.own_root-root.ensures) ∙ sym (c.in_ok-own_root_holds.ensures here near) ∙ c.if-not-branch-2.true)
 
 pub inner_conforms-returns : goal.inner_conforms-returns
 inner_conforms-returns t c =
     let s = c.args.schema.now in
     let x = item_of c.args.item.now in
     let n = c.args.node in
-    told_more (Tells (item_of c.args.around.now) (λ here. rest_holds s here x n)) (Tells (item_of c.args.around.now) (λ here. pass_all s here x (inner_asks s x n)))
+    let root = c.own_root-root.result in
+    told_more (TellsBeside s x root (item_of c.args.around.now) (λ here. rest_holds s here x n)) (Tells (item_of c.args.around.now) (λ here. pass_all s here x (inner_asks s x n)))
     (λ told tells here near.
     let own = pass_all s here x (own_root (type_root s (type_of x))) in
-    tells here near
+    let holds : pass_all s here x (own_root root) ≡ true = sym (c.in_ok-own_root_holds.ensures here near) ∙ c.if-not-branch-2.false in
+    tells here near (settled_by s (c.roots_are_roots.ensures.of_type s) (c.roots_are_roots.ensures.of_canonical s) here x root (λ r is. c.roots_are_roots.ensures.of_type s (type_of x) r (sym c.own_root-root.ensures ∙ is)) holds)
     ∙ sym (both_left (pass_all s here x (inner_asks s x n)) own (rest_holds s here x n)
     (both_left (pass_all s here x (inner_asks s x n)) (types_hold s none (conforms s (constant false) here x) x n) (own && rest_holds s here x n) (inner_parts_last s here x n)
     (sym (c.in_ok-types_hold.ensures here near) ∙ c.if-not-branch.false))
-    (sym (c.in_ok-own_root_holds.ensures here near) ∙ c.if-not-branch-2.false)))
+    (ap (λ o. pass_all s here x (own_root o)) (sym c.own_root-root.ensures) ∙ holds)))
     c.rest_conforms.result c.rest_conforms.ensures
 
 pub named_conform-returns-then-not-branch : goal.named_conform-returns-then-not-branch
