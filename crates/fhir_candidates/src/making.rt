@@ -15,6 +15,8 @@ use std::alloc::Global;
 const MOST_LEVELS: usize = 40;
 // How many items of one name are made at most.
 const MOST_CHILDREN: usize = 1024;
+// How many looks a concept that two value sets have takes. How many concepts are gone through for it isn't known.
+const LOOKS_FOR_CONCEPT: usize = 10_000;
 
 // What each of several items is asked for.
 type Items<'s> = Vec<Vec<Demand<'s>>>;
@@ -266,6 +268,55 @@ fn fixed_value<'s>(demands: &[Demand<'s>]) -> Option<&'s Json<'static>> {
     None
 }
 
+// The value set that a node's items are bound to.
+fn set_asked<'s>(schema: &'s Schema, demand: Demand<'s>) -> Option<&'s str> {
+    match demand {
+        Demand::Node(node) => schema.element(node)?.required_value_set(),
+        _ => None,
+    }
+}
+
+fn are_apart(left: Option<&str>, right: Option<&str>) -> bool {
+    match (left, right) {
+        (Some(left), Some(right)) => left != right,
+        _ => false,
+    }
+}
+
+fn first_set<'s>(schema: &'s Schema, demands: &[Demand<'s>]) -> Option<&'s str> {
+    for demand in demands {
+        if let Some(set) = set_asked(schema, *demand) {
+            return Some(set);
+        }
+    }
+    None
+}
+
+// Whether an item is bound to two value sets.
+fn has_two_sets(schema: &Schema, demands: &[Demand<'_>]) -> bool {
+    let first = first_set(schema, demands);
+    for demand in demands {
+        if are_apart(first, set_asked(schema, *demand)) {
+            return true;
+        }
+    }
+    false
+}
+
+// All that an item of a type is asked for.
+fn whole_within<'s>(
+    draft: &mut Draft,
+    task: &Task<'_, 's>,
+    demands: &[Demand<'s>],
+    code: &str,
+) -> Result<Vec<Demand<'s>>, NoMemory> {
+    let all = whole(draft.alloc(), task, demands, code)?;
+    if has_two_sets(task.schema, &all) {
+        draft.takes_looks(LOOKS_FOR_CONCEPT);
+    }
+    Ok(all)
+}
+
 // How many children of each name an object gets. Where that is too much to look at, the candidate is given up.
 fn plan_within<'s>(
     draft: &mut Draft,
@@ -295,7 +346,7 @@ fn put_item<'s>(
     if let Content::Resource = form.content() {
         return put_resource(draft, levels, task, demands, resource_code(task, demands));
     }
-    let all = whole(draft.alloc(), task, demands, form.code())?;
+    let all = whole_within(draft, task, demands, form.code())?;
     match form.content() {
         Content::Primitive(prim, _) => put_primitive(draft, task, &all, prim),
         Content::System => put_system(draft, task, &all),
@@ -319,7 +370,7 @@ fn put_resource<'s>(
         draft.give_up();
         return Ok(());
     };
-    let all = whole(draft.alloc(), task, demands, code)?;
+    let all = whole_within(draft, task, demands, code)?;
     let plan = plan_within(draft, task, &all, typing)?;
     draft.open(b'{')?;
     draft.put_name("resourceType")?;
