@@ -12,7 +12,7 @@ use Rattle.fhir_validator.specs.declared.verdict.Vouched.TheVariants as vouched
 use Rattle.fhir_replies.specs.Judging.{standing_of, IsJudged, standing_given, IsJudgedAsGiven}
 use Rattle.fhir_replies.specs.Standing.{AlwaysConforms, Stands, ConformsAsGiven, StandsAsGiven}
 use Rattle.fhir_answers.specs.declared.reply.Status.{Status}
-use Rattle.fhir_answers.specs.Replying.{ReplyValue, status_of, written, answer_noted}
+use Rattle.fhir_answers.specs.Replying.{status_of, written, answer_noted}
 use Rattle.fhir_answers.specs.Status.{code_of, standing_status}
 
 conforms_by : (s : SchemaValue) (profile bytes : Text) (v : Result Verdict Fault) → Stands s profile bytes v
