@@ -84,6 +84,7 @@ fn task_status<R: Files + AllocGlobal + Clone + Drop, W: Write, E: Write>(
             },
         ) => serve_directory_given(rt, folder, given, empty(), &mut Silent, out, err),
         Ok(Task::Gather(_)) | Ok(Task::ValidateAll(_)) => Status::Usage,
+        Ok(Task::Audit(_)) | Ok(Task::Compare(_)) => Status::Usage,
         Err(fault) => status_of(rt, Err(fault), out, err),
     }
 }

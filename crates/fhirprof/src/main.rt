@@ -71,6 +71,10 @@ fn main(rt: HostRuntime) -> ExitCode {
                 &rt, &request, input, &mut meter, &mut watch, &mut out, &mut err,
             ))
         }
+        // They are read, and there is no answer to them yet.
+        Ok(Task::Audit(_)) | Ok(Task::Compare(_)) => {
+            answer(&rt, Err(WordsFault::Usage), &mut meter, &mut out, &mut err)
+        }
         Err(fault) => answer(&rt, Err(fault), &mut meter, &mut out, &mut err),
     }
 }
