@@ -1,6 +1,7 @@
 -- What is asked, and what words ask for.
 use Rattle.std.specs.Prelude.{ℕ, List, [], ◌∷◌, Bool, Option, None, Some}
 use Rattle.fhir_json.specs.Tree.{Text}
+use Rattle.fhir_words.specs.declared.request.Audience.{Audience}
 use Rattle.fhir_words.specs.declared.request.Detail.{Detail}
 use Rattle.fhir_words.specs.declared.request.Format.{Format}
 use Rattle.fhir_words.specs.declared.request.Manner.{Manner}
@@ -78,10 +79,35 @@ pub record BulkValue : Type 0 where
   -- a profile that a resource names, and that isn't there, is passed over
   pub skip_unknown : Bool
 
+-- that each profile of a package is told, and whether it narrows its base
+pub record AuditValue : Type 0 where
+  pub folder : List ℕ
+  -- where there are some, those profiles whose urls begin with one of them, and the profiles that these rest on
+  pub prefixes : List (List ℕ)
+  -- the file that gives the texts of unread rules which hold, if one does
+  pub given : Option (List ℕ)
+  -- the file to which all is written as a page, if it is
+  pub page : Option (List ℕ)
+  -- the new folder to which the certificates are written, if they are
+  pub certificates : Option (List ℕ)
+  -- the folder of certificates of which it is told whether they hold still, if there is one
+  pub against : Option (List ℕ)
+  pub format : Format
+
+-- that the profiles of two packages are compared
+pub record CompareValue : Type 0 where
+  pub old : List ℕ
+  pub new : List ℕ
+  pub audience : Audience
+  pub format : Format
+
 -- what words ask for: an answer; that the definitions in a folder are served, where the unread rules may hold whose texts a file gives; that
--- those in folders are gathered into a new one; or that all resources of some inputs are validated
+-- those in folders are gathered into a new one; that all resources of some inputs are validated; that each profile of a package is told; or
+-- that those of two packages are compared
 pub data TaskValue : Type 0 where
   answer : InvocationValue → TaskValue
   serve : (folder : List ℕ) → (given : Option (List ℕ)) → TaskValue
   gather : (out : List ℕ) → (folders : List (List ℕ)) → Detail → TaskValue
   validate_all : BulkValue → TaskValue
+  audit : AuditValue → TaskValue
+  compare : CompareValue → TaskValue

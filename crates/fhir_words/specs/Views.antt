@@ -8,10 +8,12 @@ use Rattle.fhir_words.specs.declared.request.Request.TheVariants.{Certify, Migra
 use Rattle.fhir_words.specs.declared.request.Invocation.{Invocation}
 use Rattle.fhir_words.specs.declared.request.Invocation.TheVariants.{Request as Asked, Version}
 use Rattle.fhir_words.specs.declared.request.Task.{Task}
-use Rattle.fhir_words.specs.declared.request.Task.TheVariants.{Answer, Serve, Gather, ValidateAll}
+use Rattle.fhir_words.specs.declared.request.Task.TheVariants.{Answer, Serve, Gather, ValidateAll, Audit, Compare}
+use Rattle.fhir_words.specs.declared.request.AuditRequest.{AuditRequest}
 use Rattle.fhir_words.specs.declared.request.BulkRequest.{BulkRequest}
+use Rattle.fhir_words.specs.declared.request.CompareRequest.{CompareRequest}
 use Rattle.fhir_words.specs.declared.request.WordsFault.{WordsFault}
-use Rattle.fhir_words.specs.Requests.{RequestValue, certify, migrate, validate, validate_given, snapshot, derive, counter, counter_given, check, unread, InvocationValue, request, version, BulkValue, TaskValue, answer, serve, gather, validate_all}
+use Rattle.fhir_words.specs.Requests.{RequestValue, certify, migrate, validate, validate_given, snapshot, derive, counter, counter_given, check, unread, InvocationValue, request, version, BulkValue, AuditValue, CompareValue, TaskValue, answer, serve, gather, validate_all, audit, compare}
 
 abbrev pub texts_seen : List (Bor Text) → List Text
 texts_seen texts = map (λ t. t.now) texts
@@ -43,11 +45,27 @@ bulk_seen b = record {
   skip_unknown = b.skip_unknown;
 }
 
+abbrev pub audit_seen : AuditRequest → AuditValue
+audit_seen a = record {
+  folder = a.folder.now;
+  prefixes = map string_bytes a.prefixes.items;
+  given = text_seen a.given;
+  page = text_seen a.page;
+  certificates = text_seen a.certificates;
+  against = text_seen a.against;
+  format = a.format;
+}
+
+abbrev pub compare_seen : CompareRequest → CompareValue
+compare_seen c = record { old = c.old.now; new = c.new.now; audience = c.audience; format = c.format }
+
 abbrev pub task_seen : Task → TaskValue
 task_seen (Answer asked) = answer (invocation_seen asked)
 task_seen (Serve folder given) = serve folder.now (text_seen given)
 task_seen (Gather g) = gather g.out.now (texts_seen g.folders.items) g.detail
 task_seen (ValidateAll b) = validate_all (bulk_seen b)
+task_seen (Audit a) = audit (audit_seen a)
+task_seen (Compare c) = compare (compare_seen c)
 
 abbrev pub asked_seen : Result Invocation WordsFault → Result InvocationValue WordsFault
 asked_seen (Ok asked) = Ok (invocation_seen asked)

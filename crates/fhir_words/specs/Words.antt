@@ -3,10 +3,11 @@ use Rattle.std.specs.Prelude.{List, [], ◌∷◌, Bool, false, not, ◌&&◌, m
 use Rattle.std.specs.List.{starts_with, list_any}
 use Rattle.std.specs.Str.{bytes_eq}
 use Rattle.fhir_json.specs.Tree.{Text}
+use Rattle.fhir_words.specs.declared.request.Audience.TheVariants.{Readers}
 use Rattle.fhir_words.specs.declared.request.Format.TheVariants.{Text as AsText}
 use Rattle.fhir_words.specs.declared.request.Detail.TheVariants.{Once}
 use Rattle.fhir_words.specs.declared.request.Manner.{Manner}
-use Rattle.fhir_words.specs.Requests.{RequestValue, certify, migrate, validate, validate_given, snapshot, derive, counter, counter_given, check, unread, InvocationValue, request, BulkValue, TaskValue, answer, serve, gather, validate_all}
+use Rattle.fhir_words.specs.Requests.{RequestValue, certify, migrate, validate, validate_given, snapshot, derive, counter, counter_given, check, unread, InvocationValue, request, BulkValue, TaskValue, answer, serve, gather, validate_all, audit, compare}
 
 abbrev pub is_option : Text → Bool
 is_option word = starts_with nat_eq word (codes "-")
@@ -159,5 +160,28 @@ abbrev pub plain_bulk : List Text → Option TaskValue
 plain_bulk (program ∷ command ∷ others) = command_bulk command others
 plain_bulk _ = None
 
+-- that each profile of a package is told, in texts and by nothing but the package
+abbrev pub audit_task : Text → Text → Option TaskValue
+audit_task command folder =
+    if bytes_eq command (codes "audit") && not (is_option folder)
+    then Some (audit (record { folder = folder; prefixes = []; given = None; page = None; certificates = None; against = None; format = AsText }))
+    else None
+
+-- that the profiles of two packages are compared, for those who read what conforms
+abbrev pub compare_task : Text → Text → Text → Option TaskValue
+compare_task command old new =
+    if bytes_eq command (codes "compare") && are_plain old new
+    then Some (compare (record { old = old; new = new; audience = Readers; format = AsText })) else None
+
+-- the same behind the program's name
+abbrev pub plain_release : List Text → Option TaskValue
+plain_release (program ∷ command ∷ folder ∷ []) = audit_task command folder
+plain_release (program ∷ command ∷ old ∷ new ∷ []) = compare_task command old new
+plain_release _ = None
+
 abbrev pub plain_task : List Text → Option TaskValue
-plain_task words = first_some (plain_gathering words) (first_some (plain_bulk words) (first_some (option_map answer (plain_invocation words)) (plain_serving words)))
+plain_task words =
+    first_some (plain_gathering words)
+    (first_some (plain_bulk words)
+    (first_some (option_map answer (plain_invocation words))
+    (first_some (plain_serving words) (plain_release words))))

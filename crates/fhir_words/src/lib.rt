@@ -20,11 +20,13 @@ mod bulk;
 mod options;
 mod plain;
 mod reading;
+mod release;
 mod request;
 mod version;
 
 pub use reading::task_of;
 pub use request::{
-    BulkRequest, Detail, Format, GatherRequest, Invocation, Manner, Request, Task, WordsFault,
+    Audience, AuditRequest, BulkRequest, CompareRequest, Detail, Format, GatherRequest, Invocation,
+    Manner, Request, Task, WordsFault,
 };
 pub use version::VERSION;

@@ -5,7 +5,8 @@ ghost use Rattle.clap.specs.declared.error.kind.ErrorKind.TheVariants as kind;
 
 use crate::bulk::named;
 use crate::request::{
-    BulkRequest, Detail, Format, GatherRequest, Invocation, Manner, Request, Task, WordsFault,
+    Audience, AuditRequest, BulkRequest, CompareRequest, Detail, Format, GatherRequest, Invocation,
+    Manner, Request, Task, WordsFault,
 };
 use crate::version::VERSION;
 use clap::error::ErrorKind;
@@ -71,14 +72,20 @@ fn flag<'a>(alloc: Global, name: &'static str) -> Arg<'a> {
     Arg::new(alloc, name).long(name).action(ArgAction::SetTrue)
 }
 
+// An option that has a word, and one that may stand several times.
+fn option<'a>(alloc: Global, name: &'static str) -> Arg<'a> {
+    Arg::new(alloc, name).long(name)
+}
+
+fn options<'a>(alloc: Global, name: &'static str) -> Arg<'a> {
+    option(alloc, name).action(ArgAction::Append)
+}
+
 fn check<'a>(alloc: Global) -> Result<Command<'a>, AllocError> {
-    let only = Arg::new(alloc, "only")
-        .long("only")
-        .action(ArgAction::Append);
     Command::new(alloc, "check")
         .arg(Arg::new(alloc, "PACKAGE").required(true))?
         .arg(Arg::new(alloc, "CERTIFICATE"))?
-        .arg(only)?
+        .arg(options(alloc, "only"))?
         .arg(flag(alloc, "each"))?
         .arg(flag(alloc, "json"))
 }
@@ -103,10 +110,29 @@ fn validate_all<'a>(alloc: Global) -> Result<Command<'a>, AllocError> {
         .arg(Arg::new(alloc, "PACKAGE").required(true))?
         .arg(Arg::new(alloc, "PROFILE").required(true))?
         .arg(inputs)?
-        .arg(Arg::new(alloc, "given").long("given"))?
+        .arg(option(alloc, "given"))?
         .arg(flag(alloc, "json"))?
         .arg(flag(alloc, "only-bad"))?
         .arg(flag(alloc, "skip-unknown"))
+}
+
+fn audit<'a>(alloc: Global) -> Result<Command<'a>, AllocError> {
+    Command::new(alloc, "audit")
+        .arg(Arg::new(alloc, "PACKAGE").required(true))?
+        .arg(options(alloc, "only"))?
+        .arg(option(alloc, "given"))?
+        .arg(option(alloc, "html"))?
+        .arg(option(alloc, "certificates"))?
+        .arg(option(alloc, "against"))?
+        .arg(flag(alloc, "json"))
+}
+
+fn compare<'a>(alloc: Global) -> Result<Command<'a>, AllocError> {
+    Command::new(alloc, "compare")
+        .arg(Arg::new(alloc, "OLD").required(true))?
+        .arg(Arg::new(alloc, "NEW").required(true))?
+        .arg(option(alloc, "for"))?
+        .arg(flag(alloc, "json"))
 }
 
 fn serve<'a>(alloc: Global) -> Result<Command<'a>, AllocError> {
@@ -136,7 +162,9 @@ fn program<'a>(alloc: Global) -> Result<Command<'a>, AllocError> {
         .subcommand(serve(alloc)?)?
         .subcommand(serve_given(alloc)?)?
         .subcommand(gather(alloc)?)?
-        .subcommand(validate_all(alloc)?)
+        .subcommand(validate_all(alloc)?)?
+        .subcommand(audit(alloc)?)?
+        .subcommand(compare(alloc)?)
 }
 
 // What words ask for that `clap` gives back with an error of a kind.
@@ -168,6 +196,8 @@ pub(crate) fn other_task<'w>(alloc: Global, words: &'w [String]) -> Result<Task<
         "serve-given" => serve_given_matched(matches),
         "gather" => gather_matched(alloc, matches),
         "validate-all" => validate_all_matched(alloc, matches),
+        "audit" => audit_matched(alloc, matches),
+        "compare" => compare_matched(matches),
         _ => Ok(Task::Answer(Invocation::Request(matched(alloc, name, matches)?))),
     }
 }
@@ -358,5 +388,34 @@ fn validate_all_matched<'w>(
         format: format_matched(matches),
         only_bad: matches.get_flag("only-bad"),
         skip_unknown: matches.get_flag("skip-unknown"),
+    }))
+}
+
+fn audit_matched<'w>(alloc: Global, matches: &ArgMatches<'w>) -> Result<Task<'w>, WordsFault> {
+    Ok(Task::Audit(AuditRequest {
+        folder: word(matches, "PACKAGE")?,
+        prefixes: owned_at(alloc, matches, "only")?,
+        given: matches.get_str("given"),
+        page: matches.get_str("html"),
+        certificates: matches.get_str("certificates"),
+        against: matches.get_str("against"),
+        format: format_matched(matches),
+    }))
+}
+
+fn audience_matched(matches: &ArgMatches<'_>) -> Result<Audience, WordsFault> {
+    match matches.get_str("for") {
+        Some("readers") | None => Ok(Audience::Readers),
+        Some("writers") => Ok(Audience::Writers),
+        Some(_) => Err(WordsFault::Usage),
+    }
+}
+
+fn compare_matched<'w>(matches: &ArgMatches<'w>) -> Result<Task<'w>, WordsFault> {
+    Ok(Task::Compare(CompareRequest {
+        old: word(matches, "OLD")?,
+        new: word(matches, "NEW")?,
+        audience: audience_matched(matches)?,
+        format: format_matched(matches),
     }))
 }

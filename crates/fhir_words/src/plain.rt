@@ -3,11 +3,12 @@
 ghost use Rattle.std.specs.Prelude.{◌≡◌, ◌∷◌, ◌++◌, [], not, map, string_bytes, option_map, IfOk, OnOk};
 ghost use Rattle.std.specs.List.{list_any};
 ghost use Rattle.fhir_words.specs.Requests.{check, answer, gather};
-ghost use Rattle.fhir_words.specs.Words.{is_option, are_plain, plain_manner, certify_request, migrate_request, validate_request, validate_given_request, snapshot_request, derive_request, counter_request, counter_given_request, check_request, check_beside, unread_request, unread_of_profile, first_some, command_request, plain_request, plain_invocation, serve_task, serve_given_task, plain_serving, gather_task, plain_gathering, plain_bulk, plain_task};
+ghost use Rattle.fhir_words.specs.Words.{is_option, are_plain, plain_manner, certify_request, migrate_request, validate_request, validate_given_request, snapshot_request, derive_request, counter_request, counter_given_request, check_request, check_beside, unread_request, unread_of_profile, first_some, command_request, plain_request, plain_invocation, serve_task, serve_given_task, plain_serving, gather_task, plain_gathering, plain_bulk, plain_release, plain_task};
 ghost use Rattle.fhir_json.specs.Views.{text_seen};
 ghost use Rattle.fhir_words.specs.Views.{texts_seen, request_seen, task_seen};
 
 use crate::bulk::plain_bulk;
+use crate::release::plain_release;
 use crate::request::{Detail, Format, GatherRequest, Invocation, Manner, Request, Task};
 use std::alloc::{AllocError, Global};
 
@@ -18,7 +19,8 @@ pub(crate) fn is_option(word: &str) -> bool
     word.as_bytes().starts_with(b"-")
 }
 
-fn are_plain(first: &str, second: &str) -> bool
+/// Whether neither word is an option.
+pub(crate) fn are_plain(first: &str, second: &str) -> bool
     ensures { result ≡ are_plain first.now second.now }
 {
     !is_option(first) && !is_option(second)
@@ -409,13 +411,23 @@ fn plain_serving(words: &[String]) -> Option<Task<'_>>
     }
 }
 
-fn request_task(alloc: Global, words: &[String]) -> Option<Task<'_>>
+fn serving_or_release(alloc: Global, words: &[String]) -> Option<Task<'_>>
     ensures { option_map task_seen result
-        ≡ first_some (option_map answer (plain_invocation (map string_bytes words.now))) (plain_serving (map string_bytes words.now)) }
+        ≡ first_some (plain_serving (map string_bytes words.now)) (plain_release (map string_bytes words.now)) }
+{
+    match plain_serving(words) {
+        Some(task) => Some(task),
+        None => plain_release(alloc, words),
+    }
+}
+
+fn request_task(alloc: Global, words: &[String]) -> Option<Task<'_>>
+    ensures { option_map task_seen result ≡ first_some (option_map answer (plain_invocation (map string_bytes words.now)))
+        (first_some (plain_serving (map string_bytes words.now)) (plain_release (map string_bytes words.now))) }
 {
     match plain_request(alloc, words) {
         Some(request) => Some(Task::Answer(Invocation::Request(request))),
-        None => plain_serving(words),
+        None => serving_or_release(alloc, words),
     }
 }
 
@@ -497,7 +509,8 @@ fn plain_gathering<'w>(alloc: Global, words: &'w [String]) -> Result<Option<Task
 
 fn bulk_or_request<'w>(alloc: Global, words: &'w [String]) -> Result<Option<Task<'w>>, AllocError>
     ensures { IfOk result (λ task. option_map task_seen task ≡ first_some (plain_bulk (map string_bytes words.now))
-        (first_some (option_map answer (plain_invocation (map string_bytes words.now))) (plain_serving (map string_bytes words.now)))) }
+        (first_some (option_map answer (plain_invocation (map string_bytes words.now)))
+        (first_some (plain_serving (map string_bytes words.now)) (plain_release (map string_bytes words.now))))) }
 {
     match plain_bulk(alloc, words)? {
         Some(task) => Ok(Some(task)),

@@ -14,7 +14,9 @@ use std::alloc::Global;
 /// `validate-given PACKAGE PROFILE RESOURCE FILE`, `snapshot PACKAGE URL`, `derive PACKAGE DERIVED BASE`,
 /// `counter PACKAGE DERIVED BASE`, `counter-given PACKAGE DERIVED BASE FILE`,
 /// `check PACKAGE [CERTIFICATE] [--only PREFIX].. [--each] [--json]`, `unread PACKAGE [PROFILE]`, `serve PACKAGE`, `serve-given PACKAGE FILE`,
-/// `gather OUT FOLDER.. [--each]`, `validate-all PACKAGE PROFILE INPUT.. [--json] [--given FILE] [--only-bad] [--skip-unknown]` or `--version`. Words without options are read as they stand, and all others by `clap`.
+/// `gather OUT FOLDER.. [--each]`, `validate-all PACKAGE PROFILE INPUT.. [--json] [--given FILE] [--only-bad] [--skip-unknown]`,
+/// `audit PACKAGE [--json] [--html FILE] [--certificates FOLDER] [--against FOLDER] [--given FILE] [--only PREFIX]..`,
+/// `compare OLD NEW [--for readers|writers] [--json]` or `--version`. Words without options are read as they stand, and all others by `clap`.
 pub fn task_of<'w>(alloc: Global, words: &'w [String]) -> Result<Task<'w>, WordsFault>
     ensures plain { (task : TaskValue) → plain_task (map string_bytes words.now) ≡ Some task → IfOk result (λ t. task_seen t ≡ task) }
     ensures memory { (task : TaskValue) → plain_task (map string_bytes words.now) ≡ Some task

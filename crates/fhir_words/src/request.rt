@@ -216,6 +216,47 @@ pub struct BulkRequest<'w> {
     pub skip_unknown: bool,
 }
 
+/// That each profile of a package is told, and whether it narrows its base.
+#[derive(Debug, Drop)]
+pub struct AuditRequest<'w> {
+    /// The folder of the definitions.
+    pub folder: &'w str,
+    /// Where there are some, those profiles are told whose urls begin with one of them, and the profiles that these rest on.
+    pub prefixes: Vec<String>,
+    /// The file that gives the texts of unread rules which hold, if one does.
+    pub given: Option<&'w str>,
+    /// The file to which all is written as a page, if it is.
+    pub page: Option<&'w str>,
+    /// The new folder to which the certificates are written, if they are.
+    pub certificates: Option<&'w str>,
+    /// The folder of certificates of which it is told whether they hold still, if there is one.
+    pub against: Option<&'w str>,
+    /// How what is told is written.
+    pub format: Format,
+}
+
+/// Whom a change of a profile breaks.
+#[derive(Clone, Copy, Debug, PartialEq, Eq)]
+pub enum Audience {
+    /// Those who read what conforms to it.
+    Readers,
+    /// Those who write what has to conform to it.
+    Writers,
+}
+
+/// That the profiles of two packages are compared.
+#[derive(Debug, Drop)]
+pub struct CompareRequest<'w> {
+    /// The folder of the old definitions.
+    pub old: &'w str,
+    /// The folder of the new ones.
+    pub new: &'w str,
+    /// Who is asked about.
+    pub audience: Audience,
+    /// How what is told is written.
+    pub format: Format,
+}
+
 /// What words ask for.
 #[derive(Debug, Drop)]
 pub enum Task<'w> {
@@ -232,6 +273,10 @@ pub enum Task<'w> {
     Gather(GatherRequest<'w>),
     /// That all resources of some inputs are validated.
     ValidateAll(BulkRequest<'w>),
+    /// That each profile of a package is told, and whether it narrows its base.
+    Audit(AuditRequest<'w>),
+    /// That the profiles of two packages are compared.
+    Compare(CompareRequest<'w>),
 }
 
 /// Why words ask for nothing.
