@@ -1,26 +1,3 @@
-<<<<<<< 30fa2916589c774f14a8fc437b889743effe3499
-//! A stand-in for the page of an audit.
-#![tactic(auto)]
-
-use fhir_audit::Audited;
-use fhir_json::NoMemory;
-use fhir_package::Survey;
-use fhir_report::LackingTable;
-use fhir_schema::Schema;
-use std::alloc::Global;
-
-/// A stand-in for the page of an audit.
-pub fn page(
-    alloc: Global,
-    _survey: &Survey<'_>,
-    _schema: &Schema,
-    _lacking: &LackingTable,
-    _audited: &[Audited<'_>],
-) -> Result<Vec<u8>, NoMemory> {
-    let text = String::from_str(alloc, "<!DOCTYPE html>\n")?;
-    Ok(text.into_bytes())
-}
-=======
 //! The page of an audit: one file of HTML that stands alone.
 //!
 //! ```
@@ -52,4 +29,3 @@ mod tables;
 mod verdicts;
 
 pub use making::page;
->>>>>>> 256a25196a74f676d9ba5284c371c456a26d29c7
