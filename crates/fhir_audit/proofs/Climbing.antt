@@ -1,9 +1,15 @@
 -- Definitions that are marked, one after the other, from one up along what each rests on.
-use Rattle.std.proofs.Common.{◌≡◌, ◌≢◌, ◌⊎◌, ◌+◌, ◌<◌, ℕ, List, Bool, true, false, length, set, get_or, Option, None, Some, IsTrue, sym, ap, subst, ◌∙◌, absurd, inl, inr, arith}
+use Rattle.std.proofs.Common.{suc, cond, [], ◌∷◌, ◌≡◌, ◌≢◌, ◌⊎◌, ◌+◌, ◌<◌, ℕ, List, Bool, true, false, length, set, get_or, Option, None, Some, IsTrue, refl, sym, ap, subst, ◌∙◌, inl, inr, arith}
 use Rattle.std.proofs.lemmas.Bool.{cases_eq}
 use Rattle.std.proofs.lemmas.List.{get_or-set_same, get_or-set_other}
-use Rattle.fhir_package.specs.Definitions.{Definitions}
-use Rattle.fhir_audit.specs.Asked.{base_place}
+use Rattle.std.specs.List.{position_from, slice_get}
+use Rattle.std.specs.Map.{keys_of}
+use Rattle.std.specs.Option.{option_and_then}
+use Rattle.std.specs.Str.{bytes_eq}
+use Rattle.fhir_json.specs.Tree.{Text, Tree}
+use Rattle.fhir_package.specs.declared.kind.Kind.TheVariants.{StructureDefinition}
+use Rattle.fhir_package.specs.Definitions.{Definitions, place_in}
+use Rattle.fhir_audit.specs.Asked.{base_of, base_place}
 use Rattle.fhir_audit.specs.Marks.{marked, IsMarked, IsNext, RestsWithin, AreWithin}
 
 -- ---- one mark more
@@ -27,6 +33,28 @@ mark_from marks place other lt is = by (cases_eq other place)
     by (inr differs) = inr (sym (get_or-set_other marks place other true false differs) ∙ is)
 
 -- ---- what each rests on
+
+place_below : {K : Type 0} (t : K → Bool) (i : ℕ) (xs : List K) (n : ℕ) → position_from t i xs ≡ Some n → n < i + length xs
+place_below t i [] n e = cc
+place_below {K} t i (x ∷ xs) n e = by (t x) e (place_below t (i + 1) xs n)
+  where
+    by : (b : Bool) → cond b (Some i) (position_from t (i + 1) xs) ≡ Some n → (position_from t (i + 1) xs ≡ Some n → n < (i + 1) + length xs)
+        → n < i + suc (length xs)
+    by true is rest = let same : i ≡ n = cc in omega arith
+    by false is rest = let lt : n < (i + 1) + length xs = rest is in omega arith
+
+-- what a definition rests on is one of the definitions
+pub base_within : (p : Definitions) (place base : ℕ) → base_place p place ≡ Some base → base < length p.structure_definitions
+base_within p place base on = at (slice_get p.structure_definitions place) on
+  where
+    within : (url : Option Text) → option_and_then (λ u. place_in StructureDefinition u p) url ≡ Some base → base < length p.structure_definitions
+    within None is = cc
+    within (Some url) is =
+        subst (λ n. base < n) (length-map (λ e. e.0) p.structure_definitions) (place_below (bytes_eq url) 0 (keys_of p.structure_definitions) base is)
+    at : (e : Option (Text × Tree)) → option_and_then (λ e. option_and_then (λ u. place_in StructureDefinition u p) (base_of p e.1)) e ≡ Some base
+        → base < length p.structure_definitions
+    at None is = cc
+    at (Some e) is = within (base_of p e.1) is
 
 -- the set has what is next
 abbrev pub HasNext : (ℕ → Bool) → Option ℕ → Type 0
@@ -57,13 +85,28 @@ rests_all p marks at has rests place base is on = by (rests place base is on)
     by (inl m) = inl m
     by (inr next) = inl (has base next)
 
--- a set that is closed upwards has one mark more, where it has what is next
+-- Each set that is closed upwards and has the old marks and a place has what is next.
+abbrev pub IsNextWithin : Definitions → List Bool → ℕ → Option ℕ → Type 0
+IsNextWithin p old from at =
+    (set : ℕ → Bool) → ((place base : ℕ) → IsTrue (set place) → base_place p place ≡ Some base → IsTrue (set base))
+    → ((place : ℕ) → IsMarked old place → IsTrue (set place)) → IsTrue (set from)
+    → (place : ℕ) → at ≡ Some place → IsTrue (set place)
+
+-- such a set has one mark more, where it has what is next
 pub within_more : (p : Definitions) (old marks : List Bool) (from place : ℕ) → place < length marks
-    → ((set : ℕ → Bool) → ((n base : ℕ) → IsTrue (set n) → base_place p n ≡ Some base → IsTrue (set base))
-    → ((n : ℕ) → IsMarked old n → IsTrue (set n)) → IsTrue (set from) → IsTrue (set place))
-    → AreWithin p old from marks → AreWithin p old from (set marks place true)
-within_more p old marks from place lt has within closed up olds first n is = by (mark_from marks place n lt is)
+    → IsNextWithin p old from (Some place) → AreWithin p old from marks → AreWithin p old from (set marks place true)
+within_more p old marks from place lt next within closed up olds first n is = by (mark_from marks place n lt is)
   where
     by : ((n ≡ place) ⊎ IsMarked marks n) → IsTrue (closed n)
-    by (inl same) = subst (λ k. IsTrue (closed k)) (sym same) (has closed up olds first)
+    by (inl same) = next closed up olds first n (ap (λ (k : ℕ). Some k) (sym same))
     by (inr m) = within closed up olds first n m
+
+-- and what is next by a step
+pub next_more : (p : Definitions) (old : List Bool) (from place : ℕ) → IsNextWithin p old from (Some place) → IsNextWithin p old from (base_place p place)
+next_more p old from place next closed up olds first base on = up place base (next closed up olds first place refl) on
+
+-- the first is next or marked, also by a step
+pub begun_more : (p : Definitions) (marks : List Bool) (from place : ℕ) (at : Option ℕ) → place < length marks → at ≡ Some place
+    → ((at ≡ Some from) ⊎ IsMarked marks from) → (base_place p place ≡ Some from) ⊎ IsMarked (set marks place true) from
+begun_more p marks from place at lt is (inl first) = inr (subst (λ n. IsMarked (set marks place true) n) (cc) (mark_new marks place lt))
+begun_more p marks from place at lt is (inr m) = inr (mark_kept marks place from lt m)

@@ -49,10 +49,7 @@ fn marks_of(alloc: Global, count: usize, mark: bool) -> Result<Vec<bool>, AllocE
 fn climb(package: &Package<'_>, from: usize, marks: &mut [bool])
     requires long { length marks.old ≡ length «package».now.structure_definitions }
     requires there { from < length marks.old }
-    ensures kept { (place : ℕ) → IsMarked marks.old place → IsMarked marks.new place }
-    ensures from { IsMarked marks.new from }
-    ensures within { AreWithin «package».now marks.old from marks.new }
-    ensures rests { RestsWithin «package».now marks.old None → RestsWithin «package».now marks.new None }
+    ensures { IsTaken «package».now true from marks.old marks.new }
 {
     let mut at = Some(from);
     while let Some(place) = at {
@@ -64,21 +61,28 @@ fn climb(package: &Package<'_>, from: usize, marks: &mut [bool])
     }
 }
 
+// Marks a definition, if it is one of the own, and what it rests on.
+fn climb_if(is_own: bool, package: &Package<'_>, place: usize, marks: &mut [bool])
+    requires long { length marks.old ≡ length «package».now.structure_definitions }
+    requires there { place < length marks.old }
+    ensures { IsTaken «package».now is_own place marks.old marks.new }
+{
+    if is_own {
+        climb(package, place, marks);
+    }
+}
+
 // Marks the definition at a place, if its url begins with a prefix, and what it rests on.
 fn take(package: &Package<'_>, prefixes: &[String], place: usize, marks: &mut [bool])
-    requires { length marks.old ≡ length «package».now.structure_definitions }
-    ensures kept { (other : ℕ) → IsMarked marks.old other → IsMarked marks.new other }
-    ensures own { (e : Text × Tree) → slice_get «package».now.structure_definitions place ≡ Some e → IsTrue (is_own (map string_bytes prefixes.now) e.0)
-        → IsMarked marks.new place }
-    ensures within { (set : ℕ → Bool) → IsClosed (map string_bytes prefixes.now) «package».now set
-        → ((other : ℕ) → IsMarked marks.old other → IsTrue (set other)) → (other : ℕ) → IsMarked marks.new other → IsTrue (set other) }
-    ensures rests { RestsWithin «package».now marks.old None → RestsWithin «package».now marks.new None }
+    requires long { length marks.old ≡ length «package».now.structure_definitions }
+    requires there { place < length marks.old }
+    ensures { IsTaken «package».now (is_own_at (map string_bytes prefixes.now) «package».now place) place marks.old marks.new }
 {
-    if let Some((url, _definition)) = package.at(Kind::StructureDefinition, place) {
-        if is_own(prefixes, url) {
-            climb(package, place, marks);
-        }
-    }
+    let is_own = match package.at(Kind::StructureDefinition, place) {
+        Some((url, _definition)) => is_own(prefixes, url),
+        None => false,
+    };
+    climb_if(is_own, package, place, marks);
 }
 
 fn marked_by(
