@@ -1,8 +1,11 @@
 -- Words that the contracts of private functions alone cite: which definitions are marked.
 use Rattle.std.specs.Prelude.{◌≡◌, ◌⊎◌, ℕ, List, Bool, false, get_or, Option, None, Some, IsTrue, length}
+use Rattle.std.specs.List.{slice_get}
+use Rattle.std.specs.Option.{option_map_or}
 use Rattle.fhir_json.specs.Tree.{Text}
 use Rattle.fhir_package.specs.Definitions.{Definitions}
-use Rattle.fhir_audit.specs.Asked.{base_place, IsClosed}
+use Rattle.fhir_findings.specs.Selecting.{is_own}
+use Rattle.fhir_audit.specs.Asked.{base_place}
 
 abbrev pub marked : List Bool → ℕ → Bool
 marked marks place = get_or marks place false

@@ -29,7 +29,7 @@ mod profile;
 mod verdict;
 mod watch;
 
-pub use against::{Held, Standing, held};
+pub use against::{Held, Standing, recheck};
 pub use auditing::{are_narrowing, audit};
 pub use laws::narrowing_profiles;
 pub use verdict::{Audited, Verdict};
