@@ -54,6 +54,7 @@ base_within p place base on = at (slice_get p.structure_definitions place) on
         let lt : base < 0 + length (keys_of p.structure_definitions) = place_below (bytes_eq url) 0 (keys_of p.structure_definitions) base is in
         let same : length (keys_of p.structure_definitions) ≡ length p.structure_definitions = length-map p.structure_definitions (λ e. e.0) in
         omega arith
+
     at : (e : Option (Text × Tree)) → option_and_then (λ e. option_and_then (λ u. place_in StructureDefinition u p) (base_of p e.1)) e ≡ Some base
         → base < length p.structure_definitions
     at None is = cc
@@ -154,6 +155,7 @@ module _ (prefixes : List Text) (p : Definitions) where
         where
           here : is_own_at prefixes p place ≡ is_own prefixes e.0
           here = ap (λ (o : Option (Text × Tree)). option_map_or (λ x. is_own prefixes x.0) o false) at
+
           own : (b : Bool) → is_own prefixes e.0 ≡ b → (n : ℕ) → IsMarked new n → IsTrue (closed n)
           own true passes n m = taken.within closed is.above (before closed is) (is.own place e at passes) n m
           own false fails n m = before closed is n (subst (λ l. IsMarked l n) (taken.none (here ∙ fails)) m)
@@ -173,6 +175,7 @@ module _ (prefixes : List Text) (p : Definitions) where
       there [] i x at = cc
       there (y ∷ xs) zero x at = omega arith
       there (y ∷ xs) (suc i) x at = let lt : i < length xs = there xs i x at in omega arith
+
       by : (base : ℕ) → (IsMarked marks base ⊎ IsNext None base) → IsMarked marks base
       by base (inl m) = m
       by base (inr next) = cc
