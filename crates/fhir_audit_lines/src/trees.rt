@@ -224,7 +224,7 @@ fn further_members<'m, 's: 'm, 'f: 's>(
 }
 
 fn put_all<'m>(mut members: Members<'m>, into: &mut Members<'m>) -> Result<(), AllocError>
-    ensures { OnOk result (map property_of into.new.items ≡ map property_of into.old.items ++ map property_of members.items) }
+    ensures { OnOk result (map property_of into.new.items ≡ map property_of into.old.items ++ map property_of members.entry.items) }
 {
     into.append(&mut members)
 }
@@ -246,7 +246,7 @@ fn object_members<'m, 's: 'm, 'f: 's>(
 
 /// The text of an object.
 pub(crate) fn object_text(alloc: Global, members: Members<'_>) -> Result<String, NoMemory>
-    ensures { IfOk result (λ text. string_bytes text ≡ compact (object (members_of (map property_of members.items)))) }
+    ensures { IfOk result (λ text. string_bytes text ≡ compact (object (members_of (map property_of members.entry.items)))) }
 {
     let object = Json::Obj(members);
     let bytes = write(alloc, &object)?;
