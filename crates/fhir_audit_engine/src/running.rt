@@ -41,7 +41,10 @@ fn text_of(alloc: Global, reply: Reply) -> String {
     }
 }
 
-fn sources_of<'s, 'f: 's>(session: &'s Session<'f>) -> Sources<'s, 'f> {
+fn sources_of<'s, 'f: 's>(session: &'s Session<'f>) -> Sources<'s, 'f>
+    ensures survey { result.survey.now ≡ session.now.survey }
+    ensures schema { result.schema.now ≡ schema_in session.now }
+{
     Sources {
         survey: session.survey(),
         schema: session.schema(),

@@ -61,7 +61,8 @@ fn all_lines<'s, 'f: 's>(
 {
     let mut lines: Vec<String> = Vec::new(alloc);
     for one in audited {
-        push_all(lines_of(alloc, format, sources, one)?, &mut lines)?;
+        let own = lines_of(alloc, format, sources, one)?;
+        push_all(own, &mut lines)?;
     }
     Ok(lines)
 }

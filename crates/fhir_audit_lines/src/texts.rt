@@ -212,7 +212,8 @@ fn unusable_text<'s, 'f: 's>(
     let found = unusable_line(alloc, sources, url_on(side, audited))?;
     let why = why_text(alloc, found.as_ref())?;
     let front = unusable_front(alloc, audited, side)?;
-    Ok(joined(alloc, front.as_str(), why.as_str())?)
+    let line = joined(alloc, front.as_str(), why.as_str())?;
+    Ok(line)
 }
 
 fn lacking_line(alloc: Global, audited: &Audited<'_>) -> Result<String, AllocError>
@@ -257,7 +258,8 @@ pub(crate) fn words_line(
     ensures { IfOk result (λ line. (words : Text) × (string_bytes line ≡ under [] words)) }
 {
     let words = rule_words(alloc, schema, pair, rule)?;
-    Ok(under(alloc, "", words.as_str())?)
+    let line = under(alloc, "", words.as_str())?;
+    Ok(line)
 }
 
 fn resource_line(alloc: Global, resource: &[u8]) -> Result<String, AllocError>
@@ -364,7 +366,8 @@ pub(crate) fn text_lines<'s, 'f: 's>(
     let mut lines: Vec<String> = Vec::new(alloc);
     let head = head_line(alloc, sources, audited)?;
     lines.push(head)?;
-    push_all(details(alloc, sources.schema, audited)?, &mut lines)?;
+    let below = details(alloc, sources.schema, audited)?;
+    push_all(below, &mut lines)?;
     push_unread(alloc, &audited.unread, &mut lines)?;
     Ok(lines)
 }
