@@ -41,11 +41,11 @@ impl<'r, R: Files + AllocGlobal> PageFile<'r, R> {
     }
 }
 
-// Whether a path leads to something that no file may take the place of: a directory, a device or a pipe.
+// Whether no file may take the place of what a path leads to: of a directory, a device or a pipe. At the empty path there is no place.
 fn is_other<R: Files>(rt: &R, path: &str) -> bool {
     match fs::metadata(rt, path) {
         Ok(metadata) => !metadata.is_file(),
-        Err(_) => false,
+        Err(_) => path.is_empty(),
     }
 }
 
