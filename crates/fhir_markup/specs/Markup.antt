@@ -1,5 +1,5 @@
 -- Pages: a tree, and how it is written (HTML).
-use Rattle.std.specs.Prelude.{◌==◌, ◌++◌, ◌∷◌, ◌/◌, ◌%◌, ◌&&◌, ◌||◌, [], ℕ, List, Bool, true, false, not, flat_map, codes, encode_utf8}
+use Rattle.std.specs.Prelude.{if◌then◌else◌, ◌==◌, ◌++◌, ◌∷◌, ◌/◌, ◌%◌, ◌&&◌, ◌||◌, [], ℕ, List, Bool, true, false, not, flat_map, codes, encode_utf8}
 use Rattle.std.specs.Char.{is_control, digit_char}
 use Rattle.std.specs.Fmt.{decimal}
 use Rattle.std.specs.Str.{chars}
@@ -146,12 +146,12 @@ start_tag tag attributes = codes "<" ++ tag_text tag ++ flat_map attribute_text 
 abbrev pub end_tag : Tag → Text
 end_tag tag = if is_void tag then [] else codes "</" ++ tag_text tag ++ codes ">"
 
-mutual
-  abbrev pub html : Node → Text
+abbrev mutual
+  pub html : Node → Text
   html (words text) = escaped text
   html (element tag attributes children) = start_tag tag attributes ++ html_each children ++ end_tag tag
 
-  abbrev pub html_each : Nodes → Text
+  pub html_each : Nodes → Text
   html_each none = []
   html_each (also n ns) = html n ++ html_each ns
 
@@ -171,11 +171,11 @@ abbrev pub end_marks : Tag → Text
 end_marks tag = if is_void tag then [] else codes "<>"
 
 -- those of its tags, whatever its texts are
-mutual
-  abbrev pub marks : Node → Text
+abbrev mutual
+  pub marks : Node → Text
   marks (words text) = []
   marks (element tag attributes children) = start_marks attributes ++ marks_each children ++ end_marks tag
 
-  abbrev pub marks_each : Nodes → Text
+  pub marks_each : Nodes → Text
   marks_each none = []
   marks_each (also n ns) = marks n ++ marks_each ns

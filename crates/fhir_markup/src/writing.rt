@@ -100,7 +100,7 @@ fn push_place(
 }
 
 fn push_attribute(alloc: Global, attribute: Attribute, into: &mut String) -> Result<(), AllocError>
-    ensures { OnOk result (string_bytes into.new ≡ string_bytes into.old ++ attribute_text (attribute_of attribute.entry)) }
+    ensures { OnOk result (string_bytes into.new ≡ string_bytes into.old ++ attribute_text (attribute_of attribute)) }
 {
     match attribute {
         Attribute::Fixed(name, value) => push_value(name.text(), value, into),
