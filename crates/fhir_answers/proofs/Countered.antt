@@ -1,6 +1,6 @@
 -- What is answered where a resource is looked for that shows that a profile doesn't narrow another, from what is derived and what was found, and
 -- what status 0 says then.
-use Rattle.std.proofs.Common.{◌≡◌, ◌↔◌, ◌++◌, List, true, false, is_some, Option, None, Some, IfSome, codes, nat_eq, sym, ap, ◌∙◌}
+use Rattle.std.proofs.Common.{◌≡◌, ◌↔◌, ◌++◌, List, true, false, is_some, Option, None, Some, IfSome, IsTrue, codes, nat_eq, sym, ap, ◌∙◌}
 use Rattle.std.specs.Option.{option_map}
 use Rattle.std.proofs.lemmas.Bool.{false≢true}
 use Rattle.fhir_json.specs.Tree.{Text}
@@ -11,6 +11,7 @@ use Rattle.fhir_cert_check.specs.Checking.{IsCertificate}
 use Rattle.fhir_cert_check.specs.Rule.{RuleName}
 use Rattle.fhir_cert_check.specs.declared.rule.Rule.{Rule}
 use Rattle.fhir_cert_check.specs.Views.{rule_name}
+use Rattle.fhir_counter.specs.Shows.{ShowsBy, is_on_line}
 use Rattle.fhir_derive_check.specs.declared.fault.DeriveFault.{DeriveFault}
 use Rattle.fhir_derive_check.specs.declared.fault.DeriveFault.TheVariants.{Missing, Unusable}
 use Rattle.fhir_derive_check.specs.declared.fault.Side.{Side}
@@ -22,7 +23,7 @@ use Rattle.fhir_derive_check.specs.Reaching.{HasCertificate}
 use Rattle.fhir_derive_check.specs.Views.{certificate_of, failing_of}
 use Rattle.fhir_replies.specs.Deriving.{derives, fails, missing, unusable}
 use Rattle.fhir_answers.specs.Replying.{ReplyValue, answer_noted, on_side, fault_reply, shown_reply, status_of}
-use Rattle.fhir_answers.specs.Showing.{IsShownBy, IsCounterReply}
+use Rattle.fhir_answers.specs.Showing.{IsCounterReply}
 use Rattle.fhir_answers.specs.WrongText.{wrong_text}
 use Rattle.fhir_answers.proofs.Derived.{derives_is, fails_is, missing_is, unusable_is}
 use Rattle.fhir_answers.proofs.Judging.{status_noted}
@@ -40,18 +41,21 @@ module _ (texts : Option (List Text)) (s : SchemaValue) (told derived base : Tex
     is_derivation = derives_is s derived base o c is reached right;
     found = None;
     is_shown = tt;
+    is_line = tt;
     is_reply = so;
   }
 
   pub fails_so : {X : Type 0} (o : Outcome) (pair : Pair) (rule : Rule) (seen : X → Text) (found : Option X) (reply : ReplyValue) → o ≡ NoCertificate pair rule
       → ((is_some (certificate_of o) ≡ true) ↔ HasCertificate s derived base)
-      → IfSome (failing_of o) (λ f. IsFirstFailing s derived base f.0 f.1) → IfSome found (λ x. IsShownBy texts s derived base (seen x))
+      → IfSome (failing_of o) (λ f. IsFirstFailing s derived base f.0 f.1) → IfSome found (λ x. ShowsBy texts s derived base (seen x))
+      → IfSome found (λ x. IsTrue (is_on_line (seen x)))
       → reply ≡ shown_reply s told pair (rule_name rule) (option_map seen found) → IsCounterReply texts s told derived base reply
-  fails_so o pair rule seen found reply is only failing shown so = record {
+  fails_so o pair rule seen found reply is only failing shown lined so = record {
     derivation = fails pair (rule_name rule);
     is_derivation = fails_is s derived base o pair rule is only failing;
     found = option_map seen found;
-    is_shown = mapped seen (IsShownBy texts s derived base) found shown;
+    is_shown = mapped seen (ShowsBy texts s derived base) found shown;
+    is_line = mapped seen (λ bytes. IsTrue (is_on_line bytes)) found lined;
     is_reply = so;
   }
 
@@ -63,6 +67,7 @@ module _ (texts : Option (List Text)) (s : SchemaValue) (told derived base : Tex
     is_derivation = missing_is s derived base f side is applies;
     found = None;
     is_shown = tt;
+    is_line = tt;
     is_reply = so;
   }
 
@@ -74,6 +79,7 @@ module _ (texts : Option (List Text)) (s : SchemaValue) (told derived base : Tex
     is_derivation = unusable_is s derived base f side is applies;
     found = None;
     is_shown = tt;
+    is_line = tt;
     is_reply = so;
   }
 

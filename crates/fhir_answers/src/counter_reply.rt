@@ -1,12 +1,13 @@
 //! What is answered where a resource is looked for that conforms to a profile and not to its base.
 
-ghost use Rattle.std.specs.Prelude.{◌≡◌, ◌++◌, [], None, Some, IfOk, IfSome, option_map, codes, string_bytes};
+ghost use Rattle.std.specs.Prelude.{◌≡◌, ◌++◌, [], None, Some, IfOk, IfSome, IsTrue, option_map, codes, string_bytes};
 ghost use Rattle.fhir_cert_check.specs.Views.{rule_name};
+ghost use Rattle.fhir_counter.specs.Shows.{ShowsBy, is_on_line};
 ghost use Rattle.fhir_answers.specs.Answering.{IsReply, counter_given_answer};
 ghost use Rattle.fhir_answers.specs.Promising.{Derived};
 ghost use Rattle.fhir_answers.specs.Replying.{reply_seen, status_of, answer_noted, shown_reply};
 ghost use Rattle.fhir_answers.specs.Session.{schema_in};
-ghost use Rattle.fhir_answers.specs.Showing.{IsShownBy, IsCounterReply, IsGivenCounter};
+ghost use Rattle.fhir_answers.specs.Showing.{IsCounterReply, IsGivenCounter};
 ghost use Rattle.fhir_answers.specs.Views.{bytes_seen};
 
 use crate::derive_reply::side_reply;
@@ -69,8 +70,9 @@ fn counterexample_by(
     pair: Pair,
     given: Option<&Vouching>,
 ) -> Result<Option<Vec<u8>>, NoMemory>
-    ensures { IfOk result (λ found. IfSome found
-        (λ bytes. IsShownBy (option_map (λ texts. texts.now) given.entry) schema.now derived.now base.now bytes.items)) }
+    ensures shown { IfOk result (λ found. IfSome found
+        (λ bytes. ShowsBy (option_map (λ texts. texts.now) given.entry) schema.now derived.now base.now bytes.items)) }
+    ensures line { IfOk result (λ found. IfSome found (λ bytes. IsTrue (is_on_line bytes.items))) }
 {
     match given {
         Some(given) => counterexample_given(alloc, schema, derived, base, pair, given),

@@ -3,8 +3,8 @@
 use crate::draft::{Done, Draft};
 use crate::values::{put_primitive, put_system};
 use fhir_demands::{
-    Demand, Planned, Task, below, fill, form_for, plan_of, push_criteria, resource_code, specials,
-    whole,
+    Demand, Planned, Task, below, fill, form_for, place_of, plan_of, push_criteria, resource_code,
+    specials, whole,
 };
 use fhir_differences::{Change, Difference, Slice, entry_of, least_at, most_at};
 use fhir_json::{Json, NoMemory};
@@ -216,21 +216,25 @@ fn merged<'s>(alloc: Global, items: &Items<'s>) -> Result<Vec<Demand<'s>>, NoMem
     Ok(all)
 }
 
-fn repeats(schema: &Schema, typing: NodeRef, name: &str) -> bool {
-    for form in schema.forms(typing) {
-        if form.name() == name {
-            return form.repeats();
-        }
+// Whether children of these forms repeat.
+fn repeats(forms: &[Form]) -> bool {
+    match forms {
+        [first, ..] => first.repeats(),
+        [] => false,
     }
-    false
 }
 
-// What each of the children of a name is asked for.
+// The forms from a place on.
+fn forms_from(forms: &[Form], place: usize) -> &[Form] {
+    forms.get(place..).unwrap_or(&[])
+}
+
+// What each of the children of a name is asked for, by the forms that begin with the first of the name.
 fn items_of<'s>(
     alloc: Global,
     task: &Task<'_, 's>,
     demands: &[Demand<'s>],
-    typing: NodeRef,
+    forms: &[Form],
     planned: &Planned<'s>,
 ) -> Result<Items<'s>, NoMemory> {
     let name = planned.name;
@@ -248,7 +252,7 @@ fn items_of<'s>(
             items.truncate(count);
         }
     }
-    if repeats(task.schema, typing, name) || items.is_empty() {
+    if repeats(forms) || items.is_empty() {
         return Ok(items);
     }
     let one = merged(alloc, &items)?;
@@ -406,9 +410,23 @@ fn put_children<'s>(
     typing: NodeRef,
     plan: &[Planned<'s>],
 ) -> Done {
+    let forms = task.schema.forms(typing);
+    let mut near = 0;
     for planned in plan {
         if planned.count > 0 {
-            put_child(draft, levels, task, demands, typing, planned)?;
+            let Some(place) = place_of(forms, planned.name, near) else {
+                draft.give_up();
+                return Ok(());
+            };
+            near = place;
+            put_child(
+                draft,
+                levels,
+                task,
+                demands,
+                forms_from(forms, place),
+                planned,
+            )?;
         }
     }
     Ok(())
@@ -420,14 +438,14 @@ fn put_child<'s>(
     levels: usize,
     task: &Task<'_, 's>,
     demands: &[Demand<'s>],
-    typing: NodeRef,
+    forms: &'s [Form],
     planned: &Planned<'s>,
 ) -> Done {
-    let items = items_of(draft.alloc(), task, demands, typing, planned)?;
+    let items = items_of(draft.alloc(), task, demands, forms, planned)?;
     let Some(first) = items.first() else {
         return Ok(());
     };
-    let Some(form) = form_for(task, typing, planned.name, first) else {
+    let Some(form) = form_for(task, forms, planned.name, first) else {
         draft.give_up();
         return Ok(());
     };

@@ -1,5 +1,7 @@
 -- What a counterexample shows: that a profile doesn't narrow another.
-use Rattle.std.specs.Prelude.{List}
+use Rattle.std.specs.Prelude.{ℕ, List, Bool, Option, None, Some}
+use Rattle.std.specs.List.{list_all}
+use Rattle.fhir_json.specs.Bytes.{space}
 use Rattle.fhir_json.specs.Tree.{Text, Tree}
 use Rattle.fhir_json.specs.Grammar.{Reads}
 use Rattle.fhir_schema.specs.Schemas.{SchemaValue}
@@ -27,3 +29,16 @@ Shows s derived base bytes = (t : Tree) × Reads bytes t × AlwaysConforms s der
 -- the same where a user vouches for unread rules by their texts
 abbrev pub ShowsAsGiven : SchemaValue → List Text → Text → Text → Text → Type 0
 ShowsAsGiven s texts derived base bytes = (t : Tree) × Reads bytes t × ConformsAsGiven s texts derived t × NeverConforms s base t
+
+-- the same, where a user may vouch for unread rules
+abbrev pub ShowsBy : Option (List Text) → SchemaValue → Text → Text → Text → Type 0
+ShowsBy None s derived base bytes = Shows s derived base bytes
+ShowsBy (Some texts) s derived base bytes = ShowsAsGiven s texts derived base bytes
+
+-- a byte of no control character
+abbrev pub is_text_byte : ℕ → Bool
+is_text_byte b = space <= b
+
+-- a text stands on one line, and a terminal does nothing but show it
+abbrev pub is_on_line : Text → Bool
+is_on_line text = list_all is_text_byte text

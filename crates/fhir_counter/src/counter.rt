@@ -1,7 +1,7 @@
 //! Candidates are judged, and one that shows what is wanted is given.
 
-ghost use Rattle.std.specs.Prelude.{◌≡◌, IfOk, IfSome, IsTrue};
-ghost use Rattle.fhir_counter.specs.Shows.{Shows, ShowsAsGiven, AlwaysConforms, NeverConforms, ConformsAsGiven};
+ghost use Rattle.std.specs.Prelude.{◌≡◌, IfOk, IfSome, IsTrue, option_map};
+ghost use Rattle.fhir_counter.specs.Shows.{Shows, ShowsAsGiven, ShowsBy, AlwaysConforms, NeverConforms, ConformsAsGiven, is_text_byte, is_on_line};
 ghost use Rattle.fhir_json.specs.Tree.{Tree};
 ghost use Rattle.fhir_json.specs.Grammar.{Reads};
 ghost use Rattle.fhir_validator.specs.Verdicts.{is_conforming, is_violating, conforms_as_given};
@@ -9,7 +9,7 @@ ghost use Rattle.fhir_validator.specs.Verdicts.{is_conforming, is_violating, con
 use fhir_candidates::{candidate, plain_code};
 use fhir_certificate::{NodePair, Pair};
 use fhir_differences::{Difference, differences};
-use fhir_json::{NoMemory, one_tree};
+use fhir_json::NoMemory;
 use fhir_schema::Schema;
 use fhir_validator::{Fault, Verdict, Vouched, validate, validate_given};
 use fhir_vouching::Vouching;
@@ -128,6 +128,24 @@ fn shows_given(
     violates(alloc, schema, base, bytes)
 }
 
+// The same where a user may vouch for unread rules.
+fn shows_by(
+    alloc: Global,
+    schema: &Schema,
+    derived: &str,
+    base: &str,
+    bytes: &[u8],
+    given: Option<&Vouching>,
+) -> Result<bool, NoMemory>
+    ensures { IfOk result (λ yes. IsTrue yes
+        → ShowsBy (option_map (λ texts. texts.now) given.entry) schema.now derived.now base.now bytes.now) }
+{
+    match given {
+        Some(given) => shows_given(alloc, schema, derived, base, bytes, given),
+        None => shows(alloc, schema, derived, base, bytes),
+    }
+}
+
 // ---- candidates
 
 // Where two profiles may differ.
@@ -157,50 +175,70 @@ fn made<'s>(
     }
 }
 
+fn is_text_byte(byte: u8) -> bool
+    ensures { result ≡ is_text_byte byte }
+{
+    byte >= b' '
+}
+
+fn is_on_line(bytes: &[u8]) -> bool
+    ensures { result ≡ is_on_line bytes.now }
+{
+    bytes.iter().all(|byte| is_text_byte(*byte))
+}
+
 // The candidate, if it shows what is wanted.
 fn shown(
     alloc: Global,
     schema: &Schema,
     derived: &str,
     base: &str,
+    given: Option<&Vouching>,
     made: Option<Vec<u8>>,
 ) -> Result<Option<Vec<u8>>, NoMemory>
-    ensures { IfOk result (λ found. IfSome found (λ bytes. Shows schema.now derived.now base.now bytes.items)) }
+    ensures shown { IfOk result (λ found. IfSome found
+        (λ bytes. ShowsBy (option_map (λ texts. texts.now) given.entry) schema.now derived.now base.now bytes.items)) }
+    ensures line { IfOk result (λ found. IfSome found (λ bytes. IsTrue (is_on_line bytes.items))) }
 {
     let Some(bytes) = made else {
         return Ok(None);
     };
-    if shows(alloc, schema, derived, base, &bytes)? {
+    if is_on_line(&bytes) && shows_by(alloc, schema, derived, base, &bytes, given)? {
         Ok(Some(bytes))
     } else {
         Ok(None)
     }
 }
 
-fn shown_given(
+// The first candidate that shows it.
+fn first_shown(
     alloc: Global,
     schema: &Schema,
     derived: &str,
     base: &str,
-    made: Option<Vec<u8>>,
-    given: &Vouching,
+    pair: Pair,
+    given: Option<&Vouching>,
 ) -> Result<Option<Vec<u8>>, NoMemory>
-    ensures { IfOk result (λ found. IfSome found (λ bytes. ShowsAsGiven schema.now given.now derived.now base.now bytes.items)) }
+    ensures shown { IfOk result (λ found. IfSome found
+        (λ bytes. ShowsBy (option_map (λ texts. texts.now) given.entry) schema.now derived.now base.now bytes.items)) }
+    ensures line { IfOk result (λ found. IfSome found (λ bytes. IsTrue (is_on_line bytes.items))) }
 {
-    let Some(bytes) = made else {
-        return Ok(None);
-    };
-    if shows_given(alloc, schema, derived, base, &bytes, given)? {
-        Ok(Some(bytes))
-    } else {
-        Ok(None)
+    let plain = plain_code(schema);
+    let differences = differences_of(alloc, schema, derived, base, pair)?;
+    for difference in &differences {
+        let bytes = made(alloc, schema, derived, plain, difference)?;
+        let found = shown(alloc, schema, derived, base, given, bytes)?;
+        if found.is_some() {
+            return Ok(found);
+        }
     }
+    Ok(None)
 }
 
-/// A resource that conforms to the derived profile and not to the base, if one was found. It is looked for at the place of a pair that
-/// fails, as `derive` names one: at most 200 candidates are made, each the least resource that the derived profile admits with one change
-/// there, and both verdicts on each are asked of `validate`. That none was found says nothing of the profiles. The one refusal is want of
-/// memory.
+/// A resource that conforms to the derived profile and not to the base, if one was found, on one line. It is looked for at the place of a
+/// pair that fails, as `derive` names one: at most 200 candidates are made, each the least resource that the derived profile admits with
+/// one change there, and both verdicts on each are asked of `validate`. That none was found says nothing of the profiles. The one refusal
+/// is want of memory.
 pub fn counterexample(
     alloc: Global,
     schema: &Schema,
@@ -209,19 +247,10 @@ pub fn counterexample(
     pair: Pair,
 ) -> Result<Option<Vec<u8>>, NoMemory>
     // What is found shows that the derived profile doesn't narrow the base.
-    ensures { IfOk result (λ found. IfSome found (λ bytes. Shows schema.now derived.now base.now bytes.items)) }
+    ensures shown { IfOk result (λ found. IfSome found (λ bytes. Shows schema.now derived.now base.now bytes.items)) }
+    ensures line { IfOk result (λ found. IfSome found (λ bytes. IsTrue (is_on_line bytes.items))) }
 {
-    one_tree();
-    let plain = plain_code(schema);
-    let differences = differences_of(alloc, schema, derived, base, pair)?;
-    for difference in &differences {
-        let bytes = made(alloc, schema, derived, plain, difference)?;
-        let found = shown(alloc, schema, derived, base, bytes)?;
-        if found.is_some() {
-            return Ok(found);
-        }
-    }
-    Ok(None)
+    first_shown(alloc, schema, derived, base, pair, None)
 }
 
 /// The same where a user vouches for unread rules by their texts: the resource conforms to the derived profile as the given rules hold,
@@ -234,17 +263,8 @@ pub fn counterexample_given(
     pair: Pair,
     given: &Vouching,
 ) -> Result<Option<Vec<u8>>, NoMemory>
-    ensures { IfOk result (λ found. IfSome found (λ bytes. ShowsAsGiven schema.now given.now derived.now base.now bytes.items)) }
+    ensures shown { IfOk result (λ found. IfSome found (λ bytes. ShowsAsGiven schema.now given.now derived.now base.now bytes.items)) }
+    ensures line { IfOk result (λ found. IfSome found (λ bytes. IsTrue (is_on_line bytes.items))) }
 {
-    one_tree();
-    let plain = plain_code(schema);
-    let differences = differences_of(alloc, schema, derived, base, pair)?;
-    for difference in &differences {
-        let bytes = made(alloc, schema, derived, plain, difference)?;
-        let found = shown_given(alloc, schema, derived, base, bytes, given)?;
-        if found.is_some() {
-            return Ok(found);
-        }
-    }
-    Ok(None)
+    first_shown(alloc, schema, derived, base, pair, Some(given))
 }

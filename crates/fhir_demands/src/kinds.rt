@@ -1,11 +1,13 @@
 //! Of which type an item is made.
 
-ghost use Rattle.std.specs.Prelude.{◌≡◌, IfSome, IsTrue};
+ghost use Rattle.std.specs.Prelude.{◌≡◌, Some, IfSome, IsTrue, option_map};
+ghost use Rattle.std.specs.List.{slice_get};
 
 use crate::demand::Demand;
 use crate::task::Task;
 use fhir_differences::Change;
 use fhir_schema::{Content, Form, NodeRef, Schema, Sought};
+use std::ops::Range;
 
 fn is_of_some(schema: &Schema, node: NodeRef, code: &str) -> bool {
     let entries = schema.types(node);
@@ -50,33 +52,63 @@ fn suits_all(task: &Task<'_, '_>, demands: &[Demand<'_>], code: &str) -> bool {
     suits_change(task.change_at(demands), code)
 }
 
-fn is_form_for(task: &Task<'_, '_>, form: &Form, name: &str, demands: &[Demand<'_>]) -> bool
-    ensures { IsTrue result → form.now.name ≡ name.now }
-{
-    if form.name() != name {
-        return false;
-    }
+// Whether a child of a form can be what it is asked for.
+fn suits_form(task: &Task<'_, '_>, form: &Form, demands: &[Demand<'_>]) -> bool {
     match form.content() {
         Content::Resource => true,
         _ => suits_all(task, demands, form.code()),
     }
 }
 
-/// The form of a child that is asked for so, by the node that types its parent.
+/// The form of a child that is asked for so, by the forms that begin with the first of its name.
 pub fn form_for<'s>(
     task: &Task<'_, 's>,
-    typing: NodeRef,
+    forms: &'s [Form],
     name: &str,
     demands: &[Demand<'s>],
 ) -> Option<&'s Form>
     ensures { IfSome result (λ form. form.now.name ≡ name.now) }
 {
-    for form in task.schema.forms(typing) {
-        if is_form_for(task, form, name, demands) {
+    for form in forms {
+        if form.name() != name {
+            return None;
+        }
+        if suits_form(task, form, demands) {
             return Some(form);
         }
     }
     None
+}
+
+fn is_at(forms: &[Form], place: usize, name: &str) -> bool
+    ensures { IsTrue result → option_map (λ form. form.name) (slice_get forms.now place) ≡ Some name.now }
+{
+    match forms.get(place) {
+        Some(form) => form.name() == name,
+        None => false,
+    }
+}
+
+fn place_within(forms: &[Form], name: &str, places: Range<usize>) -> Option<usize>
+    ensures { IfSome result (λ place. option_map (λ form. form.name) (slice_get forms.now place) ≡ Some name.now) }
+{
+    for place in places {
+        if is_at(forms, place, name) {
+            return Some(place);
+        }
+    }
+    None
+}
+
+/// A place among forms at which one of a name stands. It is looked for from a place on, and then before it, so that the names of all
+/// children in their order take linear time.
+pub fn place_of(forms: &[Form], name: &str, near: usize) -> Option<usize>
+    ensures { IfSome result (λ place. option_map (λ form. form.name) (slice_get forms.now place) ≡ Some name.now) }
+{
+    match place_within(forms, name, near..forms.len()) {
+        Some(place) => Some(place),
+        None => place_within(forms, name, 0..near),
+    }
 }
 
 // ---- resources

@@ -24,6 +24,6 @@ mod settling;
 mod task;
 
 pub use demand::{Demand, below, push_criteria, specials, whole};
-pub use kinds::{form_for, resource_code};
+pub use kinds::{form_for, place_of, resource_code};
 pub use plan::{Planned, fill, plan_of};
 pub use task::Task;

@@ -36,7 +36,7 @@ returns-in-Ok-NoCertificate-clause-told c =
     IfOk-weaker c.shown_reply.result _ _
     (λ r told.
     fails_so (option_map (λ x. x.now) c.args.given) c.args.schema.now (string_bytes c.args.notes) c.args.derived.now c.args.base.now
-    of.field-0 of.pair of.rule (λ bytes. bytes.items) found.found (reply_seen r) is of.ensures.derives of.ensures.refused found.ensures told)
+    of.field-0 of.pair of.rule (λ bytes. bytes.items) found.found (reply_seen r) is of.ensures.derives of.ensures.refused found.ensures.shown found.ensures.line told)
     c.shown_reply.ensures
 
 pub returns-in-Ok-NoCertificate-clause-promised : goal.returns-in-Ok-NoCertificate-clause-promised
