@@ -50,9 +50,9 @@ encoded_unmarked c is_none =
     let two = skip (next (c / 64)) (next c ∷ []) (above (next (c / 64)) (omega arith)) last in
     let three = skip (next (c / 4096)) (next (c / 64) ∷ next c ∷ []) (above (next (c / 4096)) (omega arith)) two in
     either (ltb c 128) (c ∷ []) _ (λ is. skip c [] is_none refl)
-    (λ is. either (ltb c 2048) _ _ (λ is. skip (192 + c / 64) _ (above (192 + c / 64) (omega arith)) last)
-    (λ is. either (ltb c 65536) _ _ (λ is. skip (224 + c / 4096) _ (above (224 + c / 4096) (omega arith)) two)
-    (λ is. skip (240 + c / 262144) _ (above (240 + c / 262144) (omega arith)) three)))
+    (λ is. either (ltb c 2048) _ _ (λ is. skip (192 + c / 64) (next c ∷ []) (above (192 + c / 64) (omega arith)) last)
+    (λ is. either (ltb c 65536) _ _ (λ is. skip (224 + c / 4096) (next (c / 64) ∷ next c ∷ []) (above (224 + c / 4096) (omega arith)) two)
+    (λ is. skip (240 + c / 262144) (next (c / 4096) ∷ next (c / 64) ∷ next c ∷ []) (above (240 + c / 262144) (omega arith)) three)))
 
 none_of : (c : ℕ) → (c == 60) ≡ false → (c == 62) ≡ false → (c == 34) ≡ false → is_mark c ≡ false
 none_of c less greater quote = grind (arith, nat_tests)
@@ -163,11 +163,11 @@ place_unmarked part n = both (part_text part) (decimal n) (part_unmarked part) (
 marked : (xs ys : Text) {ms ns : Text} → filter is_mark xs ≡ ms → filter is_mark ys ≡ ns → filter is_mark (xs ++ ys) ≡ ms ++ ns
 marked xs ys of_xs of_ys = filter-append is_mark xs ys ∙ ap₂ (λ (a b : List ℕ). a ++ b) of_xs of_ys
 
-valued_marked : (name value : Text) → Unmarked name → Unmarked value → filter is_mark (valued name value) ≡ codes "\"\""
+valued_marked : (name value : Text) → Unmarked name → Unmarked value → filter is_mark (valued name value) ≡ 34 ∷ 34 ∷ []
 valued_marked name value of_name of_value =
-    marked (codes " ") (name ++ codes "=\"" ++ value ++ codes "\"") refl
-    (marked name (codes "=\"" ++ value ++ codes "\"") of_name
-    (marked (codes "=\"") (value ++ codes "\"") refl (marked value (codes "\"") of_value refl)))
+    marked (32 ∷ []) (name ++ 61 ∷ 34 ∷ (value ++ 34 ∷ [])) refl
+    (marked name (61 ∷ 34 ∷ (value ++ 34 ∷ [])) of_name
+    (marked (61 ∷ 34 ∷ []) (value ++ 34 ∷ []) refl (marked value (34 ∷ []) of_value refl)))
 
 attribute_marked : (a : AttributeValue) → filter is_mark (attribute_text a) ≡ codes "\"\""
 attribute_marked (fixed name text) = valued_marked (name_text name) (escaped text) (name_unmarked name) (escaped_unmarked text)

@@ -1,8 +1,8 @@
 //! A counterexample, with the place marked at which it fails the base.
 
+use crate::element_texts::json_text;
 use fhir_json::{Json, JsonFault, Member, NoMemory, read};
 use fhir_markup::{Element, Tag};
-use fhir_report::json_text;
 use fhir_schema::Schema;
 use fhir_validator::{Breach, Fault, Issue, Verdict, validate};
 use std::alloc::{AllocError, Global};
