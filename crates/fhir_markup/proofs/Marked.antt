@@ -163,11 +163,10 @@ place_unmarked part n = both (part_text part) (decimal n) (part_unmarked part) (
 marked : (xs ys : Text) {ms ns : Text} → filter is_mark xs ≡ ms → filter is_mark ys ≡ ns → filter is_mark (xs ++ ys) ≡ ms ++ ns
 marked xs ys of_xs of_ys = filter-append is_mark xs ys ∙ ap₂ (λ (a b : List ℕ). a ++ b) of_xs of_ys
 
-valued_marked : (name value : Text) → Unmarked name → Unmarked value → filter is_mark (valued name value) ≡ 34 ∷ 34 ∷ []
+valued_marked : (name value : Text) → Unmarked name → Unmarked value → filter is_mark (valued name value) ≡ codes "\"\""
 valued_marked name value of_name of_value =
-    marked (32 ∷ []) (name ++ 61 ∷ 34 ∷ (value ++ 34 ∷ [])) refl
-    (marked name (61 ∷ 34 ∷ (value ++ 34 ∷ [])) of_name
-    (marked (61 ∷ 34 ∷ []) (value ++ 34 ∷ []) refl (marked value (34 ∷ []) of_value refl)))
+    marked (codes " " ++ name ++ codes "=\"" ++ value) (codes "\"")
+    (marked (codes " " ++ name ++ codes "=\"") value (marked (codes " " ++ name) (codes "=\"") (marked (codes " ") name refl of_name) refl) of_value) refl
 
 attribute_marked : (a : AttributeValue) → filter is_mark (attribute_text a) ≡ codes "\"\""
 attribute_marked (fixed name text) = valued_marked (name_text name) (escaped text) (name_unmarked name) (escaped_unmarked text)
@@ -185,14 +184,13 @@ attributes_marked (a ∷ xs) = marked (attribute_text a) (flat_map attribute_tex
 
 start_marked : (tag : Tag) (xs : List AttributeValue) → filter is_mark (start_tag tag xs) ≡ start_marks xs
 start_marked tag xs =
-    marked (codes "<") (tag_text tag ++ flat_map attribute_text xs ++ codes ">") refl
-    (marked (tag_text tag) (flat_map attribute_text xs ++ codes ">") (tag_unmarked tag)
-    (marked (flat_map attribute_text xs) (codes ">") (attributes_marked xs) refl))
+    marked (codes "<" ++ tag_text tag ++ flat_map attribute_text xs) (codes ">")
+    (marked (codes "<" ++ tag_text tag) (flat_map attribute_text xs) (marked (codes "<") (tag_text tag) refl (tag_unmarked tag)) (attributes_marked xs)) refl
 
 closing_marked : (b : Bool) (name : Text) → Unmarked name
     → filter is_mark (cond b [] (codes "</" ++ name ++ codes ">")) ≡ cond b [] (codes "<>")
 closing_marked true name of_name = refl
-closing_marked false name of_name = marked (codes "</") (name ++ codes ">") refl (marked name (codes ">") of_name refl)
+closing_marked false name of_name = marked (codes "</" ++ name) (codes ">") (marked (codes "</") name refl of_name) refl
 
 end_marked : (tag : Tag) → filter is_mark (end_tag tag) ≡ end_marks tag
 end_marked tag = closing_marked (is_void tag) (tag_text tag) (tag_unmarked tag)
@@ -201,8 +199,8 @@ mutual
   pub marks_alone : (n : Node) → filter is_mark (html n) ≡ marks n
   marks_alone (words text) = escaped_unmarked text
   marks_alone (element tag xs children) =
-      marked (start_tag tag xs) (html_each children ++ end_tag tag) (start_marked tag xs)
-      (marked (html_each children) (end_tag tag) (each_alone children) (end_marked tag))
+      marked (start_tag tag xs ++ html_each children) (end_tag tag)
+      (marked (start_tag tag xs) (html_each children) (start_marked tag xs) (each_alone children)) (end_marked tag)
 
   each_alone : (ns : Nodes) → filter is_mark (html_each ns) ≡ marks_each ns
   each_alone none = refl
