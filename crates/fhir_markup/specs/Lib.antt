@@ -1,2 +1,3 @@
 pub mod Markup
+pub mod Reading
 pub mod Views

@@ -34,6 +34,22 @@ abbrev pub nodes_of : List Node → Nodes
 nodes_of [] = none
 nodes_of (n ∷ ns) = also n (nodes_of ns)
 
+-- ---- how a page grows
+
+-- a piece behind others
+abbrev pub and_last : Nodes → Node → Nodes
+and_last none n = also n none
+and_last (also m ns) n = also m (and_last ns n)
+
+-- an element with one more attribute, and with one more piece in it
+abbrev pub with_attribute : Node → AttributeValue → Node
+with_attribute (words text) a = words text
+with_attribute (element tag xs ns) a = element tag (xs ++ a ∷ []) ns
+
+abbrev pub with_child : Node → Node → Node
+with_child (words text) n = words text
+with_child (element tag xs ns) n = element tag xs (and_last ns n)
+
 -- ---- texts
 
 -- a control character by its code
@@ -55,6 +71,10 @@ escaped_character c =
 
 abbrev pub escaped : Text → Text
 escaped text = flat_map escaped_character (chars text)
+
+-- what a reader of pages is to see of a text: all of it, with control characters by their codes
+abbrev pub shown : Text → Text
+shown text = flat_map plain_character (chars text)
 
 -- ---- names
 abbrev pub tag_text : Tag → Text
