@@ -6,7 +6,7 @@ use Rattle.std.specs.declared.string.String.{String}
 use Rattle.fhir_markup.specs.declared.markup.Markup.{Markup, fold-roll-Markup}
 use Rattle.fhir_markup.specs.declared.markup.Markup.TheVariants as pieces
 use Rattle.fhir_markup.specs.declared.markup.Markup.TheOpen.{Element-F}
-use Rattle.fhir_markup.specs.declared.markup.Element.{Element, roll-Element, fold-roll-Element}
+use Rattle.fhir_markup.specs.declared.markup.Element.{Element, roll-Element, fold-roll-Element, fold_out-Element}
 use Rattle.fhir_markup.specs.Markup.{Node, Nodes, words, element, also, nodes_of, and_last, with_child}
 use Rattle.fhir_markup.specs.Views.{attribute_of, node_of, nodes_seen, element_node}
 
@@ -18,6 +18,9 @@ element_seen e = ap node_of (sym (pieces.rolls-Element e)) ∙ search (rules, fo
 
 pub rolled : (e : Element-F Markup Element) → element_node (roll-Element e) ≡ element e.tag (map attribute_of e.attributes.items) (nodes_seen e.children.items)
 rolled e = search (rules, fold-roll-Element)
+
+pub opened : (e : Element) → element_node e ≡ element e.tag (map attribute_of e.attributes.items) (nodes_seen e.children.items)
+opened e = search (rules, fold_out-Element)
 
 of_nodes : (ns : List Node) (n : Node) → nodes_of (ns ++ n ∷ []) ≡ and_last (nodes_of ns) n
 of_nodes [] n = refl

@@ -75,11 +75,7 @@ fn push_bases(
 }
 
 // What stands before the sections: the counts, links to what is to be looked at, and the tree of bases.
-fn before(
-    alloc: Global,
-    audited: &[Audited<'_>],
-    counts: Counts,
-) -> Result<Element, AllocError> {
+fn before(alloc: Global, audited: &[Audited<'_>], counts: Counts) -> Result<Element, AllocError> {
     let mut before = Element::new(alloc, Tag::Div);
     before.push(header(alloc, counts)?)?;
     push_pointers(alloc, &mut before, audited, counts)?;
