@@ -1,11 +1,11 @@
 -- Texts without some of the ASCII characters up to `>`.
-use Rattle.std.proofs.Common.{◌≡◌, ◌<◌, ◌+◌, ℕ, List, [], ◌∷◌, ◌++◌, ◌/◌, ◌%◌, ◌==◌, ◌&&◌, filter, Bool, true, false, cond, not, encode_utf8, refl, ap, ap₂, ◌∙◌, arith}
+use Rattle.std.proofs.Common.{◌≡◌, ◌<◌, ◌+◌, ℕ, List, [], ◌∷◌, ◌++◌, ◌/◌, ◌%◌, filter, Bool, true, false, cond, encode_utf8, refl, ap, ap₂, ◌∙◌, arith}
 use Rattle.std.proofs.lemmas.List.Elements.{filter-append}
-use Rattle.std.specs.Char.{is_control, digit_char}
+use Rattle.std.specs.Char.{digit_char}
 use lib.Utf8.{encode, next}
 use lib.Dec.{ltb}
 use Rattle.fhir_json.specs.Tree.{Text}
-use Rattle.fhir_markup.specs.Markup.{coded, plain_character}
+use Rattle.fhir_markup.specs.Markup.{coded, is_coded, plain_character}
 
 abbrev pub Without : (ℕ → Bool) → Text → Type 0
 Without p text = filter p text ≡ []
@@ -27,12 +27,16 @@ skip p x xs of_x of_xs = ap (λ (b : Bool). cond b (x ∷ filter p xs) (filter p
 
 pub coded_without : (p : ℕ → Bool) → IsLow p → (c : ℕ) → Without p (coded c)
 coded_without p low c =
-    let last = skip p (digit_char (c % 16)) [] (low.digit (c % 16)) refl in
-    let two = skip p (digit_char (c / 16)) (digit_char (c % 16) ∷ []) (low.digit (c / 16)) last in
-    let three = skip p 48 (digit_char (c / 16) ∷ digit_char (c % 16) ∷ []) (low.digit 0) two in
-    let four = skip p 48 (48 ∷ digit_char (c / 16) ∷ digit_char (c % 16) ∷ []) (low.digit 0) three in
-    let five = skip p 117 (48 ∷ 48 ∷ digit_char (c / 16) ∷ digit_char (c % 16) ∷ []) (low.above 117 (omega arith)) four in
-    skip p 92 (117 ∷ 48 ∷ 48 ∷ digit_char (c / 16) ∷ digit_char (c % 16) ∷ []) (low.above 92 (omega arith)) five
+    let a = digit_char (c / 4096 % 16) in
+    let b = digit_char (c / 256 % 16) in
+    let d = digit_char (c / 16 % 16) in
+    let e = digit_char (c % 16) in
+    let one = skip p e [] (low.digit (c % 16)) refl in
+    let two = skip p d (e ∷ []) (low.digit (c / 16 % 16)) one in
+    let three = skip p b (d ∷ e ∷ []) (low.digit (c / 256 % 16)) two in
+    let four = skip p a (b ∷ d ∷ e ∷ []) (low.digit (c / 4096 % 16)) three in
+    let five = skip p 117 (a ∷ b ∷ d ∷ e ∷ []) (low.above 117 (omega arith)) four in
+    skip p 92 (117 ∷ a ∷ b ∷ d ∷ e ∷ []) (low.above 92 (omega arith)) five
 
 -- a character that is none of them has none among its bytes in UTF-8
 encoded_without : (p : ℕ → Bool) → IsLow p → (c : ℕ) → p c ≡ false → Without p (encode_utf8 c)
@@ -48,4 +52,4 @@ encoded_without p low c is_none =
 
 pub plain_without : (p : ℕ → Bool) → IsLow p → (c : ℕ) → p c ≡ false → Without p (plain_character c)
 plain_without p low c is_none =
-    either p (is_control c && not (c == 10)) (coded c) (encode_utf8 c) (λ is. coded_without p low c) (λ is. encoded_without p low c is_none)
+    either p (is_coded c) (coded c) (encode_utf8 c) (λ is. coded_without p low c) (λ is. encoded_without p low c is_none)

@@ -1,5 +1,5 @@
 -- Pages: a tree, and how it is written (HTML).
-use Rattle.std.specs.Prelude.{if◌then◌else◌, ◌==◌, ◌++◌, ◌∷◌, ◌/◌, ◌%◌, ◌&&◌, ◌||◌, [], ℕ, List, Bool, true, false, not, flat_map, codes, encode_utf8}
+use Rattle.std.specs.Prelude.{if◌then◌else◌, ◌==◌, ◌++◌, ◌∷◌, ◌/◌, ◌%◌, ◌&&◌, ◌||◌, [], ℕ, List, Bool, true, false, not, nat_le, flat_map, codes, encode_utf8}
 use Rattle.std.specs.Char.{is_control, digit_char}
 use Rattle.std.specs.Fmt.{decimal}
 use Rattle.std.specs.Str.{chars}
@@ -52,13 +52,21 @@ with_child (element tag xs ns) n = element tag xs (and_last ns n)
 
 -- ---- texts
 
--- a control character by its code
+-- a character by its code
 abbrev pub coded : ℕ → Text
-coded c = codes "\\u00" ++ digit_char (c / 16) ∷ digit_char (c % 16) ∷ []
+coded c = codes "\\u" ++ digit_char (c / 4096 % 16) ∷ digit_char (c / 256 % 16) ∷ digit_char (c / 16 % 16) ∷ digit_char (c % 16) ∷ []
 
--- one that means nothing to a reader of pages: a control character but a line feed is shown by its code, and any other as it is
+-- whether a character turns the direction in which those behind it are written (Unicode, UAX 9)
+abbrev pub is_turning : ℕ → Bool
+is_turning c = (nat_le 8234 c && nat_le c 8238) || (nat_le 8294 c && nat_le c 8297)
+
+-- whether a character is shown by its code, since it would hide what it is
+abbrev pub is_coded : ℕ → Bool
+is_coded c = (is_control c && not (c == 10)) || is_turning c
+
+-- one that means nothing to a reader of pages
 abbrev pub plain_character : ℕ → Text
-plain_character c = if is_control c && not (c == 10) then coded c else encode_utf8 c
+plain_character c = if is_coded c then coded c else encode_utf8 c
 
 -- a character by its reference, where it means something to a reader of pages
 abbrev pub escaped_character : ℕ → Text
@@ -72,7 +80,7 @@ escaped_character c =
 abbrev pub escaped : Text → Text
 escaped text = flat_map escaped_character (chars text)
 
--- what a reader of pages is to see of a text: all of it, with control characters by their codes
+-- what a reader of pages is to see of a text: all of it, and what would hide by its code
 abbrev pub shown : Text → Text
 shown text = flat_map plain_character (chars text)
 

@@ -12,7 +12,7 @@ pub fn texts_stay_texts()
     ensures { (n : Node) → filter is_mark (html n) ≡ marks n }
 {}
 
-/// A text as it is written in a page reads as that text, with its control characters by their codes.
+/// A text as it is written in a page reads as that text. A control character, and one that turns the direction of writing, is shown by its code.
 #[tactic(auto, using(crate::proofs::Shown::escaped_read))]
 pub fn texts_are_read()
     ensures { (text : Text) → read (escaped text) ≡ shown text }

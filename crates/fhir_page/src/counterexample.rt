@@ -279,7 +279,7 @@ fn words_of(alloc: Global, broken: &Broken) -> Result<Element, AllocError> {
     let mut paragraph = Element::of_text(
         alloc,
         Tag::P,
-        "It conforms to the profile and not to its base, which asks for something else at ",
+        "It conforms to the profile. To its base it doesn't, by what that asks for at ",
     )?;
     paragraph.push(Element::of_text(alloc, Tag::Code, broken.place.as_str())?)?;
     paragraph.push_text(alloc, " (element ")?;
