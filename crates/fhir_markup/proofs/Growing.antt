@@ -7,7 +7,7 @@ use Rattle.fhir_markup.specs.declared.markup.Markup.{Markup, fold-roll-Markup}
 use Rattle.fhir_markup.specs.declared.markup.Markup.TheVariants as pieces
 use Rattle.fhir_markup.specs.declared.markup.Markup.TheOpen.{Element-F}
 use Rattle.fhir_markup.specs.declared.markup.Element.{Element, roll-Element, fold-roll-Element, fold_out-Element}
-use Rattle.fhir_markup.specs.Markup.{Node, Nodes, words, element, also, nodes_of, and_last, with_child}
+use Rattle.fhir_markup.specs.Markup.{Node, words, element, also, nodes_of, and_last}
 use Rattle.fhir_markup.specs.Views.{attribute_of, node_of, nodes_seen, element_node}
 
 pub words_seen : (text : String Global) → node_of (pieces.Words text) ≡ words (string_bytes text)

@@ -7,7 +7,7 @@ use lib.Utf8.{encode}
 use Rattle.fhir_json.specs.Tree.{Text}
 use Rattle.fhir_markup.proofs.Without.{Without, IsLow, plain_without}
 use Rattle.fhir_markup.specs.Markup.{plain_character, escaped_character, escaped, shown}
-use Rattle.fhir_markup.specs.Reading.{read_behind, read}
+use Rattle.fhir_markup.specs.Reading.{read}
 
 abbrev is_ampersand : ℕ → Bool
 is_ampersand b = b == 38

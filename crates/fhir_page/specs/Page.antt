@@ -1,5 +1,5 @@
 -- The page of an audit: a section on each profile, in order.
-use Rattle.std.specs.Prelude.{◌≡◌, ℕ, suc, List, [], ◌∷◌, ⊤, codes}
+use Rattle.std.specs.Prelude.{◌≡◌, ℕ, suc, List, [], ◌∷◌, codes}
 use Rattle.fhir_json.specs.Tree.{Text}
 use Rattle.fhir_audit.specs.Auditing.{AuditedValue}
 use Rattle.fhir_audit_lines.specs.Words.{verdict_word}
@@ -43,7 +43,7 @@ pub record IsSection (number : ℕ) (told : AuditedValue) (n : Node) : Type 0 wh
 
 -- a section on each, in order, from a number on
 abbrev pub AreSections : ℕ → List AuditedValue → Nodes → Type 0
-AreSections number [] none = ⊤
+AreSections number [] none = Unit {0}
 AreSections number [] (also n ns) = ⊥
 AreSections number (told ∷ more) none = ⊥
 AreSections number (told ∷ more) (also n ns) = IsSection number told n × AreSections (suc number) more ns

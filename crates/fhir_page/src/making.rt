@@ -107,6 +107,7 @@ fn joined(
     Ok(main)
 }
 
+#[tactic(auto, using(crate::proofs::Pages::is_content))]
 fn content(
     alloc: Global,
     sources: Sources<'_, '_>,
@@ -123,6 +124,7 @@ fn content(
 
 /// The page of an audit: the counts, the tree of bases, and a section on each profile. It stands alone, and nothing in it runs or is loaded. The
 /// one refusal is want of memory.
+#[tactic(auto, using(crate::proofs::Pages::is_page))]
 pub fn page(
     alloc: Global,
     survey: &Survey<'_>,

@@ -305,6 +305,7 @@ fn rest(
 
 impl Telling<'_, '_, '_> {
     // The section on the profile of a number.
+    #[tactic(auto, using(crate::proofs::Pages::is_section))]
     fn section(
         self,
         alloc: Global,
@@ -330,6 +331,7 @@ fn numbers_of(alloc: Global, audited: &[Audited<'_>]) -> Result<Index, AllocErro
 }
 
 /// The sections on the profiles, in order.
+#[tactic(auto, using(crate::proofs::Sections::started, crate::proofs::Sections::continued, crate::proofs::Sections::ended))]
 pub(crate) fn sections(
     alloc: Global,
     sources: Sources<'_, '_>,

@@ -1,7 +1,7 @@
 use Rattle.std.proofs.Common.{◌∙◌, sym, ap, map}
 use Rattle.fhir_markup.specs.Markup.{Node, Nodes, words, element, with_child}
-use Rattle.fhir_markup.specs.Views.{attribute_of, nodes_seen, element_node}
-use Rattle.fhir_markup.proofs.Growing.{rolled, opened, one_more, element_seen, words_seen}
+use Rattle.fhir_markup.specs.Views.{attribute_of, nodes_seen}
+use Rattle.fhir_markup.proofs.Growing.{rolled, opened, one_more, words_seen}
 use Rattle.fhir_markup.proofs.markup.Element.push_text.Goals as goal
 
 pub returns : goal.returns
