@@ -2,4 +2,5 @@
 pub mod Without
 pub mod Marked
 pub mod Shown
+pub mod Clean
 pub mod Growing

@@ -333,7 +333,7 @@ fn drawn_base(alloc: Global, name: &str, row: Row, row_line: usize) -> Result<Dr
     )
 }
 
-fn drawn(
+fn drawn_at(
     alloc: Global,
     forest: &Forest<'_>,
     audited: &[Audited<'_>],
@@ -378,7 +378,7 @@ fn picture(
     }
     let mut width = 0;
     for (row_line, row) in rows.iter().enumerate() {
-        let drawn = drawn(alloc, forest, audited, *row, row_line)?;
+        let drawn = drawn_at(alloc, forest, audited, *row, row_line)?;
         width = width.max(drawn.width);
         picture.push(drawn.element)?;
     }

@@ -262,7 +262,7 @@ fn first_broken(alloc: Global, issues: &[Issue<'_>]) -> Result<Option<Broken>, A
 }
 
 // The first rule of the base that the resource breaks.
-fn broken(
+fn broken_at(
     alloc: Global,
     schema: &Schema,
     base: &str,
@@ -289,7 +289,7 @@ fn words_of(alloc: Global, broken: &Broken) -> Result<Element, AllocError> {
     Ok(paragraph)
 }
 
-fn listing(alloc: Global, resource: &[u8], place: &str) -> Result<Element, NoMemory> {
+fn listed(alloc: Global, resource: &[u8], place: &str) -> Result<Element, NoMemory> {
     let mut into = Listing {
         pre: Element::new(alloc, Tag::Pre),
         text: String::new(alloc),
@@ -315,10 +315,10 @@ pub(crate) fn push_counterexample(
     resource: &[u8],
 ) -> Result<(), NoMemory> {
     into.push(Element::of_text(alloc, Tag::H4, "Counterexample")?)?;
-    let broken = broken(alloc, schema, base, resource)?;
+    let broken = broken_at(alloc, schema, base, resource)?;
     if let Some(broken) = &broken {
         into.push(words_of(alloc, broken)?)?;
     }
     let place = broken.as_ref().map_or("", |broken| broken.place.as_str());
-    Ok(into.push(listing(alloc, resource, place)?)?)
+    Ok(into.push(listed(alloc, resource, place)?)?)
 }

@@ -11,7 +11,7 @@ ghost use Rattle.fhir_markup.specs.declared.names.AttributeName.TheVariants.{Cla
 ghost use Rattle.fhir_markup.specs.declared.names.Part.TheVariants.{Profile};
 ghost use Rattle.fhir_page.specs.Page.{saying, url_line, verdict_line, IsSection, AreTold};
 
-use crate::changes::changed;
+use crate::changes::changed_elements;
 use crate::counterexample::push_counterexample;
 use crate::failing::{Failing, nodes_of};
 use crate::pieces::{short_name, worded};
@@ -221,7 +221,7 @@ fn push_changes(
     let Some(base) = audited.base else {
         return Ok(());
     };
-    let elements = changed(alloc, sources.schema, audited.place, base)?;
+    let elements = changed_elements(alloc, sources.schema, audited.place, base)?;
     let failing = failing_of(sources, &audited.verdict);
     Ok(push_table(alloc, into, number, &elements, failing)?)
 }
