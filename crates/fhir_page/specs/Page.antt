@@ -4,6 +4,7 @@ use Rattle.fhir_json.specs.Tree.{Text}
 use Rattle.fhir_audit.specs.Auditing.{AuditedValue}
 use Rattle.fhir_audit_lines.specs.Words.{verdict_word}
 use Rattle.fhir_markup.specs.Markup.{AttributeValue, fixed, place, Node, Nodes, words, element, none, also}
+use Rattle.fhir_markup.specs.declared.names.Tag.{Tag}
 use Rattle.fhir_markup.specs.declared.names.Tag.TheVariants as tags
 use Rattle.fhir_markup.specs.declared.names.AttributeName.TheVariants.{Class, Lang}
 use Rattle.fhir_markup.specs.declared.names.Part.TheVariants.{Profile}
@@ -12,7 +13,7 @@ abbrev pub classed : Text → List AttributeValue
 classed class = fixed Class class ∷ []
 
 -- an element with a text in it
-abbrev pub saying : tags.Tag → List AttributeValue → Text → Node
+abbrev pub saying : Tag → List AttributeValue → Text → Node
 saying tag xs text = element tag xs (also (words text) none)
 
 -- ---- a section

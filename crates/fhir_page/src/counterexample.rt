@@ -113,20 +113,22 @@ fn is_end(way: Way<'_, '_>) -> bool {
     matches!(way, Some([_]))
 }
 
+// Whether a step leads into the item at a position: to it, or by it, where it is the first of a property whose items have no positions.
+fn leads_into(step: Step<'_>, is_last: bool, position: usize) -> bool {
+    match step.index {
+        Some(index) => index == position,
+        None => position == 0 && !is_last,
+    }
+}
+
 // The way into the item at a position, if it leads there.
 fn into_item<'w, 't>(way: Way<'w, 't>, position: usize) -> Way<'w, 't> {
-    match way {
-        Some(
-            [
-                Step {
-                    index: Some(index),
-                    ..
-                },
-                ..
-            ],
-        ) if *index == position => way,
-        Some([Step { index: None, .. }, _, ..]) if position == 0 => way,
-        _ => None,
+    let steps = way?;
+    let step = steps.first()?;
+    if leads_into(*step, steps.len() == 1, position) {
+        way
+    } else {
+        None
     }
 }
 
@@ -140,7 +142,10 @@ fn into_property<'w, 't>(rest: Way<'w, 't>, name: &str) -> Way<'w, 't> {
 
 // Whether the way ends at the property as a whole, whatever items it has.
 fn is_shared(way: Way<'_, '_>) -> bool {
-    matches!(way, Some([Step { index: None, .. }]))
+    match way {
+        Some([step]) => step.index.is_none(),
+        _ => false,
+    }
 }
 
 // Whether the way ends at an object, or leads to a property that isn't in it.
