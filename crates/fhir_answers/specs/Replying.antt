@@ -14,6 +14,7 @@ use Rattle.fhir_cert_check.specs.Rule.{RuleName}
 use Rattle.fhir_cert_check.specs.Checking.{answer_of}
 use Rattle.fhir_derive_check.specs.declared.fault.Side.{Side}
 use Rattle.fhir_derive_check.specs.declared.fault.Side.TheVariants.{Derived, Base}
+use Rattle.fhir_lines.specs.Lines.{escaped}
 use Rattle.fhir_replies.specs.Deriving.{Derivation, derives, fails, missing, unusable}
 use Rattle.fhir_answers.specs.declared.reply.Reply.{Reply}
 use Rattle.fhir_answers.specs.declared.reply.Reply.TheVariants.{Answer, Noted, Fault}
@@ -54,9 +55,12 @@ is_quiet (told status err) = false
 
 -- ---- replies
 
--- a fault of the input: its number, and what it is about
+-- a fault of the input: its number, and what it is about, on a line, with the control characters of names escaped
+abbrev pub fault_text : Text → Text → Text
+fault_text number subject = escaped (number ++ codes " " ++ subject) ++ codes "\n"
+
 abbrev pub fault_reply : Text → Text → ReplyValue
-fault_reply number subject = told 3 (number ++ codes " " ++ subject ++ codes "\n")
+fault_reply number subject = told 3 (fault_text number subject)
 
 -- an answer, and what is told beside it, if anything is
 abbrev pub answer_noted : Text → ℕ → Text → ReplyValue

@@ -31,6 +31,6 @@ mod session;
 mod wrong_reply;
 
 pub use given::{NamedFile, profile_refusal};
-pub use laws::wrong_text_is_a_line;
-pub use reply::{Reply, Status, fault_reply, unreadable_reply};
+pub use laws::{fault_text_is_a_line, wrong_text_is_a_line};
+pub use reply::{Reply, Status, fault_reply, fault_text, unreadable_reply};
 pub use session::{Session, refused_reply};

@@ -1,9 +1,10 @@
 //! What the program answers.
 
-ghost use Rattle.std.specs.Prelude.{◌≡◌, IfOk, string_bytes};
-ghost use Rattle.fhir_answers.specs.Replying.{reply_seen, answer_noted, fault_reply, unreadable_reply};
+ghost use Rattle.std.specs.Prelude.{◌≡◌, ◌++◌, IfOk, codes, string_bytes};
+ghost use Rattle.fhir_answers.specs.Replying.{reply_seen, answer_noted, fault_text, fault_reply, unreadable_reply};
 ghost use Rattle.fhir_answers.specs.Status.{code_of};
 
+use fhir_lines::push_escaped;
 use std::alloc::{AllocError, Global};
 use std::process::ExitCode;
 
@@ -89,16 +90,32 @@ pub(crate) fn answer_noted(status: Status, out: Vec<u8>, notes: String) -> Reply
     }
 }
 
+fn fault_words(alloc: Global, number: &str, subject: &str) -> Result<String, AllocError>
+    ensures { IfOk result (λ words. string_bytes words ≡ number.now ++ codes " " ++ subject.now) }
+{
+    let mut words = String::from_str(alloc, number)?;
+    words.push_str(" ")?;
+    words.push_str(subject)?;
+    Ok(words)
+}
+
+/// What is told of a fault of the input: its number, and what it is about, on one line, with control characters escaped. The one refusal is
+/// want of memory.
+pub fn fault_text(alloc: Global, number: &str, subject: &str) -> Result<String, AllocError>
+    ensures { IfOk result (λ text. string_bytes text ≡ fault_text number.now subject.now) }
+{
+    let words = fault_words(alloc, number, subject)?;
+    let mut text = String::new(alloc);
+    push_escaped(words.as_str(), &mut text)?;
+    text.push_str("\n")?;
+    Ok(text)
+}
+
 /// A fault of the input: its number, and what it is about. The one refusal is want of memory.
 pub fn fault_reply(alloc: Global, number: &str, subject: &str) -> Result<Reply, AllocError>
     ensures { IfOk result (λ r. reply_seen r ≡ fault_reply number.now subject.now) }
 {
-    let mut err = String::new(alloc);
-    err.push_str(number)?;
-    err.push_str(" ")?;
-    err.push_str(subject)?;
-    err.push_str("\n")?;
-    Ok(Reply::Fault(err))
+    Ok(Reply::Fault(fault_text(alloc, number, subject)?))
 }
 
 /// That a file of that name can't be read. The one refusal is want of memory.

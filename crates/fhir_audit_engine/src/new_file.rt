@@ -41,11 +41,11 @@ impl<'r, R: Files + AllocGlobal> PageFile<'r, R> {
     }
 }
 
-// Whether a directory stands at a path, which no file can take the place of.
-fn is_directory<R: Files>(rt: &R, path: &str) -> bool {
-    match fs::symlink_metadata(rt, path) {
-        Ok(metadata) => metadata.is_dir(),
-        Err(_) => false,
+// Whether no file may take the place of what a path leads to: of a directory, a device or a pipe. At the empty path there is no place.
+fn is_other<R: Files>(rt: &R, path: &str) -> bool {
+    match fs::metadata(rt, path) {
+        Ok(metadata) => !metadata.is_file(),
+        Err(_) => path.is_empty(),
     }
 }
 
@@ -61,7 +61,7 @@ fn write_part<R: Files>(rt: &R, part: &str, bytes: &[u8], is_made: &mut bool) ->
 
 impl<R: Files + AllocGlobal> NewFile for PageFile<'_, R> {
     fn write(&mut self, bytes: &[u8]) -> Result<(), WriteFault> {
-        if is_directory(self.rt, self.path.as_str()) {
+        if is_other(self.rt, self.path.as_str()) {
             return Err(WriteFault::Device);
         }
         let part = self.part.as_str();

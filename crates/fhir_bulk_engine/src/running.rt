@@ -9,7 +9,7 @@ ghost use Rattle.fhir_bulk_engine.specs.Ending.{tally_status, refusal_status, En
 use crate::asked::{Asked, Planned, Refusal, run_session};
 use crate::file_inputs::FileInputs;
 use crate::plan::{InputFile, Plan, PlanFault, plan_inputs};
-use fhir_answers::{NamedFile, Session, Status};
+use fhir_answers::{NamedFile, Session, Status, fault_text};
 use fhir_bulk::{Tally, Watch};
 use fhir_engine::{bytes_at, directory_at, end_with, files_of};
 use fhir_inputs::Inputs;
@@ -39,7 +39,7 @@ fn tally_status(tally: Tally) -> Status
 
 // That a folder can't be listed, or a file in it not be read.
 fn unlisted(alloc: Global, name: &str) -> Result<Refusal, AllocError> {
-    Ok(Refusal::Fault(format!(in alloc; "P1 {name}\n")?))
+    Ok(Refusal::Fault(fault_text(alloc, "P1", name)?))
 }
 
 fn run_folder<F: Folder + Drop, I: Inputs, P: Progress, V: Watch, W: Write, E: Write>(

@@ -2,17 +2,19 @@
 
 ghost use Rattle.std.specs.Prelude.{◌≡◌, ⊥};
 
-use fhir_answers::{Reply, Session, Status, fault_reply, refused_reply};
+use fhir_answers::{Reply, Session, Status, fault_reply};
 use fhir_compare::{Comparison, Made, beside, compare};
 use fhir_compare_lines::{Part, Side, Sources, comparison_text, part_of};
 use fhir_engine::{directory_at, end_with, files_of, write_reply};
 use fhir_json::NoMemory;
-use fhir_package::{Folder, FolderFault, FolderFiles, MemoryFolder, Package, Progress, Survey};
+use fhir_package::{
+    FileFault, Folder, FolderFault, FolderFiles, MemoryFolder, Package, Progress, Survey,
+};
 use fhir_report::LackingTable;
 use fhir_schema::Schema;
 use fhir_snapshot::complete;
 use fhir_words::CompareRequest;
-use std::alloc::Global;
+use std::alloc::{AllocError, Global};
 use std::io::Write;
 use std::rt::Files;
 
@@ -30,6 +32,17 @@ fn status_of(part: Part) -> Status {
     match part {
         Part::None | Part::Minor => Status::Yes,
         Part::Major => Status::No,
+    }
+}
+
+// What is answered where the files of a folder are no package. A file is named with its folder, since there are two.
+fn refused_in(alloc: Global, folder: &str, fault: &FileFault<'_>) -> Result<Reply, AllocError> {
+    match fault {
+        FileFault::Clash(_) => fault_reply(alloc, fault.number(), fault.subject()),
+        FileFault::Unreadable(_) | FileFault::NotJson(_) => {
+            let path = format!(in alloc; "{folder}/{}", fault.subject())?;
+            fault_reply(alloc, fault.number(), path.as_str())
+        }
     }
 }
 
@@ -101,7 +114,7 @@ fn reply_to<P: Progress>(
 ) -> Result<Reply, NoMemory> {
     let survey = Survey::of(alloc, new, progress)?;
     if let Some(fault) = survey.refusal() {
-        return Ok(refused_reply(alloc, fault)?);
+        return Ok(refused_in(alloc, request.new, fault)?);
     }
     let new = new_of(alloc, old, survey)?;
     let schema = Schema::build(alloc, new.survey.package())?;
@@ -118,7 +131,7 @@ fn reply_of<P: Progress>(
     let session = Session::of(alloc, old, progress)?;
     match session.package() {
         Ok(_schema) => reply_to(alloc, request, &session, new, progress),
-        Err(fault) => Ok(refused_reply(alloc, fault)?),
+        Err(fault) => Ok(refused_in(alloc, request.old, fault)?),
     }
 }
 

@@ -1,5 +1,5 @@
 -- What a counterexample shows: that a profile doesn't narrow another.
-use Rattle.std.specs.Prelude.{ℕ, List, Bool, Option, None, Some}
+use Rattle.std.specs.Prelude.{ℕ, List, Bool, Option, None, Some, nat_le}
 use Rattle.std.specs.List.{list_all}
 use Rattle.fhir_json.specs.Bytes.{space}
 use Rattle.fhir_json.specs.Tree.{Text, Tree}
@@ -37,7 +37,7 @@ ShowsBy (Some texts) s derived base bytes = ShowsAsGiven s texts derived base by
 
 -- a byte of no control character
 abbrev pub is_text_byte : ℕ → Bool
-is_text_byte b = space <= b
+is_text_byte b = nat_le space b
 
 -- a text stands on one line, and a terminal does nothing but show it
 abbrev pub is_on_line : Text → Bool

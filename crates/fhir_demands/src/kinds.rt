@@ -1,7 +1,7 @@
 //! Of which type an item is made.
 
-ghost use Rattle.std.specs.Prelude.{◌≡◌, Some, IfSome, IsTrue, option_map};
-ghost use Rattle.std.specs.List.{slice_get};
+ghost use Rattle.std.specs.Prelude.{◌≡◌, IfSome, IsTrue};
+ghost use Rattle.fhir_demands.specs.Placing.{is_at};
 
 use crate::demand::Demand;
 use crate::task::Task;
@@ -80,8 +80,8 @@ pub fn form_for<'s>(
     None
 }
 
-fn is_at(forms: &[Form], place: usize, name: &str) -> bool
-    ensures { IsTrue result → option_map (λ form. form.name) (slice_get forms.now place) ≡ Some name.now }
+fn is_at(forms: &[Form], name: &str, place: usize) -> bool
+    ensures { result ≡ is_at forms.now name.now place }
 {
     match forms.get(place) {
         Some(form) => form.name() == name,
@@ -90,10 +90,10 @@ fn is_at(forms: &[Form], place: usize, name: &str) -> bool
 }
 
 fn place_within(forms: &[Form], name: &str, places: Range<usize>) -> Option<usize>
-    ensures { IfSome result (λ place. option_map (λ form. form.name) (slice_get forms.now place) ≡ Some name.now) }
+    ensures { IfSome result (λ place. IsTrue (is_at forms.now name.now place)) }
 {
     for place in places {
-        if is_at(forms, place, name) {
+        if is_at(forms, name, place) {
             return Some(place);
         }
     }
@@ -103,7 +103,7 @@ fn place_within(forms: &[Form], name: &str, places: Range<usize>) -> Option<usiz
 /// A place among forms at which one of a name stands. It is looked for from a place on, and then before it, so that the names of all
 /// children in their order take linear time.
 pub fn place_of(forms: &[Form], name: &str, near: usize) -> Option<usize>
-    ensures { IfSome result (λ place. option_map (λ form. form.name) (slice_get forms.now place) ≡ Some name.now) }
+    ensures { IfSome result (λ place. IsTrue (is_at forms.now name.now place)) }
 {
     match place_within(forms, name, near..forms.len()) {
         Some(place) => Some(place),

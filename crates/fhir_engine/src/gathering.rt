@@ -9,7 +9,7 @@ ghost use Rattle.fhir_engine.specs.Gathers.{printed, IsGathered};
 
 use crate::directory::directory_at;
 use crate::engine::{end_with, is_written};
-use fhir_answers::Status;
+use fhir_answers::{Status, fault_text};
 use fhir_gather::{GatherFault, Gathered, NamedFolder, gather};
 use fhir_gather_lines::gather_text;
 use fhir_json::NoMemory;
@@ -32,20 +32,33 @@ fn part_of(alloc: Global, name: &str) -> Result<String, AllocError> {
     format!(in alloc; "{}.part", name.trim_end_matches('/'))
 }
 
-// What is told of a fault; nothing of want of memory.
-fn fault_text(
+// What is told of a fault at a file of a folder.
+fn file_fault_text(
     alloc: Global,
-    name: &str,
-    fault: &GatherFault,
-) -> Result<Option<String>, AllocError> {
+    number: &str,
+    folder: &str,
+    file: &str,
+) -> Result<String, AllocError> {
+    let path = format!(in alloc; "{folder}/{file}")?;
+    fault_text(alloc, number, path.as_str())
+}
+
+// What is told of a fault; nothing of want of memory.
+fn told_of(alloc: Global, name: &str, fault: &GatherFault) -> Result<Option<String>, AllocError> {
     let text = match fault {
-        GatherFault::Exists => format!(in alloc; "exists {name}\n")?,
-        GatherFault::Left => format!(in alloc; "exists {}\n", part_of(alloc, name)?)?,
-        GatherFault::Unlisted { folder } => format!(in alloc; "P1 {folder}\n")?,
-        GatherFault::Unreadable { folder, file } => format!(in alloc; "P1 {folder}/{file}\n")?,
-        GatherFault::NotJson { folder, file } => format!(in alloc; "P2 {folder}/{file}\n")?,
-        GatherFault::Unwritten { name: None } => format!(in alloc; "write {name}\n")?,
-        GatherFault::Unwritten { name: Some(file) } => format!(in alloc; "write {name}/{file}\n")?,
+        GatherFault::Exists => fault_text(alloc, "exists", name)?,
+        GatherFault::Left => fault_text(alloc, "exists", part_of(alloc, name)?.as_str())?,
+        GatherFault::Unlisted { folder } => fault_text(alloc, "P1", folder.as_str())?,
+        GatherFault::Unreadable { folder, file } => {
+            file_fault_text(alloc, "P1", folder.as_str(), file.as_str())?
+        }
+        GatherFault::NotJson { folder, file } => {
+            file_fault_text(alloc, "P2", folder.as_str(), file.as_str())?
+        }
+        GatherFault::Unwritten { name: None } => fault_text(alloc, "write", name)?,
+        GatherFault::Unwritten { name: Some(file) } => {
+            file_fault_text(alloc, "write", name, file.as_str())?
+        }
         GatherFault::NoMemory => return Ok(None),
     };
     Ok(Some(text))
@@ -55,7 +68,7 @@ fn fault_text(
 fn refuse<E: Write>(alloc: Global, name: &str, fault: &GatherFault, err: &mut E) -> Status
     ensures { result ≡ Status.Yes → ⊥ }
 {
-    match fault_text(alloc, name, fault) {
+    match told_of(alloc, name, fault) {
         Ok(Some(text)) => end_with(err, text.as_str(), Status::Fault),
         _ => no_memory(err),
     }

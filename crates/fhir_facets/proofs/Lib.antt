@@ -7,6 +7,7 @@ mod KeptTargets
 mod KeptBindings
 mod Among
 pub mod Sequences
+mod Halves
 pub mod Ordered
 pub mod KeptOrder
 mod Readings

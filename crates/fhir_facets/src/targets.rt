@@ -1,6 +1,6 @@
 //! Targets of references (FHIR R4, ElementDefinition, type.targetProfile; References, literal references).
 
-ghost use Rattle.std.specs.Prelude.{◌≡◌, true, map, string_bytes};
+ghost use Rattle.std.specs.Prelude.{◌≡◌, true, map, string_bytes, is_some};
 ghost use Rattle.std.specs.Option.{option_map_or};
 ghost use Rattle.std.specs.List.{list_any, list_all, flat_map};
 ghost use Rattle.fhir_json.specs.Views.{text_seen};
@@ -125,25 +125,42 @@ fn target_narrower(schema: &Schema, own: &str, base: &str) -> bool
     own == base || covers_known(schema, target_type(schema, base), target_type(schema, own))
 }
 
-fn is_target_among(schema: &Schema, own: &str, bases: &[String]) -> bool
-    ensures { result ≡ list_any (target_narrower schema.now own.now) (map string_bytes bases.now) }
+// The place of a target than which another is as narrow, if there is one.
+fn place_among(schema: &Schema, own: &str, bases: &[String]) -> Option<usize>
+    ensures { is_some result ≡ list_any (target_narrower schema.now own.now) (map string_bytes bases.now) }
 {
+    let mut place = 0_usize;
     for base in bases {
         if target_narrower(schema, own, base.as_str()) {
-            return true;
+            return Some(place);
         }
+        place = place.saturating_add(1);
     }
-    false
+    None
 }
 
+// The same. It is looked for from a place on, and then before it.
+fn place_near(schema: &Schema, own: &str, bases: &[String], near: usize) -> Option<usize>
+    ensures { is_some result ≡ list_any (target_narrower schema.now own.now) (map string_bytes bases.now) }
+{
+    let (before, behind) = bases.split_at(near.min(bases.len()));
+    match place_among(schema, own, behind) {
+        Some(place) => Some(before.len().saturating_add(place)),
+        None => place_among(schema, own, before),
+    }
+}
+
+// Each is looked for behind the last, so that lists in the same order take linear time.
 fn are_targets_among(schema: &Schema, owns: &[String], bases: &[String]) -> bool
     ensures { result ≡ list_all (λ t. list_any (target_narrower schema.now t) (map string_bytes bases.now))
         (map string_bytes owns.now) }
 {
+    let mut near = 0_usize;
     for own in owns {
-        if !is_target_among(schema, own.as_str(), bases) {
+        let Some(place) = place_near(schema, own.as_str(), bases, near) else {
             return false;
-        }
+        };
+        near = place.saturating_add(1);
     }
     true
 }

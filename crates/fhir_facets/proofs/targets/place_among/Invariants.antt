@@ -1,7 +1,7 @@
 use Rattle.std.proofs.Common.{◌≡◌, drop, map, string_bytes}
 use Rattle.std.specs.List.{list_any}
 use Rattle.fhir_facets.specs.Targets.{target_narrower}
-use Rattle.fhir_facets.proofs.targets.is_target_among.Given as goal
+use Rattle.fhir_facets.proofs.targets.place_among.Given as goal
 
 abbrev pub invariant-loop-base : goal.invariant-loop-base
 invariant-loop-base l =
