@@ -50,8 +50,11 @@ counts_of told = record {
   without_base = with_verdict is_without_base told;
 }
 
+abbrev pub counted : Text → ℕ → Text
+counted word n = word ++ decimal n
+
 abbrev pub counts_text : Counts → Text
 counts_text c =
-    codes "profiles: " ++ decimal c.profiles ++ codes ", narrow: " ++ decimal c.narrow ++ codes ", do not: " ++ decimal c.do_not
-    ++ codes ", not shown: " ++ decimal c.not_shown ++ codes ", can't be used: " ++ decimal c.unusable ++ codes ", without a base: "
-    ++ decimal c.without_base
+    counted (codes "profiles: ") c.profiles ++ counted (codes ", narrow: ") c.narrow ++ counted (codes ", do not: ") c.do_not
+    ++ counted (codes ", not shown: ") c.not_shown ++ counted (codes ", can't be used: ") c.unusable
+    ++ counted (codes ", without a base: ") c.without_base

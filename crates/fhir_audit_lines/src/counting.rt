@@ -1,9 +1,9 @@
 //! How many profiles there are of each verdict.
 
-ghost use Rattle.std.specs.Prelude.{◌≡◌, IfOk, string_bytes};
+ghost use Rattle.std.specs.Prelude.{◌≡◌, ◌++◌, IfOk, OnOk, string_bytes};
 ghost use Rattle.fhir_audit.specs.Verdicts.{is_narrowing};
 ghost use Rattle.fhir_audit.specs.Views.{verdict_seen};
-ghost use Rattle.fhir_audit_lines.specs.Counting.{is_refuted, is_undecided, is_unusable, is_without_base, with_verdict, counts_of, counts_text};
+ghost use Rattle.fhir_audit_lines.specs.Counting.{is_refuted, is_undecided, is_unusable, is_without_base, with_verdict, counts_of, counted, counts_text};
 
 use fhir_audit::{Audited, Verdict};
 use std::alloc::{AllocError, Global};
@@ -99,17 +99,24 @@ pub fn counts_of(audited: &[Audited<'_>]) -> Counts
     }
 }
 
+fn push_count(alloc: Global, word: &str, count: usize, into: &mut String) -> Result<(), AllocError>
+    ensures { OnOk result (string_bytes into.new ≡ string_bytes into.old ++ counted word.now count) }
+{
+    let number = format!(in alloc; "{count}")?;
+    into.push_str(word)?;
+    into.push_str(number.as_str())
+}
+
 /// The counts as a text.
 pub(crate) fn counts_text(alloc: Global, counts: Counts) -> Result<String, AllocError>
     ensures { IfOk result (λ text. string_bytes text ≡ counts_text counts) }
 {
-    format!(in alloc;
-        "profiles: {}, narrow: {}, do not: {}, not shown: {}, can't be used: {}, without a base: {}",
-        counts.profiles,
-        counts.narrow,
-        counts.do_not,
-        counts.not_shown,
-        counts.unusable,
-        counts.without_base
-    )
+    let mut text = String::new(alloc);
+    push_count(alloc, "profiles: ", counts.profiles, &mut text)?;
+    push_count(alloc, ", narrow: ", counts.narrow, &mut text)?;
+    push_count(alloc, ", do not: ", counts.do_not, &mut text)?;
+    push_count(alloc, ", not shown: ", counts.not_shown, &mut text)?;
+    push_count(alloc, ", can't be used: ", counts.unusable, &mut text)?;
+    push_count(alloc, ", without a base: ", counts.without_base, &mut text)?;
+    Ok(text)
 }
