@@ -160,14 +160,19 @@ fn outputs_of<'r, 'w, R: Files + AllocGlobal>(
     request: &AuditRequest<'w>,
 ) -> Result<Outputs<'w, NewDirectory<'r, R>, PageFile<'r, R>>, NoMemory> {
     let certificates = match request.certificates {
-        Some(name) => Some((name, NewDirectory::new(rt, name)?)),
+        Some(name) => Some(NewDirectory::new(rt, name)?),
         None => None,
     };
     let page = match request.page {
-        Some(name) => Some((name, PageFile::new(rt, name)?)),
+        Some(name) => Some(PageFile::new(rt, name)?),
         None => None,
     };
-    Ok(Outputs { certificates, page })
+    Ok(Outputs {
+        certificates,
+        folder: request.certificates.unwrap_or(""),
+        page,
+        file: request.page.unwrap_or(""),
+    })
 }
 
 // ---- the run

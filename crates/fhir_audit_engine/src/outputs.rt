@@ -3,8 +3,12 @@
 /// To what an audit is written beside standard output.
 #[derive(Drop)]
 pub struct Outputs<'o, N, G> {
-    /// The new folder of the certificates, if they are written, and its name.
-    pub certificates: Option<(&'o str, N)>,
-    /// The file of the page, if it is written, and its name.
-    pub page: Option<(&'o str, G)>,
+    /// The new folder of the certificates, if they are written.
+    pub certificates: Option<N>,
+    /// Its name; empty where it isn't written.
+    pub folder: &'o str,
+    /// The file of the page, if it is written.
+    pub page: Option<G>,
+    /// Its name; empty where it isn't written.
+    pub file: &'o str,
 }

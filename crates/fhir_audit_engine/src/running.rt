@@ -115,15 +115,16 @@ fn finish<N: NewFolder, G: NewFile>(
     alloc: Global,
     outputs: &mut Outputs<'_, N, G>,
 ) -> Result<Result<(), Refusal>, AllocError> {
-    if let Some((name, new)) = &mut outputs.certificates {
+    let (folder, file) = (outputs.folder, outputs.file);
+    if let Some(new) = &mut outputs.certificates {
         if new.finish().is_err() {
-            let text = format!(in alloc; "write {}\n", *name)?;
+            let text = format!(in alloc; "write {folder}\n")?;
             return Ok(Err(Refusal::Fault(text)));
         }
     }
-    if let Some((name, page)) = &mut outputs.page {
+    if let Some(page) = &mut outputs.page {
         if page.finish().is_err() {
-            let text = format!(in alloc; "write {}\n", *name)?;
+            let text = format!(in alloc; "write {file}\n")?;
             return Ok(Err(Refusal::Fault(text)));
         }
     }
@@ -132,10 +133,10 @@ fn finish<N: NewFolder, G: NewFile>(
 
 // Takes away what is written and has no name yet.
 fn abandon<N: NewFolder, G: NewFile>(outputs: &mut Outputs<'_, N, G>) {
-    if let Some((_name, new)) = &mut outputs.certificates {
+    if let Some(new) = &mut outputs.certificates {
         let _abandoned = new.abandon();
     }
-    if let Some((_name, page)) = &mut outputs.page {
+    if let Some(page) = &mut outputs.page {
         page.abandon();
     }
 }
@@ -147,12 +148,13 @@ fn put_certificates<N: NewFolder, G>(
     audited: &[Audited<'_>],
     outputs: &mut Outputs<'_, N, G>,
 ) -> Result<Result<(), Refusal>, NoMemory> {
-    let Some((name, new)) = &mut outputs.certificates else {
+    let folder = outputs.folder;
+    let Some(new) = &mut outputs.certificates else {
         return Ok(Ok(()));
     };
     match write_certificates(alloc, sources.schema, audited, new) {
         Ok(()) => Ok(Ok(())),
-        Err(fault) => match fault_text(alloc, *name, &fault)? {
+        Err(fault) => match fault_text(alloc, folder, &fault)? {
             Some(text) => Ok(Err(Refusal::Fault(text))),
             None => Err(NoMemory),
         },
@@ -166,7 +168,8 @@ fn put_page<N, G: NewFile>(
     audited: &[Audited<'_>],
     outputs: &mut Outputs<'_, N, G>,
 ) -> Result<Result<(), Refusal>, NoMemory> {
-    let Some((name, file)) = &mut outputs.page else {
+    let name = outputs.file;
+    let Some(file) = &mut outputs.page else {
         return Ok(Ok(()));
     };
     let bytes = page(
@@ -179,7 +182,7 @@ fn put_page<N, G: NewFile>(
     match file.write(&bytes) {
         Ok(()) => Ok(Ok(())),
         Err(WriteFault::Device) => {
-            let text = format!(in alloc; "write {}\n", *name)?;
+            let text = format!(in alloc; "write {name}\n")?;
             Ok(Err(Refusal::Fault(text)))
         }
         Err(WriteFault::NoMemory) => Err(NoMemory),
