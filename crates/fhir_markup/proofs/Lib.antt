@@ -2,5 +2,4 @@
 pub mod Without
 pub mod Marked
 pub mod Shown
-pub mod Clean
 pub mod Growing

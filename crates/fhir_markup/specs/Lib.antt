@@ -1,4 +1,3 @@
 pub mod Markup
 pub mod Reading
-pub mod Texts
 pub mod Views
