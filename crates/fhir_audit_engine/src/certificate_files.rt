@@ -1,5 +1,6 @@
 //! The certificates of an audit as files of a new folder.
 
+use fhir_answers::fault_text;
 use fhir_audit::{Audited, Verdict};
 use fhir_audit_lines::file_names;
 use fhir_certificate::{Certificate, write};
@@ -117,18 +118,25 @@ pub(crate) fn write_certificates<N: NewFolder>(
     }
 }
 
+/// The name of the part of a new folder.
+pub(crate) fn part_of(alloc: Global, name: &str) -> Result<String, AllocError> {
+    format!(in alloc; "{}.part", name.trim_end_matches('/'))
+}
+
 /// What is told of the fault for which certificates aren't written to a folder of that name; nothing of want of memory.
-pub(crate) fn fault_text(
+pub(crate) fn files_fault_text(
     alloc: Global,
     name: &str,
     fault: &FilesFault,
 ) -> Result<Option<String>, AllocError> {
-    let trimmed = name.trim_end_matches('/');
     let text = match fault {
-        FilesFault::Exists => format!(in alloc; "exists {name}\n")?,
-        FilesFault::Left => format!(in alloc; "exists {trimmed}.part\n")?,
-        FilesFault::Folder => format!(in alloc; "write {name}\n")?,
-        FilesFault::File(file) => format!(in alloc; "write {name}/{}\n", file.as_str())?,
+        FilesFault::Exists => fault_text(alloc, "exists", name)?,
+        FilesFault::Left => fault_text(alloc, "exists", part_of(alloc, name)?.as_str())?,
+        FilesFault::Folder => fault_text(alloc, "write", name)?,
+        FilesFault::File(file) => {
+            let path = format!(in alloc; "{name}/{}", file.as_str())?;
+            fault_text(alloc, "write", path.as_str())?
+        }
         FilesFault::NoMemory => return Ok(None),
     };
     Ok(Some(text))

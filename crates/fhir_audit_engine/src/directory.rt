@@ -1,10 +1,11 @@
 //! An audit of what paths name.
 
 use crate::asked::{Asked, NamedBytes};
+use crate::certificate_files::part_of;
 use crate::new_file::PageFile;
 use crate::outputs::Outputs;
 use crate::running::audit_folder;
-use fhir_answers::{NamedFile, Status};
+use fhir_answers::{NamedFile, Status, fault_text};
 use fhir_audit::Watch;
 use fhir_engine::{bytes_at, directory_at, end_with};
 use fhir_json::NoMemory;
@@ -60,7 +61,8 @@ fn read_each<R: Files + AllocGlobal>(
     let mut files = Vec::with_capacity(rt.alloc(), paths.len())?;
     for (name, path) in paths {
         let Some(bytes) = bytes_at(rt, path.as_str())? else {
-            return Ok(Err(format!(in rt.alloc(); "P1 {folder}/{}\n", name.as_str())?));
+            let path = format!(in rt.alloc(); "{folder}/{}", name.as_str())?;
+            return Ok(Err(fault_text(rt.alloc(), "P1", path.as_str())?));
         };
         files.push(NamedBytes { name, bytes })?;
     }
@@ -74,7 +76,7 @@ fn certificates_at<R: Files + AllocGlobal + Clone + Drop>(
     match paths_at(rt, folder) {
         Ok(paths) => read_each(rt, folder, paths),
         Err(error) if error.kind() == ErrorKind::OutOfMemory => Err(NoMemory),
-        Err(_) => Ok(Err(format!(in rt.alloc(); "P1 {folder}\n")?)),
+        Err(_) => Ok(Err(fault_text(rt.alloc(), "P1", folder)?)),
     }
 }
 
@@ -144,13 +146,12 @@ fn standing<R: Files + AllocGlobal>(
     let Some(name) = certificates else {
         return Ok(None);
     };
-    let trimmed = name.trim_end_matches('/');
-    let part = format!(in rt.alloc(); "{trimmed}.part")?;
-    if is_taken(rt, trimmed) {
-        return Ok(Some(format!(in rt.alloc(); "exists {name}\n")?));
+    if is_taken(rt, name.trim_end_matches('/')) {
+        return Ok(Some(fault_text(rt.alloc(), "exists", name)?));
     }
+    let part = part_of(rt.alloc(), name)?;
     if is_taken(rt, part.as_str()) {
-        return Ok(Some(format!(in rt.alloc(); "exists {}\n", part.as_str())?));
+        return Ok(Some(fault_text(rt.alloc(), "exists", part.as_str())?));
     }
     Ok(None)
 }

@@ -7,10 +7,10 @@ ghost use Rattle.fhir_audit.specs.Views.{all_audited};
 ghost use Rattle.fhir_audit_engine.specs.Promising.{AllNarrowIn, AuditPromise};
 
 use crate::asked::{Asked, NamedBytes};
-use crate::certificate_files::{fault_text, write_certificates};
+use crate::certificate_files::{files_fault_text, write_certificates};
 use crate::new_file::NewFile;
 use crate::outputs::Outputs;
-use fhir_answers::{Reply, Session, Status, fault_reply, refused_reply};
+use fhir_answers::{Reply, Session, Status, fault_text, refused_reply};
 use fhir_audit::{Audited, Watch, are_narrowing, audit, narrowing_profiles, recheck};
 use fhir_audit_lines::{HeldFile, Sources, are_holding, audit_text};
 use fhir_engine::{end_with, files_of, is_written, vouched};
@@ -114,14 +114,12 @@ fn finish<N: NewFolder, G: NewFile>(
 ) -> Result<Result<(), Refusal>, AllocError> {
     if let Some((name, new)) = &mut outputs.certificates {
         if new.finish().is_err() {
-            let text = format!(in alloc; "write {}\n", *name)?;
-            return Ok(Err(Refusal::Fault(text)));
+            return Ok(Err(Refusal::Fault(fault_text(alloc, "write", *name)?)));
         }
     }
     if let Some((name, page)) = &mut outputs.page {
         if page.finish().is_err() {
-            let text = format!(in alloc; "write {}\n", *name)?;
-            return Ok(Err(Refusal::Fault(text)));
+            return Ok(Err(Refusal::Fault(fault_text(alloc, "write", *name)?)));
         }
     }
     Ok(Ok(()))
@@ -149,7 +147,7 @@ fn put_certificates<N: NewFolder, G>(
     };
     match write_certificates(alloc, sources.schema, audited, new) {
         Ok(()) => Ok(Ok(())),
-        Err(fault) => match fault_text(alloc, *name, &fault)? {
+        Err(fault) => match files_fault_text(alloc, *name, &fault)? {
             Some(text) => Ok(Err(Refusal::Fault(text))),
             None => Err(NoMemory),
         },
@@ -175,10 +173,7 @@ fn put_page<N, G: NewFile>(
     )?;
     match file.write(&bytes) {
         Ok(()) => Ok(Ok(())),
-        Err(WriteFault::Device) => {
-            let text = format!(in alloc; "write {}\n", *name)?;
-            Ok(Err(Refusal::Fault(text)))
-        }
+        Err(WriteFault::Device) => Ok(Err(Refusal::Fault(fault_text(alloc, "write", *name)?))),
         Err(WriteFault::NoMemory) => Err(NoMemory),
     }
 }
@@ -248,12 +243,13 @@ fn note_none<E: Write>(audited: &[Audited<'_>], err: &mut E) {
     }
 }
 
-// Where a user vouches for these rules, if one does.
+// Where a user vouches for these rules, if one does. The notes are on the texts that give them, and are told where all else is.
 fn run_vouched<N: NewFolder, G: NewFile, V: Watch, W: Write, E: Write>(
     alloc: Global,
     session: &Session<'_>,
     asked: Asked<'_>,
     given: Option<&Vouching>,
+    notes: &str,
     outputs: &mut Outputs<'_, N, G>,
     watch: &mut V,
     out: &mut W,
@@ -277,6 +273,7 @@ fn run_vouched<N: NewFolder, G: NewFile, V: Watch, W: Write, E: Write>(
     watch.end();
     match put(alloc, sources, &audited, text.as_str(), outputs, out)? {
         Ok(()) => {
+            let _ = is_written(err, notes.as_bytes());
             note_none(&audited, err);
             Ok(Ok(status_of(&audited, held)))
         }
@@ -297,22 +294,20 @@ fn run_given<N: NewFolder, G: NewFile, V: Watch, W: Write, E: Write>(
     ensures { IfOk result (λ r. IfOk r (λ status. status ≡ Status.Yes → AllNarrow (map string_bytes asked.entry.prefixes.now) (schema_in session.now) session.now.survey.definitions)) }
 {
     let Some(file) = asked.given else {
-        return run_vouched(alloc, session, asked, None, outputs, watch, out, err);
+        return run_vouched(alloc, session, asked, None, "", outputs, watch, out, err);
     };
     match vouched(alloc, session, file)? {
-        Ok(Given { vouching, notes }) => {
-            let _ = is_written(err, notes.as_bytes());
-            run_vouched(
-                alloc,
-                session,
-                asked,
-                Some(&vouching),
-                outputs,
-                watch,
-                out,
-                err,
-            )
-        }
+        Ok(Given { vouching, notes }) => run_vouched(
+            alloc,
+            session,
+            asked,
+            Some(&vouching),
+            notes.as_str(),
+            outputs,
+            watch,
+            out,
+            err,
+        ),
         Err(reply) => Ok(Err(Refusal::Fault(text_of(alloc, reply)))),
     }
 }
@@ -323,8 +318,7 @@ fn only_refusal(alloc: Global, prefixes: &[String], place: usize) -> Result<Refu
         Some(prefix) => prefix.as_str(),
         None => "",
     };
-    let reply = fault_reply(alloc, "only", prefix)?;
-    Ok(Refusal::Fault(text_of(alloc, reply)))
+    Ok(Refusal::Fault(fault_text(alloc, "only", prefix)?))
 }
 
 // Why prefixes are refused, if they are.
@@ -380,7 +374,7 @@ fn run_session<N: NewFolder, G: NewFile, V: Watch, W: Write, E: Write>(
 
 // That a folder can't be listed.
 fn unlisted(alloc: Global, name: &str) -> Result<Refusal, AllocError> {
-    Ok(Refusal::Fault(format!(in alloc; "P1 {name}\n")?))
+    Ok(Refusal::Fault(fault_text(alloc, "P1", name)?))
 }
 
 fn run_folder<
