@@ -107,22 +107,48 @@ fn status_of(audited: &[Audited<'_>], held: Option<&[HeldFile<'_>]>) -> Status
     }
 }
 
+// What is told where something of that name isn't finished.
+fn unfinished(
+    alloc: Global,
+    name: &str,
+    finished: Result<(), WriteFault>,
+) -> Result<Result<(), Refusal>, NoMemory> {
+    match finished {
+        Ok(()) => Ok(Ok(())),
+        Err(WriteFault::Device) => Ok(Err(Refusal::Fault(fault_text(alloc, "write", name)?))),
+        Err(WriteFault::NoMemory) => Err(NoMemory),
+    }
+}
+
+fn finish_folder<N: NewFolder, G>(
+    alloc: Global,
+    outputs: &mut Outputs<'_, N, G>,
+) -> Result<Result<(), Refusal>, NoMemory> {
+    match &mut outputs.certificates {
+        Some((name, new)) => unfinished(alloc, *name, new.finish()),
+        None => Ok(Ok(())),
+    }
+}
+
+fn finish_page<N, G: NewFile>(
+    alloc: Global,
+    outputs: &mut Outputs<'_, N, G>,
+) -> Result<Result<(), Refusal>, NoMemory> {
+    match &mut outputs.page {
+        Some((name, page)) => unfinished(alloc, *name, page.finish()),
+        None => Ok(Ok(())),
+    }
+}
+
 // Gives the folder and the page, which are written, their names.
 fn finish<N: NewFolder, G: NewFile>(
     alloc: Global,
     outputs: &mut Outputs<'_, N, G>,
-) -> Result<Result<(), Refusal>, AllocError> {
-    if let Some((name, new)) = &mut outputs.certificates {
-        if new.finish().is_err() {
-            return Ok(Err(Refusal::Fault(fault_text(alloc, "write", *name)?)));
-        }
+) -> Result<Result<(), Refusal>, NoMemory> {
+    match finish_folder(alloc, outputs)? {
+        Ok(()) => finish_page(alloc, outputs),
+        Err(refusal) => Ok(Err(refusal)),
     }
-    if let Some((name, page)) = &mut outputs.page {
-        if page.finish().is_err() {
-            return Ok(Err(Refusal::Fault(fault_text(alloc, "write", *name)?)));
-        }
-    }
-    Ok(Ok(()))
 }
 
 // Takes away what is written and has no name yet.
@@ -198,7 +224,7 @@ fn tell<N: NewFolder, G: NewFile, W: Write>(
     out: &mut W,
 ) -> Result<Result<(), Refusal>, NoMemory> {
     if is_written(out, text.as_bytes()) {
-        Ok(finish(alloc, outputs)?)
+        finish(alloc, outputs)
     } else {
         Ok(Err(Refusal::Unwritten))
     }
