@@ -65,6 +65,7 @@ pub record WayValue : Type 0 where
   pub shown : ShownValue
   pub blamed : Option Text
 
+-- both ways, and whether a canonical that OLD's names is told not to mean a profile, or none, in both packages
 pub record WaysValue : Type 0 where
   pub ways : Direction → WayValue
   pub lost : Bool
@@ -149,7 +150,7 @@ module _ (old made : Definitions) (mark : Text) where
 
   abbrev pub IsVerdict : ℕ → Text × Tree → VerdictValue → Type 0
   IsVerdict place e (both w) =
-      IsTrue (are_in_both e) × IsTrue (are_usable place e)
+      IsTrue (are_in_both e) × IsTrue (are_usable place e) × (w.lost ≡ not (names_stay old made (definition_at place e)))
       × ((way : Direction) → IsWay way place e (w.ways way))
   IsVerdict place e (unusable_in in_old in_new) =
       IsTrue (are_in_both e) × IsTrue (in_old || in_new)

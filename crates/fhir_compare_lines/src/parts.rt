@@ -1,7 +1,8 @@
 //! The part of a version that has to change.
 
 ghost use Rattle.std.specs.Prelude.{◌≡◌};
-ghost use Rattle.fhir_compare_lines.specs.Parts.{change_part, part_of_one, worse, part_word};
+ghost use Rattle.fhir_compare.specs.Views.{verdict_seen, all_said};
+ghost use Rattle.fhir_compare_lines.specs.Parts.{change_part, verdict_part, worse, part_of, part_word};
 
 use fhir_compare::{Change, Compared, Verdict};
 use fhir_words::Audience;
@@ -19,7 +20,9 @@ pub enum Part {
 
 impl Part {
     /// Its name.
-    pub fn text(self) -> &'static str {
+    pub fn text(self) -> &'static str
+        ensures { result.now ≡ part_word self }
+    {
         match self {
             Part::None => "none",
             Part::Minor => "minor",
@@ -29,7 +32,9 @@ impl Part {
 }
 
 // Readers are broken where more conforms than before, writers where less does.
-fn change_part(audience: Audience, change: Change) -> Part {
+fn change_part(audience: Audience, change: Change) -> Part
+    ensures { result ≡ change_part audience change }
+{
     match (audience, change) {
         (_, Change::Same) => Part::None,
         (_, Change::Neither) => Part::Major,
@@ -40,7 +45,9 @@ fn change_part(audience: Audience, change: Change) -> Part {
     }
 }
 
-fn part_of_one(audience: Audience, verdict: &Verdict<'_>) -> Part {
+fn part_of_one(audience: Audience, verdict: &Verdict<'_>) -> Part
+    ensures { result ≡ verdict_part audience (verdict_seen verdict.now) }
+{
     match verdict {
         Verdict::Both(ways) => change_part(audience, ways.change()),
         Verdict::CannotBeUsed { in_new: true, .. } => Part::Major,
@@ -50,7 +57,9 @@ fn part_of_one(audience: Audience, verdict: &Verdict<'_>) -> Part {
     }
 }
 
-fn worse(left: Part, right: Part) -> Part {
+fn worse(left: Part, right: Part) -> Part
+    ensures { result ≡ worse left right }
+{
     match (left, right) {
         (Part::Major, _) | (_, Part::Major) => Part::Major,
         (Part::Minor, _) | (_, Part::Minor) => Part::Minor,
@@ -59,7 +68,9 @@ fn worse(left: Part, right: Part) -> Part {
 }
 
 /// The part that has to change: the first where something breaks those who are asked about, the second where something else has changed.
-pub fn part_of(audience: Audience, compared: &[Compared<'_>]) -> Part {
+pub fn part_of(audience: Audience, compared: &[Compared<'_>]) -> Part
+    ensures { result ≡ part_of audience (all_said compared.now) }
+{
     let mut part = Part::None;
     for one in compared {
         part = worse(part, part_of_one(audience, &one.verdict));
