@@ -1,11 +1,12 @@
 //! Why a way isn't shown.
 
-use crate::sources::Sources;
+use crate::sources::{Side, Sources};
 use crate::unmarking::unmarked;
 use fhir_cert_check::{Rule, pair_text, rule_text};
 use fhir_certificate::Pair;
 use fhir_compare::{Shown, Way, Ways};
 use fhir_json::NoMemory;
+use fhir_package::Kind;
 use fhir_report::rule_words;
 use std::alloc::{AllocError, Global};
 
@@ -82,12 +83,44 @@ fn why_unusable(alloc: Global, sources: Sources<'_, '_, '_>, url: &str) -> Resul
     Ok(Why::Says(format!(in alloc; "OLD's can't be used beside NEW's definitions: {number}")?))
 }
 
+// Whether a package has a definition that a canonical names.
+fn is_there(side: Side<'_, '_>, canonical: &str) -> bool {
+    let package = side.survey.package();
+    package.get(Kind::StructureDefinition, canonical).is_some()
+}
+
+// What is said of a canonical that doesn't mean the same in both. One of an element's content names no definition as it stands.
+fn lost_text(
+    alloc: Global,
+    sources: Sources<'_, '_, '_>,
+    canonical: &str,
+) -> Result<String, AllocError> {
+    match (
+        is_there(sources.old, canonical),
+        is_there(sources.new, canonical),
+    ) {
+        (true, true) => {
+            format!(in alloc; "it names {canonical}, which is a profile in one of the two alone")
+        }
+        (false, false) => {
+            format!(in alloc;
+                "it has the content of {canonical}, which is of no type that both have"
+            )
+        }
+        _ => format!(in alloc; "it names {canonical}, which one of the two alone has"),
+    }
+}
+
 // Where the way is derived of the profiles themselves.
-fn why_blamed(alloc: Global, url: &str, blamed: &str, lost: Option<&str>) -> Result<Why, NoMemory> {
+fn why_blamed(
+    alloc: Global,
+    sources: Sources<'_, '_, '_>,
+    url: &str,
+    blamed: &str,
+    lost: Option<&str>,
+) -> Result<Why, NoMemory> {
     match lost {
-        Some(canonical) if blamed == url => Ok(Why::Says(format!(in alloc;
-            "it names {canonical}, which one of the two alone has"
-        )?)),
+        Some(canonical) if blamed == url => Ok(Why::Says(lost_text(alloc, sources, canonical)?)),
         _ => Ok(Why::Says(format!(in alloc; "it reaches {blamed}")?)),
     }
 }
@@ -110,7 +143,7 @@ fn why_of(
             resource,
         } => Ok(Some(why_fails(alloc, sources, *pair, *rule, resource.as_ref())?)),
         Shown::CannotBeUsed => Ok(Some(why_unusable(alloc, sources, url)?)),
-        Shown::Narrows => Ok(Some(why_blamed(alloc, url, blamed, lost)?)),
+        Shown::Narrows => Ok(Some(why_blamed(alloc, sources, url, blamed, lost)?)),
     }
 }
 
