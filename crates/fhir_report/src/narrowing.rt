@@ -48,7 +48,8 @@ fn most_text(alloc: Global, most: Option<Max>) -> Result<String, AllocError> {
     }
 }
 
-fn cardinality_text(alloc: Global, element: Option<&ElementDef>) -> Result<String, AllocError> {
+/// How many there may be of an element, as `0..1`; `nothing` where there is no such element.
+pub fn cardinality_text(alloc: Global, element: Option<&ElementDef>) -> Result<String, AllocError> {
     let Some(element) = element else {
         return String::from_str(alloc, "nothing");
     };
@@ -58,7 +59,7 @@ fn cardinality_text(alloc: Global, element: Option<&ElementDef>) -> Result<Strin
 }
 
 /// The text of a value.
-pub(crate) fn json_text(alloc: Global, value: &Json<'_>) -> Result<String, NoMemory> {
+pub fn json_text(alloc: Global, value: &Json<'_>) -> Result<String, NoMemory> {
     let bytes = write(alloc, value)?;
     Ok(String::from_utf8_lossy(alloc, &bytes)?)
 }
@@ -87,9 +88,10 @@ fn or_nothing(mut text: String) -> Result<String, NoMemory> {
     Ok(text)
 }
 
-fn fixed_text(alloc: Global, element: &ElementDef) -> Result<String, NoMemory> {
+/// A value under its whole name, as `fixedCode "x"`; `nothing` where there is none.
+pub fn member_text(alloc: Global, member: Option<&Member<'static>>) -> Result<String, NoMemory> {
     let mut text = String::new(alloc);
-    put_member(alloc, &mut text, element.fixed())?;
+    put_member(alloc, &mut text, member)?;
     or_nothing(text)
 }
 
@@ -100,14 +102,16 @@ fn pattern_text(alloc: Global, element: &ElementDef) -> Result<String, NoMemory>
     or_nothing(text)
 }
 
-fn range_text(alloc: Global, element: &ElementDef) -> Result<String, NoMemory> {
+/// The bounds of an element's values; `nothing` where there are none.
+pub fn range_text(alloc: Global, element: &ElementDef) -> Result<String, NoMemory> {
     let mut text = String::new(alloc);
     put_member(alloc, &mut text, element.min_value())?;
     put_member(alloc, &mut text, element.max_value())?;
     or_nothing(text)
 }
 
-fn length_text(alloc: Global, element: &ElementDef) -> Result<String, AllocError> {
+/// How long an element's texts may be.
+pub fn length_text(alloc: Global, element: &ElementDef) -> Result<String, AllocError> {
     match element.max_length() {
         Some(length) => format!(in alloc; "{length}"),
         None => String::from_str(alloc, "any length"),
@@ -142,7 +146,12 @@ fn types_text(alloc: Global, entries: &[TypeEntry]) -> Result<String, AllocError
     Ok(text)
 }
 
-fn node_types_text(alloc: Global, schema: &Schema, node: NodeRef) -> Result<String, AllocError> {
+/// The types of a node, with their profiles and targets.
+pub fn node_types_text(
+    alloc: Global,
+    schema: &Schema,
+    node: NodeRef,
+) -> Result<String, AllocError> {
     if schema.is_root(node) {
         return String::from_str(alloc, schema.type_code(node));
     }
@@ -241,7 +250,7 @@ fn field_text(
     };
     match field {
         Field::Types => Ok(node_types_text(alloc, schema, node)?),
-        Field::Fixed => fixed_text(alloc, element),
+        Field::Fixed => member_text(alloc, element.fixed()),
         Field::Pattern => pattern_text(alloc, element),
         Field::Range => range_text(alloc, element),
         Field::Length => Ok(length_text(alloc, element)?),

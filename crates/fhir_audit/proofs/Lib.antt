@@ -1,0 +1,7 @@
+-- Lemmas on audits.
+mod Climbing
+mod Each
+mod Groups
+mod Laws
+mod Listing
+mod Said

@@ -1,0 +1,201 @@
+//! What is told of certificates that were made before.
+
+use crate::sources::Sources;
+use crate::texts::{push_failing, push_line};
+use crate::trees::{Members, push_object, put_count, put_failing, put_text};
+use fhir_audit::{Audited, Held, Standing};
+use fhir_json::NoMemory;
+use fhir_names::Index;
+use fhir_words::Format;
+use std::alloc::{AllocError, Global};
+
+/// A file of a certificate, with how that stands.
+#[derive(Drop)]
+pub struct HeldFile<'s> {
+    /// The file's name.
+    pub name: String,
+    /// How it stands.
+    pub held: Held<'s>,
+}
+
+fn is_holding(file: &HeldFile<'_>) -> bool {
+    match &file.held.standing {
+        Standing::Holds => true,
+        Standing::Fails(_, _) | Standing::IsFaulty(_) | Standing::IsGone(_) => false,
+    }
+}
+
+/// Whether each certificate holds.
+pub fn are_holding(files: &[HeldFile<'_>]) -> bool {
+    files.iter().all(is_holding)
+}
+
+// ---- a certificate
+
+fn push_text(
+    alloc: Global,
+    sources: Sources<'_, '_>,
+    file: &HeldFile<'_>,
+    into: &mut String,
+) -> Result<(), NoMemory> {
+    let name = file.name.as_str();
+    match &file.held.standing {
+        Standing::Holds => Ok(()),
+        Standing::Fails(pair, rule) => {
+            let head = format!(in alloc; "{name}: no longer holds")?;
+            push_failing(alloc, sources, head.as_str(), *pair, *rule, into)
+        }
+        Standing::IsFaulty(fault) => {
+            let text = format!(in alloc; "{name}: is no certificate here: {}", fault.number())?;
+            Ok(push_line(text.as_str(), into)?)
+        }
+        Standing::IsGone(url) => {
+            let text = format!(in alloc; "{name}: its profile is gone: {}", url.as_str())?;
+            Ok(push_line(text.as_str(), into)?)
+        }
+    }
+}
+
+fn members_of<'m>(
+    alloc: Global,
+    sources: Sources<'_, '_>,
+    file: &'m HeldFile<'_>,
+) -> Result<Members<'m>, NoMemory> {
+    let mut members: Members<'m> = Vec::new(alloc);
+    put_text("certificate", file.name.as_str(), &mut members)?;
+    match &file.held.standing {
+        Standing::Holds => {}
+        Standing::Fails(pair, rule) => {
+            put_text("verdict", "no longer holds", &mut members)?;
+            put_failing(alloc, sources, *pair, *rule, &mut members)?;
+        }
+        Standing::IsFaulty(fault) => {
+            put_text("verdict", "is no certificate here", &mut members)?;
+            put_text("number", fault.number(), &mut members)?;
+        }
+        Standing::IsGone(url) => {
+            put_text("verdict", "its profile is gone", &mut members)?;
+            put_text("url", url.as_str(), &mut members)?;
+        }
+    }
+    Ok(members)
+}
+
+fn push_file(
+    alloc: Global,
+    format: Format,
+    sources: Sources<'_, '_>,
+    file: &HeldFile<'_>,
+    into: &mut String,
+) -> Result<(), NoMemory> {
+    match format {
+        Format::Text => push_text(alloc, sources, file, into),
+        Format::Json => push_object(alloc, members_of(alloc, sources, file)?, into),
+    }
+}
+
+fn push_bad(
+    alloc: Global,
+    format: Format,
+    sources: Sources<'_, '_>,
+    file: &HeldFile<'_>,
+    into: &mut String,
+) -> Result<(), NoMemory> {
+    if is_holding(file) {
+        Ok(())
+    } else {
+        push_file(alloc, format, sources, file, into)
+    }
+}
+
+// ---- profiles without one
+
+// A profile and a base in one text: no url of a certificate has a line feed.
+fn key_of(alloc: Global, derived: &str, base: &str) -> Result<String, AllocError> {
+    format!(in alloc; "{derived}\n{base}")
+}
+
+fn put_file(
+    alloc: Global,
+    file: &HeldFile<'_>,
+    place: usize,
+    named: &mut Index,
+) -> Result<(), NoMemory> {
+    match &file.held.profiles {
+        Some((derived, base)) => {
+            let key = key_of(alloc, derived.as_str(), base.as_str())?;
+            Ok(named.add(alloc, key.as_str(), place)?)
+        }
+        None => Ok(()),
+    }
+}
+
+// The profiles of which certificates say that they narrow a base, each with the bases.
+fn named_in(alloc: Global, files: &[HeldFile<'_>]) -> Result<Index, NoMemory> {
+    let mut named = Index::new(alloc);
+    for (place, file) in files.iter().enumerate() {
+        put_file(alloc, file, place, &mut named)?;
+    }
+    Ok(named)
+}
+
+fn push_without(
+    alloc: Global,
+    format: Format,
+    url: &str,
+    into: &mut String,
+) -> Result<(), NoMemory> {
+    match format {
+        Format::Text => {
+            let text = format!(in alloc; "{url}: has no certificate")?;
+            Ok(push_line(text.as_str(), into)?)
+        }
+        Format::Json => {
+            let mut members = Vec::new(alloc);
+            put_text("url", url, &mut members)?;
+            put_text("verdict", "has no certificate", &mut members)?;
+            push_object(alloc, members, into)
+        }
+    }
+}
+
+fn has_one(alloc: Global, named: &Index, audited: &Audited<'_>) -> Result<bool, NoMemory> {
+    let Some(base) = audited.base else {
+        return Ok(false);
+    };
+    let key = key_of(alloc, audited.url, base)?;
+    Ok(named.get(key.as_str()).is_some())
+}
+
+fn push_if_without(
+    alloc: Global,
+    format: Format,
+    named: &Index,
+    audited: &Audited<'_>,
+    into: &mut String,
+) -> Result<(), NoMemory> {
+    if has_one(alloc, named, audited)? {
+        Ok(())
+    } else {
+        push_without(alloc, format, audited.url, into)
+    }
+}
+
+/// Puts in what is told of certificates, and which profiles have none.
+pub(crate) fn push_held(
+    alloc: Global,
+    format: Format,
+    sources: Sources<'_, '_>,
+    audited: &[Audited<'_>],
+    files: &[HeldFile<'_>],
+    into: &mut String,
+) -> Result<(), NoMemory> {
+    for file in files {
+        push_bad(alloc, format, sources, file, into)?;
+    }
+    let named = named_in(alloc, files)?;
+    for one in audited {
+        push_if_without(alloc, format, &named, one, into)?;
+    }
+    Ok(())
+}
