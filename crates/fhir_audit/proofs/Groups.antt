@@ -1,6 +1,6 @@
 -- Carriers under the urls of their definitions, one more at a time.
 use Rattle.std.proofs.Common.{◌≡◌, ℕ, ◌+◌, ◌<◌, Bool, true, false, cond, List, [], ◌∷◌, ◌++◌, take, get_or, length, filter, sym, ap, ◌∙◌}
-use Rattle.std.specs.Prelude.{Vec}
+use Rattle.std.specs.Prelude.{Vec, if◌then◌else◌}
 use Rattle.std.specs.BTreeMap.{BTreeMap}
 use Rattle.std.specs.Borrow.{Bor}
 use Rattle.std.specs.Str.{bytes_eq}
@@ -20,7 +20,7 @@ one_more false ys y before is = is ∙ sym (append-nil before)
 
 pub put_more : (ys : List CarrierOf) (i : ℕ) (d y : CarrierOf) (old new : BTreeMap (Bor Text) (Vec CarrierOf Global))
     → i < length ys → get_or ys i d ≡ y
-    → ((url : Text) → kept_under url new ≡ cond (bytes_eq url y.url.now) (kept_under url old ++ y ∷ []) (kept_under url old))
+    → ((url : Text) → kept_under url new ≡ (if bytes_eq url y.url.now then kept_under url old ++ y ∷ [] else kept_under url old))
     → ((url : Text) → carriers_seen (kept_under url old) ≡ filter (λ z. bytes_eq url z.url) (carriers_seen (take i ys)))
     → (url : Text) → carriers_seen (kept_under url new) ≡ filter (λ z. bytes_eq url z.url) (carriers_seen (take (i + 1) ys))
 put_more ys i d y old new lt is puts before url =

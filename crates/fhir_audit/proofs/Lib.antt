@@ -2,6 +2,6 @@
 mod Climbing
 mod Each
 mod Groups
-mod Laws
+mod Narrowing
 mod Listing
 mod Said

@@ -1,5 +1,5 @@
 -- What is said of a profile and its base, from what is derived.
-use Rattle.std.proofs.Common.{◌≡◌, ◌↔◌, List, true, false, is_some, Option, None, Some, IfSome, IsTrue, sym, ap, subst, ◌∙◌}
+use Rattle.std.proofs.Common.{◌≡◌, ◌↔◌, List, true, false, is_some, Option, None, Some, IfSome, IfOk, Result, Ok, Err, IsTrue, sym, ap, subst, ◌∙◌}
 use Rattle.std.specs.Option.{option_map}
 use Rattle.std.proofs.lemmas.Bool.{false≢true}
 use Rattle.fhir_json.specs.Tree.{Text}
@@ -21,6 +21,13 @@ use Rattle.fhir_derive_check.specs.Faults.{derive_refusal, is_no_memory}
 use Rattle.fhir_derive_check.specs.Reaching.{HasCertificate}
 use Rattle.fhir_derive_check.specs.Views.{certificate_of, failing_of}
 use Rattle.fhir_audit.specs.Verdicts.{VerdictValue, Narrows, IsRefuted, IsShownBy, verdict_by, IsShownVerdict, IsSaid}
+
+-- two things that hold of what is found
+pub both : {A E : Type 0} (P Q R : A → Type 0) (join : (a : A) → P a → Q a → R a) (r : Result (Option A) E) → IfOk r (λ o. IfSome o P)
+    → IfOk r (λ o. IfSome o Q) → IfOk r (λ o. IfSome o R)
+both P Q R join (Ok None) p q = tt
+both P Q R join (Ok (Some a)) p q = join a p q
+both P Q R join (Err e) p q = tt
 
 -- what holds of a value that is seen
 pub mapped : {X Y : Type 0} (f : X → Y) (P : Y → Type 0) (r : Option X) → IfSome r (λ x. P (f x)) → IfSome (option_map f r) P

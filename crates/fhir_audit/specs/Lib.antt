@@ -6,3 +6,4 @@ pub mod Unread
 pub mod Kept
 pub mod Auditing
 pub mod Views
+pub mod Standing

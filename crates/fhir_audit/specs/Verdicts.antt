@@ -1,5 +1,5 @@
 -- What is said of a profile and its base.
-use Rattle.std.specs.Prelude.{◌≡◌, ℕ, List, Bool, true, false, Option, None, Some, IfSome}
+use Rattle.std.specs.Prelude.{◌≡◌, ℕ, List, Bool, true, false, Option, None, Some, IfSome, IsTrue}
 use Rattle.fhir_json.specs.Tree.{Text}
 use Rattle.fhir_schema.specs.Schemas.{SchemaValue}
 use Rattle.fhir_certificate.specs.declared.pair.Pair.{Pair}
@@ -12,7 +12,7 @@ use Rattle.fhir_derive_check.specs.declared.fault.Side.{Side}
 use Rattle.fhir_derive_check.specs.Deriving.{IsDerived, IsFirstFailing}
 use Rattle.fhir_derive_check.specs.Faults.{derive_refusal}
 use Rattle.fhir_derive_check.specs.Reaching.{HasCertificate}
-use Rattle.fhir_counter.specs.Shows.{Shows, ShowsAsGiven}
+use Rattle.fhir_counter.specs.Shows.{ShowsBy, is_on_line}
 
 -- a certificate; or a pair that fails a rule, with a resource that shows that the profile doesn't narrow its base, or without one; or that one of
 -- the two can't be used; or that the base isn't there
@@ -43,10 +43,10 @@ pub record IsRefuted (s : SchemaValue) (url base : Text) (pair : Pair) (rule : R
   pub first : IsFirstFailing s url base pair rule
   pub none : HasCertificate s url base → ⊥
 
--- The bytes are a resource that conforms to the profile and not to its base; where a user vouches for unread rules by their texts, as these hold.
-abbrev pub IsShownBy : Option (List Text) → SchemaValue → (url base bytes : Text) → Type 0
-IsShownBy None s url base bytes = Shows s url base bytes
-IsShownBy (Some texts) s url base bytes = ShowsAsGiven s texts url base bytes
+-- The bytes are a resource that conforms to the profile and not to its base, where a user may vouch for unread rules; and they stand on one line.
+pub record IsShownBy (given : Option (List Text)) (s : SchemaValue) (url base bytes : Text) : Type 0 where
+  pub shows : ShowsBy given s url base bytes
+  pub on_line : IsTrue (is_on_line bytes)
 
 -- where there is no certificate, and a resource was found or none
 abbrev pub verdict_by : Pair → RuleName → Option Text → VerdictValue

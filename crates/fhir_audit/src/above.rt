@@ -5,7 +5,7 @@ ghost use Rattle.std.specs.List.{slice_get};
 ghost use Rattle.fhir_json.specs.Tree.{Text, Tree};
 ghost use Rattle.fhir_findings.specs.Selecting.{is_own};
 ghost use Rattle.fhir_audit.specs.Asked.{IsClosed, AreAsked};
-ghost use Rattle.fhir_audit.specs.Marks.{marked, IsMarked, RestsWithin, AreWithin};
+ghost use Rattle.fhir_audit.specs.Marks.{marked, IsMarked, RestsWithin, AreWithin, IsTaken, is_own_at};
 
 use crate::profile::base_place;
 use fhir_json::NoMemory;
@@ -64,20 +64,46 @@ fn climb(package: &Package<'_>, from: usize, marks: &mut [bool])
     }
 }
 
+// Marks a definition, if it is one of the own, and what it rests on.
+fn climb_if(is_taken: bool, package: &Package<'_>, place: usize, marks: &mut [bool])
+    requires long { length marks.old ≡ length «package».now.structure_definitions }
+    requires there { place < length marks.old }
+    ensures { IsTaken «package».now is_taken place marks.old marks.new }
+{
+    if is_taken {
+        climb(package, place, marks);
+    }
+}
+
+// Whether the url of the definition at a place begins with a prefix.
+fn is_own_at(package: &Package<'_>, prefixes: &[String], place: usize) -> bool
+    ensures { result ≡ is_own_at (map string_bytes prefixes.now) «package».now place }
+{
+    match package.at(Kind::StructureDefinition, place) {
+        Some((url, _definition)) => is_own(prefixes, url),
+        None => false,
+    }
+}
+
 // Marks the definition at a place, if its url begins with a prefix, and what it rests on.
 fn take(package: &Package<'_>, prefixes: &[String], place: usize, marks: &mut [bool])
-    requires { length marks.old ≡ length «package».now.structure_definitions }
-    ensures kept { (other : ℕ) → IsMarked marks.old other → IsMarked marks.new other }
-    ensures own { (e : Text × Tree) → slice_get «package».now.structure_definitions place ≡ Some e → IsTrue (is_own (map string_bytes prefixes.now) e.0)
-        → IsMarked marks.new place }
-    ensures within { (set : ℕ → Bool) → IsClosed (map string_bytes prefixes.now) «package».now set
-        → ((other : ℕ) → IsMarked marks.old other → IsTrue (set other)) → (other : ℕ) → IsMarked marks.new other → IsTrue (set other) }
-    ensures rests { RestsWithin «package».now marks.old None → RestsWithin «package».now marks.new None }
+    requires long { length marks.old ≡ length «package».now.structure_definitions }
+    requires there { place < length marks.old }
+    ensures { IsTaken «package».now (is_own_at (map string_bytes prefixes.now) «package».now place) place marks.old marks.new }
 {
-    if let Some((url, _definition)) = package.at(Kind::StructureDefinition, place) {
-        if is_own(prefixes, url) {
-            climb(package, place, marks);
-        }
+    climb_if(is_own_at(package, prefixes, place), package, place, marks);
+}
+
+// Marks those whose urls begin with a prefix, and what they rest on.
+fn take_all(package: &Package<'_>, prefixes: &[String], marks: &mut [bool])
+    requires long { length marks.old ≡ length «package».now.structure_definitions }
+    requires none { (place : ℕ) → IsMarked marks.old place → ⊥ }
+    ensures closed { IsClosed (map string_bytes prefixes.now) «package».now (marked marks.new) }
+    ensures least { (set : ℕ → Bool) → IsClosed (map string_bytes prefixes.now) «package».now set
+        → (place : ℕ) → IsMarked marks.new place → IsTrue (set place) }
+{
+    for place in 0..marks.len() {
+        take(package, prefixes, place, marks);
     }
 }
 
@@ -90,11 +116,8 @@ fn marked_by(
     ensures least { IfOk result (λ marks. (set : ℕ → Bool) → IsClosed (map string_bytes prefixes.now) «package».now set
         → (place : ℕ) → IsMarked marks.items place → IsTrue (set place)) }
 {
-    let count = package.len(Kind::StructureDefinition);
-    let mut marks = marks_of(alloc, count, false)?;
-    for place in 0..count {
-        take(package, prefixes, place, marks.as_mut_slice());
-    }
+    let mut marks = marks_of(alloc, package.len(Kind::StructureDefinition), false)?;
+    take_all(package, prefixes, marks.as_mut_slice());
     Ok(marks)
 }
 

@@ -1,6 +1,12 @@
 //! Certificates that were made before, and whether they hold still.
 
-ghost use Rattle.std.specs.Prelude.{◌≡◌, IfOk};
+ghost use Rattle.std.specs.Prelude.{◌≡◌, Ok, Err, None, Some, IfOk, IfSome, IsTrue, string_bytes};
+ghost use Rattle.std.specs.Option.{option_map_or};
+ghost use Rattle.fhir_package.specs.declared.kind.Kind.TheVariants.{StructureDefinition};
+ghost use Rattle.fhir_package.specs.Definitions.{at_url};
+ghost use Rattle.fhir_certificate.specs.Certificate.{fits};
+ghost use Rattle.fhir_certificate.specs.Reading.{reading};
+ghost use Rattle.fhir_audit.specs.Standing.{is_gone, is_faulty, standing_seen, profiles_seen, IsChecked, IsUnread, IsHeld};
 
 use crate::heading::derived_in;
 use fhir_cert_check::{Answer, Rule, check};
@@ -32,19 +38,31 @@ pub struct Held<'s> {
     pub profiles: Option<(String, String)>,
 }
 
-fn standing_of(answer: Answer<'_>) -> Standing<'_> {
-    match answer {
-        Answer::Yes => Standing::Holds,
-        Answer::No(pair, rule) => Standing::Fails(pair, rule),
-    }
-}
-
+// How a certificate stands that can be read.
 fn checked<'s>(
     alloc: Global,
     schema: &'s Schema,
+    certificate: &Certificate,
+) -> Result<Standing<'s>, NoMemory>
+    requires { IsTrue (fits schema.now certificate.now) }
+    ensures { IfOk result (λ standing. IsChecked schema.now certificate.now (standing_seen standing)) }
+{
+    match check(alloc, schema, certificate)? {
+        Answer::Yes => Ok(Standing::Holds),
+        Answer::No(pair, rule) => Ok(Standing::Fails(pair, rule)),
+    }
+}
+
+fn held_certificate<'s>(
+    alloc: Global,
+    schema: &'s Schema,
     certificate: Certificate,
-) -> Result<Held<'s>, NoMemory> {
-    let standing = standing_of(check(alloc, schema, &certificate)?);
+) -> Result<Held<'s>, NoMemory>
+    requires { IsTrue (fits schema.now certificate) }
+    ensures standing { IfOk result (λ h. IsChecked schema.now certificate (standing_seen h.standing)) }
+    ensures profiles { IfOk result (λ h. profiles_seen h ≡ Some (certificate.derived, certificate.base)) }
+{
+    let standing = checked(alloc, schema, &certificate)?;
     let Certificate { derived, base, .. } = certificate;
     Ok(Held {
         standing,
@@ -53,7 +71,9 @@ fn checked<'s>(
 }
 
 // The url that bytes say to be that of their derived profile, where no definition of it is there.
-fn gone_in(alloc: Global, package: &Package<'_>, bytes: &[u8]) -> Result<Option<String>, NoMemory> {
+fn gone_in(alloc: Global, package: &Package<'_>, bytes: &[u8]) -> Result<Option<String>, NoMemory>
+    ensures { IfOk result (λ gone. IfSome gone (λ url. at_url StructureDefinition (string_bytes url) «package».now ≡ None)) }
+{
     let Some(url) = derived_in(bytes) else {
         return Ok(None);
     };
@@ -63,36 +83,36 @@ fn gone_in(alloc: Global, package: &Package<'_>, bytes: &[u8]) -> Result<Option<
     }
 }
 
-fn unread<'s>(
-    alloc: Global,
-    package: &Package<'_>,
-    bytes: &[u8],
-    fault: CertFault,
-) -> Result<Held<'s>, NoMemory> {
-    let standing = match gone_in(alloc, package, bytes)? {
+fn unread<'s>(gone: Option<String>, fault: CertFault) -> Held<'s>
+    ensures standing { standing_seen result.standing ≡ option_map_or (λ url. is_gone (string_bytes url)) gone (is_faulty fault) }
+    ensures profiles { profiles_seen result ≡ None }
+{
+    let standing = match gone {
         Some(url) => Standing::IsGone(url),
         None => Standing::IsFaulty(fault),
     };
-    Ok(Held {
+    Held {
         standing,
         profiles: None,
-    })
+    }
 }
 
 /// How the certificate stands that bytes spell. It goes by what they say of themselves. The one refusal is want of memory.
-pub fn held<'s>(
+pub fn recheck<'s>(
     alloc: Global,
     package: &Package<'_>,
     schema: &'s Schema,
     bytes: &[u8],
-) -> Result<Held<'s>, NoMemory> {
+) -> Result<Held<'s>, NoMemory>
+    ensures { IfOk result (λ h. IsHeld schema.now «package».now bytes.now h) }
+{
     match read(alloc, schema, bytes) {
-        Ok(certificate) => checked(alloc, schema, certificate),
+        Ok(certificate) => held_certificate(alloc, schema, certificate),
         Err(CertFault::NoMemory) => Err(NoMemory),
-        Err(CertFault::UnknownNode) => unread(alloc, package, bytes, CertFault::UnknownNode),
-        Err(fault) => Ok(Held {
-            standing: Standing::IsFaulty(fault),
-            profiles: None,
-        }),
+        Err(CertFault::UnknownNode) => {
+            let gone = gone_in(alloc, package, bytes)?;
+            Ok(unread(gone, CertFault::UnknownNode))
+        }
+        Err(fault) => Ok(unread(None, fault)),
     }
 }

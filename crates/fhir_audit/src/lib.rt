@@ -15,7 +15,8 @@
 //! ```
 //!
 //! The contract to read first is that of [`audit`]. What is said of a profile stands in `specs/Verdicts.antt`, and of which profiles it is said
-//! in `specs/Asked.antt`; the law [`narrowing_profiles`] says what it is that all of them narrow.
+//! in `specs/Asked.antt`; the law [`narrowing_profiles`] says what it is that all of them narrow, [`profiles_told_once`] that
+//! none is left out or told twice, and [`narrowing_exactly`] that a profile is told to narrow its base where a certificate exists, and nowhere else.
 #![tactic(auto)]
 
 mod above;
@@ -29,8 +30,8 @@ mod profile;
 mod verdict;
 mod watch;
 
-pub use against::{Held, Standing, held};
+pub use against::{Held, Standing, recheck};
 pub use auditing::{are_narrowing, audit};
-pub use laws::narrowing_profiles;
+pub use laws::{narrowing_exactly, narrowing_profiles, profiles_told_once};
 pub use verdict::{Audited, Verdict};
 pub use watch::{Unwatched, Watch};

@@ -11,7 +11,7 @@ use crate::certificate_files::{fault_text, write_certificates};
 use crate::new_file::NewFile;
 use crate::outputs::Outputs;
 use fhir_answers::{Reply, Session, Status, fault_reply, refused_reply};
-use fhir_audit::{Audited, Watch, are_narrowing, audit, held, narrowing_profiles};
+use fhir_audit::{Audited, Watch, are_narrowing, audit, narrowing_profiles, recheck};
 use fhir_audit_lines::{HeldFile, Sources, are_holding, audit_text};
 use fhir_engine::{end_with, files_of, is_written, vouched};
 use fhir_findings::{SelectFault, Selection};
@@ -59,7 +59,7 @@ fn held_file<'s>(
     let package = session.survey().package();
     Ok(HeldFile {
         name: file.name.clone()?,
-        held: held(alloc, package, session.schema(), &file.bytes)?,
+        held: recheck(alloc, package, session.schema(), &file.bytes)?,
     })
 }
 

@@ -1,7 +1,11 @@
 //! How many profiles there are of each verdict.
 
+ghost use Rattle.std.specs.Prelude.{◌≡◌, IfOk, string_bytes};
+ghost use Rattle.fhir_audit.specs.Verdicts.{is_narrowing};
+ghost use Rattle.fhir_audit.specs.Views.{verdict_seen};
+ghost use Rattle.fhir_audit_lines.specs.Counting.{is_refuted, is_undecided, is_unusable, is_without_base, with_verdict, counts_of, counts_text};
+
 use fhir_audit::{Audited, Verdict};
-use fhir_json::NoMemory;
 use std::alloc::{AllocError, Global};
 
 /// How many profiles there are, and of how many each verdict is told.
@@ -21,42 +25,84 @@ pub struct Counts {
     pub without_base: usize,
 }
 
-impl Counts {
-    fn none() -> Counts {
-        Counts {
-            profiles: 0,
-            narrow: 0,
-            do_not: 0,
-            not_shown: 0,
-            unusable: 0,
-            without_base: 0,
-        }
-    }
+fn is_narrowing(audited: &Audited<'_>) -> bool
+    ensures { result ≡ is_narrowing (verdict_seen audited.now.verdict) }
+{
+    matches!(audited.verdict, Verdict::Narrows(_))
+}
 
-    fn count(&mut self, verdict: &Verdict<'_>) {
-        self.profiles = self.profiles.saturating_add(1);
-        let place = match verdict {
-            Verdict::Narrows(_) => &mut self.narrow,
-            Verdict::DoesNotNarrow { .. } => &mut self.do_not,
-            Verdict::IsNotShown { .. } => &mut self.not_shown,
-            Verdict::CannotBeUsed(_) => &mut self.unusable,
-            Verdict::HasNoBase => &mut self.without_base,
-        };
-        *place = place.saturating_add(1);
-    }
+fn is_refuted(audited: &Audited<'_>) -> bool
+    ensures { result ≡ is_refuted (verdict_seen audited.now.verdict) }
+{
+    matches!(audited.verdict, Verdict::DoesNotNarrow { .. })
+}
+
+fn is_undecided(audited: &Audited<'_>) -> bool
+    ensures { result ≡ is_undecided (verdict_seen audited.now.verdict) }
+{
+    matches!(audited.verdict, Verdict::IsNotShown { .. })
+}
+
+fn is_unusable(audited: &Audited<'_>) -> bool
+    ensures { result ≡ is_unusable (verdict_seen audited.now.verdict) }
+{
+    matches!(audited.verdict, Verdict::CannotBeUsed(_))
+}
+
+fn is_without_base(audited: &Audited<'_>) -> bool
+    ensures { result ≡ is_without_base (verdict_seen audited.now.verdict) }
+{
+    matches!(audited.verdict, Verdict::HasNoBase)
+}
+
+fn narrow(audited: &[Audited<'_>]) -> usize
+    ensures { result ≡ with_verdict is_narrowing audited.now }
+{
+    audited.iter().filter(|one| is_narrowing(*one)).count()
+}
+
+fn refuted(audited: &[Audited<'_>]) -> usize
+    ensures { result ≡ with_verdict is_refuted audited.now }
+{
+    audited.iter().filter(|one| is_refuted(*one)).count()
+}
+
+fn undecided(audited: &[Audited<'_>]) -> usize
+    ensures { result ≡ with_verdict is_undecided audited.now }
+{
+    audited.iter().filter(|one| is_undecided(*one)).count()
+}
+
+fn unusable(audited: &[Audited<'_>]) -> usize
+    ensures { result ≡ with_verdict is_unusable audited.now }
+{
+    audited.iter().filter(|one| is_unusable(*one)).count()
+}
+
+fn without_base(audited: &[Audited<'_>]) -> usize
+    ensures { result ≡ with_verdict is_without_base audited.now }
+{
+    audited.iter().filter(|one| is_without_base(*one)).count()
 }
 
 /// Of how many profiles each verdict is told.
-pub fn counts_of(audited: &[Audited<'_>]) -> Counts {
-    let mut counts = Counts::none();
-    for one in audited {
-        counts.count(&one.verdict);
+pub fn counts_of(audited: &[Audited<'_>]) -> Counts
+    ensures { result ≡ counts_of audited.now }
+{
+    Counts {
+        profiles: audited.len(),
+        narrow: narrow(audited),
+        do_not: refuted(audited),
+        not_shown: undecided(audited),
+        unusable: unusable(audited),
+        without_base: without_base(audited),
     }
-    counts
 }
 
 /// The counts as a text.
-pub(crate) fn counts_text(alloc: Global, counts: Counts) -> Result<String, AllocError> {
+pub(crate) fn counts_text(alloc: Global, counts: Counts) -> Result<String, AllocError>
+    ensures { IfOk result (λ text. string_bytes text ≡ counts_text counts) }
+{
     format!(in alloc;
         "profiles: {}, narrow: {}, do not: {}, not shown: {}, can't be used: {}, without a base: {}",
         counts.profiles,

@@ -1,9 +1,15 @@
 //! What is told of certificates that were made before.
 
+ghost use Rattle.std.specs.Prelude.{◌≡◌};
+ghost use Rattle.std.specs.List.{list_all};
+ghost use Rattle.fhir_audit.specs.Standing.{standing_seen, is_holding};
+
 use crate::sources::Sources;
-use crate::texts::{push_failing, push_line};
-use crate::trees::{Members, push_object, put_count, put_failing, put_text};
+use crate::texts::{failing_line, words_line};
+use crate::trees::{Members, object_text, put_failing, put_text};
 use fhir_audit::{Audited, Held, Standing};
+use fhir_cert_check::Rule;
+use fhir_certificate::Pair;
 use fhir_json::NoMemory;
 use fhir_names::Index;
 use fhir_words::Format;
@@ -18,7 +24,9 @@ pub struct HeldFile<'s> {
     pub held: Held<'s>,
 }
 
-fn is_holding(file: &HeldFile<'_>) -> bool {
+fn is_holding(file: &HeldFile<'_>) -> bool
+    ensures { result ≡ is_holding (standing_seen file.now.held.standing) }
+{
     match &file.held.standing {
         Standing::Holds => true,
         Standing::Fails(_, _) | Standing::IsFaulty(_) | Standing::IsGone(_) => false,
@@ -26,32 +34,48 @@ fn is_holding(file: &HeldFile<'_>) -> bool {
 }
 
 /// Whether each certificate holds.
-pub fn are_holding(files: &[HeldFile<'_>]) -> bool {
-    files.iter().all(is_holding)
+pub fn are_holding(files: &[HeldFile<'_>]) -> bool
+    ensures { result ≡ list_all (λ file. is_holding (standing_seen file.held.standing)) files.now }
+{
+    files.iter().all(|file| is_holding(file))
 }
 
 // ---- a certificate
+
+// That a pair fails a rule, with what both elements say.
+fn push_failing(
+    alloc: Global,
+    sources: Sources<'_, '_>,
+    name: &str,
+    pair: Pair,
+    rule: Rule<'_>,
+    into: &mut Vec<String>,
+) -> Result<(), NoMemory> {
+    let front = format!(in alloc; "{name}: no longer holds")?;
+    let line = failing_line(alloc, sources.schema, front.as_str(), pair, rule)?;
+    let words = words_line(alloc, sources.schema, pair, rule)?;
+    into.push(line)?;
+    into.push(words)?;
+    Ok(())
+}
 
 fn push_text(
     alloc: Global,
     sources: Sources<'_, '_>,
     file: &HeldFile<'_>,
-    into: &mut String,
+    into: &mut Vec<String>,
 ) -> Result<(), NoMemory> {
     let name = file.name.as_str();
     match &file.held.standing {
         Standing::Holds => Ok(()),
-        Standing::Fails(pair, rule) => {
-            let head = format!(in alloc; "{name}: no longer holds")?;
-            push_failing(alloc, sources, head.as_str(), *pair, *rule, into)
-        }
+        Standing::Fails(pair, rule) => push_failing(alloc, sources, name, *pair, *rule, into),
         Standing::IsFaulty(fault) => {
-            let text = format!(in alloc; "{name}: is no certificate here: {}", fault.number())?;
-            Ok(push_line(text.as_str(), into)?)
+            let number = fault.number();
+            Ok(into.push(format!(in alloc; "{name}: is no certificate here: {number}")?)?)
         }
         Standing::IsGone(url) => {
-            let text = format!(in alloc; "{name}: its profile is gone: {}", url.as_str())?;
-            Ok(push_line(text.as_str(), into)?)
+            let url = url.as_str();
+            Ok(into.push(format!(in alloc; "{name}: its profile is gone: {url}")?)?)
         }
     }
 }
@@ -86,11 +110,14 @@ fn push_file(
     format: Format,
     sources: Sources<'_, '_>,
     file: &HeldFile<'_>,
-    into: &mut String,
+    into: &mut Vec<String>,
 ) -> Result<(), NoMemory> {
     match format {
         Format::Text => push_text(alloc, sources, file, into),
-        Format::Json => push_object(alloc, members_of(alloc, sources, file)?, into),
+        Format::Json => {
+            let members = members_of(alloc, sources, file)?;
+            Ok(into.push(object_text(alloc, members)?)?)
+        }
     }
 }
 
@@ -99,7 +126,7 @@ fn push_bad(
     format: Format,
     sources: Sources<'_, '_>,
     file: &HeldFile<'_>,
-    into: &mut String,
+    into: &mut Vec<String>,
 ) -> Result<(), NoMemory> {
     if is_holding(file) {
         Ok(())
@@ -143,18 +170,15 @@ fn push_without(
     alloc: Global,
     format: Format,
     url: &str,
-    into: &mut String,
+    into: &mut Vec<String>,
 ) -> Result<(), NoMemory> {
     match format {
-        Format::Text => {
-            let text = format!(in alloc; "{url}: has no certificate")?;
-            Ok(push_line(text.as_str(), into)?)
-        }
+        Format::Text => { Ok(into.push(format!(in alloc; "{url}: has no certificate")?)?) }
         Format::Json => {
             let mut members = Vec::new(alloc);
             put_text("url", url, &mut members)?;
             put_text("verdict", "has no certificate", &mut members)?;
-            push_object(alloc, members, into)
+            Ok(into.push(object_text(alloc, members)?)?)
         }
     }
 }
@@ -172,7 +196,7 @@ fn push_if_without(
     format: Format,
     named: &Index,
     audited: &Audited<'_>,
-    into: &mut String,
+    into: &mut Vec<String>,
 ) -> Result<(), NoMemory> {
     if has_one(alloc, named, audited)? {
         Ok(())
@@ -181,21 +205,21 @@ fn push_if_without(
     }
 }
 
-/// Puts in what is told of certificates, and which profiles have none.
-pub(crate) fn push_held(
+/// What is told of certificates, and which profiles have none.
+pub(crate) fn held_lines(
     alloc: Global,
     format: Format,
     sources: Sources<'_, '_>,
     audited: &[Audited<'_>],
     files: &[HeldFile<'_>],
-    into: &mut String,
-) -> Result<(), NoMemory> {
+) -> Result<Vec<String>, NoMemory> {
+    let mut lines: Vec<String> = Vec::new(alloc);
     for file in files {
-        push_bad(alloc, format, sources, file, into)?;
+        push_bad(alloc, format, sources, file, &mut lines)?;
     }
     let named = named_in(alloc, files)?;
     for one in audited {
-        push_if_without(alloc, format, &named, one, into)?;
+        push_if_without(alloc, format, &named, one, &mut lines)?;
     }
-    Ok(())
+    Ok(lines)
 }

@@ -5,17 +5,20 @@
 //! pub fn audit_all(
 //!     alloc: Global,
 //!     sources: Sources<'_, '_>,
-//! ) -> Result<String, NoMemory> {
+//! ) -> Result<String, NoMemory>
+//! {
 //!     let audited = audit(alloc, sources.survey, sources.schema, &[], None, &mut Unwatched)?;
 //!     fhir_audit_lines::audit_text(alloc, Format::Text, sources, &audited, None)
 //! }
 //! ```
 //!
-//! The contract to read first is that of [`audit_text`].
+//! The contracts to read first are those of [`audit_text`] and [`file_names`]. What is told stands in `specs/Telling.antt` and `specs/Report.antt`; the law
+//! [`names_differ`] says that no certificate is written over another.
 #![tactic(auto)]
 
 mod counting;
 mod held_lines;
+mod laws;
 mod naming;
 mod reporting;
 mod sources;
@@ -25,6 +28,7 @@ mod unusable;
 
 pub use counting::{Counts, counts_of};
 pub use held_lines::{HeldFile, are_holding};
+pub use laws::names_differ;
 pub use naming::file_names;
 pub use reporting::audit_text;
 pub use sources::Sources;

@@ -1,5 +1,13 @@
 //! What is said of a profile, as a JSON object.
 
+ghost use Rattle.std.specs.Prelude.{◌≡◌, ◌∷◌, ◌++◌, [], List, map, string_bytes, IfOk, OnOk};
+ghost use Rattle.fhir_json.specs.Tree.{Property, object, members_of, string};
+ghost use Rattle.fhir_json.specs.Compact.{compact};
+ghost use Rattle.fhir_json.specs.Views.{tree_of, property_of, text_seen};
+ghost use Rattle.fhir_lines.specs.Lines.{text_member};
+ghost use Rattle.fhir_audit.specs.Views.{audited_seen};
+ghost use Rattle.fhir_audit_lines.specs.Trees.{first_members, IsToldTree, count_property, counts_tree};
+
 use crate::counting::Counts;
 use crate::sources::Sources;
 use crate::texts::{is_of_resource, pair_count, url_on, verdict_word};
@@ -8,8 +16,8 @@ use fhir_audit::{Audited, Verdict};
 use fhir_cert_check::{Rule, pair_text, rule_text};
 use fhir_certificate::Pair;
 use fhir_derive_check::Side;
-use fhir_json::{Json, JsonFault, Member, NoMemory, read};
-use fhir_lines::{Line, push_json};
+use fhir_json::{Json, JsonFault, Member, NoMemory, read, write};
+use fhir_lines::Line;
 use fhir_report::rule_words;
 use std::alloc::{AllocError, Global};
 use std::borrow::CowStr;
@@ -21,7 +29,9 @@ pub(crate) fn put<'m>(
     name: &'static str,
     value: Json<'m>,
     into: &mut Members<'m>,
-) -> Result<(), AllocError> {
+) -> Result<(), AllocError>
+    ensures { OnOk result (map property_of into.new.items ≡ map property_of into.old.items ++ (name.now, tree_of value.entry) ∷ []) }
+{
     into.push(Member {
         name: CowStr::Borrowed(name),
         value,
@@ -33,7 +43,9 @@ pub(crate) fn put_text<'m>(
     name: &'static str,
     text: &'m str,
     into: &mut Members<'m>,
-) -> Result<(), AllocError> {
+) -> Result<(), AllocError>
+    ensures { OnOk result (map property_of into.new.items ≡ map property_of into.old.items ++ (name.now, string text.now) ∷ []) }
+{
     put(name, Json::Str(CowStr::Borrowed(text)), into)
 }
 
@@ -50,7 +62,9 @@ pub(crate) fn put_count(
     name: &'static str,
     count: usize,
     into: &mut Members<'_>,
-) -> Result<(), AllocError> {
+) -> Result<(), AllocError>
+    ensures { OnOk result (map property_of into.new.items ≡ map property_of into.old.items ++ count_property name.now count ∷ []) }
+{
     let text = format!(in alloc; "{count}")?;
     put(name, Json::Num(CowStr::Owned(text)), into)
 }
@@ -59,7 +73,9 @@ fn put_if<'m>(
     name: &'static str,
     text: Option<&'m str>,
     into: &mut Members<'m>,
-) -> Result<(), AllocError> {
+) -> Result<(), AllocError>
+    ensures { OnOk result (map property_of into.new.items ≡ map property_of into.old.items ++ text_member name.now (text_seen text.entry)) }
+{
     match text {
         Some(text) => put_text(name, text, into),
         None => Ok(()),
@@ -132,7 +148,7 @@ fn put_not_looked_for(
     url: &str,
     into: &mut Members<'_>,
 ) -> Result<(), AllocError> {
-    if is_of_resource(sources, url) {
+    if is_of_resource(sources.schema, url) {
         Ok(())
     } else {
         put("of-resources", Json::Bool(false), into)
@@ -186,48 +202,76 @@ fn put_unread<'m>(
     }
 }
 
-fn tree_of<'m, 's: 'm, 'f: 's>(
+// The url, the verdict, and the url of the base.
+fn put_first<'m, 's: 'm>(audited: &'m Audited<'s>, into: &mut Members<'m>) -> Result<(), AllocError>
+    ensures { OnOk result (map property_of into.new.items ≡ map property_of into.old.items ++ first_members (audited_seen audited.now)) }
+{
+    put_text("url", audited.url, into)?;
+    put_text("verdict", verdict_word(&audited.verdict), into)?;
+    put_if("base", audited.base, into)
+}
+
+// What stands behind these.
+fn further_members<'m, 's: 'm, 'f: 's>(
     alloc: Global,
     sources: Sources<'s, 'f>,
     audited: &'m Audited<'s>,
-) -> Result<Json<'m>, NoMemory> {
+) -> Result<Members<'m>, NoMemory> {
     let mut members: Members<'m> = Vec::new(alloc);
-    put_text("url", audited.url, &mut members)?;
-    put_text("verdict", verdict_word(&audited.verdict), &mut members)?;
-    put_if("base", audited.base, &mut members)?;
     put_verdict(alloc, sources, audited, &mut members)?;
     put_unread(alloc, &audited.unread, &mut members)?;
-    Ok(Json::Obj(members))
+    Ok(members)
 }
 
-/// Puts in an object as a line.
-pub(crate) fn push_object(
+fn put_all<'m>(mut members: Members<'m>, into: &mut Members<'m>) -> Result<(), AllocError>
+    ensures { OnOk result (map property_of into.new.items ≡ map property_of into.old.items ++ map property_of members.items) }
+{
+    into.append(&mut members)
+}
+
+// The members of the object on a profile.
+fn object_members<'m, 's: 'm, 'f: 's>(
     alloc: Global,
-    members: Members<'_>,
-    into: &mut String,
-) -> Result<(), NoMemory> {
-    push_json(alloc, &Json::Obj(members), into)?;
-    Ok(into.push_str("\n")?)
+    sources: Sources<'s, 'f>,
+    audited: &'m Audited<'s>,
+) -> Result<Members<'m>, NoMemory>
+    ensures { IfOk result (λ members. (more : List Property) × (map property_of members.items ≡ first_members (audited_seen audited.now) ++ more)) }
+{
+    let mut members: Members<'m> = Vec::new(alloc);
+    let further = further_members(alloc, sources, audited)?;
+    put_first(audited, &mut members)?;
+    put_all(further, &mut members)?;
+    Ok(members)
 }
 
-/// Puts in the object on a profile.
-pub(crate) fn push_tree<'s, 'f: 's>(
+/// The text of an object.
+pub(crate) fn object_text(alloc: Global, members: Members<'_>) -> Result<String, NoMemory>
+    ensures { IfOk result (λ text. string_bytes text ≡ compact (object (members_of (map property_of members.items)))) }
+{
+    let object = Json::Obj(members);
+    let bytes = write(alloc, &object)?;
+    Ok(String::from_utf8_lossy(alloc, &bytes)?)
+}
+
+/// The line that spells the object on a profile.
+pub(crate) fn tree_lines<'s, 'f: 's>(
     alloc: Global,
     sources: Sources<'s, 'f>,
     audited: &Audited<'s>,
-    into: &mut String,
-) -> Result<(), NoMemory> {
-    let tree = tree_of(alloc, sources, audited)?;
-    push_json(alloc, &tree, into)?;
-    Ok(into.push_str("\n")?)
+) -> Result<Vec<String>, NoMemory>
+    ensures { IfOk result (λ ls. IsToldTree (audited_seen audited.now) (map string_bytes ls.items)) }
+{
+    let mut lines: Vec<String> = Vec::new(alloc);
+    let members = object_members(alloc, sources, audited)?;
+    let text = object_text(alloc, members)?;
+    lines.push(text)?;
+    Ok(lines)
 }
 
-/// Puts in the counts as an object.
-pub(crate) fn push_counts(
-    alloc: Global,
-    counts: Counts,
-    into: &mut String,
-) -> Result<(), NoMemory> {
+/// The text of the object with the counts.
+pub(crate) fn counts_object(alloc: Global, counts: Counts) -> Result<String, NoMemory>
+    ensures { IfOk result (λ text. string_bytes text ≡ compact (counts_tree counts)) }
+{
     let mut members = Vec::new(alloc);
     put_count(alloc, "profiles", counts.profiles, &mut members)?;
     put_count(alloc, "narrow", counts.narrow, &mut members)?;
@@ -235,5 +279,5 @@ pub(crate) fn push_counts(
     put_count(alloc, "not-shown", counts.not_shown, &mut members)?;
     put_count(alloc, "unusable", counts.unusable, &mut members)?;
     put_count(alloc, "without-base", counts.without_base, &mut members)?;
-    push_object(alloc, members, into)
+    object_text(alloc, members)
 }

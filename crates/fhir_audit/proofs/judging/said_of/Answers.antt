@@ -1,8 +1,9 @@
-use Rattle.std.proofs.Common.{rules, ◌≡◌}
+use Rattle.std.proofs.Common.{rules, ◌≡◌, sym, subst}
 use Rattle.std.specs.Option.{option_map}
 use Rattle.std.proofs.lemmas.Result.{IfOk-weaker}
 use Rattle.fhir_derive_check.specs.declared.fault.DeriveFault.TheVariants.{Missing, Unusable}
 use Rattle.fhir_derive_check.specs.declared.outcome.Outcome.TheVariants.{Derives, NoCertificate}
+use Rattle.fhir_audit.specs.Verdicts.{IsSaid}
 use Rattle.fhir_audit.specs.Views.{verdict_seen}
 use Rattle.fhir_audit.proofs.Said.{narrows_so, fails_so, missing_so, unusable_so}
 use Rattle.fhir_audit.proofs.judging.said_of.Goals as goal
@@ -36,4 +37,5 @@ pub returns-in-Err-Unusable : goal.returns-in-Err-Unusable
 returns-in-Err-Unusable c =
     let found = c.in-Err-Unusable in
     let is : found.field-0 ≡ Unusable found.side = search rules in
-    unusable_so (option_map (λ x. x.now) c.args.given) c.args.schema.now c.args.url.now c.args.base.now found.field-0 found.side is found.ensures.fault
+    rw is
+    (unusable_so (option_map (λ x. x.now) c.args.given) c.args.schema.now c.args.url.now c.args.base.now found.field-0 found.side is found.ensures.fault)
