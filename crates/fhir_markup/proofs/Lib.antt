@@ -1,2 +1,6 @@
 -- Lemmas on pages.
+pub mod Without
 pub mod Marked
+pub mod Shown
+pub mod Clean
+pub mod Growing

@@ -1,11 +1,9 @@
 -- The marks of a page.
-use Rattle.std.proofs.Common.{◌≡◌, ◌<◌, ◌+◌, ℕ, zero, suc, List, [], ◌∷◌, ◌++◌, ◌/◌, ◌%◌, ◌==◌, ◌&&◌, filter, flat_map, Bool, true, false, cond, not, codes, encode_utf8, refl, ap, ap₂, ◌∙◌, arith}
+use Rattle.std.proofs.Common.{◌≡◌, ◌<◌, ℕ, zero, suc, List, [], ◌∷◌, ◌++◌, ◌/◌, ◌%◌, ◌==◌, filter, flat_map, Bool, true, false, cond, codes, refl, ap₂, ◌∙◌, arith}
 use Rattle.std.proofs.lemmas.Bool.Decides.{nat_tests}
 use Rattle.std.proofs.lemmas.List.Elements.{filter-append}
-use Rattle.std.specs.Char.{is_control, digit_char}
+use Rattle.std.specs.Char.{digit_char}
 use Rattle.std.specs.Fmt.{decimal, digits, digits_onto, digit_glyph}
-use lib.Utf8.{encode, next}
-use lib.Dec.{ltb}
 use Rattle.std.specs.Str.{chars}
 use Rattle.fhir_json.specs.Tree.{Text}
 use Rattle.fhir_markup.specs.declared.names.Tag.{Tag}
@@ -14,64 +12,37 @@ use Rattle.fhir_markup.specs.declared.names.AttributeName.{AttributeName}
 use Rattle.fhir_markup.specs.declared.names.AttributeName.TheVariants as names
 use Rattle.fhir_markup.specs.declared.names.Part.{Part}
 use Rattle.fhir_markup.specs.declared.names.Part.TheVariants as parts
-use Rattle.fhir_markup.specs.Markup.{AttributeValue, fixed, counted, place, link, labelled_by, Node, Nodes, words, element, none, also, coded, plain_character, escaped_character, escaped, tag_text, name_text, part_text, is_void, place_text, valued, attribute_text, start_tag, end_tag, html, html_each, is_mark, start_marks, end_marks, marks, marks_each}
+use Rattle.fhir_markup.proofs.Without.{Without, IsLow, both, either, skip, plain_without}
+use Rattle.fhir_markup.specs.Markup.{AttributeValue, fixed, counted, place, link, labelled_by, Node, Nodes, words, element, none, also, escaped_character, escaped, tag_text, name_text, part_text, is_void, place_text, valued, attribute_text, start_tag, end_tag, html, html_each, is_mark, start_marks, end_marks, marks, marks_each}
 
 -- ---- texts have none
 
 abbrev Unmarked : Text → Type 0
-Unmarked text = filter is_mark text ≡ []
-
-both : (xs ys : Text) → Unmarked xs → Unmarked ys → Unmarked (xs ++ ys)
-both xs ys of_xs of_ys = filter-append is_mark xs ys ∙ ap₂ (λ (a b : List ℕ). a ++ b) of_xs of_ys
-
-either : (b : Bool) (xs ys : Text) → (b ≡ true → Unmarked xs) → (b ≡ false → Unmarked ys) → Unmarked (cond b xs ys)
-either true xs ys of_xs of_ys = of_xs refl
-either false xs ys of_xs of_ys = of_ys refl
-
-skip : (x : ℕ) (xs : Text) → is_mark x ≡ false → Unmarked xs → Unmarked (x ∷ xs)
-skip x xs of_x of_xs = ap (λ (b : Bool). cond b (x ∷ filter is_mark xs) (filter is_mark xs)) of_x ∙ of_xs
-
--- a byte above all marks
-above : (x : ℕ) → 62 < x → is_mark x ≡ false
-above x more = grind (arith, nat_tests)
+Unmarked text = Without is_mark text
 
 digit_unmarked : (d : ℕ) → is_mark (digit_char d) ≡ false
 digit_unmarked d = grind (arith, nat_tests)
 
-coded_unmarked : (c : ℕ) → Unmarked (coded c)
-coded_unmarked c =
-    skip (digit_char (c / 16)) (digit_char (c % 16) ∷ []) (digit_unmarked (c / 16)) (skip (digit_char (c % 16)) [] (digit_unmarked (c % 16)) refl)
+above : (x : ℕ) → 62 < x → is_mark x ≡ false
+above x more = grind (arith, nat_tests)
 
--- a character that is none of the marks has no mark among its bytes in UTF-8
-encoded_unmarked : (c : ℕ) → is_mark c ≡ false → Unmarked (encode_utf8 c)
-unfolding encode
-encoded_unmarked c is_none =
-    let last = skip (next c) [] (above (next c) (omega arith)) refl in
-    let two = skip (next (c / 64)) (next c ∷ []) (above (next (c / 64)) (omega arith)) last in
-    let three = skip (next (c / 4096)) (next (c / 64) ∷ next c ∷ []) (above (next (c / 4096)) (omega arith)) two in
-    either (ltb c 128) (c ∷ []) _ (λ is. skip c [] is_none refl)
-    (λ is. either (ltb c 2048) _ _ (λ is. skip (192 + c / 64) _ (above (192 + c / 64) (omega arith)) last)
-    (λ is. either (ltb c 65536) _ _ (λ is. skip (224 + c / 4096) _ (above (224 + c / 4096) (omega arith)) two)
-    (λ is. skip (240 + c / 262144) _ (above (240 + c / 262144) (omega arith)) three)))
+low : IsLow is_mark
+low = record { above = above; digit = digit_unmarked }
 
 none_of : (c : ℕ) → (c == 60) ≡ false → (c == 62) ≡ false → (c == 34) ≡ false → is_mark c ≡ false
 none_of c less greater quote = grind (arith, nat_tests)
 
-plain_unmarked : (c : ℕ) → is_mark c ≡ false → Unmarked (plain_character c)
-plain_unmarked c is_none =
-    either (is_control c && not (c == 10)) (coded c) (encode_utf8 c) (λ is. coded_unmarked c) (λ is. encoded_unmarked c is_none)
-
 character_unmarked : (c : ℕ) → Unmarked (escaped_character c)
 character_unmarked c =
-    either (c == 38) _ _ (λ is. refl)
-    (λ ampersand. either (c == 60) _ _ (λ is. refl)
-    (λ less. either (c == 62) _ _ (λ is. refl)
-    (λ greater. either (c == 34) _ _ (λ is. refl)
-    (λ quote. either (c == 39) _ _ (λ is. refl) (λ apostrophe. plain_unmarked c (none_of c less greater quote))))))
+    either is_mark (c == 38) _ _ (λ is. refl)
+    (λ ampersand. either is_mark (c == 60) _ _ (λ is. refl)
+    (λ less. either is_mark (c == 62) _ _ (λ is. refl)
+    (λ greater. either is_mark (c == 34) _ _ (λ is. refl)
+    (λ quote. either is_mark (c == 39) _ _ (λ is. refl) (λ apostrophe. plain_without is_mark low c (none_of c less greater quote))))))
 
 each_unmarked : (cs : List ℕ) → Unmarked (flat_map escaped_character cs)
 each_unmarked [] = refl
-each_unmarked (c ∷ cs) = both (escaped_character c) (flat_map escaped_character cs) (character_unmarked c) (each_unmarked cs)
+each_unmarked (c ∷ cs) = both is_mark (escaped_character c) (flat_map escaped_character cs) (character_unmarked c) (each_unmarked cs)
 
 escaped_unmarked : (text : Text) → Unmarked (escaped text)
 escaped_unmarked text = each_unmarked (chars text)
@@ -147,8 +118,8 @@ glyph_unmarked d = grind (arith, nat_tests)
 digits_unmarked : (k n : ℕ) (behind : Text) → Unmarked behind → Unmarked (digits_onto k 10 false n behind)
 digits_unmarked zero n behind of_behind = of_behind
 digits_unmarked (suc k) n behind of_behind =
-    let more = skip (digit_glyph false (n % 10)) behind (glyph_unmarked (n % 10)) of_behind in
-    either (n / 10 == 0) (digit_glyph false (n % 10) ∷ behind) (digits_onto k 10 false (n / 10) (digit_glyph false (n % 10) ∷ behind)) (λ is. more)
+    let more = skip is_mark (digit_glyph false (n % 10)) behind (glyph_unmarked (n % 10)) of_behind in
+    either is_mark (n / 10 == 0) (digit_glyph false (n % 10) ∷ behind) (digits_onto k 10 false (n / 10) (digit_glyph false (n % 10) ∷ behind)) (λ is. more)
     (λ is. digits_unmarked k (n / 10) (digit_glyph false (n % 10) ∷ behind) more)
 
 decimal_unmarked : (n : ℕ) → Unmarked (decimal n)
@@ -156,7 +127,7 @@ unfolding digits
 decimal_unmarked n = digits_unmarked 64 n [] refl
 
 place_unmarked : (part : Part) (n : ℕ) → Unmarked (place_text part n)
-place_unmarked part n = both (part_text part) (decimal n) (part_unmarked part) (decimal_unmarked n)
+place_unmarked part n = both is_mark (part_text part) (decimal n) (part_unmarked part) (decimal_unmarked n)
 
 -- ---- an attribute has those of its value
 
@@ -165,16 +136,15 @@ marked xs ys of_xs of_ys = filter-append is_mark xs ys ∙ ap₂ (λ (a b : List
 
 valued_marked : (name value : Text) → Unmarked name → Unmarked value → filter is_mark (valued name value) ≡ codes "\"\""
 valued_marked name value of_name of_value =
-    marked (codes " ") (name ++ codes "=\"" ++ value ++ codes "\"") refl
-    (marked name (codes "=\"" ++ value ++ codes "\"") of_name
-    (marked (codes "=\"") (value ++ codes "\"") refl (marked value (codes "\"") of_value refl)))
+    marked (codes " " ++ name ++ codes "=\"" ++ value) (codes "\"")
+    (marked (codes " " ++ name ++ codes "=\"") value (marked (codes " " ++ name) (codes "=\"") (marked (codes " ") name refl of_name) refl) of_value) refl
 
 attribute_marked : (a : AttributeValue) → filter is_mark (attribute_text a) ≡ codes "\"\""
 attribute_marked (fixed name text) = valued_marked (name_text name) (escaped text) (name_unmarked name) (escaped_unmarked text)
 attribute_marked (counted name n) = valued_marked (name_text name) (decimal n) (name_unmarked name) (decimal_unmarked n)
 attribute_marked (place part n) = valued_marked (codes "id") (place_text part n) refl (place_unmarked part n)
 attribute_marked (link part n) =
-    valued_marked (codes "href") (codes "#" ++ place_text part n) refl (both (codes "#") (place_text part n) refl (place_unmarked part n))
+    valued_marked (codes "href") (codes "#" ++ place_text part n) refl (both is_mark (codes "#") (place_text part n) refl (place_unmarked part n))
 attribute_marked (labelled_by part n) = valued_marked (codes "aria-labelledby") (place_text part n) refl (place_unmarked part n)
 
 attributes_marked : (xs : List AttributeValue) → filter is_mark (flat_map attribute_text xs) ≡ flat_map (λ a. codes "\"\"") xs
@@ -185,14 +155,13 @@ attributes_marked (a ∷ xs) = marked (attribute_text a) (flat_map attribute_tex
 
 start_marked : (tag : Tag) (xs : List AttributeValue) → filter is_mark (start_tag tag xs) ≡ start_marks xs
 start_marked tag xs =
-    marked (codes "<") (tag_text tag ++ flat_map attribute_text xs ++ codes ">") refl
-    (marked (tag_text tag) (flat_map attribute_text xs ++ codes ">") (tag_unmarked tag)
-    (marked (flat_map attribute_text xs) (codes ">") (attributes_marked xs) refl))
+    marked (codes "<" ++ tag_text tag ++ flat_map attribute_text xs) (codes ">")
+    (marked (codes "<" ++ tag_text tag) (flat_map attribute_text xs) (marked (codes "<") (tag_text tag) refl (tag_unmarked tag)) (attributes_marked xs)) refl
 
 closing_marked : (b : Bool) (name : Text) → Unmarked name
     → filter is_mark (cond b [] (codes "</" ++ name ++ codes ">")) ≡ cond b [] (codes "<>")
 closing_marked true name of_name = refl
-closing_marked false name of_name = marked (codes "</") (name ++ codes ">") refl (marked name (codes ">") of_name refl)
+closing_marked false name of_name = marked (codes "</" ++ name) (codes ">") (marked (codes "</") name refl of_name) refl
 
 end_marked : (tag : Tag) → filter is_mark (end_tag tag) ≡ end_marks tag
 end_marked tag = closing_marked (is_void tag) (tag_text tag) (tag_unmarked tag)
@@ -201,8 +170,8 @@ mutual
   pub marks_alone : (n : Node) → filter is_mark (html n) ≡ marks n
   marks_alone (words text) = escaped_unmarked text
   marks_alone (element tag xs children) =
-      marked (start_tag tag xs) (html_each children ++ end_tag tag) (start_marked tag xs)
-      (marked (html_each children) (end_tag tag) (each_alone children) (end_marked tag))
+      marked (start_tag tag xs ++ html_each children) (end_tag tag)
+      (marked (start_tag tag xs) (html_each children) (start_marked tag xs) (each_alone children)) (end_marked tag)
 
   each_alone : (ns : Nodes) → filter is_mark (html_each ns) ≡ marks_each ns
   each_alone none = refl

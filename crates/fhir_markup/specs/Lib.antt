@@ -1,2 +1,4 @@
 pub mod Markup
+pub mod Reading
+pub mod Texts
 pub mod Views

@@ -1,5 +1,5 @@
 -- Pages: a tree, and how it is written (HTML).
-use Rattle.std.specs.Prelude.{◌==◌, ◌++◌, ◌∷◌, ◌/◌, ◌%◌, ◌&&◌, ◌||◌, [], ℕ, List, Bool, true, false, not, flat_map, codes, encode_utf8}
+use Rattle.std.specs.Prelude.{if◌then◌else◌, ◌==◌, ◌++◌, ◌∷◌, ◌/◌, ◌%◌, ◌&&◌, ◌||◌, [], ℕ, List, Bool, true, false, not, nat_le, flat_map, codes, encode_utf8}
 use Rattle.std.specs.Char.{is_control, digit_char}
 use Rattle.std.specs.Fmt.{decimal}
 use Rattle.std.specs.Str.{chars}
@@ -34,15 +34,39 @@ abbrev pub nodes_of : List Node → Nodes
 nodes_of [] = none
 nodes_of (n ∷ ns) = also n (nodes_of ns)
 
+-- ---- how a page grows
+
+-- a piece behind others
+abbrev pub and_last : Nodes → Node → Nodes
+and_last none n = also n none
+and_last (also m ns) n = also m (and_last ns n)
+
+-- an element with one more attribute, and with one more piece in it
+abbrev pub with_attribute : Node → AttributeValue → Node
+with_attribute (words text) a = words text
+with_attribute (element tag xs ns) a = element tag (xs ++ a ∷ []) ns
+
+abbrev pub with_child : Node → Node → Node
+with_child (words text) n = words text
+with_child (element tag xs ns) n = element tag xs (and_last ns n)
+
 -- ---- texts
 
--- a control character by its code
+-- a character by its code
 abbrev pub coded : ℕ → Text
-coded c = codes "\\u00" ++ digit_char (c / 16) ∷ digit_char (c % 16) ∷ []
+coded c = codes "\\u" ++ digit_char (c / 4096 % 16) ∷ digit_char (c / 256 % 16) ∷ digit_char (c / 16 % 16) ∷ digit_char (c % 16) ∷ []
 
--- one that means nothing to a reader of pages: a control character but a line feed is shown by its code, and any other as it is
+-- whether a character turns the direction in which those behind it are written (Unicode, UAX 9)
+abbrev pub is_turning : ℕ → Bool
+is_turning c = (nat_le 8234 c && nat_le c 8238) || (nat_le 8294 c && nat_le c 8297)
+
+-- whether a character is shown by its code, since it would hide what it is
+abbrev pub is_coded : ℕ → Bool
+is_coded c = (is_control c && not (c == 10)) || is_turning c
+
+-- one that means nothing to a reader of pages
 abbrev pub plain_character : ℕ → Text
-plain_character c = if is_control c && not (c == 10) then coded c else encode_utf8 c
+plain_character c = if is_coded c then coded c else encode_utf8 c
 
 -- a character by its reference, where it means something to a reader of pages
 abbrev pub escaped_character : ℕ → Text
@@ -55,6 +79,10 @@ escaped_character c =
 
 abbrev pub escaped : Text → Text
 escaped text = flat_map escaped_character (chars text)
+
+-- what a reader of pages is to see of a text: all of it, and what would hide by its code
+abbrev pub shown : Text → Text
+shown text = flat_map plain_character (chars text)
 
 -- ---- names
 abbrev pub tag_text : Tag → Text
@@ -146,12 +174,12 @@ start_tag tag attributes = codes "<" ++ tag_text tag ++ flat_map attribute_text 
 abbrev pub end_tag : Tag → Text
 end_tag tag = if is_void tag then [] else codes "</" ++ tag_text tag ++ codes ">"
 
-mutual
-  abbrev pub html : Node → Text
+abbrev mutual
+  pub html : Node → Text
   html (words text) = escaped text
   html (element tag attributes children) = start_tag tag attributes ++ html_each children ++ end_tag tag
 
-  abbrev pub html_each : Nodes → Text
+  pub html_each : Nodes → Text
   html_each none = []
   html_each (also n ns) = html n ++ html_each ns
 
@@ -171,11 +199,11 @@ abbrev pub end_marks : Tag → Text
 end_marks tag = if is_void tag then [] else codes "<>"
 
 -- those of its tags, whatever its texts are
-mutual
-  abbrev pub marks : Node → Text
+abbrev mutual
+  pub marks : Node → Text
   marks (words text) = []
   marks (element tag attributes children) = start_marks attributes ++ marks_each children ++ end_marks tag
 
-  abbrev pub marks_each : Nodes → Text
+  pub marks_each : Nodes → Text
   marks_each none = []
   marks_each (also n ns) = marks n ++ marks_each ns

@@ -21,7 +21,7 @@ mod markup;
 mod names;
 mod writing;
 
-pub use laws::texts_stay_texts;
+pub use laws::{nothing_hides, texts_are_read, texts_stay_texts};
 pub use markup::{Attribute, Element, Markup};
 pub use names::{AttributeName, Part, Tag};
 pub use writing::document;

@@ -1,10 +1,10 @@
 //! How a page is written.
 
-ghost use Rattle.std.specs.Prelude.{◌≡◌, ◌<◌, ◌++◌, map, flat_map, OnOk, IsTrue, string_bytes};
+ghost use Rattle.std.specs.Prelude.{◌≡◌, ◌<◌, ◌++◌, ◌==◌, ◌&&◌, not, map, flat_map, OnOk, string_bytes};
 ghost use Rattle.std.specs.Char.{is_control, digit_char};
 ghost use Rattle.std.specs.Fmt.{decimal};
 ghost use Rattle.fhir_json.specs.Memory.{Gives};
-ghost use Rattle.fhir_markup.specs.Markup.{coded, plain_character, escaped_character, escaped, valued, place_text, attribute_text, start_tag, end_tag, html, html_each, document};
+ghost use Rattle.fhir_markup.specs.Markup.{coded, is_turning, is_coded, plain_character, escaped_character, escaped, valued, place_text, attribute_text, start_tag, end_tag, html, html_each, document};
 ghost use Rattle.fhir_markup.specs.Views.{attribute_of, node_of, element_node, nodes_seen};
 
 use crate::markup::{Attribute, Element, Markup};
@@ -19,20 +19,41 @@ fn hex_digit(value: u32) -> char
     char::from_digit(value, 16).unwrap_or('0')
 }
 
+// Four digits, which are enough for the characters that are shown so.
 fn push_code(character: char, into: &mut String) -> Result<(), AllocError>
-    requires { IsTrue (is_control character) }
     ensures { OnOk result (string_bytes into.new ≡ string_bytes into.old ++ coded character) }
 {
     let code = u32::from(character);
-    into.push_str("\\u00")?;
-    into.push(hex_digit(code / 16))?;
+    into.push_str("\\u")?;
+    into.push(hex_digit(code / 4096 % 16))?;
+    into.push(hex_digit(code / 256 % 16))?;
+    into.push(hex_digit(code / 16 % 16))?;
     into.push(hex_digit(code % 16))
+}
+
+fn is_turning(character: char) -> bool
+    ensures { result ≡ is_turning character }
+{
+    let code = u32::from(character);
+    (8234 <= code && code <= 8238) || (8294 <= code && code <= 8297)
+}
+
+fn is_hidden(character: char) -> bool
+    ensures { result ≡ (is_control character && not (character == 10)) }
+{
+    character.is_control() && character != '\n'
+}
+
+fn is_coded(character: char) -> bool
+    ensures { result ≡ is_coded character }
+{
+    is_hidden(character) || is_turning(character)
 }
 
 fn push_plain(character: char, into: &mut String) -> Result<(), AllocError>
     ensures { OnOk result (string_bytes into.new ≡ string_bytes into.old ++ plain_character character) }
 {
-    if character.is_control() && character != '\n' {
+    if is_coded(character) {
         push_code(character, into)
     } else {
         into.push(character)
@@ -100,7 +121,7 @@ fn push_place(
 }
 
 fn push_attribute(alloc: Global, attribute: Attribute, into: &mut String) -> Result<(), AllocError>
-    ensures { OnOk result (string_bytes into.new ≡ string_bytes into.old ++ attribute_text (attribute_of attribute.entry)) }
+    ensures { OnOk result (string_bytes into.new ≡ string_bytes into.old ++ attribute_text (attribute_of attribute)) }
 {
     match attribute {
         Attribute::Fixed(name, value) => push_value(name.text(), value, into),

@@ -261,90 +261,91 @@ fn words(
     Ok(text)
 }
 
-// What is drawn of a row: who stands there, with the verdict as a shape and as a word.
-#[derive(Drop)]
-struct Drawn {
-    element: Element,
-    width: usize,
+// What is drawn of a row: a name and a word, with a shape in front.
+#[derive(Clone, Copy)]
+struct Look<'n> {
+    name: &'n str,
+    word: &'static str,
+    path: &'static str,
+    class: &'static str,
 }
 
-fn drawn_by(
+// Puts a row into the picture, in a group, and answers how wide the row is.
+fn put_row(
     alloc: Global,
+    into: &mut Element,
     mut group: Element,
     row: Row,
     row_line: usize,
-    name: &str,
-    word: &str,
-    path: &'static str,
-    class: &'static str,
-) -> Result<Drawn, AllocError> {
+    look: Look<'_>,
+) -> Result<usize, AllocError> {
     let left = left_of(row).saturating_add(8);
     let middle = top_of(row_line).saturating_add(12);
-    let name = shown_name(alloc, name)?;
-    group.push(shape(alloc, left, middle, path, class)?)?;
+    let name = shown_name(alloc, look.name)?;
+    group.push(shape(alloc, left, middle, look.path, look.class)?)?;
     group.push(words(
         alloc,
         left.saturating_add(14),
         middle.saturating_add(4),
         name.as_str(),
-        word,
+        look.word,
     )?)?;
-    let letters = name.chars().count().saturating_add(word.len());
-    let width = left
-        .saturating_add(32)
-        .saturating_add(letters.saturating_mul(LETTER));
-    Ok(Drawn {
-        element: group,
-        width,
-    })
+    into.push(group)?;
+    let letters = name.chars().count().saturating_add(look.word.len());
+    Ok(
+        left.saturating_add(32)
+            .saturating_add(letters.saturating_mul(LETTER)),
+    )
 }
 
-fn drawn_profile(
+fn put_profile(
     alloc: Global,
+    into: &mut Element,
     audited: &Audited<'_>,
     row: Row,
     row_line: usize,
-) -> Result<Drawn, AllocError> {
+) -> Result<usize, AllocError> {
     let mut group = Element::of_class(alloc, Tag::A, class_of(&audited.verdict))?;
     group.set(Attribute::Link(Part::Profile, row.node))?;
-    drawn_by(
-        alloc,
-        group,
-        row,
-        row_line,
-        audited.url,
-        verdict_word(&audited.verdict),
-        shape_of(&audited.verdict),
-        "spot",
-    )
+    let look = Look {
+        name: audited.url,
+        word: verdict_word(&audited.verdict),
+        path: shape_of(&audited.verdict),
+        class: "spot",
+    };
+    put_row(alloc, into, group, row, row_line, look)
 }
 
-fn drawn_base(alloc: Global, name: &str, row: Row, row_line: usize) -> Result<Drawn, AllocError> {
-    let group = Element::of_class(alloc, Tag::G, "base")?;
-    drawn_by(
-        alloc,
-        group,
-        row,
-        row_line,
-        name,
-        "base",
-        DOT,
-        "spot hollow",
-    )
-}
-
-fn drawn(
+fn put_base(
     alloc: Global,
+    into: &mut Element,
+    name: &str,
+    row: Row,
+    row_line: usize,
+) -> Result<usize, AllocError> {
+    let group = Element::of_class(alloc, Tag::G, "base")?;
+    let look = Look {
+        name,
+        word: "base",
+        path: DOT,
+        class: "spot hollow",
+    };
+    put_row(alloc, into, group, row, row_line, look)
+}
+
+fn put_at_line(
+    alloc: Global,
+    into: &mut Element,
     forest: &Forest<'_>,
     audited: &[Audited<'_>],
     row: Row,
     row_line: usize,
-) -> Result<Drawn, AllocError> {
+) -> Result<usize, AllocError> {
     match audited.get(row.node) {
-        Some(audited) => drawn_profile(alloc, audited, row, row_line),
+        Some(audited) => put_profile(alloc, into, audited, row, row_line),
         None => {
             let name = forest.names.get(row.node).copied().unwrap_or("");
-            drawn_base(alloc, name, row, row_line)
+            put_base(alloc, into, name, row, row_line)
         }
     }
 }
@@ -366,6 +367,28 @@ fn titled(alloc: Global) -> Result<Element, AllocError> {
 // The number of the picture's title, among those of headings.
 const PICTURE: usize = 0;
 
+fn put_lines(alloc: Global, into: &mut Element, rows: &[Row]) -> Result<(), AllocError> {
+    for (row_line, row) in rows.iter().enumerate() {
+        push_row_lines(alloc, into, rows, row_line, *row)?;
+    }
+    Ok(())
+}
+
+// Puts in all rows, and answers how wide the widest is.
+fn put_rows(
+    alloc: Global,
+    into: &mut Element,
+    forest: &Forest<'_>,
+    audited: &[Audited<'_>],
+    rows: &[Row],
+) -> Result<usize, AllocError> {
+    let mut width: usize = 0;
+    for (row_line, row) in rows.iter().enumerate() {
+        width = width.max(put_at_line(alloc, into, forest, audited, *row, row_line)?);
+    }
+    Ok(width)
+}
+
 fn picture(
     alloc: Global,
     forest: &Forest<'_>,
@@ -373,15 +396,8 @@ fn picture(
     rows: &[Row],
 ) -> Result<Element, AllocError> {
     let mut picture = titled(alloc)?;
-    for (row_line, row) in rows.iter().enumerate() {
-        push_row_lines(alloc, &mut picture, rows, row_line, *row)?;
-    }
-    let mut width = 0;
-    for (row_line, row) in rows.iter().enumerate() {
-        let drawn = drawn(alloc, forest, audited, *row, row_line)?;
-        width = width.max(drawn.width);
-        picture.push(drawn.element)?;
-    }
+    put_lines(alloc, &mut picture, rows)?;
+    let width = put_rows(alloc, &mut picture, forest, audited, rows)?;
     picture.set(Attribute::Number(AttributeName::Width, width))?;
     picture.set(Attribute::Number(AttributeName::Height, top_of(rows.len())))?;
     Ok(picture)

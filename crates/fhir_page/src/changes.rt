@@ -189,7 +189,7 @@ fn changed_by<'s>(
 
 /// The elements of the profile at a place that differ from those of the base at a url, in the profile's order. There are none where one of
 /// the two can't be used.
-pub(crate) fn changed<'s>(
+pub(crate) fn changed_elements<'s>(
     alloc: Global,
     schema: &'s Schema,
     place: usize,

@@ -1,8 +1,8 @@
 //! A counterexample, with the place marked at which it fails the base.
 
+use crate::element_texts::json_text;
 use fhir_json::{Json, JsonFault, Member, NoMemory, read};
 use fhir_markup::{Element, Tag};
-use fhir_report::json_text;
 use fhir_schema::Schema;
 use fhir_validator::{Breach, Fault, Issue, Verdict, validate};
 use std::alloc::{AllocError, Global};
@@ -113,20 +113,22 @@ fn is_end(way: Way<'_, '_>) -> bool {
     matches!(way, Some([_]))
 }
 
+// Whether a step leads into the item at a position: to it, or by it, where it is the first of a property whose items have no positions.
+fn leads_into(step: Step<'_>, is_last: bool, position: usize) -> bool {
+    match step.index {
+        Some(index) => index == position,
+        None => position == 0 && !is_last,
+    }
+}
+
 // The way into the item at a position, if it leads there.
 fn into_item<'w, 't>(way: Way<'w, 't>, position: usize) -> Way<'w, 't> {
-    match way {
-        Some(
-            [
-                Step {
-                    index: Some(index),
-                    ..
-                },
-                ..
-            ],
-        ) if *index == position => way,
-        Some([Step { index: None, .. }, _, ..]) if position == 0 => way,
-        _ => None,
+    let steps = way?;
+    let step = steps.first()?;
+    if leads_into(*step, steps.len() == 1, position) {
+        way
+    } else {
+        None
     }
 }
 
@@ -140,7 +142,10 @@ fn into_property<'w, 't>(rest: Way<'w, 't>, name: &str) -> Way<'w, 't> {
 
 // Whether the way ends at the property as a whole, whatever items it has.
 fn is_shared(way: Way<'_, '_>) -> bool {
-    matches!(way, Some([Step { index: None, .. }]))
+    match way {
+        Some([step]) => step.index.is_none(),
+        _ => false,
+    }
 }
 
 // Whether the way ends at an object, or leads to a property that isn't in it.
@@ -262,7 +267,7 @@ fn first_broken(alloc: Global, issues: &[Issue<'_>]) -> Result<Option<Broken>, A
 }
 
 // The first rule of the base that the resource breaks.
-fn broken(
+fn broken_at(
     alloc: Global,
     schema: &Schema,
     base: &str,
@@ -279,7 +284,7 @@ fn words_of(alloc: Global, broken: &Broken) -> Result<Element, AllocError> {
     let mut paragraph = Element::of_text(
         alloc,
         Tag::P,
-        "It conforms to the profile and not to its base, which asks for something else at ",
+        "It conforms to the profile. To its base it doesn't, by what that asks for at ",
     )?;
     paragraph.push(Element::of_text(alloc, Tag::Code, broken.place.as_str())?)?;
     paragraph.push_text(alloc, " (element ")?;
@@ -289,7 +294,7 @@ fn words_of(alloc: Global, broken: &Broken) -> Result<Element, AllocError> {
     Ok(paragraph)
 }
 
-fn listing(alloc: Global, resource: &[u8], place: &str) -> Result<Element, NoMemory> {
+fn listed(alloc: Global, resource: &[u8], place: &str) -> Result<Element, NoMemory> {
     let mut into = Listing {
         pre: Element::new(alloc, Tag::Pre),
         text: String::new(alloc),
@@ -315,10 +320,10 @@ pub(crate) fn push_counterexample(
     resource: &[u8],
 ) -> Result<(), NoMemory> {
     into.push(Element::of_text(alloc, Tag::H4, "Counterexample")?)?;
-    let broken = broken(alloc, schema, base, resource)?;
+    let broken = broken_at(alloc, schema, base, resource)?;
     if let Some(broken) = &broken {
         into.push(words_of(alloc, broken)?)?;
     }
     let place = broken.as_ref().map_or("", |broken| broken.place.as_str());
-    Ok(into.push(listing(alloc, resource, place)?)?)
+    Ok(into.push(listed(alloc, resource, place)?)?)
 }

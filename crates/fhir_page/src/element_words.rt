@@ -1,11 +1,14 @@
 //! What an element says.
 
+use crate::constraints::{are_alike, constraints_text};
+use crate::element_texts::{
+    cardinality_text, length_text, member_text, node_types_text, range_text,
+};
 use fhir_elements::{
     BindingDef, ConstraintDef, DiscriminatorDef, DiscriminatorType, ElementDef, SlicingDef,
     SlicingRules, Strength,
 };
 use fhir_json::NoMemory;
-use fhir_report::{cardinality_text, length_text, member_text, node_types_text, range_text};
 use fhir_schema::{NodeRef, Schema};
 use std::alloc::{AllocError, Global};
 
@@ -138,54 +141,26 @@ fn slicing_text(alloc: Global, slicing: Option<&SlicingDef>) -> Result<String, A
 
 // ---- constraints
 
-fn is_same(one: &ConstraintDef, other: &ConstraintDef) -> bool {
-    one.key() == other.key()
-        && one.expression() == other.expression()
-        && one.severity() == other.severity()
-}
-
-// Whether another element has the constraint, which is looked for at the same position first.
-fn has(others: &[ConstraintDef], position: usize, constraint: &ConstraintDef) -> bool {
-    if let Some(other) = others.get(position) {
-        if is_same(constraint, other) {
-            return true;
-        }
-    }
-    others.iter().any(|other| is_same(constraint, other))
-}
-
-fn push_constraint(constraint: &ConstraintDef, into: &mut String) -> Result<(), AllocError> {
-    if !into.is_empty() {
-        into.push('\n')?;
-    }
-    into.push_str(constraint.key())?;
-    if !constraint.must_hold() {
-        into.push_str(" (warning)")?;
-    }
-    into.push_str(": ")?;
-    into.push_str(constraint.expression().unwrap_or("no expression"))
-}
-
-// Those that the other element doesn't have.
-fn constraints_text(
-    alloc: Global,
-    constraints: &[ConstraintDef],
-    others: &[ConstraintDef],
-) -> Result<String, AllocError> {
-    let mut text = String::new(alloc);
-    for (position, constraint) in constraints.iter().enumerate() {
-        if !has(others, position, constraint) {
-            push_constraint(constraint, &mut text)?;
-        }
-    }
-    Ok(text)
-}
-
 fn constraints_of(schema: &Schema, node: NodeRef) -> &[ConstraintDef] {
     match schema.element(node) {
         Some(element) => element.constraints(),
         None => Default::default(),
     }
+}
+
+// Those that another node's element doesn't have.
+fn own_constraints_text(
+    alloc: Global,
+    schema: &Schema,
+    node: NodeRef,
+    other: NodeRef,
+) -> Result<String, AllocError> {
+    let constraints = constraints_of(schema, node);
+    let others = constraints_of(schema, other);
+    if are_alike(constraints, others) {
+        return Ok(String::new(alloc));
+    }
+    constraints_text(alloc, constraints, others)
 }
 
 // ---- all of them
@@ -200,7 +175,7 @@ fn element_text(alloc: Global, aspect: Aspect, element: &ElementDef) -> Result<S
         Aspect::Length => Ok(length_text(alloc, element)?),
         Aspect::Slicing => Ok(slicing_text(alloc, element.slicing())?),
         Aspect::Cardinality | Aspect::Types | Aspect::Constraints => {
-            Ok(cardinality_text(alloc, Some(element))?)
+            Ok(cardinality_text(alloc, element)?)
         }
     }
 }
@@ -218,11 +193,7 @@ pub(crate) fn aspect_text(
     };
     match aspect {
         Aspect::Types => Ok(node_types_text(alloc, schema, node)?),
-        Aspect::Constraints => Ok(constraints_text(
-            alloc,
-            element.constraints(),
-            constraints_of(schema, other),
-        )?),
+        Aspect::Constraints => Ok(own_constraints_text(alloc, schema, node, other)?),
         _ => element_text(alloc, aspect, element),
     }
 }

@@ -16,8 +16,10 @@
 
 mod bases;
 mod changes;
+mod constraints;
 mod counterexample;
 mod counts;
+mod element_texts;
 mod element_words;
 mod failing;
 mod frame;

@@ -1,19 +1,21 @@
 //! The page.
 
 ghost use Rattle.std.specs.Prelude.{◌≡◌, IfOk};
+ghost use Rattle.fhir_audit.specs.Views.{all_audited};
 ghost use Rattle.fhir_markup.specs.Markup.{Node, document};
+ghost use Rattle.fhir_markup.specs.Views.{element_node};
+ghost use Rattle.fhir_page.specs.Page.{content_of, IsContent, IsPage};
 
 use crate::bases::tree;
 use crate::counts::{header, title_text};
-use crate::frame::framed;
+use crate::frame::page_of;
 use crate::pieces::{short_name, worded};
-use crate::profiles::Telling;
+use crate::profiles::sections;
 use crate::verdicts::{class_of, is_good, meanings};
 use fhir_audit::Audited;
 use fhir_audit_lines::{Counts, Sources, counts_of, verdict_word};
 use fhir_json::NoMemory;
 use fhir_markup::{Attribute, Element, Part, Tag, document};
-use fhir_names::Index;
 use fhir_package::Survey;
 use fhir_report::LackingTable;
 use fhir_schema::Schema;
@@ -21,14 +23,6 @@ use std::alloc::{AllocError, Global};
 
 // The number of the heading of the tree of bases.
 const BASES: usize = 1;
-
-fn numbers_of(alloc: Global, audited: &[Audited<'_>]) -> Result<Index, AllocError> {
-    let mut numbers = Index::new(alloc);
-    for (number, one) in audited.iter().enumerate() {
-        numbers.add(alloc, one.url, number)?;
-    }
-    Ok(numbers)
-}
 
 fn pointer(alloc: Global, audited: &Audited<'_>, number: usize) -> Result<Element, AllocError> {
     let mut link = Element::of_text(alloc, Tag::A, short_name(audited.url))?;
@@ -80,42 +74,57 @@ fn push_bases(
     into.push(tree(alloc, audited, Attribute::LabelledBy(Part::Heading, BASES))?)
 }
 
-fn push_profiles(
-    alloc: Global,
-    into: &mut Element,
-    sources: Sources<'_, '_>,
-    audited: &[Audited<'_>],
-) -> Result<(), NoMemory> {
-    into.push(Element::of_text(alloc, Tag::H2, "Profiles")?)?;
-    let numbers = numbers_of(alloc, audited)?;
-    let telling = Telling {
-        sources,
-        numbers: &numbers,
-    };
-    for (number, one) in audited.iter().enumerate() {
-        into.push(telling.section(alloc, one, number)?)?;
-    }
-    Ok(())
+// What stands before the sections: the counts, links to what is to be looked at, and the tree of bases.
+fn before(alloc: Global, audited: &[Audited<'_>], counts: Counts) -> Result<Element, AllocError> {
+    let mut before = Element::new(alloc, Tag::Div);
+    before.push(header(alloc, counts)?)?;
+    push_pointers(alloc, &mut before, audited, counts)?;
+    push_bases(alloc, &mut before, audited)?;
+    before.push(Element::of_text(alloc, Tag::H2, "Profiles")?)?;
+    Ok(before)
 }
 
+// What stands behind them.
+fn behind(alloc: Global) -> Result<Element, AllocError> {
+    let mut behind = Element::new(alloc, Tag::Div);
+    behind.push(Element::of_text(alloc, Tag::H2, "What the verdicts say")?)?;
+    behind.push(meanings(alloc)?)?;
+    Ok(behind)
+}
+
+fn joined(
+    alloc: Global,
+    before: Element,
+    profiles: Element,
+    behind: Element,
+) -> Result<Element, AllocError>
+    ensures { IfOk result (λ main. element_node main ≡ content_of (element_node before) (element_node profiles) (element_node behind)) }
+{
+    let mut main = Element::new(alloc, Tag::Main);
+    main.push(before)?;
+    main.push(profiles)?;
+    main.push(behind)?;
+    Ok(main)
+}
+
+#[tactic(auto, using(crate::proofs::Pages::is_content))]
 fn content(
     alloc: Global,
     sources: Sources<'_, '_>,
     audited: &[Audited<'_>],
     counts: Counts,
-) -> Result<Element, NoMemory> {
-    let mut main = Element::new(alloc, Tag::Main);
-    main.push(header(alloc, counts)?)?;
-    push_pointers(alloc, &mut main, audited, counts)?;
-    push_bases(alloc, &mut main, audited)?;
-    push_profiles(alloc, &mut main, sources, audited)?;
-    main.push(Element::of_text(alloc, Tag::H2, "What the verdicts say")?)?;
-    main.push(meanings(alloc)?)?;
-    Ok(main)
+) -> Result<Element, NoMemory>
+    ensures { IfOk result (λ main. IsContent (all_audited audited.now) (element_node main)) }
+{
+    let before = before(alloc, audited, counts)?;
+    let profiles = sections(alloc, sources, audited)?;
+    let behind = behind(alloc)?;
+    Ok(joined(alloc, before, profiles, behind)?)
 }
 
 /// The page of an audit: the counts, the tree of bases, and a section on each profile. It stands alone, and nothing in it runs or is loaded. The
 /// one refusal is want of memory.
+#[tactic(auto, using(crate::proofs::Pages::is_page))]
 pub fn page(
     alloc: Global,
     survey: &Survey<'_>,
@@ -123,7 +132,7 @@ pub fn page(
     lacking: &LackingTable,
     audited: &[Audited<'_>],
 ) -> Result<Vec<u8>, NoMemory>
-    ensures { IfOk result (λ bytes. (n : Node) × (bytes.items ≡ document n)) }
+    ensures { IfOk result (λ bytes. (n : Node) × (bytes.items ≡ document n) × IsPage (all_audited audited.now) n) }
 {
     let sources = Sources {
         survey,
@@ -132,7 +141,7 @@ pub fn page(
     };
     let counts = counts_of(audited);
     let main = content(alloc, sources, audited, counts)?;
-    let page = framed(alloc, title_text(alloc, counts)?.as_str(), main)?;
+    let page = page_of(alloc, title_text(alloc, counts)?.as_str(), main)?;
     let text = document(alloc, &page)?;
     Ok(text.into_bytes())
 }

@@ -1,5 +1,10 @@
 //! Pieces that pages are made of.
 
+ghost use Rattle.std.specs.Prelude.{◌≡◌, ◌∷◌, [], IfOk};
+ghost use Rattle.fhir_markup.specs.Markup.{fixed, none, also, words, element};
+ghost use Rattle.fhir_markup.specs.Views.{element_node};
+ghost use Rattle.fhir_markup.specs.declared.names.AttributeName.TheVariants.{Class};
+
 use fhir_markup::{Attribute, AttributeName, Element, Tag};
 use std::alloc::{AllocError, Global};
 
@@ -9,7 +14,9 @@ pub(crate) fn worded(
     tag: Tag,
     class: &'static str,
     text: &str,
-) -> Result<Element, AllocError> {
+) -> Result<Element, AllocError>
+    ensures { IfOk result (λ made. element_node made ≡ element tag (fixed Class class.now ∷ []) (also (words text.now) none)) }
+{
     let mut element = Element::of_class(alloc, tag, class)?;
     element.push_text(alloc, text)?;
     Ok(element)

@@ -1,6 +1,17 @@
 //! What a page says of a profile.
 
-use crate::changes::changed;
+ghost use Rattle.std.specs.Prelude.{◌≡◌, ◌∷◌, [], codes, IfOk};
+ghost use Rattle.fhir_json.specs.Tree.{Text};
+ghost use Rattle.fhir_audit.specs.Views.{audited_seen, all_audited, verdict_seen};
+ghost use Rattle.fhir_audit_lines.specs.Words.{verdict_word};
+ghost use Rattle.fhir_markup.specs.Markup.{Nodes, none, also, place, fixed, element};
+ghost use Rattle.fhir_markup.specs.Views.{element_node};
+ghost use Rattle.fhir_markup.specs.declared.names.Tag.TheVariants.{Section, H3};
+ghost use Rattle.fhir_markup.specs.declared.names.AttributeName.TheVariants.{Class};
+ghost use Rattle.fhir_markup.specs.declared.names.Part.TheVariants.{Profile};
+ghost use Rattle.fhir_page.specs.Page.{saying, url_line, verdict_line, IsSection, AreTold};
+
+use crate::changes::changed_elements;
 use crate::counterexample::push_counterexample;
 use crate::failing::{Failing, nodes_of};
 use crate::pieces::{short_name, worded};
@@ -18,11 +29,11 @@ use fhir_names::Index;
 use fhir_report::rule_words;
 use std::alloc::{AllocError, Global};
 
-/// What profiles are told from: the sources, and the numbers of all that are audited.
+// What profiles are told from: the sources, and the numbers of all that are audited.
 #[derive(Clone, Copy)]
-pub(crate) struct Telling<'t, 's, 'f> {
-    pub(crate) sources: Sources<'s, 'f>,
-    pub(crate) numbers: &'t Index,
+struct Telling<'t, 's, 'f> {
+    sources: Sources<'s, 'f>,
+    numbers: &'t Index,
 }
 
 // ---- the verdict
@@ -58,20 +69,43 @@ fn pairs_text(alloc: Global, certificate: &Certificate) -> Result<String, AllocE
     }
 }
 
+// The base, and how many pairs show that it is narrowed.
+fn base_said(alloc: Global, numbers: &Index, audited: &Audited<'_>) -> Result<Element, AllocError> {
+    let mut said = Element::new(alloc, Tag::Span);
+    said.push_text(alloc, " ")?;
+    said.push(base_words(alloc, numbers, audited)?)?;
+    if let Verdict::Narrows(certificate) = &audited.verdict {
+        said.push_text(alloc, pairs_text(alloc, certificate)?.as_str())?;
+    }
+    Ok(said)
+}
+
+// A line that begins with a verdict.
+fn line_of_verdict(
+    alloc: Global,
+    class: &'static str,
+    word: &str,
+    more: Element,
+) -> Result<Element, AllocError>
+    ensures { IfOk result (λ line. element_node line ≡ verdict_line class.now word.now (also (element_node more) none)) }
+{
+    let mut line = Element::of_class(alloc, Tag::P, "says")?;
+    line.push(worded(alloc, Tag::Strong, class, word)?)?;
+    line.push(more)?;
+    Ok(line)
+}
+
 fn verdict_words(
     alloc: Global,
     numbers: &Index,
     audited: &Audited<'_>,
-) -> Result<Element, AllocError> {
-    let mut words = Element::of_class(alloc, Tag::P, "says")?;
+) -> Result<Element, AllocError>
+    ensures { IfOk result (λ line. (class : Text) × (more : Nodes) × (element_node line ≡ verdict_line class (verdict_word (verdict_seen audited.now.verdict)) more)) }
+{
+    let more = base_said(alloc, numbers, audited)?;
+    let class = class_of(&audited.verdict);
     let word = verdict_word(&audited.verdict);
-    words.push(worded(alloc, Tag::Strong, class_of(&audited.verdict), word)?)?;
-    words.push_text(alloc, " ")?;
-    words.push(base_words(alloc, numbers, audited)?)?;
-    if let Verdict::Narrows(certificate) = &audited.verdict {
-        words.push_text(alloc, pairs_text(alloc, certificate)?.as_str())?;
-    }
-    Ok(words)
+    line_of_verdict(alloc, class, word, more)
 }
 
 // ---- why
@@ -187,7 +221,7 @@ fn push_changes(
     let Some(base) = audited.base else {
         return Ok(());
     };
-    let elements = changed(alloc, sources.schema, audited.place, base)?;
+    let elements = changed_elements(alloc, sources.schema, audited.place, base)?;
     let failing = failing_of(sources, &audited.verdict);
     Ok(push_table(alloc, into, number, &elements, failing)?)
 }
@@ -234,30 +268,85 @@ fn push_found(
     }
 }
 
-fn opened(alloc: Global, audited: &Audited<'_>, number: usize) -> Result<Element, AllocError> {
+// ---- the sections
+
+fn line_of_url(alloc: Global, url: &str) -> Result<Element, AllocError>
+    ensures { IfOk result (λ line. element_node line ≡ url_line url.now) }
+{
+    let mut line = Element::of_class(alloc, Tag::P, "url")?;
+    line.push(Element::of_text(alloc, Tag::Code, url)?)?;
+    Ok(line)
+}
+
+fn opened(alloc: Global, number: usize, name: &str) -> Result<Element, AllocError>
+    ensures { IfOk result (λ opened. element_node opened
+        ≡ element Section (fixed Class (codes "profile") ∷ place Profile number ∷ []) (also (saying H3 [] name.now) none)) }
+{
     let mut section = Element::of_class(alloc, Tag::Section, "profile")?;
     section.set(Attribute::Id(Part::Profile, number))?;
-    section.push(Element::of_text(alloc, Tag::H3, short_name(audited.url))?)?;
-    let mut url = Element::of_class(alloc, Tag::P, "url")?;
-    url.push(Element::of_text(alloc, Tag::Code, audited.url)?)?;
-    section.push(url)?;
+    section.push(Element::of_text(alloc, Tag::H3, name)?)?;
     Ok(section)
 }
 
+// All that is told but the verdict: why, with a counterexample, what differs from the base, and what is unread.
+fn rest(
+    alloc: Global,
+    sources: Sources<'_, '_>,
+    audited: &Audited<'_>,
+    number: usize,
+) -> Result<Element, NoMemory> {
+    let mut rest = Element::new(alloc, Tag::Div);
+    push_why(alloc, &mut rest, sources, audited)?;
+    push_found(alloc, &mut rest, sources, audited)?;
+    push_changes(alloc, &mut rest, sources, audited, number)?;
+    push_unread(alloc, &mut rest, &audited.unread)?;
+    Ok(rest)
+}
+
 impl Telling<'_, '_, '_> {
-    /// The section on the profile of a number.
-    pub(crate) fn section(
+    // The section on the profile of a number.
+    #[tactic(auto, using(crate::proofs::Pages::is_section))]
+    fn section(
         self,
         alloc: Global,
         audited: &Audited<'_>,
         number: usize,
-    ) -> Result<Element, NoMemory> {
-        let mut section = opened(alloc, audited, number)?;
+    ) -> Result<Element, NoMemory>
+        ensures { IfOk result (λ section. IsSection number (audited_seen audited.now) (element_node section)) }
+    {
+        let mut section = opened(alloc, number, short_name(audited.url))?;
+        section.push(line_of_url(alloc, audited.url)?)?;
         section.push(verdict_words(alloc, self.numbers, audited)?)?;
-        push_why(alloc, &mut section, self.sources, audited)?;
-        push_found(alloc, &mut section, self.sources, audited)?;
-        push_changes(alloc, &mut section, self.sources, audited, number)?;
-        push_unread(alloc, &mut section, &audited.unread)?;
+        section.push(rest(alloc, self.sources, audited, number)?)?;
         Ok(section)
     }
+}
+
+fn numbers_of(alloc: Global, audited: &[Audited<'_>]) -> Result<Index, AllocError> {
+    let mut numbers = Index::new(alloc);
+    for (number, one) in audited.iter().enumerate() {
+        numbers.add(alloc, one.url, number)?;
+    }
+    Ok(numbers)
+}
+
+/// The sections on the profiles, in order.
+#[tactic(auto, using(crate::proofs::Sections::started, crate::proofs::Sections::continued, crate::proofs::Sections::ended))]
+pub(crate) fn sections(
+    alloc: Global,
+    sources: Sources<'_, '_>,
+    audited: &[Audited<'_>],
+) -> Result<Element, NoMemory>
+    ensures { IfOk result (λ sections. AreTold (all_audited audited.now) (element_node sections)) }
+{
+    let numbers = numbers_of(alloc, audited)?;
+    let telling = Telling {
+        sources,
+        numbers: &numbers,
+    };
+    let mut sections = Element::of_class(alloc, Tag::Div, "profiles")?;
+    for (number, one) in audited.iter().enumerate() {
+        sections.push(telling.section(alloc, one, number)?)?;
+    }
+    Ok(sections)
 }

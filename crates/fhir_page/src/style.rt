@@ -2,7 +2,7 @@
 
 /// What a page may load: nothing, and its own style alone counts, by its SHA-256.
 pub(crate) const POLICY: &str =
-    "default-src 'none'; style-src 'sha256-2qvcY2DnFv3deeCnZGcHXNrmvMZjgd0zJMAXczvL8t0='; base-uri 'none'; form-action 'none'";
+    "default-src 'none'; style-src 'sha256-bN6U7udCdiSGKyadWTmryjF7DP3UtFWB+nnlsNSX7gg='; base-uri 'none'; form-action 'none'";
 
 /// The style of a page. None of its characters means anything to a reader of pages.
 pub(crate) fn style() -> &'static str {
@@ -55,11 +55,13 @@ svg .word { fill: currentColor; }
 .profile { border-top: 1px solid var(--rule); margin-top: 2rem; padding-top: 1.25rem; scroll-margin-top: .5rem; }
 .profile:target { border-top: 2px solid var(--link); }
 .says { margin-top: .25rem; }
+h4 + p { margin-top: .25rem; }
 .url { color: var(--quiet); }
-table { border-collapse: collapse; table-layout: fixed; width: 100%; min-width: 24rem; font-size: .875rem; }
+table { border-collapse: collapse; table-layout: fixed; width: 100%; min-width: 18rem; font-size: .875rem; }
 th, td { text-align: left; vertical-align: top; padding: .25rem .75rem .25rem 0; font-weight: 400; }
 thead th { color: var(--quiet); font-size: .8125rem; border-bottom: 1px solid var(--rule); }
-thead th:first-child { width: 7.5rem; }
+thead th:first-child { width: 6.25rem; }
+@media (min-width: 36rem) { thead th:first-child { width: 7.5rem; } }
 tbody th { color: var(--quiet); padding-left: .75rem; }
 tbody th.id { color: var(--ink); font-weight: 600; padding: .625rem 0 .125rem; }
 tbody { border-bottom: 1px solid var(--rule); }
@@ -67,7 +69,7 @@ td { white-space: pre-wrap; }
 td.old { color: var(--quiet); }
 tr.fails th, tr.fails td { background: var(--mark); color: var(--ink); }
 tr.fails th { border-left: 3px solid var(--breaks); }
-pre { background: var(--raised); border: 1px solid var(--rule); border-radius: 4px; padding: .75rem; line-height: 1.45; white-space: pre-wrap; }
+pre { background: var(--raised); border: 1px solid var(--rule); border-radius: 4px; margin-top: .5rem; padding: .75rem; line-height: 1.45; white-space: pre-wrap; }
 mark { background: var(--mark); color: inherit; border-radius: 2px; outline: 1px solid var(--breaks); }
 .unread { margin-top: .5rem; padding-left: 1.125rem; }
 .meanings div { margin-top: .75rem; }

@@ -37,7 +37,5 @@ pub use failing::no_text;
 pub use finding_lines::finding_line;
 pub use lacking::LackingTable;
 pub use laws::reports;
-pub use narrowing::{
-    cardinality_text, json_text, length_text, member_text, node_types_text, range_text, rule_words,
-};
+pub use narrowing::rule_words;
 pub use reporting::{CertificateFile, Report, Subject, report_on};

@@ -48,8 +48,7 @@ fn most_text(alloc: Global, most: Option<Max>) -> Result<String, AllocError> {
     }
 }
 
-/// How many there may be of an element, as `0..1`; `nothing` where there is no such element.
-pub fn cardinality_text(alloc: Global, element: Option<&ElementDef>) -> Result<String, AllocError> {
+fn cardinality_text(alloc: Global, element: Option<&ElementDef>) -> Result<String, AllocError> {
     let Some(element) = element else {
         return String::from_str(alloc, "nothing");
     };
@@ -59,7 +58,7 @@ pub fn cardinality_text(alloc: Global, element: Option<&ElementDef>) -> Result<S
 }
 
 /// The text of a value.
-pub fn json_text(alloc: Global, value: &Json<'_>) -> Result<String, NoMemory> {
+pub(crate) fn json_text(alloc: Global, value: &Json<'_>) -> Result<String, NoMemory> {
     let bytes = write(alloc, value)?;
     Ok(String::from_utf8_lossy(alloc, &bytes)?)
 }
@@ -88,10 +87,9 @@ fn or_nothing(mut text: String) -> Result<String, NoMemory> {
     Ok(text)
 }
 
-/// A value under its whole name, as `fixedCode "x"`; `nothing` where there is none.
-pub fn member_text(alloc: Global, member: Option<&Member<'static>>) -> Result<String, NoMemory> {
+fn fixed_text(alloc: Global, element: &ElementDef) -> Result<String, NoMemory> {
     let mut text = String::new(alloc);
-    put_member(alloc, &mut text, member)?;
+    put_member(alloc, &mut text, element.fixed())?;
     or_nothing(text)
 }
 
@@ -102,16 +100,14 @@ fn pattern_text(alloc: Global, element: &ElementDef) -> Result<String, NoMemory>
     or_nothing(text)
 }
 
-/// The bounds of an element's values; `nothing` where there are none.
-pub fn range_text(alloc: Global, element: &ElementDef) -> Result<String, NoMemory> {
+fn range_text(alloc: Global, element: &ElementDef) -> Result<String, NoMemory> {
     let mut text = String::new(alloc);
     put_member(alloc, &mut text, element.min_value())?;
     put_member(alloc, &mut text, element.max_value())?;
     or_nothing(text)
 }
 
-/// How long an element's texts may be.
-pub fn length_text(alloc: Global, element: &ElementDef) -> Result<String, AllocError> {
+fn length_text(alloc: Global, element: &ElementDef) -> Result<String, AllocError> {
     match element.max_length() {
         Some(length) => format!(in alloc; "{length}"),
         None => String::from_str(alloc, "any length"),
@@ -146,12 +142,7 @@ fn types_text(alloc: Global, entries: &[TypeEntry]) -> Result<String, AllocError
     Ok(text)
 }
 
-/// The types of a node, with their profiles and targets.
-pub fn node_types_text(
-    alloc: Global,
-    schema: &Schema,
-    node: NodeRef,
-) -> Result<String, AllocError> {
+fn node_types_text(alloc: Global, schema: &Schema, node: NodeRef) -> Result<String, AllocError> {
     if schema.is_root(node) {
         return String::from_str(alloc, schema.type_code(node));
     }
@@ -250,7 +241,7 @@ fn field_text(
     };
     match field {
         Field::Types => Ok(node_types_text(alloc, schema, node)?),
-        Field::Fixed => member_text(alloc, element.fixed()),
+        Field::Fixed => fixed_text(alloc, element),
         Field::Pattern => pattern_text(alloc, element),
         Field::Range => range_text(alloc, element),
         Field::Length => Ok(length_text(alloc, element)?),
