@@ -501,4 +501,5 @@ def main():
     write_r4()
 
 
-main()
+if __name__ == "__main__":
+    main()
