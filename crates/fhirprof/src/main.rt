@@ -72,7 +72,10 @@ fn main(rt: HostRuntime) -> ExitCode {
             ))
         }
         // They are read, and there is no answer to them yet.
-        Ok(Task::Audit(_)) | Ok(Task::Compare(_)) => {
+        Ok(Task::Audit(_request)) => {
+            answer(&rt, Err(WordsFault::Usage), &mut meter, &mut out, &mut err)
+        }
+        Ok(Task::Compare(_request)) => {
             answer(&rt, Err(WordsFault::Usage), &mut meter, &mut out, &mut err)
         }
         Err(fault) => answer(&rt, Err(fault), &mut meter, &mut out, &mut err),
