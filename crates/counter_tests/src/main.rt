@@ -12,7 +12,7 @@ use fhir_certificate::Pair;
 use fhir_counter::{counterexample, counterexample_given};
 use fhir_derive_check::{Outcome, derive};
 use fhir_json::NoMemory;
-use fhir_package::{FolderFile, MemoryFolder, load};
+use fhir_package::{FolderFile, MemoryFolder, Package, load};
 use fhir_schema::Schema;
 use fhir_snapshot::complete;
 use fhir_validator::{Verdict, Vouched, validate, validate_given};
@@ -145,12 +145,27 @@ fn ask_pairs<R: Print + AllocGlobal + Clone + Drop>(
     let (mut count, mut all) = (0_u32, 0_u32);
     for line in pairs.lines() {
         all = all.saturating_add(1);
-        match answer(rt.alloc(), schema, question_of(line), given)? {
-            Some(told) => println!(rt; "{told}")?,
-            None => count = count.saturating_add(1),
+        if is_found_for(rt, schema, line, given)? {
+            count = count.saturating_add(1);
         }
     }
     println!(rt; "{name}: {count} of {all}")
+}
+
+// Whether a resource is found for the pair of a line. Else it is printed what is told.
+fn is_found_for<R: Print + AllocGlobal + Clone + Drop>(
+    rt: &R,
+    schema: &Schema,
+    line: &str,
+    given: Option<&Vouching>,
+) -> io::Result<bool> {
+    match answer(rt.alloc(), schema, question_of(line), given)? {
+        Some(told) => {
+            println!(rt; "{told}")?;
+            Ok(false)
+        }
+        None => Ok(true),
+    }
 }
 
 fn vouching_of(alloc: Global, text: &str) -> Result<Vouching, AllocError> {
@@ -168,13 +183,36 @@ fn vouching_of(alloc: Global, text: &str) -> Result<Vouching, AllocError> {
 
 fn schema_of(alloc: Global, text: &str) -> Result<Schema, AllocError> {
     let mut folder = folder_of_lines(alloc, text)?;
-    let Ok(mut package) = load(alloc, &mut folder) else {
-        return Err(AllocError);
-    };
-    let Ok(_faults) = complete(alloc, &mut package) else {
-        return Err(AllocError);
-    };
-    Schema::build(alloc, &package).map_err(|_| AllocError)
+    match load(alloc, &mut folder) {
+        Ok(package) => {
+            let mut package = package;
+            schema_in(alloc, &mut package)
+        }
+        Err(_) => Err(AllocError),
+    }
+}
+
+// The schema of a package, which is completed.
+fn schema_in(alloc: Global, package: &mut Package<'static>) -> Result<Schema, AllocError> {
+    match complete(alloc, package) {
+        Ok(_faults) => Schema::build(alloc, package).map_err(|_| AllocError),
+        Err(_) => Err(AllocError),
+    }
+}
+
+// What the file of a set is, by the end of its name.
+fn text_at<R: Files + AllocGlobal + Clone + Drop>(
+    rt: &R,
+    name: &str,
+    end: &str,
+) -> io::Result<String> {
+    let file = format!(in rt.alloc(); "{name}{end}")?;
+    fs::read_to_string(rt, file.as_str())
+}
+
+fn schema_at<R: Files + AllocGlobal + Clone + Drop>(rt: &R, name: &str) -> io::Result<Schema> {
+    let definitions = text_at(rt, name, ".txt")?;
+    Ok(schema_of(rt.alloc(), definitions.as_str())?)
 }
 
 fn ask_set<R: Print + Files + AllocGlobal + Clone + Drop>(
@@ -182,28 +220,37 @@ fn ask_set<R: Print + Files + AllocGlobal + Clone + Drop>(
     name: &str,
     given: Option<&Vouching>,
 ) -> io::Result<()> {
-    let file = format!(in rt.alloc(); "{name}.txt")?;
-    let definitions = fs::read_to_string(rt, file.as_str())?;
-    let schema = schema_of(rt.alloc(), definitions.as_str())?;
-    let file = format!(in rt.alloc(); "{name}-pairs.txt")?;
-    let pairs = fs::read_to_string(rt, file.as_str())?;
-    ask_pairs(rt, &schema, name, pairs.as_str(), given)
+    let schema = schema_at(rt, name)?;
+    ask_set_in(rt, &schema, name, given)
+}
+
+fn ask_set_in<R: Print + Files + AllocGlobal + Clone + Drop>(
+    rt: &R,
+    schema: &Schema,
+    name: &str,
+    given: Option<&Vouching>,
+) -> io::Result<()> {
+    let pairs = text_at(rt, name, "-pairs.txt")?;
+    ask_pairs(rt, schema, name, pairs.as_str(), given)
 }
 
 fn ask_given<R: Print + Files + AllocGlobal + Clone + Drop>(rt: &R, name: &str) -> io::Result<()> {
-    let file = format!(in rt.alloc(); "{name}-given.txt")?;
-    let texts = fs::read_to_string(rt, file.as_str())?;
+    let texts = text_at(rt, name, "-given.txt")?;
     let given = vouching_of(rt.alloc(), texts.as_str())?;
     ask_set(rt, name, Some(&given))
+}
+
+fn ask_line<R: Print + Files + AllocGlobal + Clone + Drop>(rt: &R, line: &str) -> io::Result<()> {
+    match line.strip_suffix(" given") {
+        Some(name) => ask_given(rt, name),
+        None => ask_set(rt, line, None),
+    }
 }
 
 fn main(rt: HostRuntime) -> io::Result<()> {
     let sets = fs::read_to_string(&rt, "sets.txt")?;
     for line in sets.as_str().lines() {
-        match line.strip_suffix(" given") {
-            Some(name) => ask_given(&rt, name)?,
-            None => ask_set(&rt, line, None)?,
-        }
+        ask_line(&rt, line)?;
     }
     Ok(())
 }

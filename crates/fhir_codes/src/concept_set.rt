@@ -165,8 +165,8 @@ impl ConceptSet {
         self.contains(concept.system(), concept.code())
     }
 
-    /// The concepts, in order.
-    pub(crate) fn concepts(&self) -> &[SharedConcept]
+    /// The concepts, in the order of the codes' bytes, and then of the systems'.
+    pub fn concepts(&self) -> &[SharedConcept]
         ensures { set.from_list result.now ≡ self.now }
     {
         self.table.as_slice()

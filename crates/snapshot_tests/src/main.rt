@@ -10,6 +10,7 @@ use fhir_overlay::element_json;
 use fhir_package::{FolderFile, Kind, MemoryFolder, Package, load};
 use fhir_snapshot::{complete, generate};
 use std::alloc::{AllocError, Global};
+use std::rt::Files;
 use std::{fs, io};
 
 fn file_of(alloc: Global, line: &str) -> Result<FolderFile, AllocError> {
@@ -37,14 +38,22 @@ fn text_of_element(alloc: Global, element: &ElementDef) -> Result<String, AllocE
     String::from_utf8_lossy(alloc, &bytes)
 }
 
+fn put_element(
+    alloc: Global,
+    text: &mut String,
+    place: usize,
+    element: &ElementDef,
+) -> Result<(), AllocError> {
+    if place > 0 {
+        text.push_str(",")?;
+    }
+    text.push_str(text_of_element(alloc, element)?.as_str())
+}
+
 fn text_of_elements(alloc: Global, elements: &[ElementDef]) -> Result<String, AllocError> {
     let mut text = String::from_str(alloc, "[")?;
     for (place, element) in elements.iter().enumerate() {
-        if place > 0 {
-            text.push_str(",")?;
-        }
-        let element = text_of_element(alloc, element)?;
-        text.push_str(element.as_str())?;
+        put_element(alloc, &mut text, place, element)?;
     }
     text.push_str("]")?;
     Ok(text)
@@ -85,38 +94,92 @@ fn count_completed(
 ) -> Result<usize, AllocError> {
     let mut count = 0_usize;
     for url in package.names(Kind::StructureDefinition) {
-        if !brings_snapshot(package, url) && brings_snapshot(completed, url) {
-            let generated = answer(alloc, package, url)?;
-            let there = answer(alloc, completed, url)?;
-            if generated.as_str() == there.as_str() {
-                count = count.saturating_add(1);
-            }
+        if !brings_snapshot(package, url)
+            && brings_snapshot(completed, url)
+            && is_generated(alloc, package, completed, url)?
+        {
+            count = count.saturating_add(1);
         }
     }
     Ok(count)
+}
+
+// Whether the snapshot that a definition has behind completing is the one that is generated.
+fn is_generated(
+    alloc: Global,
+    package: &Package<'_>,
+    completed: &Package<'_>,
+    url: &str,
+) -> Result<bool, AllocError> {
+    let generated = answer(alloc, package, url)?;
+    let there = answer(alloc, completed, url)?;
+    Ok(generated.as_str() == there.as_str())
+}
+
+// Completes a package, and prints which definitions have no snapshot.
+fn print_without<R: Print + AllocGlobal + Clone + Drop>(
+    rt: &R,
+    package: &mut Package<'static>,
+) -> io::Result<()> {
+    let Ok(faults) = complete(rt.alloc(), package) else {
+        return Err(AllocError.into());
+    };
+    for (url, fault) in &faults {
+        println!(rt; "without: {url} {fault}")?;
+    }
+    Ok(())
+}
+
+fn print_completed<R: Print + AllocGlobal + Clone + Drop>(
+    rt: &R,
+    package: &Package<'_>,
+    copy: &mut Package<'static>,
+) -> io::Result<()> {
+    print_without(rt, copy)?;
+    let count = count_completed(rt.alloc(), package, copy)?;
+    println!(rt; "completed: {count}")
 }
 
 fn print_completion<R: Print + AllocGlobal + Clone + Drop>(
     rt: &R,
     package: &Package<'_>,
 ) -> io::Result<()> {
-    let alloc = rt.alloc();
-    let mut completed = package.detach(alloc).map_err(|_| AllocError)?;
-    for (url, fault) in &complete(alloc, &mut completed).map_err(|_| AllocError)? {
-        println!(rt; "without: {url} {fault}")?;
+    match package.detach(rt.alloc()) {
+        Ok(copy) => {
+            let mut copy = copy;
+            print_completed(rt, package, &mut copy)
+        }
+        Err(_) => Err(AllocError.into()),
     }
-    let count = count_completed(alloc, package, &completed)?;
-    println!(rt; "completed: {count}")
+}
+
+fn print_all<R: Print + AllocGlobal + Clone + Drop>(
+    rt: &R,
+    package: &Package<'_>,
+) -> io::Result<()> {
+    print_snapshots(rt, package)?;
+    print_completion(rt, package)
+}
+
+fn print_folder<R: Print + AllocGlobal + Clone + Drop>(
+    rt: &R,
+    folder: &mut MemoryFolder,
+) -> io::Result<()> {
+    match load(rt.alloc(), folder) {
+        Ok(package) => print_all(rt, &package),
+        Err(fault) => println!(rt; "{fault}"),
+    }
+}
+
+fn folder_at<R: Files + AllocGlobal + Clone + Drop>(
+    rt: &R,
+    path: &str,
+) -> io::Result<MemoryFolder> {
+    let text = fs::read_to_string(rt, path)?;
+    Ok(folder_of_lines(rt.alloc(), text.as_str())?)
 }
 
 fn main(rt: HostRuntime) -> io::Result<()> {
-    let text = fs::read_to_string(&rt, "package.txt")?;
-    let mut folder = folder_of_lines(rt.alloc(), text.as_str())?;
-    match load(rt.alloc(), &mut folder) {
-        Ok(package) => {
-            print_snapshots(&rt, &package)?;
-            print_completion(&rt, &package)
-        }
-        Err(fault) => println!(&rt; "{fault}"),
-    }
+    let mut folder = folder_at(&rt, "package.txt")?;
+    print_folder(&rt, &mut folder)
 }

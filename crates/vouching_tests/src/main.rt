@@ -6,11 +6,11 @@
 #![tactic(auto)]
 
 use fhir_json::write;
-use fhir_package::{FolderFile, MemoryFolder, load};
+use fhir_package::{FolderFile, MemoryFolder, Package, load};
 use fhir_replies::judge_given;
 use fhir_schema::Schema;
 use fhir_validator::{Site, Vouched, validate_given};
-use fhir_vouching::{Vouching, read_given};
+use fhir_vouching::{GivenLine, Vouching, read_given};
 use std::alloc::{AllocError, Global};
 use std::rt::Files;
 use std::{fs, io};
@@ -91,21 +91,55 @@ fn outcome(
     String::from_utf8_lossy(alloc, &bytes)
 }
 
-// The set of the texts of a file. Of a line that is none its number is printed.
-fn set_of<R: Print + AllocGlobal + Clone + Drop>(rt: &R, file: &str) -> io::Result<Vouching> {
+// The texts of some lines. Of a line that is none its number is printed.
+fn texts_of<R: Print + AllocGlobal + Clone + Drop>(
+    rt: &R,
+    lines: Vec<GivenLine>,
+) -> io::Result<Vec<String>> {
     let mut texts = Vec::new(rt.alloc());
-    match read_given(rt.alloc(), file.as_bytes()) {
-        Ok(lines) => {
-            for line in lines {
-                match line.text {
-                    Some(text) => texts.push(text)?,
-                    None => println!(rt; "no text: {}", line.number)?,
-                }
-            }
+    for line in lines {
+        match line.text {
+            Some(text) => texts.push(text)?,
+            None => println!(rt; "no text: {}", line.number)?,
         }
-        Err(fault) => println!(rt; "{fault}")?,
     }
-    Ok(Vouching::of(texts))
+    Ok(texts)
+}
+
+// The set of the texts of a file.
+fn set_of<R: Print + AllocGlobal + Clone + Drop>(rt: &R, file: &str) -> io::Result<Vouching> {
+    match read_given(rt.alloc(), file.as_bytes()) {
+        Ok(lines) => Ok(Vouching::of(texts_of(rt, lines)?)),
+        Err(fault) => {
+            println!(rt; "{fault}")?;
+            Ok(Vouching::none())
+        }
+    }
+}
+
+fn print_answer<R: Print + AllocGlobal + Clone + Drop>(
+    rt: &R,
+    schema: &Schema,
+    given: &Vouching,
+    question: &str,
+) -> io::Result<()> {
+    let told = answer(rt.alloc(), schema, given, question)?;
+    println!(rt; "{told}")
+}
+
+fn print_outcome<R: Print + AllocGlobal + Clone + Drop>(
+    rt: &R,
+    schema: &Schema,
+    given: &Vouching,
+    question: &str,
+) -> io::Result<()> {
+    let told = outcome(rt.alloc(), schema, given, question)?;
+    println!(rt; "{told}")
+}
+
+fn put_line(file: &mut String, text: &str) -> Result<(), AllocError> {
+    file.push_str(text)?;
+    file.push_str("\n")
 }
 
 fn ask_line<R: Print + AllocGlobal + Clone + Drop>(
@@ -114,24 +148,15 @@ fn ask_line<R: Print + AllocGlobal + Clone + Drop>(
     file: &mut String,
     line: &str,
 ) -> io::Result<()> {
-    if let Some(question) = line.strip_prefix("? ") {
-        let given = set_of(rt, file.as_str())?;
-        let told = answer(rt.alloc(), schema, &given, question)?;
-        return println!(rt; "{told}");
-    }
-    if let Some(question) = line.strip_prefix("! ") {
-        let given = set_of(rt, file.as_str())?;
-        let told = outcome(rt.alloc(), schema, &given, question)?;
-        return println!(rt; "{told}");
-    }
-    match line.strip_prefix("+ ") {
-        Some(text) => {
-            file.push_str(text)?;
-            file.push_str("\n")?;
+    match line.split_once(' ') {
+        Some(("?", question)) => print_answer(rt, schema, &set_of(rt, file.as_str())?, question),
+        Some(("!", question)) => print_outcome(rt, schema, &set_of(rt, file.as_str())?, question),
+        Some(("+", text)) => Ok(put_line(file, text)?),
+        _ => {
+            file.clear();
+            Ok(())
         }
-        None => file.clear(),
     }
-    Ok(())
 }
 
 fn ask_all<R: Files + Print + AllocGlobal + Clone + Drop>(
@@ -139,6 +164,14 @@ fn ask_all<R: Files + Print + AllocGlobal + Clone + Drop>(
     schema: &Schema,
 ) -> io::Result<()> {
     let questions = fs::read_to_string(rt, "questions.txt")?;
+    ask_lines(rt, schema, questions.as_str())
+}
+
+fn ask_lines<R: Print + AllocGlobal + Clone + Drop>(
+    rt: &R,
+    schema: &Schema,
+    questions: &str,
+) -> io::Result<()> {
     let mut file = String::new(rt.alloc());
     for line in questions.lines() {
         ask_line(rt, schema, &mut file, line)?;
@@ -146,14 +179,35 @@ fn ask_all<R: Files + Print + AllocGlobal + Clone + Drop>(
     Ok(())
 }
 
-fn main(rt: HostRuntime) -> io::Result<()> {
-    let text = fs::read_to_string(&rt, "package.txt")?;
-    let mut folder = folder_of_lines(rt.alloc(), text.as_str())?;
-    match load(rt.alloc(), &mut folder) {
-        Ok(package) => match Schema::build(rt.alloc(), &package) {
-            Ok(schema) => ask_all(&rt, &schema),
-            Err(fault) => println!(&rt; "{fault}"),
-        },
-        Err(fault) => println!(&rt; "{fault}"),
+fn ask_package<R: Files + Print + AllocGlobal + Clone + Drop>(
+    rt: &R,
+    package: &Package<'_>,
+) -> io::Result<()> {
+    match Schema::build(rt.alloc(), package) {
+        Ok(schema) => ask_all(rt, &schema),
+        Err(fault) => println!(rt; "{fault}"),
     }
+}
+
+fn ask_folder<R: Files + Print + AllocGlobal + Clone + Drop>(
+    rt: &R,
+    folder: &mut MemoryFolder,
+) -> io::Result<()> {
+    match load(rt.alloc(), folder) {
+        Ok(package) => ask_package(rt, &package),
+        Err(fault) => println!(rt; "{fault}"),
+    }
+}
+
+fn folder_at<R: Files + AllocGlobal + Clone + Drop>(
+    rt: &R,
+    path: &str,
+) -> io::Result<MemoryFolder> {
+    let text = fs::read_to_string(rt, path)?;
+    Ok(folder_of_lines(rt.alloc(), text.as_str())?)
+}
+
+fn main(rt: HostRuntime) -> io::Result<()> {
+    let mut folder = folder_at(&rt, "package.txt")?;
+    ask_folder(&rt, &mut folder)
 }
