@@ -13,7 +13,7 @@ use fhir_json::{Json, JsonFault, Member, NoMemory, lists, read, write};
 use std::alloc::Global;
 
 /// What is asked of a session.
-#[derive(Debug, Drop)]
+#[derive(Drop)]
 pub enum Command<'a> {
     /// Definitions are put in, all of them or none.
     Put(Vec<Json<'a>>),

@@ -31,7 +31,7 @@ use std::borrow::CowStr;
 use std::marker::Model;
 
 /// The fields of an element, from which `ElementDef::new` makes one.
-#[derive(Debug, Drop)]
+#[derive(Drop)]
 pub struct ElementFields {
     /// Its id.
     pub id: String,
@@ -66,7 +66,7 @@ pub struct ElementFields {
 }
 
 /// An element of a definition.
-#[derive(Debug, Drop)]
+#[derive(Drop)]
 pub struct ElementDef {
     id: String,
     path: Option<String>,

@@ -13,7 +13,7 @@ use std::collections::BTreeSet;
 use std::marker::Model;
 
 /// A file of a folder: its name, and its bytes, or none where the device doesn't give them.
-#[derive(Debug, Drop)]
+#[derive(Drop)]
 pub struct FolderFile {
     /// The name.
     pub name: String,
@@ -22,7 +22,7 @@ pub struct FolderFile {
 }
 
 /// The files of a folder whose names end in `.json`, in the order of their names' bytes, each name once.
-#[derive(Debug, Drop)]
+#[derive(Drop)]
 pub struct FolderFiles {
     files: Vec<FolderFile>,
 }

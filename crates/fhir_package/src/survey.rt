@@ -21,7 +21,7 @@ use std::marker::Model;
 use std::mem;
 
 /// Two different definitions of one kind and url.
-#[derive(Debug, Drop)]
+#[derive(Drop)]
 pub struct Clash<'f> {
     /// The kind.
     pub kind: Kind,
@@ -45,7 +45,7 @@ pub struct NotJson<'f> {
 }
 
 /// What is wrong with a file.
-#[derive(Debug, Drop)]
+#[derive(Drop)]
 pub enum FileFault<'f> {
     /// The device doesn't give the file of this name.
     Unreadable(&'f str),
