@@ -1,5 +1,5 @@
 #!/usr/bin/env python3
-"""Writes the made pairs of crates/counter_tests/data: definitions into made.txt, pairs of profiles into made-pairs.txt. Of the types of R4's
+"""Writes the made pairs of tests/data/counterexamples: definitions into made.txt, pairs of profiles into made-pairs.txt. Of the types of R4's
 form in examples/given it writes r4.txt, r4-pairs.txt, and the unread rules that a user vouches for into r4-given.txt.
 
 Each pair is of a profile that should be wider than its base, at one element and in one respect: how many items there are, their types, a
@@ -12,7 +12,7 @@ import random
 import sys
 
 ROOT = pathlib.Path(__file__).resolve().parent.parent
-DATA = ROOT / "crates/counter_tests/data"
+DATA = ROOT / "tests/data/counterexamples"
 BASE = "http://hl7.org/fhir/StructureDefinition/"
 OWN = "http://example.org/made/"
 TEXT = "http://hl7.org/fhirpath/System.String"
