@@ -115,14 +115,6 @@ impl ConceptSet {
         Ok(ConceptSet { table })
     }
 
-    /// The concepts, in the order of the codes' bytes, and then of the systems'.
-    pub fn concepts(&self) -> &[SharedConcept]
-        ensures all { set.from_list result.now ≡ self.now }
-        ensures in_order { IsSorted concept_cmp result.now }
-    {
-        self.table.as_slice()
-    }
-
     /// Whether the set has the concept of a code in a system, by a binary search.
     pub fn contains(&self, system: &str, code: &str) -> bool
         ensures { result ≡ set.contains self.now (concept system.now code.now) }
@@ -173,8 +165,8 @@ impl ConceptSet {
         self.contains(concept.system(), concept.code())
     }
 
-    /// The concepts, in order.
-    pub(crate) fn concepts(&self) -> &[SharedConcept]
+    /// The concepts, in the order of the codes' bytes, and then of the systems'.
+    pub fn concepts(&self) -> &[SharedConcept]
         ensures { set.from_list result.now ≡ self.now }
     {
         self.table.as_slice()
