@@ -24,7 +24,7 @@ pub enum Carried<'s> {
 }
 
 /// What carries a rule that isn't judged, or lacks a base.
-#[derive(Clone, Copy, Debug)]
+#[derive(Clone, Copy)]
 pub struct Carrier<'s> {
     /// The file that the definition stands in.
     pub file: &'s str,
