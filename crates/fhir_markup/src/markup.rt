@@ -24,7 +24,7 @@ pub enum Attribute {
 }
 
 /// A piece of a page.
-#[derive(Debug, Drop)]
+#[derive(Drop)]
 #[cycle(markup)]
 pub enum Markup {
     /// A text, as a reader sees it.
@@ -34,7 +34,7 @@ pub enum Markup {
 }
 
 /// An element of a page.
-#[derive(Debug, Drop)]
+#[derive(Drop)]
 #[cycle(markup)]
 pub struct Element {
     pub(crate) tag: Tag,

@@ -22,9 +22,15 @@ pub struct FolderFile {
 }
 
 /// The files of a folder whose names end in `.json`, in the order of their names' bytes, each name once.
-#[derive(Drop)]
 pub struct FolderFiles {
     files: Vec<FolderFile>,
+}
+
+// A derived drop would be proved anew in each crate that owns one.
+impl Drop for FolderFiles {
+    fn drop(self) {
+        let FolderFiles { files: _files } = self;
+    }
 }
 
 impl Model for FolderFiles {

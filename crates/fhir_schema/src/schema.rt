@@ -45,7 +45,6 @@ use std::alloc::Global;
 use std::marker::Model;
 
 /// The schema of a package: its definitions, why some can't be used, the nodes of the others, and its value sets.
-#[derive(Drop)]
 pub struct Schema {
     table: Table,
     lineage: Lineage,
@@ -58,6 +57,25 @@ pub struct Schema {
     forms: NodeForms,
     value_sets: ValueSets,
     expressions: Expressions,
+}
+
+// A derived drop would be proved anew in each crate that owns one.
+impl Drop for Schema {
+    fn drop(self) {
+        let Schema {
+            table: _table,
+            lineage: _lineage,
+            blames: _blames,
+            nodes: _nodes,
+            slices: _slices,
+            summaries: _summaries,
+            resource_types: _resource_types,
+            criteria: _criteria,
+            forms: _forms,
+            value_sets: _value_sets,
+            expressions: _expressions,
+        } = self;
+    }
 }
 
 impl Model for Schema {
