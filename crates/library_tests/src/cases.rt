@@ -17,7 +17,6 @@
 use crate::spelling::{spell, spelled_out};
 use fhir_package::FolderFile;
 use std::alloc::{AllocError, AllocFailed, Global};
-use std::fs::DirEntry;
 use std::rt::Files;
 use std::{fs, io};
 use thiserror::Error;
@@ -173,36 +172,25 @@ impl<'l> Case<'l> {
             Line::Nothing => Ok(None),
             Line::Heading(name) => self.begin(name),
             _ if self.name.is_empty() => Err(Fault::NoCase),
-            Line::Question(question) => self.ask(question),
-            Line::Package(folder) => self.take_files(rt, folder),
-            Line::Text(path) => self.take_text(rt, path),
+            Line::Question(question) => {
+                self.is_asked = true;
+                Ok(Some(asked_of(self.alloc, question)?))
+            }
+            Line::Package(folder) => {
+                self.files = files_in(rt, folder)?;
+                Ok(None)
+            }
+            Line::Text(path) => {
+                self.text = if path.is_empty() {
+                    Vec::new(self.alloc)
+                } else {
+                    fs::read(rt, path)?
+                };
+                Ok(None)
+            }
             Line::File(name) => self.begin_file(name),
             Line::Piece(piece) => self.add(block, piece),
         }
-    }
-
-    fn ask(&mut self, question: &'l str) -> Result<Option<Asked<'l>>, Fault> {
-        self.is_asked = true;
-        Ok(Some(asked_of(self.alloc, question)?))
-    }
-
-    fn take_files<R: Files + AllocGlobal + Clone + Drop>(
-        &mut self,
-        rt: &R,
-        folder: &str,
-    ) -> Result<Option<Asked<'l>>, Fault> {
-        self.files = files_in(rt, folder)?;
-        Ok(None)
-    }
-
-    // A path that is empty stands for an empty text.
-    fn take_text<R: Files + AllocGlobal>(
-        &mut self,
-        rt: &R,
-        path: &str,
-    ) -> Result<Option<Asked<'l>>, Fault> {
-        self.text = text_at(rt, path)?;
-        Ok(None)
     }
 
     fn begin(&mut self, name: &'l str) -> Result<Option<Asked<'l>>, Fault> {
@@ -233,47 +221,32 @@ impl<'l> Case<'l> {
     }
 
     fn add(&mut self, block: Block, piece: &str) -> Result<Option<Asked<'l>>, Fault> {
-        let line = whole_line(self.alloc, piece)?;
+        let mut line = Vec::new(self.alloc);
+        put_line(self.alloc, &mut line, piece)?;
         match block {
-            Block::File => self.add_to_file(&line),
-            Block::Text => self.add_to_text(&line),
+            Block::File => {
+                if let Some(
+                    FolderFile {
+                        bytes: Some(bytes),
+                        ..
+                    },
+                ) = self.files.last_mut()
+                {
+                    bytes.extend_from_slice(&line)?;
+                }
+                self.block = Block::File;
+            }
+            Block::Text => {
+                self.text.extend_from_slice(&line)?;
+                self.block = Block::Text;
+            }
             Block::NoneYet => {
                 self.text = line;
                 self.block = Block::Text;
-                Ok(None)
             }
         }
-    }
-
-    fn add_to_file(&mut self, line: &[u8]) -> Result<Option<Asked<'l>>, Fault> {
-        if let Some(file) = self.files.last_mut() {
-            if let Some(bytes) = &mut file.bytes {
-                bytes.extend_from_slice(line)?;
-            }
-        }
-        self.block = Block::File;
         Ok(None)
     }
-
-    fn add_to_text(&mut self, line: &[u8]) -> Result<Option<Asked<'l>>, Fault> {
-        self.text.extend_from_slice(line)?;
-        self.block = Block::Text;
-        Ok(None)
-    }
-}
-
-fn text_at<R: Files + AllocGlobal>(rt: &R, path: &str) -> Result<Vec<u8>, Fault> {
-    if path.is_empty() {
-        Ok(Vec::new(rt.alloc()))
-    } else {
-        Ok(fs::read(rt, path)?)
-    }
-}
-
-fn whole_line(alloc: Global, piece: &str) -> Result<Vec<u8>, Fault> {
-    let mut line = Vec::new(alloc);
-    put_line(alloc, &mut line, piece)?;
-    Ok(line)
 }
 
 fn put_line(alloc: Global, bytes: &mut Vec<u8>, piece: &str) -> Result<(), Fault> {
@@ -293,17 +266,11 @@ fn files_in<R: Files + AllocGlobal + Clone + Drop>(
 ) -> Result<Vec<FolderFile>, Fault> {
     let mut files = Vec::new(rt.alloc());
     for entry in fs::read_dir(rt, folder)? {
-        files.push(file_at(rt, &entry?)?)?;
+        let entry = entry?;
+        files.push(FolderFile {
+            name: String::from_str(rt.alloc(), entry.file_name())?,
+            bytes: Some(fs::read(rt, entry.path().as_str())?),
+        })?;
     }
     Ok(files)
-}
-
-fn file_at<R: Files + AllocGlobal>(
-    rt: &R,
-    entry: &DirEntry<R, Global>,
-) -> Result<FolderFile, Fault> {
-    Ok(FolderFile {
-        name: String::from_str(rt.alloc(), entry.file_name())?,
-        bytes: Some(fs::read(rt, entry.path().as_str())?),
-    })
 }

@@ -113,17 +113,17 @@ fn fields_told(
     fields: &str,
 ) -> Result<Option<String>, AllocError> {
     let told = match fields {
-        "texts" => texts_told(alloc, element),
-        "bounds" => bounds_told(alloc, element),
-        "values" => values_told(alloc, element),
-        "types" => types_told(alloc, element.types()),
-        "binding" => binding_told(alloc, element),
-        "constraints" => constraints_told(alloc, element.constraints()),
-        "slicing" => slicing_told(alloc, element),
-        "allows" => counts_allowed(alloc, element),
+        "texts" => texts_told(alloc, element)?,
+        "bounds" => bounds_told(alloc, element)?,
+        "values" => values_told(alloc, element)?,
+        "types" => types_told(alloc, element.types())?,
+        "binding" => binding_told(alloc, element)?,
+        "constraints" => constraints_told(alloc, element.constraints())?,
+        "slicing" => slicing_told(alloc, element)?,
+        "allows" => counts_allowed(alloc, element)?,
         _ => return Ok(None),
     };
-    Ok(Some(told?))
+    Ok(Some(told))
 }
 
 fn texts_told(alloc: Global, element: &ElementDef) -> Result<String, AllocError> {

@@ -32,13 +32,13 @@ fn answer_of_tree(
         return Ok(Some(format!(in alloc; "{is_so}")?));
     }
     let told = match call {
-        "count_in" => format!(in alloc; "{:?}", json.count_in(name)),
-        "items_in" => format!(in alloc; "{}", json.items_in(name).len()),
-        "flag_in" => format!(in alloc; "{:?}", json.flag_in(name)),
-        "as_flag" => format!(in alloc; "{:?}", json.field(name).and_then(|value| value.as_flag())),
+        "count_in" => format!(in alloc; "{:?}", json.count_in(name))?,
+        "items_in" => format!(in alloc; "{}", json.items_in(name).len())?,
+        "flag_in" => format!(in alloc; "{:?}", json.flag_in(name))?,
+        "as_flag" => format!(in alloc; "{:?}", json.field(name).and_then(|value| value.as_flag()))?,
         _ => return Ok(None),
     };
-    Ok(Some(told?))
+    Ok(Some(told))
 }
 
 // The answer of a call that gives a text, or none where it is no such call.

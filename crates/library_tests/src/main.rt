@@ -40,21 +40,6 @@ enum Topic {
     Moments,
 }
 
-const TOPICS: [Topic; 12] = [
-    Topic::Json,
-    Topic::Fields,
-    Topic::Matching,
-    Topic::Packages,
-    Topic::Elements,
-    Topic::Schemas,
-    Topic::Items,
-    Topic::Certificates,
-    Topic::Decimals,
-    Topic::Names,
-    Topic::Prims,
-    Topic::Moments,
-];
-
 // The name of a topic, and of its file without the `.txt`.
 fn name_of(topic: Topic) -> &'static str {
     match topic {
@@ -160,60 +145,40 @@ fn ask_line<'l, R: Files + Print + AllocGlobal + Clone + Drop>(
     }
 }
 
-// Asks the lines of a file. Its last case has to ask something.
-fn ask_lines<'l, R: Files + Print + AllocGlobal + Clone + Drop>(
-    rt: &R,
-    topic: Topic,
-    case: &mut Case<'l>,
-    text: &'l str,
-    counts: &mut Counts,
-) -> io::Result<()> {
-    let mut number = 0_usize;
-    for line in text.lines() {
-        number = number.saturating_add(1);
-        ask_line(rt, topic, case, number, line, counts)?;
-    }
-    if case.is_asked() {
-        return Ok(());
-    }
-    counts.mismatches = counts.mismatches.saturating_add(1);
-    println!(rt; "{}.txt, at its end: {}", name_of(topic), Fault::NoQuestion)
-}
-
-fn ask_text<R: Files + Print + AllocGlobal + Clone + Drop>(
-    rt: &R,
-    topic: Topic,
-    text: &str,
-) -> io::Result<()> {
+fn ask_all<R: Files + Print + AllocGlobal + Clone + Drop>(rt: &R, topic: Topic) -> io::Result<()> {
+    let name = name_of(topic);
+    let text = fs::read_to_string(rt, format!(in rt.alloc(); "{name}.txt")?.as_str())?;
+    let mut case = Case::new(rt.alloc());
     let mut counts = Counts {
         questions: 0,
         mismatches: 0,
     };
-    ask_lines(rt, topic, &mut Case::new(rt.alloc()), text, &mut counts)?;
+    let mut number = 0_usize;
+    for line in text.lines() {
+        number = number.saturating_add(1);
+        ask_line(rt, topic, &mut case, number, line, &mut counts)?;
+    }
+    if !case.is_asked() {
+        counts.mismatches = counts.mismatches.saturating_add(1);
+        println!(rt; "{name}.txt, at its end: {}", Fault::NoQuestion)?;
+    }
     println!(rt;
-        "{}: {} questions, {} mismatches",
-        name_of(topic),
-        counts.questions,
-        counts.mismatches
+        "{name}: {} questions, {} mismatches",
+        counts.questions, counts.mismatches
     )
 }
 
-fn text_of<R: Files + AllocGlobal + Clone + Drop>(rt: &R, topic: Topic) -> io::Result<String> {
-    let path = format!(in rt.alloc(); "{}.txt", name_of(topic))?;
-    fs::read_to_string(rt, path.as_str())
-}
-
-fn ask_topic<R: Files + Print + AllocGlobal + Clone + Drop>(
-    rt: &R,
-    topic: Topic,
-) -> io::Result<()> {
-    let text = text_of(rt, topic)?;
-    ask_text(rt, topic, text.as_str())
-}
-
 fn main(rt: HostRuntime) -> io::Result<()> {
-    for topic in TOPICS {
-        ask_topic(&rt, topic)?;
-    }
-    Ok(())
+    ask_all(&rt, Topic::Json)?;
+    ask_all(&rt, Topic::Fields)?;
+    ask_all(&rt, Topic::Matching)?;
+    ask_all(&rt, Topic::Packages)?;
+    ask_all(&rt, Topic::Elements)?;
+    ask_all(&rt, Topic::Schemas)?;
+    ask_all(&rt, Topic::Items)?;
+    ask_all(&rt, Topic::Certificates)?;
+    ask_all(&rt, Topic::Decimals)?;
+    ask_all(&rt, Topic::Names)?;
+    ask_all(&rt, Topic::Prims)?;
+    ask_all(&rt, Topic::Moments)
 }

@@ -131,24 +131,11 @@ fn answer_of_folder(
 
 fn answer_of_unlisted(alloc: Global) -> Result<String, AllocError> {
     let mut folder = MemoryFolder::unlisted(alloc);
-    let mut text = answer_of_folder(alloc, &mut folder, Call::Load, "")?;
-    for (call, name) in [(Call::Load, ""), (Call::List, ""), (Call::Read, "b")] {
-        put_answer(alloc, &mut text, &mut folder, call, name)?;
-    }
-    Ok(text)
-}
-
-// Puts in the answer of a call on a folder, behind those before it.
-fn put_answer(
-    alloc: Global,
-    text: &mut String,
-    folder: &mut MemoryFolder,
-    call: Call,
-    name: &str,
-) -> Result<(), AllocError> {
-    let answer = answer_of_folder(alloc, folder, call, name)?;
-    text.push_str(", ")?;
-    text.push_str(answer.as_str())
+    let first = answer_of_folder(alloc, &mut folder, Call::Load, "")?;
+    let second = answer_of_folder(alloc, &mut folder, Call::Load, "")?;
+    let third = answer_of_folder(alloc, &mut folder, Call::List, "")?;
+    let fourth = answer_of_folder(alloc, &mut folder, Call::Read, "b")?;
+    format!(in alloc; "{first}, {second}, {third}, {fourth}")
 }
 
 // What a folder is loaded as: the urls, or the fault's text.
@@ -228,13 +215,7 @@ fn read_all(alloc: Global, folder: &mut MemoryFolder, names: &str) -> Result<Str
     Ok(all)
 }
 
-fn put_names(
-    text: &mut String,
-    heading: &str,
-    package: &Package<'_>,
-    kind: Kind,
-) -> Result<(), AllocError> {
-    text.push_str(heading)?;
+fn put_names(text: &mut String, package: &Package<'_>, kind: Kind) -> Result<(), AllocError> {
     for name in package.names(kind) {
         text.push(' ')?;
         text.push_str(name)?;
@@ -244,10 +225,12 @@ fn put_names(
 
 // The urls of a package, kind by kind.
 fn names_of(alloc: Global, package: &Package<'_>) -> Result<String, AllocError> {
-    let mut text = String::new(alloc);
-    put_names(&mut text, "S", package, Kind::StructureDefinition)?;
-    put_names(&mut text, ", V", package, Kind::ValueSet)?;
-    put_names(&mut text, ", C", package, Kind::CodeSystem)?;
+    let mut text = String::from_str(alloc, "S")?;
+    put_names(&mut text, package, Kind::StructureDefinition)?;
+    text.push_str(", V")?;
+    put_names(&mut text, package, Kind::ValueSet)?;
+    text.push_str(", C")?;
+    put_names(&mut text, package, Kind::CodeSystem)?;
     Ok(text)
 }
 

@@ -44,27 +44,24 @@ fn answer_of_schema(
     argument: &str,
 ) -> Result<Option<String>, AllocError> {
     let told = match call {
-        "usable" => usable(alloc, schema, argument),
-        "loaded" => name_told(alloc, schema, schema.loaded(argument)),
-        "forms" => forms_at(alloc, schema, argument),
-        "property" => property_at(alloc, schema, argument),
-        "content" => content_at(alloc, schema, argument),
-        "slices" => slices_at(alloc, schema, argument),
-        "slice" => slice_at(alloc, schema, argument),
-        "node" => node_told(alloc, schema, schema.node(PROFILE, argument)),
-        "name" => name_told(alloc, schema, schema.node(PROFILE, argument)),
-        "slot" => kid_told(alloc, schema, schema.root(PROFILE), argument),
-        "covers" => covers_told(alloc, schema, argument),
-        "type_root" => name_told(alloc, schema, schema.type_root(argument)),
+        "usable" => usable(alloc, schema, argument)?,
+        "loaded" => name_told(alloc, schema, schema.loaded(argument))?,
+        "forms" => forms_at(alloc, schema, argument)?,
+        "property" => property_at(alloc, schema, argument)?,
+        "content" => content_at(alloc, schema, argument)?,
+        "slices" => slices_at(alloc, schema, argument)?,
+        "slice" => slice_at(alloc, schema, argument)?,
+        "node" => node_told(alloc, schema, schema.node(PROFILE, argument))?,
+        "name" => name_told(alloc, schema, schema.node(PROFILE, argument))?,
+        "slot" => kid_told(alloc, schema, schema.root(PROFILE), argument)?,
+        "covers" => {
+            let (code, other) = argument.split_once(' ').unwrap_or((argument, ""));
+            format!(in alloc; "{}", schema.covers(code, other))?
+        }
+        "type_root" => name_told(alloc, schema, schema.type_root(argument))?,
         _ => return Ok(None),
     };
-    Ok(Some(told?))
-}
-
-// Whether the first of two types covers the second.
-fn covers_told(alloc: Global, schema: &Schema, codes: &str) -> Result<String, AllocError> {
-    let (code, other) = codes.split_once(' ').unwrap_or((codes, ""));
-    format!(in alloc; "{}", schema.covers(code, other))
+    Ok(Some(told))
 }
 
 // Why a definition can't be used, and whether it has a root.
@@ -153,27 +150,16 @@ fn slices_at(alloc: Global, schema: &Schema, named: &str) -> Result<String, Allo
     let Some(node) = node_at(schema, named) else {
         return String::from_str(alloc, "none");
     };
-    let closed = if schema.is_closed(node) {
-        " closed"
-    } else {
-        ""
-    };
-    let mut text = String::from_str(alloc, closed)?;
+    let mut text = String::new(alloc);
+    if schema.is_closed(node) {
+        text.push_str(" closed")?;
+    }
     for slice in schema.slices(node) {
-        text.push_str(slice_told(alloc, schema, node, slice)?.as_str())?;
+        text.push_str(slot_told(alloc, slice)?.as_str())?;
+        let criteria = schema.criteria(entry_of(node, slice));
+        text.push_str(criteria_told(alloc, criteria)?.as_str())?;
     }
     Ok(text)
-}
-
-fn slice_told(
-    alloc: Global,
-    schema: &Schema,
-    node: NodeRef,
-    slice: &Slot,
-) -> Result<String, AllocError> {
-    let slot = slot_told(alloc, slice)?;
-    let criteria = criteria_told(alloc, schema.criteria(entry_of(node, slice)))?;
-    format!(in alloc; "{slot}{criteria}")
 }
 
 fn entry_of(node: NodeRef, slice: &Slot) -> NodeRef {

@@ -79,29 +79,13 @@ fn put_repeated(
 ) -> Result<(), AllocError> {
     for before in 0..times {
         let behind = times - 1 - before;
-        put_pattern(alloc, bytes, pattern, before, behind)?;
-    }
-    Ok(())
-}
-
-fn put_pattern(
-    alloc: Global,
-    bytes: &mut Vec<u8>,
-    pattern: &str,
-    before: usize,
-    behind: usize,
-) -> Result<(), AllocError> {
-    for byte in pattern.bytes() {
-        match byte {
-            b'#' => put_count(alloc, bytes, before)?,
-            b'~' => put_count(alloc, bytes, behind)?,
-            other => bytes.push(other)?,
+        for byte in pattern.bytes() {
+            match byte {
+                b'#' => bytes.extend_from_slice(format!(in alloc; "{before}")?.as_bytes())?,
+                b'~' => bytes.extend_from_slice(format!(in alloc; "{behind}")?.as_bytes())?,
+                other => bytes.push(other)?,
+            }
         }
     }
     Ok(())
-}
-
-fn put_count(alloc: Global, bytes: &mut Vec<u8>, count: usize) -> Result<(), AllocError> {
-    let digits = format!(in alloc; "{count}")?;
-    bytes.extend_from_slice(digits.as_bytes())
 }
