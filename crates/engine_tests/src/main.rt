@@ -24,6 +24,8 @@ ghost use Rattle.fhir_answers.specs.Session.{SessionValue, IsSessionOf};
 ghost use Rattle.fhir_answers.specs.Views.{files_seen};
 
 use fhir_answers::{Reply, Session, Status};
+use fhir_audit::Unwatched;
+use fhir_audit_engine::audit_directory;
 use fhir_engine::{Opened, open_asked, run, serve_directory, serve_directory_given};
 use fhir_json::NoMemory;
 use fhir_package::{FolderFiles, Silent};
@@ -83,8 +85,10 @@ fn task_status<R: Files + AllocGlobal + Clone + Drop, W: Write, E: Write>(
                 given: Some(given),
             },
         ) => serve_directory_given(rt, folder, given, empty(), &mut Silent, out, err),
-        Ok(Task::Gather(_)) | Ok(Task::ValidateAll(_)) => Status::Usage,
-        Ok(Task::Audit(_)) | Ok(Task::Compare(_)) => Status::Usage,
+        Ok(Task::Audit(request)) => {
+            audit_directory(rt, &request, &mut Silent, &mut Unwatched, out, err)
+        }
+        Ok(Task::Gather(_)) | Ok(Task::ValidateAll(_)) | Ok(Task::Compare(_)) => Status::Usage,
         Err(fault) => status_of(rt, Err(fault), out, err),
     }
 }

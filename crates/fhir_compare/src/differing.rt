@@ -1,0 +1,105 @@
+//! Which definitions two packages don't have alike.
+
+ghost use Rattle.std.specs.Prelude.{◌≡◌, IfOk, OnOk, is_some, not, ◌&&◌, length, filter};
+ghost use Rattle.fhir_json.specs.Tree.{Text};
+ghost use Rattle.fhir_json.specs.Views.{tree_of, tree_seen};
+ghost use Rattle.fhir_json.specs.Memory.{Gives};
+ghost use Rattle.fhir_names.specs.Places.{place_of};
+ghost use Rattle.fhir_package.specs.Definitions.{of_kind};
+ghost use Rattle.fhir_compare.specs.Differing.{same_tree, is_same, Differ};
+
+use fhir_json::{Json, NoMemory};
+use fhir_matching::json_eq_in;
+use fhir_names::Index;
+use fhir_package::{Kind, Package};
+use std::alloc::Global;
+
+/// Whether both are there and equal, or neither is there.
+pub(crate) fn same_tree(
+    alloc: Global,
+    left: Option<&Json<'_>>,
+    right: Option<&Json<'_>>,
+) -> Result<bool, NoMemory>
+    ensures { Gives (λ b. b) result (same_tree (tree_seen left.entry) (tree_seen right.entry)) }
+{
+    match (left, right) {
+        (Some(left), Some(right)) => json_eq_in(alloc, left, right),
+        (None, None) => Ok(true),
+        _ => Ok(false),
+    }
+}
+
+// Whether two packages have one definition of a kind at a url, or none.
+fn is_same(
+    alloc: Global,
+    kind: Kind,
+    url: &str,
+    old: &Package<'_>,
+    new: &Package<'_>,
+) -> Result<bool, NoMemory>
+    ensures { Gives (λ b. b) result (is_same kind url.now old.now new.now) }
+{
+    same_tree(alloc, old.at_url(kind, url), new.at_url(kind, url))
+}
+
+/// The urls at which two packages have another definition of a kind, or one of them has none.
+#[derive(Drop)]
+pub(crate) struct Differing {
+    urls: Index,
+}
+
+impl Differing {
+    // Puts in a url, unless both packages have one definition there.
+    fn take(
+        &mut self,
+        alloc: Global,
+        kind: Kind,
+        url: &str,
+        old: &Package<'_>,
+        new: &Package<'_>,
+    ) -> Result<(), NoMemory> {
+        if !is_same(alloc, kind, url, old, new)? {
+            self.urls.put(alloc, url, 0)?;
+        }
+        Ok(())
+    }
+
+    // Those of urls of one of the packages.
+    fn take_names(
+        &mut self,
+        alloc: Global,
+        kind: Kind,
+        of: &Package<'_>,
+        old: &Package<'_>,
+        new: &Package<'_>,
+    ) -> Result<(), NoMemory> {
+        for url in of.names(kind) {
+            self.take(alloc, kind, url, old, new)?;
+        }
+        Ok(())
+    }
+
+    /// Those of a kind.
+    pub(crate) fn of(
+        alloc: Global,
+        kind: Kind,
+        old: &Package<'_>,
+        new: &Package<'_>,
+    ) -> Result<Differing, NoMemory>
+        ensures { IfOk result (λ d. Differ kind old.now new.now d.urls) }
+    {
+        let mut differing = Differing {
+            urls: Index::new(alloc),
+        };
+        differing.take_names(alloc, kind, old, old, new)?;
+        differing.take_names(alloc, kind, new, old, new)?;
+        Ok(differing)
+    }
+
+    /// Whether a url is one of them.
+    pub(crate) fn has(&self, url: &str) -> bool
+        ensures { result ≡ is_some (place_of self.now.urls url.now) }
+    {
+        self.urls.get(url).is_some()
+    }
+}

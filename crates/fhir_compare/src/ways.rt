@@ -1,0 +1,110 @@
+//! What is shown of the profiles of a url, in one way.
+
+ghost use Rattle.std.specs.Prelude.{IfOk, IfSome};
+ghost use Rattle.fhir_compare.specs.Comparing.{IsShown, ShowsBetween};
+ghost use Rattle.fhir_compare.specs.Views.{direction_seen, shown_seen};
+
+use crate::verdict::Shown;
+use fhir_cert_check::Rule;
+use fhir_certificate::Pair;
+use fhir_counter::{conforms, counterexample, violates};
+use fhir_derive_check::{DeriveFault, Outcome, derive};
+use fhir_json::NoMemory;
+use fhir_schema::Schema;
+use std::alloc::Global;
+
+/// One of the two ways.
+#[derive(Clone, Copy)]
+pub(crate) enum Direction {
+    /// That NEW's narrows OLD's.
+    NewInOld,
+    /// That OLD's narrows NEW's.
+    OldInNew,
+}
+
+/// The profiles of a url: the schema of OLD, and that of the package that is made; the url, and the one under which OLD's stands there.
+#[derive(Clone, Copy)]
+pub(crate) struct Two<'s, 'u> {
+    pub(crate) old_schema: &'s Schema,
+    pub(crate) schema: &'s Schema,
+    pub(crate) url: &'u str,
+    pub(crate) own: &'u str,
+}
+
+// Whether a resource conforms to the profile of the one folder, and not to that of the other, as each folder by itself says.
+fn shows_between(
+    alloc: Global,
+    direction: Direction,
+    two: Two<'_, '_>,
+    resource: &[u8],
+) -> Result<bool, NoMemory> {
+    let (one, other) = match direction {
+        Direction::NewInOld => (two.schema, two.old_schema),
+        Direction::OldInNew => (two.old_schema, two.schema),
+    };
+    if !conforms(alloc, one, two.url, resource)? {
+        return Ok(false);
+    }
+    violates(alloc, other, two.url, resource)
+}
+
+// A resource that was found in the package that is made, if it shows the same of the two folders.
+fn kept_if_shown(
+    alloc: Global,
+    direction: Direction,
+    two: Two<'_, '_>,
+    found: Option<Vec<u8>>,
+) -> Result<Option<Vec<u8>>, NoMemory> {
+    let Some(resource) = found else {
+        return Ok(None);
+    };
+    if shows_between(alloc, direction, two, &resource)? {
+        Ok(Some(resource))
+    } else {
+        Ok(None)
+    }
+}
+
+// The derived profile and its base.
+fn sides_of<'u>(direction: Direction, two: Two<'_, 'u>) -> (&'u str, &'u str) {
+    match direction {
+        Direction::NewInOld => (two.url, two.own),
+        Direction::OldInNew => (two.own, two.url),
+    }
+}
+
+fn fails<'s>(
+    alloc: Global,
+    direction: Direction,
+    two: Two<'s, '_>,
+    pair: Pair,
+    rule: Rule<'s>,
+) -> Result<Shown<'s>, NoMemory> {
+    let (derived, base) = sides_of(direction, two);
+    let found = counterexample(alloc, two.schema, derived, base, pair)?;
+    let resource = kept_if_shown(alloc, direction, two, found)?;
+    Ok(Shown::Fails {
+        pair,
+        rule,
+        resource,
+    })
+}
+
+/// What is shown of the profiles of a url, in one way: that the one narrows the other, or that no certificate exists; with a resource, if one is found
+/// that conforms to the profile of the one folder and not to that of the other.
+pub(crate) fn shown<'s>(
+    alloc: Global,
+    direction: Direction,
+    two: Two<'s, '_>,
+) -> Result<Shown<'s>, NoMemory>
+    ensures { IfOk result (λ w. IsShown (direction_seen direction) two.entry.old_schema.now two.entry.schema.now two.entry.url.now two.entry.own.now
+        (shown_seen w)) }
+{
+    let (derived, base) = sides_of(direction, two);
+    match derive(alloc, two.schema, derived, base) {
+        Ok(Outcome::Derives(_certificate)) => Ok(Shown::Narrows),
+        Ok(Outcome::NoCertificate(pair, rule)) => fails(alloc, direction, two, pair, rule),
+        Err(DeriveFault::Missing(_)) | Err(DeriveFault::Unusable(_)) => Ok(Shown::CannotBeUsed),
+        Err(DeriveFault::NoMemory) => Err(NoMemory),
+    }
+}
