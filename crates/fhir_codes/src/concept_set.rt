@@ -2,7 +2,7 @@
 
 ghost use Rattle.std.specs.Prelude.{◌≡◌, IsTrue, IfSome, is_some, is_none, option_map, not, true, false};
 ghost use Rattle.std.specs.List.Sorted.{IsSorted};
-ghost use Rattle.std.specs.List.{find, list_all, list_any, slice_get};
+ghost use Rattle.std.specs.List.{find, list_all, list_any};
 ghost use Rattle.std.specs.Ordering.{eq_by_cmp};
 ghost use Rattle.std.specs.FinSet as set;
 ghost use Rattle.fhir_json.specs.Memory.{Gives};
@@ -150,20 +150,6 @@ impl ConceptSet {
         parts(first_code_outside(self.table.as_slice(), other))
     }
 
-    /// How many concepts there are.
-    pub fn len(&self) -> usize
-        ensures { result ≡ set.len self.now }
-    {
-        self.table.as_slice().len()
-    }
-
-    /// The system and the code of the concept at a place, in the order of the codes' bytes, and then of the systems'.
-    pub fn at(&self, place: usize) -> Option<(&str, &str)>
-        ensures { option_map (λ c. concept c.0.now c.1.now) result ≡ slice_get (set.items self.now) place }
-    {
-        parts(self.table.as_slice().get(place))
-    }
-
     /// The first that another set has too.
     pub fn first_common(&self, other: &ConceptSet) -> Option<(&str, &str)>
         ensures some { is_some result ≡ list_any (set.contains other.now) (set.items self.now) }
@@ -179,8 +165,8 @@ impl ConceptSet {
         self.contains(concept.system(), concept.code())
     }
 
-    /// The concepts, in order.
-    pub(crate) fn concepts(&self) -> &[SharedConcept]
+    /// The concepts, in the order of the codes' bytes, and then of the systems'.
+    pub fn concepts(&self) -> &[SharedConcept]
         ensures { set.from_list result.now ≡ self.now }
     {
         self.table.as_slice()

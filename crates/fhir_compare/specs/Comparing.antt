@@ -15,9 +15,9 @@ use Rattle.fhir_derive_check.specs.Faults.{derive_refusal}
 use Rattle.fhir_derive_check.specs.Reaching.{HasCertificate}
 use Rattle.fhir_counter.specs.Shows.{AlwaysConforms, NeverConforms}
 use Rattle.fhir_json.specs.Grammar.{Reads}
-use Rattle.fhir_compare.specs.Profiles.{is_profile, has_profile}
-use Rattle.fhir_compare.specs.Naming.{names_of, names_stay, place_named}
-use Rattle.fhir_compare.specs.Spreading.{Edges, Reaches}
+use Rattle.fhir_alike.specs.Profiles.{is_profile, has_profile}
+use Rattle.fhir_alike.specs.Naming.{names_of, names_stay, place_named}
+use Rattle.fhir_alike.specs.Spreading.{Edges, Reaches}
 use Rattle.fhir_compare.specs.declared.verdict.Change.{Change}
 use Rattle.fhir_compare.specs.declared.verdict.Change.TheVariants.{Same, Narrows, Widens, Neither}
 

@@ -1,11 +1,2 @@
-pub mod Mark
-pub mod Spreading
-pub mod Profiles
-pub mod Differing
-pub mod Naming
-pub mod ValueSets
-pub mod Listing
-pub mod Made
-pub mod Types
 pub mod Comparing
 pub mod Views

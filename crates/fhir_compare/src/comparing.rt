@@ -5,13 +5,12 @@ ghost use Rattle.fhir_schema.specs.Schemas.{schema_of};
 ghost use Rattle.fhir_compare.specs.Comparing.{IsComparison, change_of};
 ghost use Rattle.fhir_compare.specs.Views.{all_said};
 
-use crate::bindings::marked;
-use crate::making::{Profile, profile_at};
-use crate::naming::{content_stays, names_of, place_named, profile_stays};
-use crate::profile::{has_profile, is_profile};
-use crate::spreading::spread;
 use crate::verdict::{Compared, Shown, Verdict, Way, Ways};
 use crate::ways::{Direction, Two, shown};
+use fhir_alike::{
+    content_stays, has_profile, is_profile, marked, names_of, place_named, profile_stays, spread,
+};
+use fhir_beside::{Profile, profile_at};
 use fhir_json::{Json, NoMemory};
 use fhir_package::{Kind, Package};
 use fhir_schema::Schema;

@@ -7,10 +7,11 @@ ghost use Rattle.fhir_compare.specs.Views.{direction_seen, shown_seen};
 use crate::verdict::Shown;
 use fhir_cert_check::Rule;
 use fhir_certificate::Pair;
-use fhir_counter::{conforms, counterexample, violates};
+use fhir_counter::counterexample;
 use fhir_derive_check::{DeriveFault, Outcome, derive};
 use fhir_json::NoMemory;
 use fhir_schema::Schema;
+use fhir_validator::{Fault, validate};
 use std::alloc::Global;
 
 /// One of the two ways.
@@ -31,21 +32,59 @@ pub(crate) struct Two<'s, 'u> {
     pub(crate) own: &'u str,
 }
 
-// Whether a resource conforms to the profile of the one folder, and not to that of the other, as each folder by itself says.
+// Whether a resource conforms to a profile, whatever unread rules mean, and its constraints are true. What can't be judged doesn't.
+fn conforms(alloc: Global, schema: &Schema, profile: &str, bytes: &[u8]) -> Result<bool, NoMemory>
+    ensures always { (t : Tree) → Reads bytes.now t → IfOk result (λ yes. IsTrue yes → AlwaysConforms schema.now profile.now t) }
+    ensures read { IfOk result (λ yes. IsTrue yes → (t : Tree) × Reads bytes.now t) }
+{
+    match validate(alloc, schema, profile, bytes) {
+        Ok(verdict) => Ok(verdict.is_conforming()),
+        Err(Fault::NoMemory) => Err(NoMemory),
+        Err(_) => Ok(false),
+    }
+}
+
+// Whether a resource violates a profile, whatever unread rules mean. What can't be judged doesn't.
+fn violates(alloc: Global, schema: &Schema, profile: &str, bytes: &[u8]) -> Result<bool, NoMemory>
+    ensures { (t : Tree) → Reads bytes.now t → IfOk result (λ yes. IsTrue yes → NeverConforms schema.now profile.now t) }
+{
+    match validate(alloc, schema, profile, bytes) {
+        Ok(verdict) => Ok(verdict.is_violating()),
+        Err(Fault::NoMemory) => Err(NoMemory),
+        Err(_) => Ok(false),
+    }
+}
+
+// Whether a resource conforms to the one profile and violates the other, each by its own schema.
+fn shows_by(
+    alloc: Global,
+    one: &Schema,
+    other: &Schema,
+    url: &str,
+    resource: &[u8],
+) -> Result<bool, NoMemory>
+    ensures { IfOk result (λ yes. IsTrue yes → ShowsBy one.now other.now url.now resource.now) }
+{
+    if !conforms(alloc, one, url, resource)? {
+        return Ok(false);
+    }
+    violates(alloc, other, url, resource)
+}
+
+// Whether a resource conforms to the profile of the one side, and not to that of the other.
 fn shows_between(
     alloc: Global,
     direction: Direction,
     two: Two<'_, '_>,
     resource: &[u8],
-) -> Result<bool, NoMemory> {
-    let (one, other) = match direction {
-        Direction::NewInOld => (two.schema, two.old_schema),
-        Direction::OldInNew => (two.old_schema, two.schema),
-    };
-    if !conforms(alloc, one, two.url, resource)? {
-        return Ok(false);
+) -> Result<bool, NoMemory>
+    ensures { IfOk result (λ yes. IsTrue yes
+        → ShowsBetween (direction_seen direction) two.entry.old_schema.now two.entry.schema.now two.entry.url.now resource.now) }
+{
+    match direction {
+        Direction::NewInOld => shows_by(alloc, two.schema, two.old_schema, two.url, resource),
+        Direction::OldInNew => shows_by(alloc, two.old_schema, two.schema, two.url, resource),
     }
-    violates(alloc, other, two.url, resource)
 }
 
 // A resource that was found in the package that is made, if it shows the same of the two folders.

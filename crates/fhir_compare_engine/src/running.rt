@@ -3,7 +3,8 @@
 ghost use Rattle.std.specs.Prelude.{◌≡◌, ⊥};
 
 use fhir_answers::{Reply, Session, Status, fault_reply};
-use fhir_compare::{Comparison, Made, beside, compare};
+use fhir_beside::{Made, beside};
+use fhir_compare::{Comparison, compare};
 use fhir_compare_lines::{Part, Side, Sources, comparison_text, part_of};
 use fhir_engine::{directory_at, end_with, files_of, write_reply};
 use fhir_json::NoMemory;

@@ -45,14 +45,8 @@ fn conforms_as_given(verdict: &Vouched<'_>) -> bool
     }
 }
 
-/// Whether a resource conforms to a profile, whatever unread rules mean, and its constraints are true. What can't be judged doesn't. The one refusal is
-/// want of memory.
-pub fn conforms(
-    alloc: Global,
-    schema: &Schema,
-    profile: &str,
-    bytes: &[u8],
-) -> Result<bool, NoMemory>
+// Whether a resource conforms to a profile, and its constraints are true. What can't be judged doesn't.
+fn conforms(alloc: Global, schema: &Schema, profile: &str, bytes: &[u8]) -> Result<bool, NoMemory>
     ensures always { (t : Tree) → Reads bytes.now t → IfOk result (λ yes. IsTrue yes → AlwaysConforms schema.now profile.now t) }
     ensures read { IfOk result (λ yes. IsTrue yes → (t : Tree) × Reads bytes.now t) }
 {
@@ -81,13 +75,8 @@ fn conforms_given(
     }
 }
 
-/// Whether a resource violates a profile, whatever unread rules mean. What can't be judged doesn't. The one refusal is want of memory.
-pub fn violates(
-    alloc: Global,
-    schema: &Schema,
-    profile: &str,
-    bytes: &[u8],
-) -> Result<bool, NoMemory>
+// Whether a resource violates a profile.
+fn violates(alloc: Global, schema: &Schema, profile: &str, bytes: &[u8]) -> Result<bool, NoMemory>
     ensures { (t : Tree) → Reads bytes.now t → IfOk result (λ yes. IsTrue yes → NeverConforms schema.now profile.now t) }
 {
     match validate(alloc, schema, profile, bytes) {

@@ -24,4 +24,4 @@
 
 mod counter;
 
-pub use counter::{conforms, counterexample, counterexample_given, violates};
+pub use counter::{counterexample, counterexample_given};

@@ -2,10 +2,10 @@
 
 ghost use Rattle.std.specs.Prelude.{◌≡◌, ◌++◌, IfOk, map, option_map, string_bytes};
 ghost use Rattle.fhir_json.specs.Views.{text_seen};
-ghost use Rattle.fhir_compare.specs.Made.{moved_set, bound_to, bound_anew};
-ghost use Rattle.fhir_compare.specs.ValueSets.{kept_by};
+ghost use Rattle.fhir_beside.specs.Made.{moved_set, bound_to, bound_anew};
+ghost use Rattle.fhir_alike.specs.ValueSets.{kept_by};
 
-use crate::value_sets::Changes;
+use fhir_alike::{Changes, marked};
 use fhir_definition::Definition;
 use fhir_elements::{BindingDef, ElementDef};
 use fhir_json::NoMemory;
@@ -20,15 +20,6 @@ pub(crate) struct Sides<'b, 'o, 'n> {
     pub(crate) new: &'b Package<'n>,
     pub(crate) mark: &'b str,
     pub(crate) changes: &'b Changes,
-}
-
-/// A text behind the mark.
-pub(crate) fn marked(alloc: Global, mark: &str, text: &str) -> Result<String, AllocError>
-    ensures { IfOk result (λ t. string_bytes t ≡ mark.now ++ text.now) }
-{
-    let mut marked = String::from_str(alloc, mark)?;
-    marked.push_str(text)?;
-    Ok(marked)
 }
 
 /// The canonical of an element's required binding, if that means another value set in OLD than in NEW.

@@ -14,8 +14,7 @@ use Rattle.fhir_package.specs.Canonical.{named_by}
 use Rattle.fhir_elements.specs.TypeEntry.{TypeEntry}
 use Rattle.fhir_elements.specs.Element.{Element}
 use Rattle.fhir_definition.specs.Definition.{Definition}
-use Rattle.fhir_nodes.specs.Contents.{hash}
-use Rattle.fhir_compare.specs.Profiles.{is_profile}
+use Rattle.fhir_alike.specs.Profiles.{is_profile}
 
 -- the place of the definition of a kind that a canonical names
 abbrev pub place_named : Kind → Definitions → Text → Option ℕ
@@ -49,6 +48,10 @@ abbrev pub profile_stays : Definitions → Definitions → Text → Bool
 profile_stays old new canonical = alike (named_by StructureDefinition canonical old) (named_by StructureDefinition canonical new)
 
 -- ---- contents
+
+-- what stands between the definition that a content is of, and the id of the element
+abbrev pub hash : ℕ
+hash = 35
 
 abbrev pub is_type : Option Tree → Bool
 is_type named = option_map_or (λ t. not (is_profile t)) named false

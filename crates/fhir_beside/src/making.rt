@@ -3,18 +3,16 @@
 ghost use Rattle.std.specs.Prelude.{◌≡◌, ◌++◌, IfOk, OnOk, Bool, map, string_bytes};
 ghost use Rattle.fhir_json.specs.Tree.{Text};
 ghost use Rattle.fhir_schema.specs.Schemas.{schema_of};
-ghost use Rattle.fhir_compare.specs.Made.{IsBeside};
-ghost use Rattle.fhir_compare.specs.Types.{types_differing};
-ghost use Rattle.fhir_compare.specs.ValueSets.{TellsKept};
+ghost use Rattle.fhir_beside.specs.Made.{IsBeside};
+ghost use Rattle.fhir_beside.specs.Types.{types_differing};
+ghost use Rattle.fhir_alike.specs.ValueSets.{TellsKept};
 
-use crate::bindings::{Sides, marked, moved_set};
+use crate::bindings::{Sides, moved_set};
 use crate::listing::listed;
-use crate::mark::mark_between;
 use crate::moving::moved;
-use crate::naming::place_named;
-use crate::profile::{has_profile, is_profile};
+use crate::profile::{Profile, profile_at};
 use crate::types::types_differing;
-use crate::value_sets::Changes;
+use fhir_alike::{Changes, has_profile, is_profile, mark_between, marked, place_named};
 use fhir_definition::Definition;
 use fhir_elements::ElementDef;
 use fhir_json::{Json, NoMemory};
@@ -39,36 +37,6 @@ struct Put<'f> {
     kind: Kind,
     url: String,
     tree: Json<'f>,
-}
-
-/// A profile of OLD.
-#[derive(Clone, Copy)]
-pub(crate) struct Profile<'o, 'a> {
-    /// Its url.
-    pub(crate) url: &'o str,
-    /// What the schema of OLD has of it.
-    pub(crate) definition: &'o Definition,
-    /// Its tree.
-    pub(crate) tree: &'o Json<'a>,
-}
-
-/// The profile at a place of OLD, if one stands there.
-pub(crate) fn profile_at<'o, 'a>(
-    old: &'o Package<'a>,
-    schema: &'o Schema,
-    place: usize,
-) -> Option<Profile<'o, 'a>> {
-    let (url, tree) = old.at(Kind::StructureDefinition, place)?;
-    let definition = schema.definitions().get(place)?;
-    if is_profile(tree) {
-        Some(Profile {
-            url,
-            definition,
-            tree,
-        })
-    } else {
-        None
-    }
 }
 
 // The profile at a place of OLD, if one stands there that can be used, and NEW has one of its url.
@@ -189,7 +157,7 @@ fn put_set<'f>(
         return Ok(());
     };
     let url = marked(alloc, sides.mark, url)?;
-    let tree = listed(alloc, url.as_str(), version_of(tree), concepts)?;
+    let tree = listed(alloc, url.as_str(), version_of(tree), concepts.concepts())?;
     puts.push(Put {
         kind: Kind::ValueSet,
         url,

@@ -6,7 +6,7 @@ ghost use Rattle.fhir_json.specs.Views.{tree_of, tree_seen};
 ghost use Rattle.fhir_json.specs.Memory.{Gives};
 ghost use Rattle.fhir_names.specs.Places.{place_of};
 ghost use Rattle.fhir_package.specs.Definitions.{of_kind};
-ghost use Rattle.fhir_compare.specs.Differing.{same_tree, is_same, Differ};
+ghost use Rattle.fhir_alike.specs.Differing.{same_tree, is_same, Differ};
 
 use fhir_json::{Json, NoMemory};
 use fhir_matching::json_eq_in;
@@ -15,7 +15,7 @@ use fhir_package::{Kind, Package};
 use std::alloc::Global;
 
 /// Whether both are there and equal, or neither is there.
-pub(crate) fn same_tree(
+pub fn same_tree(
     alloc: Global,
     left: Option<&Json<'_>>,
     right: Option<&Json<'_>>,

@@ -3,11 +3,11 @@
 ghost use Rattle.std.specs.Prelude.{◌≡◌, ◌++◌, [], IfOk, OnOk, map, string_bytes};
 ghost use Rattle.std.specs.List.{flat_map};
 ghost use Rattle.fhir_json.specs.Views.{tree_of, trees_of, property_of};
-ghost use Rattle.fhir_compare.specs.Mark.{stem, tail_of, tails_of, texts_in, member_texts, definition_texts, kind_texts, package_texts, fewer_behind, grown, mark_between};
+ghost use Rattle.fhir_alike.specs.Mark.{stem, tail_of, tails_of, texts_in, member_texts, definition_texts, kind_texts, package_texts, fewer_behind, grown, mark_between};
 
 use fhir_json::{Json, Member, NoMemory};
 use fhir_package::{Kind, Package};
-use std::alloc::Global;
+use std::alloc::{AllocError, Global};
 
 // What the mark begins with.
 const STEM: &str = "urn:fhirprof:old:";
@@ -161,7 +161,7 @@ fn grown(alloc: Global, mark: String, tails: Vec<String>) -> Result<String, NoMe
 
 /// A text that no text of two packages begins with. Each is looked at once, and each digit behind what the mark begins with leaves at most half of
 /// those that have to be looked at again.
-pub(crate) fn mark_between(
+pub fn mark_between(
     alloc: Global,
     old: &Package<'_>,
     new: &Package<'_>,
@@ -173,4 +173,13 @@ pub(crate) fn mark_between(
     push_package(alloc, STEM, new, &mut tails)?;
     let mark = String::from_str(alloc, STEM)?;
     grown(alloc, mark, tails)
+}
+
+/// A text behind the mark.
+pub fn marked(alloc: Global, mark: &str, text: &str) -> Result<String, AllocError>
+    ensures { IfOk result (λ t. string_bytes t ≡ mark.now ++ text.now) }
+{
+    let mut marked = String::from_str(alloc, mark)?;
+    marked.push_str(text)?;
+    Ok(marked)
 }

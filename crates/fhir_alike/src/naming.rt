@@ -3,7 +3,7 @@
 ghost use Rattle.std.specs.Prelude.{◌≡◌, ◌++◌, IfOk, OnOk, map, string_bytes};
 ghost use Rattle.std.specs.List.{flat_map};
 ghost use Rattle.fhir_json.specs.Views.{tree_seen};
-ghost use Rattle.fhir_compare.specs.Naming.{place_named, name_stays, profile_stays, is_type, is_type_in_both, content_stays, entry_names, element_names, names_of};
+ghost use Rattle.fhir_alike.specs.Naming.{place_named, name_stays, profile_stays, is_type, is_type_in_both, content_stays, entry_names, element_names, names_of};
 
 use crate::profile::is_profile;
 use fhir_definition::Definition;
@@ -14,7 +14,7 @@ use fhir_package::{Kind, Package};
 use std::alloc::{AllocError, Global};
 
 /// The place of the definition of a kind that a canonical names.
-pub(crate) fn place_named(package: &Package<'_>, kind: Kind, canonical: &str) -> Option<usize>
+pub fn place_named(package: &Package<'_>, kind: Kind, canonical: &str) -> Option<usize>
     ensures { result ≡ place_named kind «package».now canonical.now }
 {
     match (package.get(kind, canonical), Canonical::parse(canonical)) {
@@ -24,14 +24,14 @@ pub(crate) fn place_named(package: &Package<'_>, kind: Kind, canonical: &str) ->
 }
 
 /// Whether a canonical names a definition of a kind in both packages, or in none.
-pub(crate) fn name_stays(old: &Package<'_>, new: &Package<'_>, kind: Kind, canonical: &str) -> bool
+pub fn name_stays(old: &Package<'_>, new: &Package<'_>, kind: Kind, canonical: &str) -> bool
     ensures { result ≡ name_stays kind old.now new.now canonical.now }
 {
     old.get(kind, canonical).is_some() == new.get(kind, canonical).is_some()
 }
 
 /// Whether a canonical names a profile in both packages, or in both a definition that is none, or nothing in both.
-pub(crate) fn profile_stays(old: &Package<'_>, new: &Package<'_>, canonical: &str) -> bool
+pub fn profile_stays(old: &Package<'_>, new: &Package<'_>, canonical: &str) -> bool
     ensures { result ≡ profile_stays old.now new.now canonical.now }
 {
     match (
@@ -64,7 +64,7 @@ fn is_type_in_both(old: &Package<'_>, new: &Package<'_>, canonical: &str) -> boo
 
 /// Whether the definition that an element refers to for its content, if it names one, is no profile in both packages. What its content is hangs on a
 /// single element then, of which it isn't derived that one narrows the other.
-pub(crate) fn content_stays(old: &Package<'_>, new: &Package<'_>, reference: &str) -> bool
+pub fn content_stays(old: &Package<'_>, new: &Package<'_>, reference: &str) -> bool
     ensures { result ≡ content_stays old.now new.now reference.now }
 {
     match reference.split_once('#') {
@@ -99,7 +99,7 @@ fn push_element<'d>(element: &'d ElementDef, names: &mut Vec<&'d str>) -> Result
 }
 
 /// The canonicals of the profiles and of the targets that a definition's elements name.
-pub(crate) fn names_of(alloc: Global, definition: &Definition) -> Result<Vec<&str>, NoMemory>
+pub fn names_of(alloc: Global, definition: &Definition) -> Result<Vec<&str>, NoMemory>
     ensures { IfOk result (λ v. map (λ n. n.now) v.items ≡ names_of definition.now) }
 {
     let mut names = Vec::new(alloc);

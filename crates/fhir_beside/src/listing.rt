@@ -1,14 +1,12 @@
 //! A value set that lists the concepts which it has in OLD.
 
-ghost use Rattle.std.specs.Prelude.{◌≡◌, ◌++◌, ◌∷◌, [], IfOk, OnOk, map, slice_get, codes};
-ghost use Rattle.std.specs.Option.{option_to_list};
-ghost use Rattle.std.specs.FinSet as set;
+ghost use Rattle.std.specs.Prelude.{◌≡◌, ◌++◌, ◌∷◌, [], IfOk, OnOk, map, codes};
 ghost use Rattle.fhir_json.specs.Tree.{string};
 ghost use Rattle.fhir_json.specs.Views.{tree_of, trees_of, property_of, text_seen};
 ghost use Rattle.fhir_codes.specs.Concepts.{concept};
-ghost use Rattle.fhir_compare.specs.Listing.{object_of, array_of, include_of, compose_of, listed};
+ghost use Rattle.fhir_beside.specs.Listing.{object_of, array_of, include_of, compose_of, listed};
 
-use fhir_codes::ConceptSet;
+use fhir_codes::SharedConcept;
 use fhir_json::{Json, Member, NoMemory};
 use std::alloc::{AllocError, Global};
 use std::borrow::CowStr;
@@ -68,33 +66,18 @@ fn include_json<'o>(alloc: Global, system: &str, code: &str) -> Result<Json<'o>,
     Ok(Json::Obj(members))
 }
 
-// Puts in an include of the concept at a place.
-fn push_include<'o>(
-    alloc: Global,
-    concepts: &ConceptSet,
-    place: usize,
-    includes: &mut Vec<Json<'o>>,
-) -> Result<(), NoMemory>
-    ensures { OnOk result (trees_of includes.new.items ≡ trees_of includes.old.items ++ map include_of (option_to_list (slice_get (set.items concepts.now) place))) }
-{
-    if let Some((system, code)) = concepts.at(place) {
-        includes.push(include_json(alloc, system, code)?)?;
-    }
-    Ok(())
-}
-
 // An include for each concept.
-fn includes_json<'o>(alloc: Global, concepts: &ConceptSet) -> Result<Json<'o>, NoMemory>
-    ensures { IfOk result (λ j. tree_of j ≡ array_of (map include_of (set.items concepts.now))) }
+fn includes_json<'o>(alloc: Global, concepts: &[SharedConcept]) -> Result<Json<'o>, NoMemory>
+    ensures { IfOk result (λ j. tree_of j ≡ array_of (map include_of concepts.now)) }
 {
     let mut includes: Vec<Json<'o>> = Vec::with_capacity(alloc, concepts.len())?;
-    for place in 0..concepts.len() {
-        push_include(alloc, concepts, place, &mut includes)?;
+    for concept in concepts {
+        includes.push(include_json(alloc, concept.system(), concept.code())?)?;
     }
     Ok(Json::Arr(includes))
 }
 
-fn compose_json<'o>(alloc: Global, concepts: &ConceptSet) -> Result<Json<'o>, NoMemory>
+fn compose_json<'o>(alloc: Global, concepts: &[SharedConcept]) -> Result<Json<'o>, NoMemory>
     ensures { IfOk result (λ j. tree_of j ≡ compose_of concepts.now) }
 {
     let mut members: Vec<Member<'o>> = Vec::with_capacity(alloc, 1)?;
@@ -108,7 +91,7 @@ pub(crate) fn listed<'o>(
     alloc: Global,
     url: &str,
     version: Option<&str>,
-    concepts: &ConceptSet,
+    concepts: &[SharedConcept],
 ) -> Result<Json<'o>, NoMemory>
     ensures { IfOk result (λ j. tree_of j ≡ listed url.now (text_seen version.entry) concepts.now) }
 {

@@ -3,8 +3,8 @@
 ghost use Rattle.std.specs.Prelude.{◌≡◌, IfOk, map};
 ghost use Rattle.fhir_json.specs.Views.{tree_of, property_of};
 ghost use Rattle.fhir_overlay.specs.Completed.{with_snapshot};
-ghost use Rattle.fhir_compare.specs.Made.{with_url_member, with_url, bound_anew};
-ghost use Rattle.fhir_compare.specs.ValueSets.{kept_by};
+ghost use Rattle.fhir_beside.specs.Made.{with_url_member, with_url, bound_anew};
+ghost use Rattle.fhir_alike.specs.ValueSets.{kept_by};
 
 use crate::bindings::{Sides, all_bound_anew};
 use fhir_definition::Definition;

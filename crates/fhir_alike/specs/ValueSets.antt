@@ -7,9 +7,9 @@ use Rattle.fhir_json.specs.Fields.{text_in}
 use Rattle.fhir_package.specs.declared.kind.Kind.TheVariants.{ValueSet, CodeSystem}
 use Rattle.fhir_package.specs.Definitions.{Definitions}
 use Rattle.fhir_codes.specs.ValueSets.{sets_named, part_in}
-use Rattle.fhir_compare.specs.Differing.{is_same}
-use Rattle.fhir_compare.specs.Naming.{place_named, name_stays}
-use Rattle.fhir_compare.specs.Spreading.{Edges, Reaches, is_marked, IsSpread, told_at}
+use Rattle.fhir_alike.specs.Differing.{is_same}
+use Rattle.fhir_alike.specs.Naming.{place_named, name_stays}
+use Rattle.fhir_alike.specs.Spreading.{Edges, Reaches, is_marked, IsSpread, told_at}
 
 module _ (old new : Definitions) where
   -- ---- one include

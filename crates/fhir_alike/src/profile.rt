@@ -2,7 +2,7 @@
 
 ghost use Rattle.std.specs.Prelude.{◌≡◌};
 ghost use Rattle.fhir_json.specs.Views.{tree_of};
-ghost use Rattle.fhir_compare.specs.Profiles.{is_profile, has_profile};
+ghost use Rattle.fhir_alike.specs.Profiles.{is_profile, has_profile};
 
 use fhir_json::Json;
 use fhir_package::{Kind, Package};
@@ -15,7 +15,7 @@ pub fn is_profile(definition: &Json<'_>) -> bool
 }
 
 /// Whether a package has a profile at a url.
-pub(crate) fn has_profile(package: &Package<'_>, url: &str) -> bool
+pub fn has_profile(package: &Package<'_>, url: &str) -> bool
     ensures { result ≡ has_profile «package».now url.now }
 {
     match package.at_url(Kind::StructureDefinition, url) {

@@ -5,9 +5,9 @@ use Rattle.fhir_json.specs.Tree.{Text, Tree}
 use Rattle.fhir_package.specs.declared.kind.Kind.TheVariants.{StructureDefinition}
 use Rattle.fhir_package.specs.Definitions.{ByUrl, Definitions, at_url}
 use Rattle.fhir_schema.specs.Schemas.{schema_of, elements_at}
-use Rattle.fhir_compare.specs.Profiles.{is_profile}
-use Rattle.fhir_compare.specs.Differing.{same_tree}
-use Rattle.fhir_compare.specs.Made.{moved_set}
+use Rattle.fhir_alike.specs.Profiles.{is_profile}
+use Rattle.fhir_alike.specs.Differing.{same_tree}
+use Rattle.fhir_beside.specs.Made.{moved_set}
 
 module _ (old new : Definitions) (keeps : Text → Bool) where
   abbrev pub binds_another_set : ℕ → Bool

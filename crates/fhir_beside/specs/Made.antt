@@ -13,11 +13,11 @@ use Rattle.fhir_elements.specs.Binding.{Binding}
 use Rattle.fhir_elements.specs.Element.{Element, required_value_set}
 use Rattle.fhir_overlay.specs.Completed.{with_snapshot}
 use Rattle.fhir_schema.specs.Schemas.{schema_of, elements_at, is_usable}
-use Rattle.fhir_compare.specs.Mark.{mark_between}
-use Rattle.fhir_compare.specs.Profiles.{is_profile, has_profile}
-use Rattle.fhir_compare.specs.Naming.{place_named}
-use Rattle.fhir_compare.specs.ValueSets.{TellsKept}
-use Rattle.fhir_compare.specs.Listing.{listed, version_of}
+use Rattle.fhir_alike.specs.Mark.{mark_between}
+use Rattle.fhir_alike.specs.Profiles.{is_profile, has_profile}
+use Rattle.fhir_alike.specs.Naming.{place_named}
+use Rattle.fhir_alike.specs.ValueSets.{TellsKept}
+use Rattle.fhir_beside.specs.Listing.{listed, version_of}
 
 -- ---- a tree under another url
 

@@ -2,12 +2,11 @@
 
 ghost use Rattle.std.specs.Prelude.{◌≡◌, is_some};
 ghost use Rattle.std.specs.List.{list_any};
-ghost use Rattle.fhir_compare.specs.Made.{moved_set};
-ghost use Rattle.fhir_compare.specs.ValueSets.{kept_by};
+ghost use Rattle.fhir_beside.specs.Made.{moved_set};
+ghost use Rattle.fhir_alike.specs.ValueSets.{kept_by};
 
 use crate::bindings::{Sides, moved_set};
-use crate::differing::same_tree;
-use crate::profile::is_profile;
+use fhir_alike::{is_profile, same_tree};
 use fhir_definition::Definition;
 use fhir_json::{Json, NoMemory};
 use fhir_package::{Kind, Package};

@@ -5,9 +5,9 @@ ghost use Rattle.fhir_json.specs.Views.{tree_of, trees_of};
 ghost use Rattle.fhir_definition.specs.Views.{lists_in};
 ghost use Rattle.fhir_package.specs.declared.kind.Kind.TheVariants.{ValueSet, CodeSystem};
 ghost use Rattle.fhir_codes.specs.ValueSets.{part_in};
-ghost use Rattle.fhir_compare.specs.Differing.{Differ};
-ghost use Rattle.fhir_compare.specs.Spreading.{told_at};
-ghost use Rattle.fhir_compare.specs.ValueSets.{system_differs, name_differs, some_differs, differs_itself, places_in, leads_to, set_edges, set_marks, AreChanges, kept_by};
+ghost use Rattle.fhir_alike.specs.Differing.{Differ};
+ghost use Rattle.fhir_alike.specs.Spreading.{told_at};
+ghost use Rattle.fhir_alike.specs.ValueSets.{system_differs, name_differs, some_differs, differs_itself, places_in, leads_to, set_edges, set_marks, AreChanges, kept_by};
 
 use crate::differing::Differing;
 use crate::naming::{name_stays, place_named};
@@ -18,8 +18,8 @@ use std::alloc::Global;
 
 /// Two packages, with what is told of each value set of OLD: one that differs and on which it rests, if it rests on one.
 #[derive(Drop)]
-pub(crate) struct Changes {
-    pub(crate) changed: Vec<Option<usize>>,
+pub struct Changes {
+    pub changed: Vec<Option<usize>>,
 }
 
 // What both packages have.
@@ -158,7 +158,7 @@ fn marks_of(alloc: Global, both: Both<'_, '_, '_>) -> Result<Vec<bool>, NoMemory
 
 impl Changes {
     /// Those between two packages. Each value set and each code system is compared once.
-    pub(crate) fn between(
+    pub fn between(
         alloc: Global,
         old: &Package<'_>,
         new: &Package<'_>,
@@ -189,7 +189,7 @@ impl Changes {
     }
 
     /// Whether a canonical means the same of both packages: no value set, or one that is equal in both with all that it rests on.
-    pub(crate) fn keeps(&self, old: &Package<'_>, new: &Package<'_>, canonical: &str) -> bool
+    pub fn keeps(&self, old: &Package<'_>, new: &Package<'_>, canonical: &str) -> bool
         ensures { result ≡ kept_by old.now new.now self.now.changed.items canonical.now }
     {
         if !name_stays(old, new, Kind::ValueSet, canonical) {

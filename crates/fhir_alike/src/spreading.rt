@@ -1,8 +1,8 @@
 //! Marks that are carried along a graph, against its edges.
 
-ghost use Rattle.std.specs.Prelude.{◌≡◌, length, replicate, None, IfOk, OnOk};
+ghost use Rattle.std.specs.Prelude.{◌≡◌, [], length, replicate, get_or, None, IfOk, OnOk};
 ghost use Rattle.fhir_definition.specs.Views.{lists_in};
-ghost use Rattle.fhir_compare.specs.Spreading.{users_under, users_of, told_at, tell, tell_all, first_told, carry, IsSpread};
+ghost use Rattle.fhir_alike.specs.Spreading.{users_under, users_of, told_at, is_untold, tell, tell_if, tell_all, first_told, carry, IsSpread};
 
 use fhir_definition::{empty_lists, put_at};
 use fhir_json::NoMemory;
@@ -55,12 +55,21 @@ fn told_at(told: &[Option<usize>], place: usize) -> Option<usize>
     }
 }
 
+fn is_untold(told: &[Option<usize>], place: usize) -> bool
+    ensures { result ≡ is_untold place told.now }
+{
+    match told.get(place) {
+        Some(mark) => mark.is_none(),
+        None => false,
+    }
+}
+
 // Tells of a place a marked one that it reaches, unless one is told.
 fn tell(told: &mut Told, place: usize, marked: usize) -> Result<(), NoMemory>
     ensures { OnOk result ((told.new.marks.items, told.new.queue.items)
         ≡ tell place marked (told.old.marks.items, told.old.queue.items)) }
 {
-    if place < told.marks.len() && told.marks[place].is_none() {
+    if is_untold(&told.marks, place) {
         told.queue.push(place)?;
         told.marks[place] = Some(marked);
     }
@@ -78,7 +87,19 @@ fn tell_all(told: &mut Told, places: &[usize], marked: usize) -> Result<(), NoMe
     Ok(())
 }
 
-// Each marked place reaches itself.
+// A marked place reaches itself.
+fn tell_if(told: &mut Told, is_marked: bool, place: usize) -> Result<(), NoMemory>
+    ensures { OnOk result ((told.new.marks.items, told.new.queue.items)
+        ≡ tell_if is_marked place (told.old.marks.items, told.old.queue.items)) }
+{
+    if is_marked {
+        tell(told, place, place)
+    } else {
+        Ok(())
+    }
+}
+
+// What is told of each marked place.
 fn first_told(alloc: Global, marks: &[bool]) -> Result<Told, NoMemory>
     ensures { IfOk result (λ t. (t.marks.items, t.queue.items) ≡ first_told marks.now) }
 {
@@ -87,11 +108,19 @@ fn first_told(alloc: Global, marks: &[bool]) -> Result<Told, NoMemory>
         queue: Vec::new(alloc),
     };
     for (place, is_marked) in marks.iter().enumerate() {
-        if *is_marked {
-            tell(&mut told, place, place)?;
-        }
+        tell_if(&mut told, *is_marked, place)?;
     }
     Ok(told)
+}
+
+// Those that lead to a place.
+fn users_at(users: &[Vec<usize>], place: usize) -> &[usize]
+    ensures { result.now ≡ get_or (lists_in users.entry) place [] }
+{
+    match users.get(place) {
+        Some(users) => users,
+        None => Default::default(),
+    }
 }
 
 // Tells of those that lead to a place what is told of it.
@@ -99,15 +128,15 @@ fn carry(told: &mut Told, users: &[Vec<usize>], place: usize) -> Result<(), NoMe
     ensures { OnOk result ((told.new.marks.items, told.new.queue.items)
         ≡ carry (lists_in users.now) place (told.old.marks.items, told.old.queue.items)) }
 {
-    let (Some(marked), Some(places)) = (told_at(&told.marks, place), users.get(place)) else {
-        return Ok(());
-    };
-    tell_all(told, places, marked)
+    match told_at(&told.marks, place) {
+        Some(marked) => tell_all(told, users_at(users, place), marked),
+        None => Ok(()),
+    }
 }
 
 /// For each place of a graph a marked one that it reaches, if it reaches one: itself, or one to which a chain of edges leads. Each place is gone on
 /// from once, so that the time is linear in the places and their edges.
-pub(crate) fn spread(
+pub fn spread(
     alloc: Global,
     edges: &[Vec<usize>],
     marks: &[bool],

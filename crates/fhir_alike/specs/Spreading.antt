@@ -1,6 +1,7 @@
 -- Marks that are carried along a graph, against its edges.
-use Rattle.std.specs.Prelude.{◌≡◌, ◌<◌, ℕ, zero, suc, List, [], ◌∷◌, ◌++◌, length, replicate, get_or, set, Bool, true, false, ◌&&◌, nat_lt, Option, None, Some, is_none, if◌then◌else◌}
-use Rattle.std.specs.List.{Contains}
+use Rattle.std.specs.Prelude.{◌≡◌, ◌<◌, ℕ, zero, suc, List, [], ◌∷◌, ◌++◌, length, replicate, get_or, set, Bool, true, false, Option, None, Some, is_none, if◌then◌else◌}
+use Rattle.std.specs.List.{Contains, slice_get}
+use Rattle.std.specs.Option.{option_map_or}
 use Rattle.fhir_definition.specs.Gathering.{put_at}
 
 -- for each place those that it leads to
@@ -50,7 +51,7 @@ abbrev pub ToldValue : Type 0
 ToldValue = List (Option ℕ) × List ℕ
 
 abbrev pub is_untold : ℕ → List (Option ℕ) → Bool
-is_untold place told = nat_lt place (length told) && is_none (told_at told place)
+is_untold place told = option_map_or is_none (slice_get told place) false
 
 abbrev pub tell : ℕ → ℕ → ToldValue → ToldValue
 tell place marked t = if is_untold place t.0 then (set t.0 place (Some marked), t.1 ++ place ∷ []) else t
