@@ -1,1 +1,4 @@
 pub mod Users
+pub mod Told
+pub mod Spreads
+pub mod Kept

@@ -1,5 +1,5 @@
 -- Who leads to a place.
-use Rattle.std.proofs.Common.{◌≡◌, ℕ, zero, suc, ◌<◌, ◌≤◌, ◌+◌, List, [], ◌∷◌, ◌++◌, map, length, get_or, set, drop, replicate, Vec, refl, ap, sym, ◌∙◌, subst, inl, inr, arith, Some, None, add-one}
+use Rattle.std.proofs.Common.{◌≡◌, ℕ, zero, suc, ◌<◌, ◌≤◌, ◌+◌, List, [], ◌∷◌, ◌++◌, map, length, get_or, set, drop, replicate, Vec, refl, ap, sym, ◌∙◌, subst, ◌⊎◌, inl, inr, arith, Some, None, add-one}
 use Rattle.std.specs.List.{Contains}
 use Rattle.std.specs.declared.alloc.Global.{Global}
 use Rattle.std.proofs.lemmas.List.{drop_more, get_or-set_same, get_or-set_other}
@@ -92,12 +92,12 @@ under_has (at ∷ ats) place us q h there =
       | inl first ↦ elim (Contains-push_cases [] at q first) [
         | inl nowhere ↦ absurd (nothing_in q nowhere)
         | inr e ↦
-          let within : at < length us = subst (λ k. k < length us) (sym e) h in
-          under_keeps ats place (put_at (Some at) place us) q place
-          (subst (λ k. Contains (get_or (put_at (Some at) place us) k []) place) e (put_has us at place within))
+            let within : at < length us = subst (λ k. k < length us) (sym e) h in
+            under_keeps ats place (put_at (Some at) place us) q place
+            (subst (λ k. Contains (get_or (put_at (Some at) place us) k []) place) e (put_has us at place within))
       ]
       | inr behind ↦
-        under_has ats place (put_at (Some at) place us) q (subst (λ n. q < n) (sym (put_length us at place)) h) behind
+          under_has ats place (put_at (Some at) place us) q (subst (λ n. q < n) (sym (put_length us at place)) h) behind
     ]
 
 -- the same of all of them
@@ -142,8 +142,8 @@ users_lead edges q u h =
     elim (from_cases 0 edges (replicate (length edges) []) q u h) [
       | inl nowhere ↦ absurd (empty_at (length edges) q u nowhere)
       | inr it ↦
-        let same : it.0 ≡ u = omega (arith, it.1) in
-        subst (λ k. Contains (get_or edges k []) q) same it.2
+          let same : it.0 ≡ u = omega (arith, it.1) in
+          subst (λ k. Contains (get_or edges k []) q) same it.2
     ]
 
 -- and each that leads to one of the places is told

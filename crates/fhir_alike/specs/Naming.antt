@@ -1,8 +1,8 @@
 -- What a profile names (FHIR R4, ElementDefinition, type.profile, type.targetProfile, contentReference), and what that is in OLD and in NEW.
-use Rattle.std.specs.Prelude.{ℕ, List, ◌++◌, Bool, true, false, not, ◌&&◌, ◌||◌, bool_eq, Option, None, Some, is_some}
+use Rattle.std.specs.Prelude.{ℕ, List, ◌++◌, Bool, true, false, not, ◌&&◌, ◌||◌, bool_eq, Option, None, Some, is_some, if◌then◌else◌}
 use Rattle.std.specs.Option.{option_map_or, option_and_then}
 use Rattle.std.specs.Result.{result_ok}
-use Rattle.std.specs.List.{flat_map, list_all}
+use Rattle.std.specs.List.{flat_map, filter_map, find}
 use Rattle.fhir_json.specs.Bytes.{is_empty}
 use Rattle.fhir_json.specs.Tree.{Text, Tree}
 use Rattle.fhir_names.specs.Canonicals.{read_canonical}
@@ -24,6 +24,11 @@ place_named kind p canonical =
 -- it names one in both packages, or in none
 abbrev pub name_stays : Kind → Definitions → Definitions → Text → Bool
 name_stays kind old new canonical = bool_eq (is_some (named_by kind canonical old)) (is_some (named_by kind canonical new))
+
+-- the first of two, if it is there, and else the second
+abbrev pub first_some : Option Text → Option Text → Option Text
+first_some (Some x) other = Some x
+first_some None other = other
 
 -- ---- profiles and targets
 
@@ -65,10 +70,17 @@ abbrev pub content_stays : Definitions → Definitions → Text → Bool
 content_stays old new reference =
     option_map_or (λ cut. is_empty cut.0 || is_type_in_both old new cut.0) (cut_at_first hash reference) true
 
-abbrev pub element_content_stays : Definitions → Definitions → Element → Bool
-element_content_stays old new e = option_map_or (content_stays old new) e.content_reference true
+-- the content of an element, if it is another one's that doesn't stay
+abbrev pub lost_reference : Definitions → Definitions → Element → Option Text
+lost_reference old new e =
+    option_and_then (λ reference. if content_stays old new reference then None else Some reference) e.content_reference
+
+abbrev pub contents_of : Definition → List Text
+contents_of d = filter_map (λ e. e.content_reference) d.elements
 
 -- ---- all of it
 
-abbrev pub names_stay : Definitions → Definitions → Definition → Bool
-names_stay old new d = list_all (profile_stays old new) (names_of d) && list_all (element_content_stays old new) d.elements
+-- the first canonical that a definition names and that doesn't stay, or else the first content that doesn't
+abbrev pub lost_name : Definitions → Definitions → Definition → Option Text
+lost_name old new d =
+    first_some (find (λ name. not (profile_stays old new name)) (names_of d)) (find (λ reference. not (content_stays old new reference)) (contents_of d))

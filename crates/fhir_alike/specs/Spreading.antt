@@ -25,10 +25,11 @@ is_marked marks place = get_or marks place false
 abbrev pub told_at : List (Option ℕ) → ℕ → Option ℕ
 told_at told place = get_or told place None
 
--- Of each place a marked one is told that it reaches; of one of which none is told it reaches none.
+-- Of each place a marked one is told that it reaches, itself if it is marked; of one of which none is told it reaches none.
 pub record IsSpread (edges : Edges) (marks : List Bool) (told : List (Option ℕ)) : Type 0 where
   pub count : length told ≡ length edges
   pub found : (place marked : ℕ) → told_at told place ≡ Some marked → Reaches edges place marked × (is_marked marks marked ≡ true)
+  pub own : (place : ℕ) → is_marked marks place ≡ true → told_at told place ≡ Some place
   pub none : (place other : ℕ) → told_at told place ≡ None → Reaches edges place other → is_marked marks other ≡ false
 
 -- ---- how it is found (used by private contracts alone)

@@ -11,6 +11,18 @@ use Rattle.fhir_alike.specs.Differing.{is_same}
 use Rattle.fhir_alike.specs.Naming.{place_named, name_stays}
 use Rattle.fhir_alike.specs.Spreading.{Edges, Reaches, is_marked, IsSpread, told_at}
 
+-- ---- what a value set rests on
+
+-- the places of the value sets that includes name
+abbrev pub places_in : Definitions → List Tree → List ℕ
+places_in old ts = filter_map (place_named ValueSet old) (flat_map sets_named ts)
+
+abbrev pub leads_to : Definitions → Tree → List ℕ
+leads_to old t = places_in old (part_in (codes "include") t) ++ places_in old (part_in (codes "exclude") t)
+
+abbrev pub set_edges : Definitions → Edges
+set_edges old = map (λ e. leads_to old e.1) old.value_sets
+
 module _ (old new : Definitions) where
   -- ---- one include
 
@@ -35,30 +47,18 @@ module _ (old new : Definitions) where
   differs_itself e =
       not (is_same ValueSet e.0 old new) || (some_differs (part_in (codes "include") e.1) || some_differs (part_in (codes "exclude") e.1))
 
-  -- ---- what it rests on
-
-  -- the places of the value sets that includes name
-  abbrev pub places_in : List Tree → List ℕ
-  places_in ts = filter_map (place_named ValueSet old) (flat_map sets_named ts)
-
-  abbrev pub leads_to : Tree → List ℕ
-  leads_to t = places_in (part_in (codes "include") t) ++ places_in (part_in (codes "exclude") t)
-
-  abbrev pub set_edges : Edges
-  set_edges = map (λ e. leads_to e.1) old.value_sets
-
   abbrev pub set_marks : List Bool
   set_marks = map differs_itself old.value_sets
 
   -- what is told of each: one that differs by itself and on which it rests
   abbrev pub AreChanges : List (Option ℕ) → Type 0
-  AreChanges told = IsSpread set_edges set_marks told
+  AreChanges told = IsSpread (set_edges old) set_marks told
 
   -- ---- what a canonical means
 
   -- it rests on one that differs by itself, or is one
   abbrev pub IsChanged : ℕ → Type 0
-  IsChanged place = (other : ℕ) × Reaches set_edges place other × (is_marked set_marks other ≡ true)
+  IsChanged place = (other : ℕ) × Reaches (set_edges old) place other × (is_marked set_marks other ≡ true)
 
   -- A canonical means the same in both: no value set, or one that is equal in both with all that it rests on.
   abbrev pub IsKept : Text → Type 0

@@ -161,11 +161,7 @@ fn grown(alloc: Global, mark: String, tails: Vec<String>) -> Result<String, NoMe
 
 /// A text that no text of two packages begins with. Each is looked at once, and each digit behind what the mark begins with leaves at most half of
 /// those that have to be looked at again.
-pub fn mark_between(
-    alloc: Global,
-    old: &Package<'_>,
-    new: &Package<'_>,
-) -> Result<String, NoMemory>
+pub fn mark_between(alloc: Global, old: &Package<'_>, new: &Package<'_>) -> Result<String, NoMemory>
     ensures { IfOk result (λ m. string_bytes m ≡ mark_between old.now new.now) }
 {
     let mut tails = Vec::new(alloc);

@@ -115,7 +115,7 @@ fn first_told(alloc: Global, marks: &[bool]) -> Result<Told, NoMemory>
 
 // Those that lead to a place.
 fn users_at(users: &[Vec<usize>], place: usize) -> &[usize]
-    ensures { result.now ≡ get_or (lists_in users.entry) place [] }
+    ensures { result.now ≡ get_or (lists_in users.now) place [] }
 {
     match users.get(place) {
         Some(users) => users,

@@ -1,202 +1,28 @@
 //! The profiles of two packages, url by url.
 
-ghost use Rattle.std.specs.Prelude.{◌≡◌, IfOk};
+ghost use Rattle.std.specs.Prelude.{◌≡◌, ◌++◌, IfOk, OnOk, option_map};
+ghost use Rattle.std.specs.List.{slice_get};
+ghost use Rattle.fhir_json.specs.Views.{tree_of, text_seen};
 ghost use Rattle.fhir_schema.specs.Schemas.{schema_of};
-ghost use Rattle.fhir_compare.specs.Comparing.{IsComparison, change_of};
-ghost use Rattle.fhir_compare.specs.Views.{all_said};
+ghost use Rattle.fhir_alike.specs.Spreading.{IsSpread};
+ghost use Rattle.fhir_compare.specs.Comparing.{Direction, new_in_old, old_in_new, is_narrowing, edges, is_new, all_new, is_new_url, new_at, IsComparison};
+ghost use Rattle.fhir_compare.specs.Owns.{fails, all_fail, AreOwns, blamed_url, verdict_by, said_by, all_said_by};
+ghost use Rattle.fhir_compare.specs.Views.{shown_seen, own_seen, all_owns, verdict_seen, all_said};
 
+use crate::owning::{Own, all_own};
+use crate::reaching::edges_of;
+use crate::sides::Comparison;
 use crate::verdict::{Compared, Shown, Verdict, Way, Ways};
-use crate::ways::{Direction, Two, shown};
-use fhir_alike::{
-    content_stays, has_profile, is_profile, marked, names_of, place_named, profile_stays, spread,
-};
-use fhir_beside::{Profile, profile_at};
+use fhir_alike::{has_profile, is_profile, spread};
 use fhir_json::{Json, NoMemory};
 use fhir_package::{Kind, Package};
-use fhir_schema::Schema;
 use std::alloc::{AllocError, Global};
 
-/// What is compared: OLD, and what was made of NEW and of it.
-#[derive(Clone, Copy)]
-pub struct Comparison<'s, 'o, 'n> {
-    /// OLD, completed.
-    pub old: &'s Package<'o>,
-    /// Its schema.
-    pub old_schema: &'s Schema,
-    /// NEW's definitions with OLD's profiles beside them.
-    pub new: &'s Package<'n>,
-    /// Their schema.
-    pub schema: &'s Schema,
-    /// The mark behind which OLD's profiles stand there.
-    pub mark: &'s str,
-}
+// ---- which fail
 
-// ---- one url
-
-// What is shown of a profile of OLD by itself.
-#[derive(Drop)]
-enum Own<'s> {
-    // Both can be used: that NEW's narrows OLD's, that OLD's narrows NEW's, and a canonical that doesn't stay.
-    Both {
-        new_in_old: Shown<'s>,
-        old_in_new: Shown<'s>,
-        lost: Option<&'s str>,
-    },
-    CannotBeUsed {
-        in_old: bool,
-        in_new: bool,
-    },
-    OnlyInOld,
-    // It is no profile.
-    Other,
-}
-
-// The same, with its place in OLD.
-#[derive(Drop)]
-struct Placed<'s> {
-    place: usize,
-    own: Own<'s>,
-}
-
-// The first canonical of a profile or a target that a profile names, and that doesn't mean a profile, or none, in both packages.
-fn lost_profile<'s>(
-    alloc: Global,
-    sides: Comparison<'s, '_, '_>,
-    profile: Profile<'s, '_>,
-) -> Result<Option<&'s str>, NoMemory> {
-    let names = names_of(alloc, profile.definition)?;
-    for name in &names {
-        if !profile_stays(sides.old, sides.new, *name) {
-            return Ok(Some(*name));
-        }
-    }
-    Ok(None)
-}
-
-// The first reference of an element to the content of another one's that doesn't stay.
-fn lost_content<'s>(sides: Comparison<'s, '_, '_>, profile: Profile<'s, '_>) -> Option<&'s str> {
-    for element in profile.definition.elements() {
-        if let Some(reference) = element.content_reference() {
-            if !content_stays(sides.old, sides.new, reference) {
-                return Some(reference);
-            }
-        }
-    }
-    None
-}
-
-// What a profile names that doesn't stay.
-fn lost_name<'s>(
-    alloc: Global,
-    sides: Comparison<'s, '_, '_>,
-    profile: Profile<'s, '_>,
-) -> Result<Option<&'s str>, NoMemory> {
-    match lost_profile(alloc, sides, profile)? {
-        Some(name) => Ok(Some(name)),
-        None => Ok(lost_content(sides, profile)),
-    }
-}
-
-fn both_of<'s>(
-    alloc: Global,
-    sides: Comparison<'s, '_, '_>,
-    profile: Profile<'s, '_>,
-) -> Result<Own<'s>, NoMemory> {
-    let own = marked(alloc, sides.mark, profile.url)?;
-    let two = Two {
-        old_schema: sides.old_schema,
-        schema: sides.schema,
-        url: profile.url,
-        own: own.as_str(),
-    };
-    let new_in_old = shown(alloc, Direction::NewInOld, two)?;
-    let old_in_new = shown(alloc, Direction::OldInNew, two)?;
-    let lost = lost_name(alloc, sides, profile)?;
-    Ok(Own::Both {
-        new_in_old,
-        old_in_new,
-        lost,
-    })
-}
-
-fn own_of<'s>(
-    alloc: Global,
-    sides: Comparison<'s, '_, '_>,
-    place: usize,
-) -> Result<Own<'s>, NoMemory> {
-    let Some(profile) = profile_at(sides.old, sides.old_schema, place) else {
-        return Ok(Own::Other);
-    };
-    if !has_profile(sides.new, profile.url) {
-        return Ok(Own::OnlyInOld);
-    }
-    let in_old = sides.old_schema.reason(place).is_some();
-    let in_new = sides.schema.unusable(profile.url).is_some();
-    if in_old || in_new {
-        return Ok(Own::CannotBeUsed { in_old, in_new });
-    }
-    both_of(alloc, sides, profile)
-}
-
-fn all_own<'s>(alloc: Global, sides: Comparison<'s, '_, '_>) -> Result<Vec<Placed<'s>>, NoMemory> {
-    let count = sides.old.len(Kind::StructureDefinition);
-    let mut all: Vec<Placed<'s>> = Vec::with_capacity(alloc, count)?;
-    for place in 0..count {
-        let own = own_of(alloc, sides, place)?;
-        all.push(Placed { place, own })?;
-    }
-    Ok(all)
-}
-
-// ---- what they reach
-
-fn push_place(
-    sides: Comparison<'_, '_, '_>,
-    name: &str,
-    places: &mut Vec<usize>,
-) -> Result<(), AllocError> {
-    match place_named(sides.old, Kind::StructureDefinition, name) {
-        Some(place) => Ok(places.push(place)?),
-        None => Ok(()),
-    }
-}
-
-// The places of what a profile names in OLD.
-fn places_named(
-    alloc: Global,
-    sides: Comparison<'_, '_, '_>,
-    profile: Profile<'_, '_>,
-) -> Result<Vec<usize>, NoMemory> {
-    let names = names_of(alloc, profile.definition)?;
-    let mut places = Vec::new(alloc);
-    for name in &names {
-        push_place(sides, *name, &mut places)?;
-    }
-    Ok(places)
-}
-
-// Only a profile leads on: types are NEW's.
-fn leads_to(
-    alloc: Global,
-    sides: Comparison<'_, '_, '_>,
-    place: usize,
-) -> Result<Vec<usize>, NoMemory> {
-    match profile_at(sides.old, sides.old_schema, place) {
-        Some(profile) => places_named(alloc, sides, profile),
-        None => Ok(Vec::new(alloc)),
-    }
-}
-
-fn edges_of(alloc: Global, sides: Comparison<'_, '_, '_>) -> Result<Vec<Vec<usize>>, NoMemory> {
-    let count = sides.old.len(Kind::StructureDefinition);
-    let mut edges = Vec::with_capacity(alloc, count)?;
-    for place in 0..count {
-        edges.push(leads_to(alloc, sides, place)?)?;
-    }
-    Ok(edges)
-}
-
-fn narrows(shown: &Shown<'_>) -> bool {
+fn narrows(shown: &Shown<'_>) -> bool
+    ensures { result ≡ is_narrowing (shown_seen shown.now) }
+{
     match shown {
         Shown::Narrows => true,
         Shown::Fails { .. } | Shown::CannotBeUsed => false,
@@ -204,7 +30,9 @@ fn narrows(shown: &Shown<'_>) -> bool {
 }
 
 // Whether it isn't shown of a profile by itself that NEW's narrows OLD's.
-fn fails_in_old(own: &Own<'_>) -> bool {
+fn fails_in_old(own: &Own<'_>) -> bool
+    ensures { result ≡ fails new_in_old (own_seen own.now) }
+{
     match own {
         Own::Both {
             new_in_old,
@@ -217,7 +45,9 @@ fn fails_in_old(own: &Own<'_>) -> bool {
 }
 
 // The same of OLD's and NEW's.
-fn fails_in_new(own: &Own<'_>) -> bool {
+fn fails_in_new(own: &Own<'_>) -> bool
+    ensures { result ≡ fails old_in_new (own_seen own.now) }
+{
     match own {
         Own::Both {
             old_in_new,
@@ -229,23 +59,25 @@ fn fails_in_new(own: &Own<'_>) -> bool {
     }
 }
 
-fn marks_in_old(alloc: Global, all: &[Placed<'_>]) -> Result<Vec<bool>, AllocError> {
+fn marks_in_old(alloc: Global, all: &[Own<'_>]) -> Result<Vec<bool>, AllocError>
+    ensures { IfOk result (λ v. v.items ≡ all_fail new_in_old (all_owns all.now)) }
+{
     let mut marks = Vec::with_capacity(alloc, all.len())?;
-    for placed in all {
-        marks.push(fails_in_old(&placed.own))?;
+    for own in all {
+        marks.push(fails_in_old(own))?;
     }
     Ok(marks)
 }
 
-fn marks_in_new(alloc: Global, all: &[Placed<'_>]) -> Result<Vec<bool>, AllocError> {
+fn marks_in_new(alloc: Global, all: &[Own<'_>]) -> Result<Vec<bool>, AllocError>
+    ensures { IfOk result (λ v. v.items ≡ all_fail old_in_new (all_owns all.now)) }
+{
     let mut marks = Vec::with_capacity(alloc, all.len())?;
-    for placed in all {
-        marks.push(fails_in_new(&placed.own))?;
+    for own in all {
+        marks.push(fails_in_new(own))?;
     }
     Ok(marks)
 }
-
-// ---- what is said of all
 
 // For each place of OLD one that it reaches and of which a way isn't shown.
 #[derive(Drop)]
@@ -257,8 +89,13 @@ struct Blamed {
 fn blamed_of(
     alloc: Global,
     sides: Comparison<'_, '_, '_>,
-    all: &[Placed<'_>],
-) -> Result<Blamed, NoMemory> {
+    all: &[Own<'_>],
+) -> Result<Blamed, NoMemory>
+    requires old { sides.entry.old_schema.now ≡ schema_of sides.entry.old.now }
+    requires owns { AreOwns sides.entry.old.now sides.entry.new.now sides.entry.mark.now (all_owns all.now) }
+    ensures in_old { IfOk result (λ b. IsSpread (edges sides.entry.old.now) (all_fail new_in_old (all_owns all.now)) b.new_in_old.items) }
+    ensures in_new { IfOk result (λ b. IsSpread (edges sides.entry.old.now) (all_fail old_in_new (all_owns all.now)) b.old_in_new.items) }
+{
     let edges = edges_of(alloc, sides)?;
     let in_old = marks_in_old(alloc, all)?;
     let in_new = marks_in_new(alloc, all)?;
@@ -270,35 +107,15 @@ fn blamed_of(
     })
 }
 
+// ---- what is said of OLD's
+
 // The url of what is told of a place.
-fn blamed_url<'s>(old: &'s Package<'_>, told: &[Option<usize>], place: usize) -> Option<&'s str> {
-    let blamed = match told.get(place) {
-        Some(blamed) => (*blamed)?,
-        None => return None,
-    };
+fn blamed_url<'s>(old: &'s Package<'_>, told: &[Option<usize>], place: usize) -> Option<&'s str>
+    ensures { text_seen result ≡ blamed_url old.entry.now told.now place }
+{
+    let blamed = (*told.get(place)?)?;
     let (url, _definition) = old.at(Kind::StructureDefinition, blamed)?;
     Some(url)
-}
-
-fn both_verdict<'s>(
-    old: &'s Package<'_>,
-    blamed: &Blamed,
-    place: usize,
-    new_in_old: Shown<'s>,
-    old_in_new: Shown<'s>,
-    lost: Option<&'s str>,
-) -> Verdict<'s> {
-    Verdict::Both(Ways {
-        new_in_old: Way {
-            shown: new_in_old,
-            blamed: blamed_url(old, &blamed.new_in_old, place),
-        },
-        old_in_new: Way {
-            shown: old_in_new,
-            blamed: blamed_url(old, &blamed.old_in_new, place),
-        },
-        lost,
-    })
 }
 
 fn verdict_of<'s>(
@@ -306,13 +123,25 @@ fn verdict_of<'s>(
     blamed: &Blamed,
     place: usize,
     own: Own<'s>,
-) -> Option<Verdict<'s>> {
+) -> Option<Verdict<'s>>
+    ensures { option_map verdict_seen result ≡ verdict_by old.entry.now blamed.now.new_in_old.items blamed.now.old_in_new.items place (own_seen own.entry) }
+{
     match own {
         Own::Both {
             new_in_old,
             old_in_new,
             lost,
-        } => Some(both_verdict(old, blamed, place, new_in_old, old_in_new, lost)),
+        } => Some(Verdict::Both(Ways {
+            new_in_old: Way {
+                shown: new_in_old,
+                blamed: blamed_url(old, &blamed.new_in_old, place),
+            },
+            old_in_new: Way {
+                shown: old_in_new,
+                blamed: blamed_url(old, &blamed.old_in_new, place),
+            },
+            lost,
+        })),
         Own::CannotBeUsed { in_old, in_new } => Some(Verdict::CannotBeUsed { in_old, in_new }),
         Own::OnlyInOld => Some(Verdict::OnlyInOld),
         Own::Other => None,
@@ -322,10 +151,13 @@ fn verdict_of<'s>(
 fn push_verdict<'s>(
     old: &'s Package<'_>,
     blamed: &Blamed,
-    placed: Placed<'s>,
+    place: usize,
+    own: Own<'s>,
     into: &mut Vec<Compared<'s>>,
-) -> Result<(), NoMemory> {
-    let Placed { place, own } = placed;
+) -> Result<(), NoMemory>
+    ensures { OnOk result (all_said into.new.items ≡ all_said into.old.items
+        ++ said_by old.entry.now blamed.now.new_in_old.items blamed.now.old_in_new.items place (own_seen own.entry)) }
+{
     let Some((url, _definition)) = old.at(Kind::StructureDefinition, place) else {
         return Ok(());
     };
@@ -335,42 +167,67 @@ fn push_verdict<'s>(
     }
 }
 
-// Those of OLD's profiles.
-fn push_old<'s>(
+// What is said of each of OLD's profiles, in order.
+fn said_of_old<'s>(
     alloc: Global,
-    sides: Comparison<'s, '_, '_>,
-    into: &mut Vec<Compared<'s>>,
-) -> Result<(), NoMemory> {
-    let all = all_own(alloc, sides)?;
-    let blamed = blamed_of(alloc, sides, &all)?;
-    for placed in all {
-        push_verdict(sides.old, &blamed, placed, into)?;
+    old: &'s Package<'_>,
+    blamed: &Blamed,
+    all: Vec<Own<'s>>,
+) -> Result<Vec<Compared<'s>>, NoMemory>
+    ensures { IfOk result (λ v. all_said v.items
+        ≡ all_said_by old.entry.now blamed.now.new_in_old.items blamed.now.old_in_new.items 0 (all_owns all.entry.items)) }
+{
+    let mut said: Vec<Compared<'s>> = Vec::new(alloc);
+    let mut place = 0;
+    for own in all {
+        push_verdict(old, blamed, place, own, &mut said)?;
+        place += 1;
     }
-    Ok(())
+    Ok(said)
 }
 
+// ---- what is said of NEW's
+
 // Whether NEW alone has a profile of that url: one that isn't OLD's, and that OLD hasn't.
-fn is_new(sides: Comparison<'_, '_, '_>, url: &str, definition: &Json<'_>) -> bool {
-    is_profile(definition)
-        && !url.as_bytes().starts_with(sides.mark.as_bytes())
-        && !has_profile(sides.old, url)
+fn is_new(sides: Comparison<'_, '_, '_>, url: &str, definition: &Json<'_>) -> bool
+    ensures { result ≡ is_new sides.entry.old.now sides.entry.mark.now (url.now, tree_of definition.now) }
+{
+    is_profile(definition) && is_new_url(sides, url)
+}
+
+fn is_new_url(sides: Comparison<'_, '_, '_>, url: &str) -> bool
+    ensures { result ≡ is_new_url sides.entry.old.now sides.entry.mark.now url.now }
+{
+    !url.as_bytes().starts_with(sides.mark.as_bytes()) && !has_profile(sides.old, url)
+}
+
+fn push_if_new<'s>(
+    sides: Comparison<'s, '_, '_>,
+    place: usize,
+    into: &mut Vec<Compared<'s>>,
+) -> Result<(), AllocError>
+    ensures { OnOk result (all_said into.new.items ≡ all_said into.old.items
+        ++ new_at sides.entry.old.now sides.entry.mark.now (slice_get sides.entry.new.now.structure_definitions place)) }
+{
+    match sides.new.at(Kind::StructureDefinition, place) {
+        Some((url, definition)) if is_new(sides, url, definition) => Ok(into.push(Compared {
+            url,
+            verdict: Verdict::OnlyInNew,
+        })?),
+        _ => Ok(()),
+    }
 }
 
 // Those that NEW alone has.
 fn push_new<'s>(
     sides: Comparison<'s, '_, '_>,
     into: &mut Vec<Compared<'s>>,
-) -> Result<(), NoMemory> {
-    let package = sides.new;
-    for place in 0..package.len(Kind::StructureDefinition) {
-        if let Some((url, definition)) = package.at(Kind::StructureDefinition, place) {
-            if is_new(sides, url, definition) {
-                into.push(Compared {
-                    url,
-                    verdict: Verdict::OnlyInNew,
-                })?;
-            }
-        }
+) -> Result<(), AllocError>
+    ensures { OnOk result (all_said into.new.items ≡ all_said into.old.items
+        ++ all_new sides.entry.old.now sides.entry.new.now sides.entry.mark.now) }
+{
+    for place in 0..sides.new.len(Kind::StructureDefinition) {
+        push_if_new(sides, place, into)?;
     }
     Ok(())
 }
@@ -386,8 +243,9 @@ pub fn compare<'s>(
     requires old { sides.entry.old_schema.now ≡ schema_of sides.entry.old.now }
     ensures { IfOk result (λ v. IsComparison sides.entry.old.now sides.entry.new.now sides.entry.mark.now (all_said v.items)) }
 {
-    let mut all: Vec<Compared<'s>> = Vec::new(alloc);
-    push_old(alloc, sides, &mut all)?;
-    push_new(sides, &mut all)?;
-    Ok(all)
+    let all = all_own(alloc, sides)?;
+    let blamed = blamed_of(alloc, sides, &all)?;
+    let mut said = said_of_old(alloc, sides.old, &blamed, all)?;
+    push_new(sides, &mut said)?;
+    Ok(said)
 }

@@ -4,8 +4,12 @@
 #![tactic(auto)]
 
 mod comparing;
+mod owning;
+mod reaching;
+mod sides;
 mod verdict;
 mod ways;
 
-pub use comparing::{Comparison, compare};
+pub use comparing::compare;
+pub use sides::Comparison;
 pub use verdict::{Change, Compared, Shown, Verdict, Way, Ways};

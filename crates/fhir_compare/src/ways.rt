@@ -1,7 +1,13 @@
 //! What is shown of the profiles of a url, in one way.
 
-ghost use Rattle.std.specs.Prelude.{IfOk, IfSome};
-ghost use Rattle.fhir_compare.specs.Comparing.{IsShown, ShowsBetween};
+ghost use Rattle.std.specs.Prelude.{◌≡◌, ⊥, IfOk, IfSome, IsTrue, option_map};
+ghost use Rattle.fhir_json.specs.Tree.{Tree};
+ghost use Rattle.fhir_json.specs.Grammar.{Reads};
+ghost use Rattle.fhir_cert_check.specs.Views.{rule_name};
+ghost use Rattle.fhir_derive_check.specs.Deriving.{IsFirstFailing};
+ghost use Rattle.fhir_derive_check.specs.Reaching.{HasCertificate};
+ghost use Rattle.fhir_counter.specs.Shows.{AlwaysConforms, NeverConforms};
+ghost use Rattle.fhir_compare.specs.Comparing.{IsShown, ShowsBy, ShowsBetween, sides_by};
 ghost use Rattle.fhir_compare.specs.Views.{direction_seen, shown_seen};
 
 use crate::verdict::Shown;
@@ -93,7 +99,10 @@ fn kept_if_shown(
     direction: Direction,
     two: Two<'_, '_>,
     found: Option<Vec<u8>>,
-) -> Result<Option<Vec<u8>>, NoMemory> {
+) -> Result<Option<Vec<u8>>, NoMemory>
+    ensures { IfOk result (λ r. IfSome r (λ bytes.
+        ShowsBetween (direction_seen direction) two.entry.old_schema.now two.entry.schema.now two.entry.url.now bytes.items)) }
+{
     let Some(resource) = found else {
         return Ok(None);
     };
@@ -105,7 +114,9 @@ fn kept_if_shown(
 }
 
 // The derived profile and its base.
-fn sides_of<'u>(direction: Direction, two: Two<'_, 'u>) -> (&'u str, &'u str) {
+fn sides_of<'u>(direction: Direction, two: Two<'_, 'u>) -> (&'u str, &'u str)
+    ensures { (result.0.now, result.1.now) ≡ sides_by (direction_seen direction) two.entry.url.now two.entry.own.now }
+{
     match direction {
         Direction::NewInOld => (two.url, two.own),
         Direction::OldInNew => (two.own, two.url),
@@ -118,7 +129,12 @@ fn fails<'s>(
     two: Two<'s, '_>,
     pair: Pair,
     rule: Rule<'s>,
-) -> Result<Shown<'s>, NoMemory> {
+) -> Result<Shown<'s>, NoMemory>
+    requires none { HasCertificate two.entry.schema.now (sides_by (direction_seen direction) two.entry.url.now two.entry.own.now).0 (sides_by (direction_seen direction) two.entry.url.now two.entry.own.now).1 → ⊥ }
+    requires first { IsFirstFailing two.entry.schema.now (sides_by (direction_seen direction) two.entry.url.now two.entry.own.now).0 (sides_by (direction_seen direction) two.entry.url.now two.entry.own.now).1 pair (rule_name rule) }
+    ensures { IfOk result (λ w. IsShown (direction_seen direction) two.entry.old_schema.now two.entry.schema.now two.entry.url.now two.entry.own.now
+        (shown_seen w)) }
+{
     let (derived, base) = sides_of(direction, two);
     let found = counterexample(alloc, two.schema, derived, base, pair)?;
     let resource = kept_if_shown(alloc, direction, two, found)?;

@@ -1,6 +1,13 @@
 //! A comparison of two folders.
 
-ghost use Rattle.std.specs.Prelude.{◌≡◌, ⊥};
+ghost use Rattle.std.specs.Prelude.{◌≡◌, None, IfOk, IsTrue, string_bytes};
+ghost use Rattle.fhir_package.specs.Folder.{Files as FolderFiles};
+ghost use Rattle.fhir_package.specs.Surveying.{refusal};
+ghost use Rattle.fhir_package.specs.ReadFiles.{ReadFiles};
+ghost use Rattle.fhir_schema.specs.Schemas.{schema_of};
+ghost use Rattle.fhir_answers.specs.Replying.{code_of, is_told, reply_seen};
+ghost use Rattle.fhir_answers.specs.Session.{IsSessionOf};
+ghost use Rattle.fhir_compare_engine.specs.Answering.{part_status, IsReplyBy, IsNew, IsReply, IsReplyRead, IsPromised};
 
 use fhir_answers::{Reply, Session, Status, fault_reply};
 use fhir_beside::{Made, beside};
@@ -29,7 +36,9 @@ struct New<'n> {
     types: usize,
 }
 
-fn status_of(part: Part) -> Status {
+fn status_of(part: Part) -> Status
+    ensures { code_of result ≡ part_status part }
+{
     match part {
         Part::None | Part::Minor => Status::Yes,
         Part::Major => Status::No,
@@ -37,7 +46,9 @@ fn status_of(part: Part) -> Status {
 }
 
 // What is answered where the files of a folder are no package. A file is named with its folder, since there are two.
-fn refused_in(alloc: Global, folder: &str, fault: &FileFault<'_>) -> Result<Reply, AllocError> {
+fn refused_in(alloc: Global, folder: &str, fault: &FileFault<'_>) -> Result<Reply, AllocError>
+    ensures { IfOk result (λ r. IsTrue (is_told (reply_seen r))) }
+{
     match fault {
         FileFault::Clash(_) => fault_reply(alloc, fault.number(), fault.subject()),
         FileFault::Unreadable(_) | FileFault::NotJson(_) => {
@@ -54,7 +65,10 @@ fn reply_by(
     old: &Session<'_>,
     new: &New<'_>,
     schema: &Schema,
-) -> Result<Reply, NoMemory> {
+) -> Result<Reply, NoMemory>
+    requires { schema.now ≡ schema_of new.now.survey.definitions }
+    ensures { IfOk result (λ r. IsReplyBy request.now.audience request.now.format old.now.survey.definitions new.now.survey.definitions (string_bytes new.now.mark) new.now.types (reply_seen r)) }
+{
     let sides = Comparison {
         old: old.survey().package(),
         old_schema: old.schema(),
@@ -86,7 +100,9 @@ fn reply_by(
 }
 
 // What is made of NEW's definitions.
-fn new_of<'n>(alloc: Global, old: &Session<'_>, survey: Survey<'n>) -> Result<New<'n>, NoMemory> {
+fn new_of<'n>(alloc: Global, old: &Session<'_>, survey: Survey<'n>) -> Result<New<'n>, NoMemory>
+    ensures { IfOk result (λ n. IsNew old.now.survey.definitions survey.entry n.survey (string_bytes n.mark) n.types) }
+{
     let mut survey = survey;
     let mut definitions = survey.replace_package(Package::new(alloc));
     let faults = complete(alloc, &mut definitions)?;
@@ -112,7 +128,10 @@ fn reply_to<P: Progress>(
     old: &Session<'_>,
     new: &FolderFiles,
     progress: &mut P,
-) -> Result<Reply, NoMemory> {
+) -> Result<Reply, NoMemory>
+    requires old_right { refusal old.now.survey ≡ None }
+    ensures { IfOk result (λ r. (read : ReadFiles) → IsSessionOf read old.now → IsReply request.now.audience request.now.format read new.now (reply_seen r)) }
+{
     let survey = Survey::of(alloc, new, progress)?;
     if let Some(fault) = survey.refusal() {
         return Ok(refused_in(alloc, request.new, fault)?);
@@ -128,7 +147,9 @@ fn reply_of<P: Progress>(
     old: &FolderFiles,
     new: &FolderFiles,
     progress: &mut P,
-) -> Result<Reply, NoMemory> {
+) -> Result<Reply, NoMemory>
+    ensures { IfOk result (λ r. IsReply request.now.audience request.now.format old.now new.now (reply_seen r)) }
+{
     let session = Session::of(alloc, old, progress)?;
     match session.package() {
         Ok(_schema) => reply_to(alloc, request, &session, new, progress),
@@ -143,7 +164,9 @@ fn reply_read<P: Progress>(
     old: &Result<FolderFiles, FolderFault>,
     new: &Result<FolderFiles, FolderFault>,
     progress: &mut P,
-) -> Result<Reply, NoMemory> {
+) -> Result<Reply, NoMemory>
+    ensures { IfOk result (λ r. IsReplyRead request.now.audience request.now.format old.now new.now (reply_seen r)) }
+{
     match (old, new) {
         (Ok(old), Ok(new)) => reply_of(alloc, request, old, new, progress),
         (Err(FolderFault::NoMemory), _) | (_, Err(FolderFault::NoMemory)) => Err(NoMemory),
@@ -153,7 +176,7 @@ fn reply_read<P: Progress>(
 }
 
 /// Compares the profiles of two folders, and writes what is told of them at once: what can't be compared to standard error, and all else to standard
-/// output. How far the reading is, is told to `progress`.
+/// output. How far the reading is, is told to `progress`. The status is 1 exactly where the first part of a version has to change.
 pub fn compare_folders<F: Folder + Drop, P: Progress, W: Write, E: Write>(
     alloc: Global,
     request: &CompareRequest<'_>,
@@ -162,7 +185,9 @@ pub fn compare_folders<F: Folder + Drop, P: Progress, W: Write, E: Write>(
     progress: &mut P,
     out: &mut W,
     err: &mut E,
-) -> Status {
+) -> Status
+    ensures { IsPromised result request.now.audience request.now.format (F.files old) (F.files new) (W.contents out.old) (W.contents out.new) }
+{
     let old = files_of(alloc, old);
     let new = files_of(alloc, new);
     let reply = reply_read(alloc, request, &old, &new, progress);
@@ -190,7 +215,9 @@ pub fn compare_directories<R: Files + AllocGlobal + Clone + Drop, P: Progress, W
     progress: &mut P,
     out: &mut W,
     err: &mut E,
-) -> Status {
+) -> Status
+    ensures { (old new : FolderFiles) × IsPromised result request.now.audience request.now.format old new (W.contents out.old) (W.contents out.new) }
+{
     match open(rt, request, progress) {
         Ok((old, new)) => compare_folders(rt.alloc(), request, old, new, progress, out, err),
         Err(NoMemory) => {

@@ -1,5 +1,9 @@
 //! How many profiles there are of each verdict.
 
+ghost use Rattle.std.specs.Prelude.{◌≡◌, ◌++◌, IfOk, OnOk, string_bytes};
+ghost use Rattle.fhir_compare.specs.Views.{verdict_seen};
+ghost use Rattle.fhir_compare_lines.specs.Counting.{same_change, is_changed_so, is_unusable, is_in_old_alone, is_in_new_alone, with_verdict, counts_of, counted, counts_text};
+
 use fhir_compare::{Change, Compared, Verdict};
 use std::alloc::{AllocError, Global};
 
@@ -24,55 +28,108 @@ pub struct Counts {
     pub only_in_new: usize,
 }
 
-fn no_counts() -> Counts {
-    Counts {
-        profiles: 0,
-        same: 0,
-        narrow: 0,
-        widen: 0,
-        neither: 0,
-        unusable: 0,
-        only_in_old: 0,
-        only_in_new: 0,
+fn same_change(one: Change, other: Change) -> bool
+    ensures { result ≡ same_change one other }
+{
+    match (one, other) {
+        (Change::Same, Change::Same)
+        | (Change::Narrows, Change::Narrows)
+        | (Change::Widens, Change::Widens)
+        | (Change::Neither, Change::Neither) => true,
+        _ => false,
     }
 }
 
-fn count_change(counts: &mut Counts, change: Change) {
-    match change {
-        Change::Same => counts.same = counts.same.saturating_add(1),
-        Change::Narrows => counts.narrow = counts.narrow.saturating_add(1),
-        Change::Widens => counts.widen = counts.widen.saturating_add(1),
-        Change::Neither => counts.neither = counts.neither.saturating_add(1),
+fn is_changed_so(change: Change, one: &Compared<'_>) -> bool
+    ensures { result ≡ is_changed_so change (verdict_seen one.now.verdict) }
+{
+    match &one.verdict {
+        Verdict::Both(ways) => same_change(change, ways.change()),
+        Verdict::CannotBeUsed { .. } | Verdict::OnlyInOld | Verdict::OnlyInNew => false,
     }
 }
 
-fn count_one(counts: &mut Counts, verdict: &Verdict<'_>) {
-    counts.profiles = counts.profiles.saturating_add(1);
-    match verdict {
-        Verdict::Both(ways) => count_change(counts, ways.change()),
-        Verdict::CannotBeUsed { .. } => counts.unusable = counts.unusable.saturating_add(1),
-        Verdict::OnlyInOld => counts.only_in_old = counts.only_in_old.saturating_add(1),
-        Verdict::OnlyInNew => counts.only_in_new = counts.only_in_new.saturating_add(1),
-    }
+fn is_unusable(one: &Compared<'_>) -> bool
+    ensures { result ≡ is_unusable (verdict_seen one.now.verdict) }
+{
+    matches!(one.verdict, Verdict::CannotBeUsed { .. })
+}
+
+fn is_in_old_alone(one: &Compared<'_>) -> bool
+    ensures { result ≡ is_in_old_alone (verdict_seen one.now.verdict) }
+{
+    matches!(one.verdict, Verdict::OnlyInOld)
+}
+
+fn is_in_new_alone(one: &Compared<'_>) -> bool
+    ensures { result ≡ is_in_new_alone (verdict_seen one.now.verdict) }
+{
+    matches!(one.verdict, Verdict::OnlyInNew)
+}
+
+fn changed_so(change: Change, compared: &[Compared<'_>]) -> usize
+    ensures { result ≡ with_verdict (is_changed_so change) compared.now }
+{
+    compared
+        .iter()
+        .filter(|one| is_changed_so(change, *one))
+        .count()
+}
+
+fn unusable(compared: &[Compared<'_>]) -> usize
+    ensures { result ≡ with_verdict is_unusable compared.now }
+{
+    compared.iter().filter(|one| is_unusable(*one)).count()
+}
+
+fn in_old_alone(compared: &[Compared<'_>]) -> usize
+    ensures { result ≡ with_verdict is_in_old_alone compared.now }
+{
+    compared.iter().filter(|one| is_in_old_alone(*one)).count()
+}
+
+fn in_new_alone(compared: &[Compared<'_>]) -> usize
+    ensures { result ≡ with_verdict is_in_new_alone compared.now }
+{
+    compared.iter().filter(|one| is_in_new_alone(*one)).count()
 }
 
 /// How many profiles there are of each verdict.
-pub fn counts_of(compared: &[Compared<'_>]) -> Counts {
-    let mut counts = no_counts();
-    for one in compared {
-        count_one(&mut counts, &one.verdict);
+pub fn counts_of(compared: &[Compared<'_>]) -> Counts
+    ensures { result ≡ counts_of compared.now }
+{
+    Counts {
+        profiles: compared.len(),
+        same: changed_so(Change::Same, compared),
+        narrow: changed_so(Change::Narrows, compared),
+        widen: changed_so(Change::Widens, compared),
+        neither: changed_so(Change::Neither, compared),
+        unusable: unusable(compared),
+        only_in_old: in_old_alone(compared),
+        only_in_new: in_new_alone(compared),
     }
-    counts
+}
+
+fn push_count(alloc: Global, word: &str, count: usize, into: &mut String) -> Result<(), AllocError>
+    ensures { OnOk result (string_bytes into.new ≡ string_bytes into.old ++ counted word.now count) }
+{
+    let number = format!(in alloc; "{count}")?;
+    into.push_str(word)?;
+    into.push_str(number.as_str())
 }
 
 /// The counts in a line, without the part of a version behind them.
-pub(crate) fn counts_text(alloc: Global, counts: Counts) -> Result<String, AllocError> {
-    let first = format!(in alloc;
-        "profiles: {}, same: {}, narrow: {}, widen: {}",
-        counts.profiles, counts.same, counts.narrow, counts.widen
-    )?;
-    format!(in alloc;
-        "{first}, neither: {}, can't be used: {}, only in OLD: {}, only in NEW: {}",
-        counts.neither, counts.unusable, counts.only_in_old, counts.only_in_new
-    )
+pub(crate) fn counts_text(alloc: Global, counts: Counts) -> Result<String, AllocError>
+    ensures { IfOk result (λ text. string_bytes text ≡ counts_text counts) }
+{
+    let mut text = String::new(alloc);
+    push_count(alloc, "profiles: ", counts.profiles, &mut text)?;
+    push_count(alloc, ", same: ", counts.same, &mut text)?;
+    push_count(alloc, ", narrow: ", counts.narrow, &mut text)?;
+    push_count(alloc, ", widen: ", counts.widen, &mut text)?;
+    push_count(alloc, ", neither: ", counts.neither, &mut text)?;
+    push_count(alloc, ", can't be used: ", counts.unusable, &mut text)?;
+    push_count(alloc, ", only in OLD: ", counts.only_in_old, &mut text)?;
+    push_count(alloc, ", only in NEW: ", counts.only_in_new, &mut text)?;
+    Ok(text)
 }

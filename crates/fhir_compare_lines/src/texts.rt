@@ -1,15 +1,25 @@
 //! What is said of a url, in lines of text.
 
-use crate::failing::{Failing, Why, failing_ways, way_words};
+ghost use Rattle.std.specs.Prelude.{◌≡◌, ◌∷◌, ◌++◌, [], IfOk, OnOk, map, codes, string_bytes};
+ghost use Rattle.fhir_json.specs.Tree.{Text};
+ghost use Rattle.fhir_json.specs.Views.{text_seen};
+ghost use Rattle.fhir_compare.specs.Views.{way_seen, ways_seen, verdict_seen};
+ghost use Rattle.fhir_compare_lines.specs.Words.{change_word};
+ghost use Rattle.fhir_compare_lines.specs.Telling.{under, named, resource_lines, why_lines, AreWayLines, AreWaysLines, AreUnusableIf, AreUnusable, IsToldText};
+ghost use Rattle.fhir_compare_lines.specs.Views.{direction_seen, why_seen};
+
+use crate::failing::{Direction, Why, is_refuted, way_words, why_of};
 use crate::sources::{Side, Sources};
 use crate::unusable::unusable_line;
-use fhir_compare::{Change, Compared, Verdict, Ways};
+use fhir_compare::{Change, Compared, Verdict, Way, Ways};
 use fhir_json::NoMemory;
-use fhir_lines::{Line, push_escaped};
+use fhir_lines::Line;
 use std::alloc::{AllocError, Global};
 
 /// A change in a few words.
-pub(crate) fn change_word(change: Change) -> &'static str {
+pub(crate) fn change_word(change: Change) -> &'static str
+    ensures { result.now ≡ change_word change }
+{
     match change {
         Change::Same => "same",
         Change::Narrows => "narrows",
@@ -18,76 +28,129 @@ pub(crate) fn change_word(change: Change) -> &'static str {
     }
 }
 
-/// Puts in a text as a line: without control characters, and with a line feed behind it.
-pub(crate) fn push_line(text: &str, into: &mut String) -> Result<(), AllocError> {
-    push_escaped(text, into)?;
-    into.push_str("\n")
+/// Puts in lines behind others.
+pub(crate) fn push_all(mut lines: Vec<String>, into: &mut Vec<String>) -> Result<(), AllocError>
+    ensures { OnOk result (map string_bytes into.new.items ≡ map string_bytes into.old.items ++ map string_bytes lines.items) }
+{
+    into.append(&mut lines)
 }
 
-// Puts in a line that belongs to the one above it.
-fn push_under(text: &str, into: &mut String) -> Result<(), AllocError> {
-    into.push_str("  ")?;
-    push_line(text, into)
+// A line that belongs to the one above it.
+fn under(alloc: Global, text: &str) -> Result<String, AllocError>
+    ensures { IfOk result (λ line. string_bytes line ≡ under text.now) }
+{
+    format!(in alloc; "  {text}")
 }
 
-fn push_named(url: &str, words: &str, into: &mut String) -> Result<(), AllocError> {
-    push_escaped(url, into)?;
-    into.push_str(": ")?;
-    push_line(words, into)
+fn named(alloc: Global, url: &str, words: &str) -> Result<String, AllocError>
+    ensures { IfOk result (λ line. string_bytes line ≡ named url.now words.now) }
+{
+    format!(in alloc; "{url}: {words}")
+}
+
+// ---- ways
+
+fn way_line(alloc: Global, way: &str, text: &str) -> Result<String, AllocError>
+    ensures { IfOk result (λ line. string_bytes line ≡ under (way.now ++ codes ": " ++ text.now)) }
+{
+    format!(in alloc; "  {way}: {text}")
+}
+
+fn failing_text(alloc: Global, pair: &str, rule: &str) -> Result<String, AllocError>
+    ensures { IfOk result (λ text. string_bytes text ≡ pair.now ++ codes ": " ++ rule.now) }
+{
+    format!(in alloc; "{pair}: {rule}")
 }
 
 fn push_resource(
     alloc: Global,
-    resource: Option<&String>,
-    into: &mut String,
-) -> Result<(), AllocError> {
+    resource: Option<&str>,
+    into: &mut Vec<String>,
+) -> Result<(), AllocError>
+    ensures { OnOk result (map string_bytes into.new.items ≡ map string_bytes into.old.items ++ resource_lines (text_seen resource.entry)) }
+{
     match resource {
-        Some(resource) => {
-            let text = format!(in alloc; "counterexample: {}", resource.as_str())?;
-            push_under(text.as_str(), into)
-        }
+        Some(resource) => Ok(into.push(format!(in alloc; "  counterexample: {resource}")?)?),
         None => Ok(()),
     }
 }
 
-fn push_failing(alloc: Global, failing: &Failing, into: &mut String) -> Result<(), AllocError> {
-    let way = way_words(failing);
-    match &failing.why {
-        Why::Says(text) => {
-            let text = format!(in alloc; "{way}: {}", text.as_str())?;
-            push_under(text.as_str(), into)
-        }
+fn why_lines(alloc: Global, direction: Direction, why: &Why) -> Result<Vec<String>, AllocError>
+    ensures { IfOk result (λ ls. map string_bytes ls.items ≡ why_lines (direction_seen direction) (why_seen why.now)) }
+{
+    let way = way_words(direction, is_refuted(why));
+    let mut lines: Vec<String> = Vec::new(alloc);
+    match why {
+        Why::Says(text) => lines.push(way_line(alloc, way, text.as_str())?)?,
         Why::Fails {
             pair,
             rule,
             words,
             resource,
         } => {
-            let text = format!(in alloc; "{way}: {}: {}", pair.as_str(), rule.as_str())?;
-            push_under(text.as_str(), into)?;
-            push_under(words.as_str(), into)?;
-            push_resource(alloc, resource.as_ref(), into)
+            let text = failing_text(alloc, pair.as_str(), rule.as_str())?;
+            lines.push(way_line(alloc, way, text.as_str())?)?;
+            lines.push(under(alloc, words.as_str())?)?;
+            let resource = resource.as_ref().map(|resource| resource.as_str());
+            push_resource(alloc, resource, &mut lines)?;
         }
+    }
+    Ok(lines)
+}
+
+fn way_lines(
+    alloc: Global,
+    sources: Sources<'_, '_, '_>,
+    url: &str,
+    direction: Direction,
+    way: &Way<'_>,
+    lost: Option<&str>,
+) -> Result<Vec<String>, NoMemory>
+    ensures { IfOk result (λ ls. AreWayLines sources.entry.old.survey.now.definitions sources.entry.new.survey.now.definitions url.now (direction_seen direction) (text_seen lost.entry) (way_seen way.now) (map string_bytes ls.items)) }
+{
+    match why_of(alloc, sources, url, way, lost)? {
+        Some(why) => Ok(why_lines(alloc, direction, &why)?),
+        None => Ok(Vec::new(alloc)),
     }
 }
 
-fn push_ways(
+fn ways_lines(
     alloc: Global,
     sources: Sources<'_, '_, '_>,
     url: &str,
     ways: &Ways<'_>,
-    into: &mut String,
-) -> Result<(), NoMemory> {
-    push_named(url, change_word(ways.change()), into)?;
-    let all = failing_ways(alloc, sources, url, ways)?;
-    for failing in &all {
-        push_failing(alloc, failing, into)?;
-    }
-    Ok(())
+) -> Result<Vec<String>, NoMemory>
+    ensures { IfOk result (λ ls. AreWaysLines sources.entry.old.survey.now.definitions sources.entry.new.survey.now.definitions url.now (ways_seen ways.now) (map string_bytes ls.items)) }
+{
+    let mut lines: Vec<String> = Vec::new(alloc);
+    lines.push(named(alloc, url, change_word(ways.change()))?)?;
+    let narrowing = way_lines(
+        alloc,
+        sources,
+        url,
+        Direction::NewInOld,
+        &ways.new_in_old,
+        ways.lost,
+    )?;
+    push_all(narrowing, &mut lines)?;
+    let widening = way_lines(
+        alloc,
+        sources,
+        url,
+        Direction::OldInNew,
+        &ways.old_in_new,
+        ways.lost,
+    )?;
+    push_all(widening, &mut lines)?;
+    Ok(lines)
 }
 
+// ---- profiles that can't be used
+
 // Puts in a part of a line, and a colon in front.
-fn push_part(part: Option<&str>, into: &mut String) -> Result<(), AllocError> {
+fn push_part(part: Option<&str>, into: &mut String) -> Result<(), AllocError>
+    ensures { OnOk result ((more : Text) × (string_bytes into.new ≡ string_bytes into.old ++ more)) }
+{
     let Some(part) = part else {
         return Ok(());
     };
@@ -95,7 +158,9 @@ fn push_part(part: Option<&str>, into: &mut String) -> Result<(), AllocError> {
     into.push_str(part)
 }
 
-fn push_reason(line: Option<Line<'_>>, into: &mut String) -> Result<(), AllocError> {
+fn push_reason(line: Option<Line<'_>>, into: &mut String) -> Result<(), AllocError>
+    ensures { OnOk result ((more : Text) × (string_bytes into.new ≡ string_bytes into.old ++ more)) }
+{
     let Some(line) = line else {
         return Ok(());
     };
@@ -104,49 +169,78 @@ fn push_reason(line: Option<Line<'_>>, into: &mut String) -> Result<(), AllocErr
     push_part(Some(line.text.as_str()), into)
 }
 
-fn push_unusable<'s, 'f: 's>(
+fn unusable_words<'s, 'f: 's>(
     alloc: Global,
     side: Side<'s, 'f>,
     url: &'s str,
     words: &str,
-    into: &mut String,
-) -> Result<(), NoMemory> {
+) -> Result<String, NoMemory>
+    ensures { IfOk result (λ text. (why : Text) × (string_bytes text ≡ words.now ++ why)) }
+{
     let mut text = String::from_str(alloc, words)?;
     push_reason(unusable_line(alloc, side, url)?, &mut text)?;
-    Ok(push_named(url, text.as_str(), into)?)
+    Ok(text)
 }
 
-fn push_unusable_in<'s>(
+fn unusable_if<'s, 'f: 's>(
+    alloc: Global,
+    side: Side<'s, 'f>,
+    url: &'s str,
+    is_unusable: bool,
+    words: &str,
+) -> Result<Vec<String>, NoMemory>
+    ensures { IfOk result (λ ls. AreUnusableIf is_unusable url.now words.now (map string_bytes ls.items)) }
+{
+    let mut lines: Vec<String> = Vec::new(alloc);
+    if is_unusable {
+        let text = unusable_words(alloc, side, url, words)?;
+        lines.push(named(alloc, url, text.as_str())?)?;
+    }
+    Ok(lines)
+}
+
+fn unusable_lines<'s>(
     alloc: Global,
     sources: Sources<'s, '_, '_>,
     url: &'s str,
     in_old: bool,
     in_new: bool,
-    into: &mut String,
-) -> Result<(), NoMemory> {
-    if in_old {
-        push_unusable(alloc, sources.old, url, "can't be used in OLD", into)?;
-    }
-    if in_new {
-        push_unusable(alloc, sources.new, url, "can't be used in NEW", into)?;
-    }
-    Ok(())
+) -> Result<Vec<String>, NoMemory>
+    ensures { IfOk result (λ ls. AreUnusable in_old in_new url.now (map string_bytes ls.items)) }
+{
+    let mut lines = unusable_if(alloc, sources.old, url, in_old, "can't be used in OLD")?;
+    push_all(
+        unusable_if(alloc, sources.new, url, in_new, "can't be used in NEW")?,
+        &mut lines,
+    )?;
+    Ok(lines)
 }
 
-/// Puts in the lines on a url.
-pub(crate) fn push_texts<'s>(
+// ---- a url
+
+fn one_line(alloc: Global, url: &str, words: &str) -> Result<Vec<String>, NoMemory>
+    ensures { IfOk result (λ ls. map string_bytes ls.items ≡ named url.now words.now ∷ []) }
+{
+    let mut lines: Vec<String> = Vec::new(alloc);
+    lines.push(named(alloc, url, words)?)?;
+    Ok(lines)
+}
+
+/// The lines on a url.
+pub(crate) fn text_lines<'s>(
     alloc: Global,
     sources: Sources<'s, '_, '_>,
     compared: &Compared<'s>,
-    into: &mut String,
-) -> Result<(), NoMemory> {
+) -> Result<Vec<String>, NoMemory>
+    ensures { IfOk result (λ ls. IsToldText sources.entry.old.survey.now.definitions sources.entry.new.survey.now.definitions compared.now.url.now (verdict_seen compared.now.verdict) (map string_bytes ls.items)) }
+{
     let url = compared.url;
     match &compared.verdict {
-        Verdict::Both(ways) => push_ways(alloc, sources, url, ways, into),
+        Verdict::Both(ways) => ways_lines(alloc, sources, url, ways),
         Verdict::CannotBeUsed { in_old, in_new } => {
-            push_unusable_in(alloc, sources, url, *in_old, *in_new, into)
+            unusable_lines(alloc, sources, url, *in_old, *in_new)
         }
-        Verdict::OnlyInOld => Ok(push_named(url, "only in OLD", into)?),
-        Verdict::OnlyInNew => Ok(push_named(url, "only in NEW", into)?),
+        Verdict::OnlyInOld => one_line(alloc, url, "only in OLD"),
+        Verdict::OnlyInNew => one_line(alloc, url, "only in NEW"),
     }
 }
