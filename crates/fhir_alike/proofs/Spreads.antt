@@ -9,7 +9,7 @@ use Rattle.fhir_alike.proofs.Users.{users_lead, leads_users}
 use Rattle.fhir_alike.proofs.Told.{Grows, nothing_in, is_there, there_is, grown_has, tell_all_grows, tell_all_cases, tell_all_has, first_count, first_found, first_own, first_waits}
 
 -- something is told of each that leads to a place
-AllTold : Edges → ToldValue → ℕ → Type 0
+abbrev pub AllTold : Edges → ToldValue → ℕ → Type 0
 AllTold users t q = (u : ℕ) → u < length t.0 → Contains (get_or users q []) u → is_some (told_at t.0 u) ≡ true
 
 -- what the loop keeps: of each place of which something is told, that is told to those that lead to it, or it waits
@@ -48,7 +48,6 @@ behind_first queue at q h there =
     ]
 
 all_told_more : (users : Edges) (a b : ToldValue) (q : ℕ) → Grows a b → AllTold users a q → AllTold users b q
-unfolding AllTold
 all_told_more users a b q g h u within there = grown_has a b u g (h u (subst (λ n. u < n) g.count within) there)
 
 -- where nothing is told of the place
@@ -59,7 +58,7 @@ carried_none edges marks at t c h e = record {
   found = c.found;
   marked = c.marked;
   waits = λ q x there. elim (c.waits q x there) [
-    | inl all ↦ inl all
+    | inl every ↦ inl every
     | inr waiting ↦ elim (behind_first t.1 at q h waiting) [
       | inl same ↦
           let none : told_at t.0 q ≡ None = subst (λ k. told_at t.0 k ≡ None) same e in
@@ -77,7 +76,6 @@ reaches_more edges q next x h r = (suc r.0, (next, h, r.1))
 carried_some : (edges : Edges) (marks : List Bool) (at marked : ℕ) (t : ToldValue) → IsCarried edges marks at t → at < length t.1
     → told_at t.0 (get_or t.1 at 0) ≡ Some marked
     → IsCarried edges marks (at + 1) (tell_all (get_or (users_of edges) (get_or t.1 at 0) []) marked t)
-unfolding AllTold
 carried_some edges marks at marked t c h e =
     let place : ℕ = get_or t.1 at 0 in
     let users : List ℕ = get_or (users_of edges) place [] in
@@ -99,7 +97,7 @@ carried_some edges marks at marked t c h e =
       marked = λ q is. g.keeps q q (c.marked q is);
       waits = λ q x there. elim (g.fresh q x there) [
         | inl old ↦ elim (c.waits q x old) [
-          | inl all ↦ inl (all_told_more (users_of edges) t t2 q g all)
+          | inl every ↦ inl (all_told_more (users_of edges) t t2 q g every)
           | inr waiting ↦ elim (behind_first t.1 at q h waiting) [
             | inl same ↦ inl (subst (AllTold (users_of edges) t2) same
                 (λ u within there. tell_all_has users marked t u there (subst (λ n. u < n) g.count within)))
@@ -138,26 +136,29 @@ told_within [] q x h = cc
 told_within (m ∷ told) zero x h = omega arith
 told_within (m ∷ told) (suc q) x h = let less = told_within told q x h in omega (arith, less)
 
-module _ (edges : Edges) (t : ToldValue) (count : length t.0 ≡ length edges)
-    (all : (q x : ℕ) → told_at t.0 q ≡ Some x → AllTold (users_of edges) t q) where
-  -- something is told of each from which a chain leads to one of which something is told
-  back : (n from to : ℕ) → ReachesIn n edges from to → is_some (told_at t.0 to) ≡ true → is_some (told_at t.0 from) ≡ true
-  unfolding AllTold
-  back zero from to r h = subst (λ k. is_some (told_at t.0 k) ≡ true) (sym r) h
-  back (suc n) from to r h =
-      let next : ℕ = r.0 in
-      let it = is_there (told_at t.0 next) (back n next to r.2 h) in
-      let within : next < length edges = subst (λ k. next < k) count (told_within t.0 next it.0 it.1) in
-      let place : from < length t.0 = subst (λ k. from < k) (sym count) (leads_within edges from next r.1) in
-      all next it.0 it.1 from place (leads_users edges next from within r.1)
+IsClosed : Edges → ToldValue → Type 0
+IsClosed edges t = (q x : ℕ) → told_at t.0 q ≡ Some x → AllTold (users_of edges) t q
+
+-- something is told of each from which a chain leads to one of which something is told
+told_back : (edges : Edges) (t : ToldValue) → length t.0 ≡ length edges → IsClosed edges t → (n source to : ℕ) → ReachesIn n edges source to
+    → is_some (told_at t.0 to) ≡ true → is_some (told_at t.0 source) ≡ true
+unfolding IsClosed
+told_back edges t count closed zero source to r h = subst (λ k. is_some (told_at t.0 k) ≡ true) (sym r) h
+told_back edges t count closed (suc n) source to r h =
+    let next : ℕ = r.0 in
+    let it = is_there (told_at t.0 next) (told_back edges t count closed n next to r.2 h) in
+    let within : next < length edges = subst (λ k. next < k) count (told_within t.0 next it.0 it.1) in
+    let place : source < length t.0 = subst (λ k. source < k) (sym count) (leads_within edges source next r.1) in
+    closed next it.0 it.1 source place (leads_users edges next source within r.1)
 
 pub carried_last : (edges : Edges) (marks : List Bool) (at : ℕ) (t : ToldValue) → IsCarried edges marks at t → length t.1 ≤ at
     → IsSpread edges marks t.0
+unfolding IsClosed
 carried_last edges marks at t c h = record { count = c.count; found = c.found; own = c.marked; none = λ q x e r. unmarked q x e r (is_marked marks x) refl }
   where
-    all : (q x : ℕ) → told_at t.0 q ≡ Some x → AllTold (users_of edges) t q
-    all q x e = elim (c.waits q x e) [
-      | inl all ↦ all
+    every : IsClosed edges t
+    every q x e = elim (c.waits q x e) [
+      | inl them ↦ them
       | inr waiting ↦ absurd (nothing_in q (subst (λ xs. Contains xs q) (drop_all at t.1 h) waiting))
     ]
 
@@ -165,6 +166,6 @@ carried_last edges marks at t c h = record { count = c.count; found = c.found; o
     unmarked q x e r false is = is
     unmarked q x e r true is =
         let marked : is_some (told_at t.0 x) ≡ true = there_is (told_at t.0 x) x (c.marked x is) in
-        let told = is_there (told_at t.0 q) (back edges t c.count all r.0 q x r.1 marked) in
+        let told = is_there (told_at t.0 q) (told_back edges t c.count every r.0 q x r.1 marked) in
         let wrong : ⊥ = cc in
         absurd wrong

@@ -231,12 +231,15 @@ none_told zero q x h = cc
 none_told (suc n) zero x h = cc
 none_told (suc n) (suc q) x h = none_told n q x h
 
-length_none : (n : ℕ) → length (replicate n (None {A = ℕ})) ≡ n
-length_none zero = refl
-length_none (suc n) = ap suc (length_none n)
+length_same : (n : ℕ) (x : Option ℕ) → length (replicate n x) ≡ n
+length_same zero x = refl
+length_same (suc n) x = ap suc (length_same n x)
+
+nones : ℕ → List (Option ℕ)
+nones n = replicate n None
 
 pub first_count : (marks : List Bool) → length (first_told marks).0 ≡ length marks
-first_count marks = (marked_grows 0 marks (replicate (length marks) None, [])).count ∙ length_none (length marks)
+first_count marks = (marked_grows 0 marks (replicate (length marks) None, [])).count ∙ length_same (length marks) None
 
 pub first_found : (marks : List Bool) (q x : ℕ) → told_at (first_told marks).0 q ≡ Some x → (x ≡ q) × (is_marked marks x ≡ true)
 unfolding MarkedFrom
@@ -254,10 +257,11 @@ within_marks (m ∷ marks) zero e = omega arith
 within_marks (m ∷ marks) (suc q) e = let h = within_marks marks q e in omega (arith, h)
 
 pub first_has : (marks : List Bool) (q : ℕ) → is_marked marks q ≡ true → is_some (told_at (first_told marks).0 q) ≡ true
+unfolding nones
 first_has marks q e =
     let same : 0 + q ≡ q = omega arith in
     let within : q < length marks = within_marks marks q e in
-    let there : 0 + q < length (replicate (length marks) (None {A = ℕ})) = subst (λ n. 0 + q < n) (sym (length_none (length marks))) (omega arith) in
+    let there : 0 + q < length (nones (length marks)) = subst (λ n. 0 + q < n) (sym (length_same (length marks) None)) (omega arith) in
     subst (λ k. is_some (told_at (first_told marks).0 k) ≡ true) same (marked_has 0 marks (replicate (length marks) None, []) q e there)
 
 pub first_own : (marks : List Bool) (q : ℕ) → is_marked marks q ≡ true → told_at (first_told marks).0 q ≡ Some q

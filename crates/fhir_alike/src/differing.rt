@@ -1,12 +1,14 @@
 //! Which definitions two packages don't have alike.
 
-ghost use Rattle.std.specs.Prelude.{◌≡◌, IfOk, OnOk, is_some, not, ◌&&◌, length, filter};
+ghost use Rattle.std.specs.Prelude.{◌≡◌, ◌++◌, ◌∷◌, [], List, IfOk, OnOk, is_some};
+ghost use Rattle.std.specs.List.{slice_get};
+ghost use Rattle.std.specs.Map.{keys_of};
 ghost use Rattle.fhir_json.specs.Tree.{Text};
 ghost use Rattle.fhir_json.specs.Views.{tree_of, tree_seen};
 ghost use Rattle.fhir_json.specs.Memory.{Gives};
 ghost use Rattle.fhir_names.specs.Places.{place_of};
 ghost use Rattle.fhir_package.specs.Definitions.{of_kind};
-ghost use Rattle.fhir_alike.specs.Differing.{same_tree, is_same, Differ};
+ghost use Rattle.fhir_alike.specs.Differing.{same_tree, is_same, url_at, DifferAmong, Differ};
 
 use fhir_json::{Json, NoMemory};
 use fhir_matching::json_eq_in;
@@ -57,24 +59,50 @@ impl Differing {
         url: &str,
         old: &Package<'_>,
         new: &Package<'_>,
-    ) -> Result<(), NoMemory> {
-        if !is_same(alloc, kind, url, old, new)? {
-            self.urls.put(alloc, url, 0)?;
+    ) -> Result<(), NoMemory>
+        ensures { OnOk result ((seen : List Text) → DifferAmong kind old.now new.now seen self.old.urls
+            → DifferAmong kind old.now new.now (seen ++ url.now ∷ []) self.new.urls) }
+    {
+        if is_same(alloc, kind, url, old, new)? {
+            Ok(())
+        } else {
+            Ok(self.urls.put(alloc, url, 0)?)
         }
-        Ok(())
     }
 
-    // Those of urls of one of the packages.
-    fn take_names(
+    // That of the definition at a place of one of the packages.
+    fn take_at(
+        &mut self,
+        alloc: Global,
+        kind: Kind,
+        of: &Package<'_>,
+        place: usize,
+        old: &Package<'_>,
+        new: &Package<'_>,
+    ) -> Result<(), NoMemory>
+        ensures { OnOk result ((seen : List Text) → DifferAmong kind old.now new.now seen self.old.urls
+            → DifferAmong kind old.now new.now (seen ++ url_at (slice_get (of_kind kind of.now) place)) self.new.urls) }
+    {
+        match of.at(kind, place) {
+            Some((url, _definition)) => self.take(alloc, kind, url, old, new),
+            None => Ok(()),
+        }
+    }
+
+    // Those of one of the packages.
+    fn take_all(
         &mut self,
         alloc: Global,
         kind: Kind,
         of: &Package<'_>,
         old: &Package<'_>,
         new: &Package<'_>,
-    ) -> Result<(), NoMemory> {
-        for url in of.names(kind) {
-            self.take(alloc, kind, url, old, new)?;
+    ) -> Result<(), NoMemory>
+        ensures { OnOk result ((seen : List Text) → DifferAmong kind old.now new.now seen self.old.urls
+            → DifferAmong kind old.now new.now (seen ++ keys_of (of_kind kind of.now)) self.new.urls) }
+    {
+        for place in 0..of.len(kind) {
+            self.take_at(alloc, kind, of, place, old, new)?;
         }
         Ok(())
     }
@@ -91,8 +119,8 @@ impl Differing {
         let mut differing = Differing {
             urls: Index::new(alloc),
         };
-        differing.take_names(alloc, kind, old, old, new)?;
-        differing.take_names(alloc, kind, new, old, new)?;
+        differing.take_all(alloc, kind, old, old, new)?;
+        differing.take_all(alloc, kind, new, old, new)?;
         Ok(differing)
     }
 
