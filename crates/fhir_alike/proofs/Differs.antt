@@ -1,7 +1,8 @@
 -- The urls at which two packages differ, taken one after another.
-use Rattle.std.proofs.Common.{◌≡◌, ℕ, zero, suc, ◌<◌, ◌+◌, Bool, true, false, not, ◌&&◌, ◌||◌, List, [], ◌∷◌, ◌++◌, drop, length, Option, None, Some, is_some, is_none, if◌then◌else◌}
+use Rattle.std.proofs.Common.{◌≡◌, ℕ, ◌<◌, ◌≤◌, ◌+◌, Bool, true, false, not, ◌&&◌, ◌||◌, List, [], ◌∷◌, ◌++◌, drop, length, Option, None, Some, is_some, is_none, if◌then◌else◌}
 use Rattle.std.proofs.Common.{refl, ap, sym, ◌∙◌, subst, arith, append_assoc}
 use Rattle.std.specs.List.{slice_get, list_any}
+use Rattle.std.specs.Option.{option_map, option_to_list}
 use Rattle.std.specs.Map.{lookup, keys_of}
 use Rattle.std.specs.Str.{bytes_eq}
 use Rattle.std.proofs.lemmas.Map.Made.{is_some-lookup}
@@ -12,8 +13,8 @@ use Rattle.fhir_json.specs.Sound.{is_among}
 use Rattle.fhir_names.specs.Places.{Places, place_of, Puts}
 use Rattle.fhir_package.specs.declared.kind.Kind.{Kind}
 use Rattle.fhir_package.specs.Definitions.{ByUrl, Definitions, of_kind, at_url}
-use Rattle.fhir_alike.proofs.Rests.{rest_at}
-use Rattle.fhir_alike.specs.Differing.{same_tree, is_same, Differ, DifferAmong, url_at}
+use Rattle.fhir_alike.proofs.Rests.{rest_at, rest_none, append_nothing}
+use Rattle.fhir_alike.specs.Differing.{same_tree, is_same, Differ, DifferAmong}
 
 among_push : (x y : Text) (xs : List Text) → is_among x (xs ++ y ∷ []) ≡ (is_among x xs || bytes_eq x y)
 among_push x y [] = go (bytes_eq x y)
@@ -73,32 +74,44 @@ module _ (kind : Kind) (old new : Definitions) where
   pub differ_none : DifferAmong kind old new [] []
   differ_none url = refl
 
-  append_nothing : (xs : List Text) → xs ≡ xs ++ []
-  append_nothing [] = refl
-  append_nothing (x ∷ xs) = ap (λ ys. x ∷ ys) (append_nothing xs)
+  -- the same where perhaps no url is there
+  pub differ_given : (there : Option Text) (url : Text) (seen : List Text) (urls : Places) → there ≡ Some url
+      → DifferAmong kind old new (seen ++ url ∷ []) urls → DifferAmong kind old new (seen ++ option_to_list there) urls
+  differ_given there url seen urls is h = subst (λ o. DifferAmong kind old new (seen ++ option_to_list o) urls) (sym is) h
 
-  pub differ_there : (url : Text) (e : Text × Tree) (there : Option (Text × Tree)) (seen : List Text) (urls : Places) → there ≡ Some e → e.0 ≡ url
-      → DifferAmong kind old new (seen ++ url ∷ []) urls → DifferAmong kind old new (seen ++ url_at there) urls
-  differ_there url e there seen urls is same h =
-      subst (λ o. DifferAmong kind old new (seen ++ url_at o) urls) (sym is)
-      (subst (λ u. DifferAmong kind old new (seen ++ u ∷ []) urls) (sym same) h)
+  pub differ_nothing : (there : Option Text) (seen : List Text) (urls : Places) → there ≡ None → DifferAmong kind old new seen urls
+      → DifferAmong kind old new (seen ++ option_to_list there) urls
+  differ_nothing there seen urls is h =
+      subst (λ o. DifferAmong kind old new (seen ++ option_to_list o) urls) (sym is)
+      (subst (λ us. DifferAmong kind old new us urls) (sym (append_nothing seen)) h)
 
-  pub differ_not_there : (there : Option (Text × Tree)) (seen : List Text) (urls : Places) → there ≡ None
-      → DifferAmong kind old new seen urls → DifferAmong kind old new (seen ++ url_at there) urls
-  differ_not_there there seen urls is h =
-      subst (λ o. DifferAmong kind old new (seen ++ url_at o) urls) (sym is)
-      (subst (λ us. DifferAmong kind old new us urls) (append_nothing seen) h)
+  -- those that were taken of a list of entries, and what is left behind them
+  abbrev pub AreTaken : ByUrl → ℕ → (seen : List Text) → Places → Type 0
+  AreTaken es i seen urls =
+      (before : List Text) × DifferAmong kind old new before urls × (before ++ keys_of (drop i es) ≡ seen ++ keys_of es)
 
-  -- one turn of the loop over those of a package
-  pub differ_turn : (es : ByUrl) (i : ℕ) (before : List Text) (urls : Places) → i < length es
-      → DifferAmong kind old new (before ++ url_at (slice_get es i)) urls → (rest : List Text)
-      → before ++ keys_of (drop i es) ≡ rest → (before ++ url_at (slice_get es i)) ++ keys_of (drop (i + 1) es) ≡ rest
-  differ_turn es i before urls h now rest was =
+  -- one turn of the loop over them
+  pub taken_turn : (es : ByUrl) (i : ℕ) (seen : List Text) (urls more : Places) (there : Option Text) → i < length es
+      → there ≡ option_map (λ e. e.0) (slice_get es i)
+      → ((taken : List Text) → DifferAmong kind old new taken urls → DifferAmong kind old new (taken ++ option_to_list there) more)
+      → AreTaken es i seen urls → AreTaken es (i + 1) seen more
+  taken_turn es i seen urls more there h is now was =
       let r = rest_at es i h in
-      ap (λ o. (before ++ url_at o) ++ keys_of (drop (i + 1) es)) r.1
-      ∙ append_assoc before (r.0.0 ∷ []) (keys_of (drop (i + 1) es))
-      ∙ ap (λ xs. before ++ keys_of xs) (sym r.2)
-      ∙ was
+      let url : there ≡ Some r.0.0 = is ∙ ap (option_map (λ e. e.0)) r.1 in (
+        was.0 ++ option_to_list there,
+        now was.0 was.1,
+        ap (λ o. (was.0 ++ option_to_list o) ++ keys_of (drop (i + 1) es)) url
+            ∙ append_assoc was.0 (r.0.0 ∷ []) (keys_of (drop (i + 1) es))
+            ∙ ap (λ xs. was.0 ++ keys_of xs) (sym r.2)
+            ∙ was.2,
+      )
+
+  pub taken_all : (es : ByUrl) (i : ℕ) (seen : List Text) (urls : Places) → length es ≤ i → AreTaken es i seen urls
+      → DifferAmong kind old new (seen ++ keys_of es) urls
+  taken_all es i seen urls h was =
+      let rest : keys_of (drop i es) ≡ [] = ap (λ (fs : ByUrl). keys_of fs) (rest_none es i h) in
+      let all : was.0 ≡ seen ++ keys_of es = sym (append_nothing was.0) ∙ sym (ap (λ xs. was.0 ++ xs) rest) ∙ was.2 in
+      subst (λ xs. DifferAmong kind old new xs urls) all was.1
 
   nowhere : (url : Text) (es : ByUrl) → is_among url (keys_of es) ≡ false → lookup (bytes_eq url) es ≡ None
   nowhere url es e = go (lookup (bytes_eq url) es) (is_some-lookup (bytes_eq url) es ∙ e)

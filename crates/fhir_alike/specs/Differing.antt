@@ -1,5 +1,5 @@
 -- Which definitions OLD and NEW don't have alike.
-use Rattle.std.specs.Prelude.{◌≡◌, List, [], ◌∷◌, Bool, true, false, not, ◌&&◌, Option, None, Some, is_some}
+use Rattle.std.specs.Prelude.{◌≡◌, List, Bool, true, false, not, ◌&&◌, Option, None, Some, is_some}
 use Rattle.fhir_json.specs.Tree.{Text, Tree}
 use Rattle.fhir_json.specs.Sound.{is_among}
 use Rattle.fhir_names.specs.Places.{Places, place_of}
@@ -24,7 +24,3 @@ Differ kind old new urls = (url : Text) → is_some (place_of urls url) ≡ not 
 -- those among some urls (used by private contracts alone)
 abbrev pub DifferAmong : Kind → Definitions → Definitions → List Text → Places → Type 0
 DifferAmong kind old new seen urls = (url : Text) → is_some (place_of urls url) ≡ (is_among url seen && not (is_same kind url old new))
-
-abbrev pub url_at : Option (Text × Tree) → List Text
-url_at None = []
-url_at (Some e) = e.0 ∷ []

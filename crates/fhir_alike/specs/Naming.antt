@@ -1,5 +1,5 @@
 -- What a profile names (FHIR R4, ElementDefinition, type.profile, type.targetProfile, contentReference), and what that is in OLD and in NEW.
-use Rattle.std.specs.Prelude.{ℕ, List, ◌++◌, Bool, true, false, not, ◌&&◌, ◌||◌, bool_eq, Option, None, Some, is_some, if◌then◌else◌}
+use Rattle.std.specs.Prelude.{ℕ, List, ◌++◌, Bool, true, false, not, ◌&&◌, ◌||◌, Option, None, Some, is_some, if◌then◌else◌}
 use Rattle.std.specs.Option.{option_map_or, option_and_then}
 use Rattle.std.specs.Result.{result_ok}
 use Rattle.std.specs.List.{flat_map, filter_map, find}
@@ -21,9 +21,14 @@ abbrev pub place_named : Kind → Definitions → Text → Option ℕ
 place_named kind p canonical =
     option_and_then (λ t. option_and_then (λ r. place_in kind r.0 p) (result_ok (read_canonical canonical))) (named_by kind canonical p)
 
+-- both hold, or neither does
+abbrev pub agree : Bool → Bool → Bool
+agree true b = b
+agree false b = not b
+
 -- it names one in both packages, or in none
 abbrev pub name_stays : Kind → Definitions → Definitions → Text → Bool
-name_stays kind old new canonical = bool_eq (is_some (named_by kind canonical old)) (is_some (named_by kind canonical new))
+name_stays kind old new canonical = agree (is_some (named_by kind canonical old)) (is_some (named_by kind canonical new))
 
 -- the first of two, if it is there, and else the second
 abbrev pub first_some : Option Text → Option Text → Option Text
@@ -44,7 +49,7 @@ names_of d = flat_map element_names d.elements
 
 -- both are profiles, or neither is; or neither is there
 abbrev pub alike : Option Tree → Option Tree → Bool
-alike (Some a) (Some b) = bool_eq (is_profile a) (is_profile b)
+alike (Some a) (Some b) = agree (is_profile a) (is_profile b)
 alike None None = true
 alike _ _ = false
 

@@ -1,5 +1,5 @@
 -- Which value sets OLD and NEW don't have alike, with all that they rest on (FHIR R4, ValueSet, compose).
-use Rattle.std.specs.Prelude.{◌≡◌, ◌↔◌, ⊥, ◌++◌, ℕ, List, map, Bool, true, not, ◌&&◌, ◌||◌, Option, Some, is_none, codes, IsTrue}
+use Rattle.std.specs.Prelude.{◌≡◌, ◌↔◌, ◌++◌, ℕ, List, map, Bool, true, false, not, ◌&&◌, ◌||◌, Option, Some, is_none, codes, IsTrue}
 use Rattle.std.specs.Option.{option_map_or}
 use Rattle.std.specs.List.{list_any, flat_map, filter_map}
 use Rattle.fhir_json.specs.Tree.{Text, Tree}

@@ -1,14 +1,15 @@
 //! Which definitions two packages don't have alike.
 
-ghost use Rattle.std.specs.Prelude.{◌≡◌, ◌++◌, ◌∷◌, [], List, IfOk, OnOk, is_some};
+ghost use Rattle.std.specs.Prelude.{◌≡◌, ◌++◌, ◌∷◌, [], List, IfOk, OnOk, is_some, option_map};
+ghost use Rattle.std.specs.Option.{option_to_list};
 ghost use Rattle.std.specs.List.{slice_get};
 ghost use Rattle.std.specs.Map.{keys_of};
 ghost use Rattle.fhir_json.specs.Tree.{Text};
-ghost use Rattle.fhir_json.specs.Views.{tree_of, tree_seen};
+ghost use Rattle.fhir_json.specs.Views.{tree_of, tree_seen, text_seen};
 ghost use Rattle.fhir_json.specs.Memory.{Gives};
 ghost use Rattle.fhir_names.specs.Places.{place_of};
 ghost use Rattle.fhir_package.specs.Definitions.{of_kind};
-ghost use Rattle.fhir_alike.specs.Differing.{same_tree, is_same, url_at, DifferAmong, Differ};
+ghost use Rattle.fhir_alike.specs.Differing.{same_tree, is_same, DifferAmong, Differ};
 
 use fhir_json::{Json, NoMemory};
 use fhir_matching::json_eq_in;
@@ -44,6 +45,15 @@ fn is_same(
     same_tree(alloc, old.at_url(kind, url), new.at_url(kind, url))
 }
 
+fn url_at<'p>(package: &'p Package<'_>, kind: Kind, place: usize) -> Option<&'p str>
+    ensures { text_seen result ≡ option_map (λ e. e.0) (slice_get (of_kind kind «package».entry.now) place) }
+{
+    match package.at(kind, place) {
+        Some((url, _definition)) => Some(url),
+        None => None,
+    }
+}
+
 /// The urls at which two packages have another definition of a kind, or one of them has none.
 #[derive(Drop)]
 pub(crate) struct Differing {
@@ -70,39 +80,54 @@ impl Differing {
         }
     }
 
-    // That of the definition at a place of one of the packages.
-    fn take_at(
+    // The same, if there is a url.
+    fn take_if(
         &mut self,
         alloc: Global,
         kind: Kind,
-        of: &Package<'_>,
-        place: usize,
+        url: Option<&str>,
         old: &Package<'_>,
         new: &Package<'_>,
     ) -> Result<(), NoMemory>
         ensures { OnOk result ((seen : List Text) → DifferAmong kind old.now new.now seen self.old.urls
-            → DifferAmong kind old.now new.now (seen ++ url_at (slice_get (of_kind kind of.now) place)) self.new.urls) }
+            → DifferAmong kind old.now new.now (seen ++ option_to_list (text_seen url.entry)) self.new.urls) }
     {
-        match of.at(kind, place) {
-            Some((url, _definition)) => self.take(alloc, kind, url, old, new),
+        match url {
+            Some(url) => self.take(alloc, kind, url, old, new),
             None => Ok(()),
         }
     }
 
-    // Those of one of the packages.
-    fn take_all(
+    // Those of OLD.
+    fn take_old(
         &mut self,
         alloc: Global,
         kind: Kind,
-        of: &Package<'_>,
         old: &Package<'_>,
         new: &Package<'_>,
     ) -> Result<(), NoMemory>
         ensures { OnOk result ((seen : List Text) → DifferAmong kind old.now new.now seen self.old.urls
-            → DifferAmong kind old.now new.now (seen ++ keys_of (of_kind kind of.now)) self.new.urls) }
+            → DifferAmong kind old.now new.now (seen ++ keys_of (of_kind kind old.now)) self.new.urls) }
     {
-        for place in 0..of.len(kind) {
-            self.take_at(alloc, kind, of, place, old, new)?;
+        for place in 0..old.len(kind) {
+            self.take_if(alloc, kind, url_at(old, kind, place), old, new)?;
+        }
+        Ok(())
+    }
+
+    // Those of NEW.
+    fn take_new(
+        &mut self,
+        alloc: Global,
+        kind: Kind,
+        old: &Package<'_>,
+        new: &Package<'_>,
+    ) -> Result<(), NoMemory>
+        ensures { OnOk result ((seen : List Text) → DifferAmong kind old.now new.now seen self.old.urls
+            → DifferAmong kind old.now new.now (seen ++ keys_of (of_kind kind new.now)) self.new.urls) }
+    {
+        for place in 0..new.len(kind) {
+            self.take_if(alloc, kind, url_at(new, kind, place), old, new)?;
         }
         Ok(())
     }
@@ -119,8 +144,8 @@ impl Differing {
         let mut differing = Differing {
             urls: Index::new(alloc),
         };
-        differing.take_all(alloc, kind, old, old, new)?;
-        differing.take_all(alloc, kind, new, old, new)?;
+        differing.take_old(alloc, kind, old, new)?;
+        differing.take_new(alloc, kind, old, new)?;
         Ok(differing)
     }
 

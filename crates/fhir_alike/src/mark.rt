@@ -13,131 +13,128 @@ use std::alloc::{AllocError, Global};
 const STEM: &str = "urn:fhirprof:old:";
 
 // Puts in what stands behind a stem, where a text begins with it.
-fn push_tail(alloc: Global, stem: &str, text: &str, tails: &mut Vec<String>) -> Result<(), NoMemory>
-    ensures { OnOk result (map string_bytes tails.new.items ≡ map string_bytes tails.old.items ++ tail_of stem.now text.now) }
+fn push_tail<'t>(stem: &[u8], text: &'t [u8], tails: &mut Vec<&'t [u8]>) -> Result<(), AllocError>
+    ensures { OnOk result (map (λ t. t.now) tails.new.items ≡ map (λ t. t.now) tails.old.items ++ tail_of stem.now text.entry.now) }
 {
-    if let Some(tail) = text.strip_prefix(stem) {
-        let tail = String::from_str(alloc, tail)?;
-        tails.push(tail)?;
+    if text.starts_with(stem) {
+        Ok(tails.push(&text[stem.len()..])?)
+    } else {
+        Ok(())
     }
-    Ok(())
 }
 
 // The same of all strings of a tree.
 #[cycle(texts)]
-fn push_tree(
-    alloc: Global,
-    stem: &str,
-    json: &Json<'_>,
-    tails: &mut Vec<String>,
-) -> Result<(), NoMemory>
-    ensures { OnOk result (map string_bytes tails.new.items
-        ≡ map string_bytes tails.old.items ++ tails_of stem.now (texts_in (tree_of json.now))) }
+fn push_tree<'t>(
+    stem: &[u8],
+    json: &'t Json<'_>,
+    tails: &mut Vec<&'t [u8]>,
+) -> Result<(), AllocError>
+    ensures { OnOk result (map (λ t. t.now) tails.new.items
+        ≡ map (λ t. t.now) tails.old.items ++ tails_of stem.now (texts_in (tree_of json.entry.now))) }
 {
     match json {
         Json::Null | Json::Bool(_) | Json::Num(_) => Ok(()),
-        Json::Str(text) => push_tail(alloc, stem, text.as_str(), tails),
-        Json::Arr(items) => push_items(alloc, stem, items, tails),
-        Json::Obj(members) => push_members(alloc, stem, members, tails),
+        Json::Str(text) => push_tail(stem, text.as_str().as_bytes(), tails),
+        Json::Arr(items) => push_items(stem, items, tails),
+        Json::Obj(members) => push_members(stem, members, tails),
     }
 }
 
 #[cycle(texts)]
-fn push_items(
-    alloc: Global,
-    stem: &str,
-    items: &Vec<Json<'_>>,
-    tails: &mut Vec<String>,
-) -> Result<(), NoMemory>
-    ensures { OnOk result (map string_bytes tails.new.items
-        ≡ map string_bytes tails.old.items ++ tails_of stem.now (flat_map texts_in (trees_of items.now.items))) }
+fn push_items<'t>(
+    stem: &[u8],
+    items: &'t Vec<Json<'_>>,
+    tails: &mut Vec<&'t [u8]>,
+) -> Result<(), AllocError>
+    ensures { OnOk result (map (λ t. t.now) tails.new.items
+        ≡ map (λ t. t.now) tails.old.items ++ tails_of stem.now (flat_map texts_in (trees_of items.entry.now.items))) }
 {
     for item in items {
-        push_tree(alloc, stem, item, tails)?;
+        push_tree(stem, item, tails)?;
     }
     Ok(())
 }
 
 #[cycle(texts)]
-fn push_members(
-    alloc: Global,
-    stem: &str,
-    members: &Vec<Member<'_>>,
-    tails: &mut Vec<String>,
-) -> Result<(), NoMemory>
-    ensures { OnOk result (map string_bytes tails.new.items
-        ≡ map string_bytes tails.old.items ++ tails_of stem.now (flat_map member_texts (map property_of members.now.items))) }
+fn push_members<'t>(
+    stem: &[u8],
+    members: &'t Vec<Member<'_>>,
+    tails: &mut Vec<&'t [u8]>,
+) -> Result<(), AllocError>
+    ensures { OnOk result (map (λ t. t.now) tails.new.items
+        ≡ map (λ t. t.now) tails.old.items ++ tails_of stem.now (flat_map member_texts (map property_of members.entry.now.items))) }
 {
     for member in members {
-        push_tree(alloc, stem, &member.value, tails)?;
+        push_tree(stem, &member.value, tails)?;
     }
     Ok(())
 }
 
 // The same of a definition: of its url, and of its tree.
-fn push_definition(
-    alloc: Global,
-    stem: &str,
-    url: &str,
-    definition: &Json<'_>,
-    tails: &mut Vec<String>,
-) -> Result<(), NoMemory>
-    ensures { OnOk result (map string_bytes tails.new.items
-        ≡ map string_bytes tails.old.items ++ tails_of stem.now (definition_texts (url.now, tree_of definition.now))) }
+fn push_definition<'t>(
+    stem: &[u8],
+    url: &'t str,
+    definition: &'t Json<'_>,
+    tails: &mut Vec<&'t [u8]>,
+) -> Result<(), AllocError>
+    ensures { OnOk result (map (λ t. t.now) tails.new.items
+        ≡ map (λ t. t.now) tails.old.items ++ tails_of stem.now (definition_texts (url.entry.now, tree_of definition.entry.now))) }
 {
-    push_tail(alloc, stem, url, tails)?;
-    push_tree(alloc, stem, definition, tails)
+    push_tail(stem, url.as_bytes(), tails)?;
+    push_tree(stem, definition, tails)
 }
 
-fn push_kind(
-    alloc: Global,
-    stem: &str,
+fn push_kind<'t>(
+    stem: &[u8],
     kind: Kind,
-    package: &Package<'_>,
-    tails: &mut Vec<String>,
-) -> Result<(), NoMemory>
-    ensures { OnOk result (map string_bytes tails.new.items
-        ≡ map string_bytes tails.old.items ++ tails_of stem.now (kind_texts kind «package».now)) }
+    package: &'t Package<'_>,
+    tails: &mut Vec<&'t [u8]>,
+) -> Result<(), AllocError>
+    ensures { OnOk result (map (λ t. t.now) tails.new.items
+        ≡ map (λ t. t.now) tails.old.items ++ tails_of stem.now (kind_texts kind «package».entry.now)) }
 {
     for place in 0..package.len(kind) {
         if let Some((url, definition)) = package.at(kind, place) {
-            push_definition(alloc, stem, url, definition, tails)?;
+            push_definition(stem, url, definition, tails)?;
         }
     }
     Ok(())
 }
 
-fn push_package(
-    alloc: Global,
-    stem: &str,
-    package: &Package<'_>,
-    tails: &mut Vec<String>,
-) -> Result<(), NoMemory>
-    ensures { OnOk result (map string_bytes tails.new.items
-        ≡ map string_bytes tails.old.items ++ tails_of stem.now (package_texts «package».now)) }
+fn push_package<'t>(
+    stem: &[u8],
+    package: &'t Package<'_>,
+    tails: &mut Vec<&'t [u8]>,
+) -> Result<(), AllocError>
+    ensures { OnOk result (map (λ t. t.now) tails.new.items
+        ≡ map (λ t. t.now) tails.old.items ++ tails_of stem.now (package_texts «package».entry.now)) }
 {
-    push_kind(alloc, stem, Kind::StructureDefinition, package, tails)?;
-    push_kind(alloc, stem, Kind::ValueSet, package, tails)?;
-    push_kind(alloc, stem, Kind::CodeSystem, package, tails)
+    push_kind(stem, Kind::StructureDefinition, package, tails)?;
+    push_kind(stem, Kind::ValueSet, package, tails)?;
+    push_kind(stem, Kind::CodeSystem, package, tails)
 }
 
 // Of some texts what stands behind a stem, where they begin with it.
-fn tails_of(alloc: Global, stem: &str, texts: &[String]) -> Result<Vec<String>, NoMemory>
-    ensures { IfOk result (λ v. map string_bytes v.items ≡ tails_of stem.now (map string_bytes texts.now)) }
+fn tails_of<'t>(alloc: Global, stem: &[u8], texts: &[&'t [u8]]) -> Result<Vec<&'t [u8]>, AllocError>
+    ensures { IfOk result (λ v. map (λ t. t.now) v.items ≡ tails_of stem.now (map (λ t. t.now) texts.now)) }
 {
     let mut tails = Vec::new(alloc);
     for text in texts {
-        push_tail(alloc, stem, text.as_str(), &mut tails)?;
+        push_tail(stem, *text, &mut tails)?;
     }
     Ok(tails)
 }
 
 // The digit with which fewer texts begin, with what stands behind it in these.
-fn fewer_behind(alloc: Global, texts: &[String]) -> Result<(&'static str, Vec<String>), NoMemory>
-    ensures { IfOk result (λ r. (r.0.now, map string_bytes r.1.items) ≡ fewer_behind (map string_bytes texts.now)) }
+fn fewer_behind<'t>(
+    alloc: Global,
+    texts: &[&'t [u8]],
+) -> Result<(&'static str, Vec<&'t [u8]>), AllocError>
+    ensures { IfOk result (λ r. (r.0.now, map (λ t. t.now) r.1.items) ≡ fewer_behind (map (λ t. t.now) texts.now)) }
 {
-    let zeros = tails_of(alloc, "0", texts)?;
-    let ones = tails_of(alloc, "1", texts)?;
+    let zeros = tails_of(alloc, b"0", texts)?;
+    let ones = tails_of(alloc, b"1", texts)?;
     if zeros.len() <= ones.len() {
         Ok(("0", zeros))
     } else {
@@ -146,8 +143,8 @@ fn fewer_behind(alloc: Global, texts: &[String]) -> Result<(&'static str, Vec<St
 }
 
 // A mark with digits behind it, so that none of the texts that stood behind it begins with these.
-fn grown(alloc: Global, mark: String, tails: Vec<String>) -> Result<String, NoMemory>
-    ensures { IfOk result (λ m. string_bytes m ≡ grown (map string_bytes tails.items) (string_bytes mark)) }
+fn grown(alloc: Global, mark: String, tails: Vec<&[u8]>) -> Result<String, AllocError>
+    ensures { IfOk result (λ m. string_bytes m ≡ grown (map (λ t. t.now) tails.entry.items) (string_bytes mark)) }
 {
     let mut mark = mark;
     let mut tails = tails;
@@ -165,10 +162,10 @@ pub fn mark_between(alloc: Global, old: &Package<'_>, new: &Package<'_>) -> Resu
     ensures { IfOk result (λ m. string_bytes m ≡ mark_between old.now new.now) }
 {
     let mut tails = Vec::new(alloc);
-    push_package(alloc, STEM, old, &mut tails)?;
-    push_package(alloc, STEM, new, &mut tails)?;
+    push_package(STEM.as_bytes(), old, &mut tails)?;
+    push_package(STEM.as_bytes(), new, &mut tails)?;
     let mark = String::from_str(alloc, STEM)?;
-    grown(alloc, mark, tails)
+    Ok(grown(alloc, mark, tails)?)
 }
 
 /// A text behind the mark.

@@ -3,7 +3,7 @@
 ghost use Rattle.std.specs.Prelude.{◌≡◌, ◌++◌, IfOk, OnOk, map, string_bytes};
 ghost use Rattle.std.specs.List.{flat_map};
 ghost use Rattle.fhir_json.specs.Views.{tree_seen};
-ghost use Rattle.fhir_alike.specs.Naming.{place_named, name_stays, profile_stays, is_type, is_type_in_both, content_stays, entry_names, element_names, names_of};
+ghost use Rattle.fhir_alike.specs.Naming.{place_named, agree, name_stays, profile_stays, is_type, is_type_in_both, content_stays, entry_names, element_names, names_of};
 
 use crate::profile::is_profile;
 use fhir_definition::Definition;
@@ -23,11 +23,20 @@ pub fn place_named(package: &Package<'_>, kind: Kind, canonical: &str) -> Option
     }
 }
 
+fn agree(one: bool, other: bool) -> bool
+    ensures { result ≡ agree one other }
+{
+    if one { other } else { !other }
+}
+
 /// Whether a canonical names a definition of a kind in both packages, or in none.
 pub fn name_stays(old: &Package<'_>, new: &Package<'_>, kind: Kind, canonical: &str) -> bool
     ensures { result ≡ name_stays kind old.now new.now canonical.now }
 {
-    old.get(kind, canonical).is_some() == new.get(kind, canonical).is_some()
+    agree(
+        old.get(kind, canonical).is_some(),
+        new.get(kind, canonical).is_some(),
+    )
 }
 
 /// Whether a canonical names a profile in both packages, or in both a definition that is none, or nothing in both.
@@ -38,7 +47,7 @@ pub fn profile_stays(old: &Package<'_>, new: &Package<'_>, canonical: &str) -> b
         old.get(Kind::StructureDefinition, canonical),
         new.get(Kind::StructureDefinition, canonical),
     ) {
-        (Some(old), Some(new)) => is_profile(old) == is_profile(new),
+        (Some(old), Some(new)) => agree(is_profile(old), is_profile(new)),
         (None, None) => true,
         _ => false,
     }

@@ -47,7 +47,7 @@ fn compose_items<'t, 'j>(value_set: &'t Json<'j>, name: &str) -> &'t [Json<'j>]
 
 // Whether the code system of an include is another one in the two packages.
 fn system_differs(both: Both<'_, '_, '_>, include: &Json<'_>) -> bool
-    requires { Differ CodeSystem both.entry.old.now both.entry.new.now both.entry.code_systems.now.urls }
+    requires { Differ CodeSystem both.old.now both.new.now both.code_systems.now.urls }
     ensures { result ≡ system_differs both.entry.old.now both.entry.new.now (tree_of include.now) }
 {
     match include.text_in("system") {
@@ -69,14 +69,14 @@ fn name_differs(both: Both<'_, '_, '_>, include: &Json<'_>) -> bool
 }
 
 fn include_differs(both: Both<'_, '_, '_>, include: &Json<'_>) -> bool
-    requires { Differ CodeSystem both.entry.old.now both.entry.new.now both.entry.code_systems.now.urls }
+    requires { Differ CodeSystem both.old.now both.new.now both.code_systems.now.urls }
     ensures { result ≡ include_differs both.entry.old.now both.entry.new.now (tree_of include.now) }
 {
     system_differs(both, include) || name_differs(both, include)
 }
 
 fn some_differs(both: Both<'_, '_, '_>, includes: &[Json<'_>]) -> bool
-    requires { Differ CodeSystem both.entry.old.now both.entry.new.now both.entry.code_systems.now.urls }
+    requires { Differ CodeSystem both.old.now both.new.now both.code_systems.now.urls }
     ensures { result ≡ some_differs both.entry.old.now both.entry.new.now (trees_of includes.now) }
 {
     for include in includes {
@@ -89,8 +89,8 @@ fn some_differs(both: Both<'_, '_, '_>, includes: &[Json<'_>]) -> bool
 
 // Whether a value set differs by itself: it is another one, or an include of it means another code system, or names what is there in one alone.
 fn differs_itself(both: Both<'_, '_, '_>, url: &str, value_set: &Json<'_>) -> bool
-    requires systems { Differ CodeSystem both.entry.old.now both.entry.new.now both.entry.code_systems.now.urls }
-    requires sets { Differ ValueSet both.entry.old.now both.entry.new.now both.entry.value_sets.now.urls }
+    requires systems { Differ CodeSystem both.old.now both.new.now both.code_systems.now.urls }
+    requires sets { Differ ValueSet both.old.now both.new.now both.value_sets.now.urls }
     ensures { result ≡ differs_itself both.entry.old.now both.entry.new.now (url.now, tree_of value_set.now) }
 {
     both.value_sets.has(url)
@@ -166,8 +166,8 @@ fn edges_of(alloc: Global, old: &Package<'_>) -> Result<Vec<Vec<usize>>, NoMemor
 
 // Whether the value set at a place differs by itself.
 fn differs_at(both: Both<'_, '_, '_>, place: usize) -> bool
-    requires systems { Differ CodeSystem both.entry.old.now both.entry.new.now both.entry.code_systems.now.urls }
-    requires sets { Differ ValueSet both.entry.old.now both.entry.new.now both.entry.value_sets.now.urls }
+    requires systems { Differ CodeSystem both.old.now both.new.now both.code_systems.now.urls }
+    requires sets { Differ ValueSet both.old.now both.new.now both.value_sets.now.urls }
     ensures { result ≡ option_map_or (differs_itself both.entry.old.now both.entry.new.now) (slice_get both.entry.old.now.value_sets place) false }
 {
     match both.old.at(Kind::ValueSet, place) {
@@ -177,8 +177,8 @@ fn differs_at(both: Both<'_, '_, '_>, place: usize) -> bool
 }
 
 fn marks_of(alloc: Global, both: Both<'_, '_, '_>) -> Result<Vec<bool>, NoMemory>
-    requires systems { Differ CodeSystem both.entry.old.now both.entry.new.now both.entry.code_systems.now.urls }
-    requires sets { Differ ValueSet both.entry.old.now both.entry.new.now both.entry.value_sets.now.urls }
+    requires systems { Differ CodeSystem both.old.now both.new.now both.code_systems.now.urls }
+    requires sets { Differ ValueSet both.old.now both.new.now both.value_sets.now.urls }
     ensures { IfOk result (λ v. v.items ≡ set_marks both.entry.old.now both.entry.new.now) }
 {
     let count = both.old.len(Kind::ValueSet);

@@ -60,7 +60,7 @@ fn push_canonicals_at<'o>(
     place: usize,
     canonicals: &mut Vec<&'o str>,
 ) -> Result<(), AllocError>
-    requires { schema.entry.now ≡ schema_of sides.entry.old.now }
+    requires { schema.now ≡ schema_of sides.old.now }
     ensures { OnOk result (map (λ c. c.now) canonicals.new.items ≡ map (λ c. c.now) canonicals.old.items
         ++ option_map_or (canonicals_at sides.entry.old.now sides.entry.new.now (kept_by sides.entry.old.now sides.entry.new.now sides.entry.changes.now.changed.items) place) (slice_get sides.entry.old.now.structure_definitions place) []) }
 {
@@ -76,7 +76,7 @@ fn canonicals<'o>(
     sides: Sides<'o, '_, '_>,
     schema: &'o Schema,
 ) -> Result<Vec<&'o str>, AllocError>
-    requires { schema.entry.now ≡ schema_of sides.entry.old.now }
+    requires { schema.now ≡ schema_of sides.old.now }
     ensures { IfOk result (λ v. map (λ c. c.now) v.items
         ≡ canonicals sides.entry.old.now sides.entry.new.now (kept_by sides.entry.old.now sides.entry.new.now sides.entry.changes.now.changed.items)) }
 {
@@ -147,7 +147,7 @@ fn put_set<'f>(
     canonical: &str,
     entries: &mut Vec<Entry<'f>>,
 ) -> Result<(), NoMemory>
-    requires { schema.now ≡ schema_of sides.entry.old.now }
+    requires { schema.now ≡ schema_of sides.old.now }
     ensures { OnOk result ((sets : ByUrl) × IsSetPut sides.entry.old.now sides.entry.mark.now place canonical.now sets
         × (entries_seen entries.new.items ≡ entries_seen entries.old.items ++ sets)) }
 {
@@ -171,7 +171,7 @@ fn put_set_if<'f>(
     canonical: Option<&str>,
     entries: &mut Vec<Entry<'f>>,
 ) -> Result<(), NoMemory>
-    requires { schema.now ≡ schema_of sides.entry.old.now }
+    requires { schema.now ≡ schema_of sides.old.now }
     ensures { OnOk result ((sets : ByUrl) × IsSetPutIf sides.entry.old.now sides.entry.mark.now place (text_seen canonical.entry) sets
         × (entries_seen entries.new.items ≡ entries_seen entries.old.items ++ sets)) }
 {
@@ -187,7 +187,7 @@ pub(crate) fn sets_put<'f>(
     sides: Sides<'_, '_, '_>,
     schema: &Schema,
 ) -> Result<Vec<Entry<'f>>, NoMemory>
-    requires { schema.now ≡ schema_of sides.entry.old.now }
+    requires { schema.now ≡ schema_of sides.old.now }
     ensures { IfOk result (λ v. AreSets sides.entry.old.now sides.entry.new.now (kept_by sides.entry.old.now sides.entry.new.now sides.entry.changes.now.changed.items) sides.entry.mark.now 0 sides.entry.old.now.value_sets (entries_seen v.items)) }
 {
     let canonicals = canonicals(alloc, sides, schema)?;

@@ -41,7 +41,7 @@ fn put_profile_at<'f>(
     place: usize,
     entries: &mut Vec<Entry<'f>>,
 ) -> Result<(), NoMemory>
-    requires { schema.now ≡ schema_of sides.entry.old.now }
+    requires { schema.now ≡ schema_of sides.old.now }
     ensures { OnOk result (entries_seen entries.new.items ≡ entries_seen entries.old.items
         ++ option_map_or (profile_put sides.entry.old.now sides.entry.new.now (kept_by sides.entry.old.now sides.entry.new.now sides.entry.changes.now.changed.items) sides.entry.mark.now place) (slice_get sides.entry.old.now.structure_definitions place) []) }
 {
@@ -57,7 +57,7 @@ pub(crate) fn profiles_put<'f>(
     sides: Sides<'_, '_, '_>,
     schema: &Schema,
 ) -> Result<Vec<Entry<'f>>, NoMemory>
-    requires { schema.now ≡ schema_of sides.entry.old.now }
+    requires { schema.now ≡ schema_of sides.old.now }
     ensures { IfOk result (λ v. entries_seen v.items
         ≡ profiles_put sides.entry.old.now sides.entry.new.now (kept_by sides.entry.old.now sides.entry.new.now sides.entry.changes.now.changed.items) sides.entry.mark.now) }
 {

@@ -70,7 +70,7 @@ fn is_other_at(
     schema: &Schema,
     place: usize,
 ) -> Result<bool, NoMemory>
-    requires { schema.now ≡ schema_of sides.entry.old.now }
+    requires { schema.now ≡ schema_of sides.old.now }
     ensures { Gives (λ b. b) result (option_map_or (λ e. is_other_type sides.entry.new.now (kept_by sides.entry.old.now sides.entry.new.now sides.entry.changes.now.changed.items) (elements_of place e) e) (slice_get sides.entry.old.now.structure_definitions place) false) }
 {
     match (
@@ -85,7 +85,7 @@ fn is_other_at(
 }
 
 fn count_other(alloc: Global, sides: Sides<'_, '_, '_>, schema: &Schema) -> Result<usize, NoMemory>
-    requires { schema.now ≡ schema_of sides.entry.old.now }
+    requires { schema.now ≡ schema_of sides.old.now }
     ensures { Gives (λ n. n) result (count_other sides.entry.new.now (kept_by sides.entry.old.now sides.entry.new.now sides.entry.changes.now.changed.items) 0 sides.entry.old.now.structure_definitions) }
 {
     let mut count: usize = 0;
@@ -128,7 +128,7 @@ pub(crate) fn types_differing(
     sides: Sides<'_, '_, '_>,
     schema: &Schema,
 ) -> Result<usize, NoMemory>
-    requires { schema.now ≡ schema_of sides.entry.old.now }
+    requires { schema.now ≡ schema_of sides.old.now }
     ensures { IfOk result (λ n. n ≡ min (types_differing sides.entry.old.now sides.entry.new.now (kept_by sides.entry.old.now sides.entry.new.now sides.entry.changes.now.changed.items)) (2 ^ 64 - 1)) }
 {
     let other = count_other(alloc, sides, schema)?;

@@ -1,5 +1,5 @@
 -- What is said of each profile of OLD by itself, and how all of it is put together (used by private contracts alone).
-use Rattle.std.specs.Prelude.{◌≡◌, ⊥, ℕ, suc, List, [], ◌∷◌, ◌++◌, map, get_or, Bool, true, false, not, ◌||◌, Option, None, Some, is_none, is_some, IsTrue}
+use Rattle.std.specs.Prelude.{◌≡◌, ℕ, suc, List, [], ◌∷◌, ◌++◌, map, get_or, Bool, true, false, not, ◌||◌, Option, None, Some, is_none, is_some, IsTrue}
 use Rattle.std.specs.Option.{option_map, option_map_or, option_and_then, option_to_list}
 use Rattle.std.specs.List.{slice_get}
 use Rattle.fhir_json.specs.Tree.{Text, Tree}

@@ -91,8 +91,8 @@ fn blamed_of(
     sides: Comparison<'_, '_, '_>,
     all: &[Own<'_>],
 ) -> Result<Blamed, NoMemory>
-    requires old { sides.entry.old_schema.now ≡ schema_of sides.entry.old.now }
-    requires owns { AreOwns sides.entry.old.now sides.entry.new.now sides.entry.mark.now (all_owns all.now) }
+    requires old { sides.old_schema.now ≡ schema_of sides.old.now }
+    requires owns { AreOwns sides.old.now sides.new.now sides.mark.now (all_owns all.now) }
     ensures in_old { IfOk result (λ b. IsSpread (edges sides.entry.old.now) (all_fail new_in_old (all_owns all.now)) b.new_in_old.items) }
     ensures in_new { IfOk result (λ b. IsSpread (edges sides.entry.old.now) (all_fail old_in_new (all_owns all.now)) b.old_in_new.items) }
 {
@@ -239,8 +239,8 @@ pub fn compare<'s>(
     alloc: Global,
     sides: Comparison<'s, '_, '_>,
 ) -> Result<Vec<Compared<'s>>, NoMemory>
-    requires schema { sides.entry.schema.now ≡ schema_of sides.entry.new.now }
-    requires old { sides.entry.old_schema.now ≡ schema_of sides.entry.old.now }
+    requires schema { sides.schema.now ≡ schema_of sides.new.now }
+    requires old { sides.old_schema.now ≡ schema_of sides.old.now }
     ensures { IfOk result (λ v. IsComparison sides.entry.old.now sides.entry.new.now sides.entry.mark.now (all_said v.items)) }
 {
     let all = all_own(alloc, sides)?;

@@ -156,8 +156,8 @@ fn own_at<'s>(
     sides: Comparison<'s, '_, '_>,
     place: usize,
 ) -> Result<Own<'s>, NoMemory>
-    requires schema { sides.entry.schema.now ≡ schema_of sides.entry.new.now }
-    requires old { sides.entry.old_schema.now ≡ schema_of sides.entry.old.now }
+    requires schema { sides.schema.now ≡ schema_of sides.new.now }
+    requires old { sides.old_schema.now ≡ schema_of sides.old.now }
     ensures { IfOk result (λ o. IsOwnAt sides.entry.old.now sides.entry.new.now sides.entry.mark.now place (own_seen o)) }
 {
     match profile_at(sides.old, sides.old_schema, place) {
@@ -171,8 +171,8 @@ pub(crate) fn all_own<'s>(
     alloc: Global,
     sides: Comparison<'s, '_, '_>,
 ) -> Result<Vec<Own<'s>>, NoMemory>
-    requires schema { sides.entry.schema.now ≡ schema_of sides.entry.new.now }
-    requires old { sides.entry.old_schema.now ≡ schema_of sides.entry.old.now }
+    requires schema { sides.schema.now ≡ schema_of sides.new.now }
+    requires old { sides.old_schema.now ≡ schema_of sides.old.now }
     ensures { IfOk result (λ v. AreOwns sides.entry.old.now sides.entry.new.now sides.entry.mark.now (all_owns v.items)) }
 {
     let count = sides.old.len(Kind::StructureDefinition);

@@ -51,7 +51,7 @@ fn leads_at(
     sides: Comparison<'_, '_, '_>,
     place: usize,
 ) -> Result<Vec<usize>, NoMemory>
-    requires { sides.entry.old_schema.now ≡ schema_of sides.entry.old.now }
+    requires { sides.old_schema.now ≡ schema_of sides.old.now }
     ensures { IfOk result (λ v. v.items ≡ option_map_or (leads_to sides.entry.old.now place) (slice_get sides.entry.old.now.structure_definitions place) []) }
 {
     match profile_at(sides.old, sides.old_schema, place) {
@@ -65,7 +65,7 @@ pub(crate) fn edges_of(
     alloc: Global,
     sides: Comparison<'_, '_, '_>,
 ) -> Result<Vec<Vec<usize>>, NoMemory>
-    requires { sides.entry.old_schema.now ≡ schema_of sides.entry.old.now }
+    requires { sides.old_schema.now ≡ schema_of sides.old.now }
     ensures { IfOk result (λ v. lists_in v.items ≡ edges sides.entry.old.now) }
 {
     let count = sides.old.len(Kind::StructureDefinition);

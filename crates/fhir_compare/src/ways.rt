@@ -1,6 +1,6 @@
 //! What is shown of the profiles of a url, in one way.
 
-ghost use Rattle.std.specs.Prelude.{◌≡◌, ⊥, IfOk, IfSome, IsTrue, option_map};
+ghost use Rattle.std.specs.Prelude.{◌≡◌, IfOk, IfSome, IsTrue, option_map};
 ghost use Rattle.fhir_json.specs.Tree.{Tree};
 ghost use Rattle.fhir_json.specs.Grammar.{Reads};
 ghost use Rattle.fhir_cert_check.specs.Views.{rule_name};
@@ -130,8 +130,8 @@ fn fails<'s>(
     pair: Pair,
     rule: Rule<'s>,
 ) -> Result<Shown<'s>, NoMemory>
-    requires none { HasCertificate two.entry.schema.now (sides_by (direction_seen direction) two.entry.url.now two.entry.own.now).0 (sides_by (direction_seen direction) two.entry.url.now two.entry.own.now).1 → ⊥ }
-    requires first { IsFirstFailing two.entry.schema.now (sides_by (direction_seen direction) two.entry.url.now two.entry.own.now).0 (sides_by (direction_seen direction) two.entry.url.now two.entry.own.now).1 pair (rule_name rule) }
+    requires none { HasCertificate two.schema.now (sides_by (direction_seen direction) two.url.now two.own.now).0 (sides_by (direction_seen direction) two.url.now two.own.now).1 → ⊥ }
+    requires first { IsFirstFailing two.schema.now (sides_by (direction_seen direction) two.url.now two.own.now).0 (sides_by (direction_seen direction) two.url.now two.own.now).1 pair (rule_name rule) }
     ensures { IfOk result (λ w. IsShown (direction_seen direction) two.entry.old_schema.now two.entry.schema.now two.entry.url.now two.entry.own.now
         (shown_seen w)) }
 {

@@ -1,5 +1,5 @@
 -- What is answered of two folders.
-use Rattle.std.specs.Prelude.{◌≡◌, ⊥, ℕ, List, None, Option, Result, Ok, Err, IsTrue}
+use Rattle.std.specs.Prelude.{◌≡◌, ℕ, List, None, Option, Result, Ok, Err, IsTrue}
 use Rattle.std.specs.Io.KnownBytes.{Appends}
 use Rattle.fhir_json.specs.Tree.{Text}
 use Rattle.fhir_words.specs.declared.request.Audience.{Audience}
