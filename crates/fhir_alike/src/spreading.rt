@@ -5,7 +5,6 @@ ghost use Rattle.fhir_definition.specs.Views.{lists_in};
 ghost use Rattle.fhir_alike.specs.Spreading.{users_under, users_of, told_at, is_untold, tell, tell_if, tell_all, first_told, carry, IsSpread};
 
 use fhir_definition::{empty_lists, put_at};
-use fhir_json::NoMemory;
 use std::alloc::{AllocError, Global};
 
 // What is told of each place so far, and the places of which something is told, in the order in which it was.
@@ -65,7 +64,7 @@ fn is_untold(told: &[Option<usize>], place: usize) -> bool
 }
 
 // Tells of a place a marked one that it reaches, unless one is told.
-fn tell(told: &mut Told, place: usize, marked: usize) -> Result<(), NoMemory>
+fn tell(told: &mut Told, place: usize, marked: usize) -> Result<(), AllocError>
     ensures { OnOk result ((told.new.marks.items, told.new.queue.items)
         ≡ tell place marked (told.old.marks.items, told.old.queue.items)) }
 {
@@ -77,7 +76,7 @@ fn tell(told: &mut Told, place: usize, marked: usize) -> Result<(), NoMemory>
 }
 
 // Tells of some places that one.
-fn tell_all(told: &mut Told, places: &[usize], marked: usize) -> Result<(), NoMemory>
+fn tell_all(told: &mut Told, places: &[usize], marked: usize) -> Result<(), AllocError>
     ensures { OnOk result ((told.new.marks.items, told.new.queue.items)
         ≡ tell_all places.now marked (told.old.marks.items, told.old.queue.items)) }
 {
@@ -88,7 +87,7 @@ fn tell_all(told: &mut Told, places: &[usize], marked: usize) -> Result<(), NoMe
 }
 
 // A marked place reaches itself.
-fn tell_if(told: &mut Told, is_marked: bool, place: usize) -> Result<(), NoMemory>
+fn tell_if(told: &mut Told, is_marked: bool, place: usize) -> Result<(), AllocError>
     ensures { OnOk result ((told.new.marks.items, told.new.queue.items)
         ≡ tell_if is_marked place (told.old.marks.items, told.old.queue.items)) }
 {
@@ -100,7 +99,7 @@ fn tell_if(told: &mut Told, is_marked: bool, place: usize) -> Result<(), NoMemor
 }
 
 // What is told of each marked place.
-fn first_told(alloc: Global, marks: &[bool]) -> Result<Told, NoMemory>
+fn first_told(alloc: Global, marks: &[bool]) -> Result<Told, AllocError>
     ensures { IfOk result (λ t. (t.marks.items, t.queue.items) ≡ first_told marks.now) }
 {
     let mut told = Told {
@@ -124,7 +123,7 @@ fn users_at(users: &[Vec<usize>], place: usize) -> &[usize]
 }
 
 // Tells of those that lead to a place what is told of it.
-fn carry(told: &mut Told, users: &[Vec<usize>], place: usize) -> Result<(), NoMemory>
+fn carry(told: &mut Told, users: &[Vec<usize>], place: usize) -> Result<(), AllocError>
     ensures { OnOk result ((told.new.marks.items, told.new.queue.items)
         ≡ carry (lists_in users.now) place (told.old.marks.items, told.old.queue.items)) }
 {
@@ -140,7 +139,7 @@ pub fn spread(
     alloc: Global,
     edges: &[Vec<usize>],
     marks: &[bool],
-) -> Result<Vec<Option<usize>>, NoMemory>
+) -> Result<Vec<Option<usize>>, AllocError>
     requires { length marks.now ≡ length edges.now }
     ensures { IfOk result (λ v. IsSpread (lists_in edges.now) marks.now v.items) }
 {
