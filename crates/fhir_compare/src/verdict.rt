@@ -19,7 +19,7 @@ pub enum Shown<'s> {
         pair: Pair,
         /// The rule.
         rule: Rule<'s>,
-        /// The resource, as JSON: it conforms to the profile of the one folder, and not to that of the other, as each folder by itself says.
+        /// The resource, as JSON: it conforms to the one and not to the other, OLD's as OLD by itself says, NEW's as the package says that is made.
         resource: Option<Vec<u8>>,
     },
     /// OLD's profile can't be used beside NEW's definitions.

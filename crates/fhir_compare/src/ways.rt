@@ -146,7 +146,7 @@ fn fails<'s>(
 }
 
 /// What is shown of the profiles of a url, in one way: that the one narrows the other, or that no certificate exists; with a resource, if one is found
-/// that conforms to the profile of the one folder and not to that of the other.
+/// that conforms to the profile of the one side and not to that of the other: OLD's by OLD's own schema, NEW's by that of the package that is made.
 pub(crate) fn shown<'s>(
     alloc: Global,
     direction: Direction,
