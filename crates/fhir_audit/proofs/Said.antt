@@ -1,5 +1,5 @@
 -- What is said of a profile and its base, from what is derived.
-use Rattle.std.proofs.Common.{◌≡◌, ◌↔◌, List, true, false, is_some, Option, None, Some, IfSome, IfOk, Result, Ok, Err, IsTrue, sym, ap, subst, ◌∙◌}
+use Rattle.std.proofs.Common.{◌≡◌, ◌↔◌, List, true, false, is_some, Option, None, Some, IfSome, IsTrue, sym, ap, subst, ◌∙◌}
 use Rattle.std.specs.Option.{option_map}
 use Rattle.std.proofs.lemmas.Bool.{false≢true}
 use Rattle.fhir_json.specs.Tree.{Text}
@@ -20,19 +20,15 @@ use Rattle.fhir_derive_check.specs.Deriving.{IsDerived, IsFirstFailing}
 use Rattle.fhir_derive_check.specs.Faults.{derive_refusal, is_no_memory}
 use Rattle.fhir_derive_check.specs.Reaching.{HasCertificate}
 use Rattle.fhir_derive_check.specs.Views.{certificate_of, failing_of}
+use Rattle.fhir_counter.specs.Shows.{ShowsBy, is_on_line}
 use Rattle.fhir_audit.specs.Verdicts.{VerdictValue, Narrows, IsRefuted, IsShownBy, verdict_by, IsShownVerdict, IsSaid}
 
--- two things that hold of what is found
-pub both : {A E : Type 0} (P Q R : A → Type 0) (join : (a : A) → P a → Q a → R a) (r : Result (Option A) E) → IfOk r (λ o. IfSome o P)
-    → IfOk r (λ o. IfSome o Q) → IfOk r (λ o. IfSome o R)
-both P Q R join (Ok None) p q = tt
-both P Q R join (Ok (Some a)) p q = join a p q
-both P Q R join (Err e) p q = tt
-
--- what holds of a value that is seen
-pub mapped : {X Y : Type 0} (f : X → Y) (P : Y → Type 0) (r : Option X) → IfSome r (λ x. P (f x)) → IfSome (option_map f r) P
-mapped f P None so = so
-mapped f P (Some x) so = so
+-- what was found shows it, and stands on one line
+pub shown_by : {X : Type 0} (texts : Option (List Text)) (s : SchemaValue) (url base : Text) (seen : X → Text) (found : Option X)
+    → IfSome found (λ x. ShowsBy texts s url base (seen x)) → IfSome found (λ x. IsTrue (is_on_line (seen x)))
+    → IfSome (option_map seen found) (IsShownBy texts s url base)
+shown_by texts s url base seen None shown lined = tt
+shown_by texts s url base seen (Some x) shown lined = record { shows = shown; on_line = lined }
 
 module _ (texts : Option (List Text)) (s : SchemaValue) (url base : Text) where
   pub narrows_so : (o : Outcome) (c : CertificateValue) → o ≡ Derives c

@@ -1,9 +1,10 @@
 //! What is said of a profile and its base.
 
-ghost use Rattle.std.specs.Prelude.{◌≡◌, IfOk, IfSome, option_map};
+ghost use Rattle.std.specs.Prelude.{◌≡◌, IfOk, IfSome, IsTrue, option_map};
 ghost use Rattle.fhir_json.specs.Views.{text_seen};
 ghost use Rattle.fhir_cert_check.specs.Views.{rule_name};
-ghost use Rattle.fhir_audit.specs.Verdicts.{IsShownBy, verdict_by, IsShownVerdict, IsSaid, IsVerdict};
+ghost use Rattle.fhir_counter.specs.Shows.{ShowsBy, is_on_line};
+ghost use Rattle.fhir_audit.specs.Verdicts.{verdict_by, IsShownVerdict, IsSaid, IsVerdict};
 ghost use Rattle.fhir_audit.specs.Views.{verdict_seen};
 
 use crate::verdict::Verdict;
@@ -25,8 +26,9 @@ fn resource_by(
     pair: Pair,
     given: Option<&Vouching>,
 ) -> Result<Option<Vec<u8>>, NoMemory>
-    ensures { IfOk result (λ found. IfSome found
-        (λ bytes. IsShownBy (option_map (λ texts. texts.now) given.entry) schema.now url.now base.now bytes.items)) }
+    ensures shown { IfOk result (λ found. IfSome found
+        (λ bytes. ShowsBy (option_map (λ texts. texts.now) given.entry) schema.now url.now base.now bytes.items)) }
+    ensures line { IfOk result (λ found. IfSome found (λ bytes. IsTrue (is_on_line bytes.items))) }
 {
     match given {
         Some(given) => counterexample_given(alloc, schema, url, base, pair, given),

@@ -3,11 +3,13 @@ use Rattle.std.specs.Prelude.{◌≡◌, ℕ, List, [], ◌∷◌, ◌++◌, map
 use Rattle.std.specs.Option.{option_map_or}
 use Rattle.std.specs.Str.Lossy.{utf8_lossy}
 use Rattle.fhir_json.specs.Tree.{Text}
-use Rattle.fhir_schema.specs.Schemas.{SchemaValue, root, is_of_resource_at}
+use Rattle.fhir_nodes.specs.Types.{names_resource}
+use Rattle.fhir_schema.specs.Schemas.{SchemaValue, root}
+use Rattle.fhir_schema.specs.Covers.{type_at}
 use Rattle.fhir_certificate.specs.Certificate.{CertificateValue}
 use Rattle.fhir_certificate.specs.declared.pair.Pair.{Pair}
-use Rattle.fhir_cert_check.specs.Checking.{pair_text}
 use Rattle.fhir_cert_check.specs.Rule.{RuleName, rule_text}
+use Rattle.fhir_cert_check.specs.Texts.{pair_text}
 use Rattle.fhir_derive_check.specs.declared.fault.Side.{Side}
 use Rattle.fhir_derive_check.specs.declared.fault.Side.TheVariants.{Derived, Base}
 use Rattle.fhir_lines.specs.Lines.{escaped}
@@ -63,7 +65,7 @@ IsHead s a has_no_base line = line ≡ lacking_line a
 
 -- resources are of the type of the profile at the url
 abbrev pub is_of_resource : SchemaValue → Text → Bool
-is_of_resource s url = option_map_or (is_of_resource_at s) (root s url) false
+is_of_resource s url = option_map_or (λ n. names_resource s.definitions (type_at s n)) (root s url) false
 
 -- that no counterexample was looked for, where that is so
 abbrev pub not_looked_for : SchemaValue → Text → List Text

@@ -102,10 +102,10 @@ pub fn audit_text<'s, 'f: 's>(
     ensures { IfOk result (λ text. IsReport format sources.entry.schema.now audited.now (string_bytes text)) }
 {
     let mut lines = all_lines(alloc, format, sources, audited)?;
-    push_all(
-        lines_held(alloc, format, sources, audited, held)?,
-        &mut lines,
-    )?;
-    lines.push(last_line(alloc, format, audited)?)?;
-    Ok(written(alloc, &lines)?)
+    let others = lines_held(alloc, format, sources, audited, held)?;
+    let last = last_line(alloc, format, audited)?;
+    push_all(others, &mut lines)?;
+    lines.push(last)?;
+    let text = written(alloc, &lines)?;
+    Ok(text)
 }
