@@ -1,6 +1,6 @@
 //! All that an audit tells.
 
-ghost use Rattle.std.specs.Prelude.{◌≡◌, ◌++◌, map, string_bytes, IfOk, OnOk};
+ghost use Rattle.std.specs.Prelude.{◌≡◌, ◌∷◌, ◌++◌, [], map, string_bytes, IfOk, OnOk};
 ghost use Rattle.fhir_audit.specs.Views.{audited_seen, all_audited};
 ghost use Rattle.fhir_audit_lines.specs.Telling.{told_line, told_lines};
 ghost use Rattle.fhir_audit_lines.specs.Report.{IsTold, AreTold, last_line, IsReport};
@@ -90,6 +90,20 @@ fn lines_held(
     }
 }
 
+// Lines, others behind them, and a last one.
+fn joined(
+    mut lines: Vec<String>,
+    others: Vec<String>,
+    last: String,
+) -> Result<Vec<String>, AllocError>
+    ensures { IfOk result (λ ls. map string_bytes ls.items
+        ≡ map string_bytes lines.items ++ map string_bytes others.items ++ string_bytes last ∷ []) }
+{
+    push_all(others, &mut lines)?;
+    lines.push(last)?;
+    Ok(lines)
+}
+
 /// What an audit tells: the lines on each profile, then those on the certificates that were made before, if there are some, and a last one with
 /// counts. The one refusal is want of memory.
 pub fn audit_text<'s, 'f: 's>(
@@ -101,11 +115,10 @@ pub fn audit_text<'s, 'f: 's>(
 ) -> Result<String, NoMemory>
     ensures { IfOk result (λ text. IsReport format sources.entry.schema.now audited.now (string_bytes text)) }
 {
-    let mut lines = all_lines(alloc, format, sources, audited)?;
+    let lines = all_lines(alloc, format, sources, audited)?;
     let others = lines_held(alloc, format, sources, audited, held)?;
     let last = last_line(alloc, format, audited)?;
-    push_all(others, &mut lines)?;
-    lines.push(last)?;
-    let text = written(alloc, &lines)?;
+    let all = joined(lines, others, last)?;
+    let text = written(alloc, all.as_slice())?;
     Ok(text)
 }

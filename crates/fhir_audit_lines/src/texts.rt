@@ -216,14 +216,23 @@ fn unusable_text<'s, 'f: 's>(
     Ok(line)
 }
 
+// The canonical of the base, as it is written.
+fn lacking_part(alloc: Global, canonical: Option<&str>) -> Result<String, AllocError>
+    ensures { IfOk result (λ text. string_bytes text ≡ option_map_or (λ t. codes ": " ++ t) (text_seen canonical.entry) []) }
+{
+    match canonical {
+        Some(canonical) => format!(in alloc; ": {canonical}"),
+        None => Ok(String::new(alloc)),
+    }
+}
+
 fn lacking_line(alloc: Global, audited: &Audited<'_>) -> Result<String, AllocError>
     ensures { IfOk result (λ line. string_bytes line ≡ lacking_line (audited_seen audited.now)) }
 {
     let url = audited.url;
-    match audited.canonical {
-        Some(canonical) => format!(in alloc; "{url}: rests on a base that isn't here: {canonical}"),
-        None => format!(in alloc; "{url}: rests on a base that isn't here"),
-    }
+    let part = lacking_part(alloc, audited.canonical)?;
+    let part = part.as_str();
+    format!(in alloc; "{url}: rests on a base that isn't here{part}")
 }
 
 fn head_line<'s, 'f: 's>(

@@ -25,6 +25,15 @@ use std::borrow::CowStr;
 /// The members of an object in the making.
 pub(crate) type Members<'m> = Vec<Member<'m>>;
 
+fn member<'m>(name: &'static str, value: Json<'m>) -> Member<'m>
+    ensures { property_of result ≡ (name.now, tree_of value.entry) }
+{
+    Member {
+        name: CowStr::Borrowed(name),
+        value,
+    }
+}
+
 pub(crate) fn put<'m>(
     name: &'static str,
     value: Json<'m>,
@@ -32,10 +41,7 @@ pub(crate) fn put<'m>(
 ) -> Result<(), AllocError>
     ensures { OnOk result (map property_of into.new.items ≡ map property_of into.old.items ++ (name.now, tree_of value.entry) ∷ []) }
 {
-    into.push(Member {
-        name: CowStr::Borrowed(name),
-        value,
-    })?;
+    into.push(member(name, value))?;
     Ok(())
 }
 
