@@ -1,5 +1,5 @@
 -- All that an audit tells.
-use Rattle.std.specs.Prelude.{◌≡◌, List, [], ◌∷◌, ◌++◌, Option, None, Some}
+use Rattle.std.specs.Prelude.{◌≡◌, List, [], ◌∷◌, ◌++◌}
 use Rattle.fhir_json.specs.Tree.{Text}
 use Rattle.fhir_json.specs.Compact.{compact}
 use Rattle.fhir_schema.specs.Schemas.{SchemaValue}

@@ -1,5 +1,5 @@
 -- Why a definition can't be used.
-use Rattle.std.specs.Prelude.{ℕ, List, [], get_or, Option}
+use Rattle.std.specs.Prelude.{[], get_or, Option}
 use Rattle.std.specs.Option.{option_map, option_and_then}
 use Rattle.fhir_json.specs.Tree.{Text}
 use Rattle.fhir_findings.specs.Finding.{UnusableValue}

@@ -1,5 +1,5 @@
 -- What an audit tells in a few words.
-use Rattle.std.specs.Prelude.{◌+◌, ◌==◌, ℕ, List, ◌++◌, [], length, codes, if◌then◌else◌}
+use Rattle.std.specs.Prelude.{◌+◌, ◌==◌, ℕ, ◌++◌, [], length, codes, if◌then◌else◌}
 use Rattle.std.specs.Fmt.{decimal}
 use Rattle.std.specs.Option.{option_map_or}
 use Rattle.fhir_json.specs.Tree.{Text}

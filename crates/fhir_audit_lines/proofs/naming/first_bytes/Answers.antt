@@ -1,4 +1,4 @@
-use Rattle.std.proofs.Common.{◌≡◌, ◌≤◌, length, sym, ◌∙◌, arith}
+use Rattle.std.proofs.Common.{◌≤◌, length, sym, ◌∙◌, arith}
 use Rattle.std.proofs.lemmas.List.{take_all, length-take}
 use Rattle.fhir_audit_lines.proofs.naming.first_bytes.Goals as goal
 

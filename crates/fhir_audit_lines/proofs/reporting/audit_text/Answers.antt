@@ -1,7 +1,5 @@
-use Rattle.std.proofs.Common.{◌∙◌, ap, map, string_bytes}
-use Rattle.fhir_json.specs.Tree.{Text}
+use Rattle.std.proofs.Common.{map, string_bytes}
 use Rattle.fhir_audit_lines.specs.Report.{last_line}
-use Rattle.fhir_audit_lines.specs.Telling.{told_lines}
 use Rattle.fhir_audit_lines.proofs.Told.{all_told}
 use Rattle.fhir_audit_lines.proofs.reporting.audit_text.Goals as goal
 
