@@ -44,7 +44,7 @@ with_own : (before : List Text) (url : List ℕ) → with_front (front_of url) (
 with_own before url =
     let own : bytes_eq (front_of url) (front_of url) ≡ true = (bytes_eq-Decides (front_of url) (front_of url)).1 refl in
     let joined : with_front (front_of url) (before ++ url ∷ []) ≡ with_front (front_of url) before + with_front (front_of url) (url ∷ []) =
-      sum_by-append (λ u. cond (bytes_eq (front_of url) (front_of u)) 1 0) before (url ∷ []) in
+    sum_by-append (λ u. cond (bytes_eq (front_of url) (front_of u)) 1 0) before (url ∷ []) in
     let one : with_front (front_of url) (url ∷ []) ≡ 1 = ap (λ (b : Bool). 0 + cond b 1 0) own in
     omega arith
 
@@ -54,24 +54,26 @@ with_own before url =
 differs : (url : List ℕ) (k : ℕ) (before urls : List Text) → k < with_front (front_of url) before + 1 → length (before ++ urls) < 2 ^ 63
     → AllByRecursion (λ name. bytes_eq (front_of url ++ codes "~" ++ decimal k) name ≡ false) (names_behind before urls)
 differs url k before [] lt short = tt
-differs url k before (other ∷ urls) lt short =
-    (here (bytes_eq (front_of url ++ codes "~" ++ decimal k) (name_behind before other)) refl,
-    differs url k (before ++ other ∷ []) urls (let more = with_more (front_of url) before other in omega arith)
-    (subst (λ l. length l < 2 ^ 63) (sym (append_assoc before (other ∷ []) urls)) short))
+differs url k before (other ∷ urls) lt short = (
+  here (bytes_eq (front_of url ++ codes "~" ++ decimal k) (name_behind before other)) refl,
+  differs url k (before ++ other ∷ []) urls (let more = with_more (front_of url) before other in omega arith)
+      (subst (λ l. length l < 2 ^ 63) (sym (append_assoc before (other ∷ []) urls)) short),
+)
   where
     few : with_front (front_of other) before < 2 ^ 63
     few = omega (arith, count_by-le-length (λ u. bytes_eq (front_of other) (front_of u)) before, length-append before (other ∷ urls))
+
     here : (b : Bool) → bytes_eq (front_of url ++ codes "~" ++ decimal k) (name_behind before other) ≡ b → b ≡ false
     here false is = refl
     here true is =
         let parts = cut (take 150 url) (take 150 other) (decimal k) (decimal (with_front (front_of other) before + 1))
-          (sym (append_assoc (front_of url) (126 ∷ []) (decimal k)) ∙ (bytes_eq-Decides (front_of url ++ codes "~" ++ decimal k) (name_behind before other)).0 is
-          ∙ append_assoc (front_of other) (126 ∷ []) (decimal (with_front (front_of other) before + 1))) in
+        (sym (append_assoc (front_of url) (126 ∷ []) (decimal k)) ∙ (bytes_eq-Decides (front_of url ++ codes "~" ++ decimal k) (name_behind before other)).0 is
+        ∙ append_assoc (front_of other) (126 ∷ []) (decimal (with_front (front_of other) before + 1))) in
         let fronts : front_of url ≡ front_of other = parts.fronts in
         let counts : with_front (front_of url) before ≡ with_front (front_of other) before = ap (λ f. with_front f before) fronts in
         let small : with_front (front_of other) before < 2 ^ 63 = few in
         let same : k ≡ with_front (front_of other) before + 1 =
-          decimal_injective k (with_front (front_of other) before + 1) (omega arith) (omega arith) parts.rests in
+        decimal_injective k (with_front (front_of other) before + 1) (omega arith) (omega arith) parts.rests in
         absurd (omega arith)
 
 distinct_behind : (before urls : List Text) → length (before ++ urls) < 2 ^ 63 → IsDistinct bytes_eq (names_behind before urls)
