@@ -12,9 +12,3 @@ pub narrowing : (prefixes : List Text) (given : Option (List Text)) (s s' : Sche
 narrowing prefixes given s s' v v' told same_schema same_survey law audit all =
     subst (λ (x : SchemaValue). AllNarrow prefixes x v.definitions) same_schema
     (subst (λ (x : Surveyed). AllNarrow prefixes s' x.definitions) same_survey (law audit all))
-
--- what holds of a value within two results
-pub within : {A F E : Type 0} (P Q : A → Type 0) → ((x : A) → P x → Q x) → (r : Result (Result A F) E) → IfOk r (λ o. IfOk o P) → IfOk r (λ o. IfOk o Q)
-within P Q so (Ok (Ok x)) p = so x p
-within P Q so (Ok (Err f)) p = tt
-within P Q so (Err e) p = tt

@@ -13,4 +13,4 @@ returns-in-Ok g c = λ is.
     let s = c.sources_of-sources.result.schema.now in
     let v = c.sources_of-sources.result.survey.now in
     narrowing prefixes given (schema_in c.args.session.now) s c.args.session.now.survey v told c.sources_of-sources.ensures.schema
-    c.sources_of-sources.ensures.survey (c.narrowing_profiles.ensures prefixes given s v told) c.in_ok-audited.ensures (c.status_of.ensures is)
+    c.sources_of-sources.ensures.survey (c.narrowing_profiles.ensures prefixes given s v told) c.in_ok-audited.ensures (rw c.deref-in-Ok-2.ensures.value at (c.status_of.ensures is))
