@@ -7,7 +7,8 @@ use Rattle.fhir_markup.specs.Markup.{Node, Nodes, fixed, place, element, none, a
 use Rattle.fhir_markup.specs.declared.names.Tag.TheVariants.{Section, H3}
 use Rattle.fhir_markup.specs.declared.names.AttributeName.TheVariants.{Class}
 use Rattle.fhir_markup.specs.declared.names.Part.TheVariants.{Profile}
-use Rattle.fhir_page.specs.Page.{saying, url_line, verdict_line, IsSection, AreTold, content_of, framed, IsContent, IsPage}
+use Rattle.fhir_page_frame.specs.Frame.{saying, framed}
+use Rattle.fhir_page.specs.Page.{url_line, verdict_line, IsSection, AreTold, content_of, IsContent, IsPage}
 
 pub is_section : (number : ℕ) (told : AuditedValue) (name : Text) (a b c d u v rest : Node)
     → a ≡ element Section (fixed Class (codes "profile") ∷ place Profile number ∷ []) (also (saying H3 [] name) none) → u ≡ url_line told.url

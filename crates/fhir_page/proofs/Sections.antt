@@ -4,7 +4,8 @@ use Rattle.std.proofs.lemmas.List.{length-append}
 use Rattle.fhir_audit.specs.Auditing.{AuditedValue}
 use Rattle.fhir_markup.specs.Markup.{Node, Nodes, element, none, also, and_last, with_child}
 use Rattle.fhir_markup.specs.declared.names.Tag.TheVariants.{Div}
-use Rattle.fhir_page.specs.Page.{classed, IsSection, AreSections, AreTold}
+use Rattle.fhir_page_frame.specs.Frame.{classed}
+use Rattle.fhir_page.specs.Page.{IsSection, AreSections, AreTold}
 
 one_more : (k : ℕ) (done : List AuditedValue) (told : AuditedValue) (ns : Nodes) (s : Node) → AreSections k done ns
     → IsSection (k + length done) told s → AreSections k (done ++ told ∷ []) (and_last ns s)

@@ -10,18 +10,24 @@ use std::alloc::{AllocError, Global};
 
 /// What differs between an element and the base's.
 #[derive(Drop)]
-pub(crate) struct Change {
-    pub(crate) aspect: Aspect,
-    pub(crate) base: String,
-    pub(crate) derived: String,
+pub struct Change {
+    /// By what it differs.
+    pub aspect: Aspect,
+    /// What the base's says.
+    pub base: String,
+    /// What the element says.
+    pub derived: String,
 }
 
 /// An element with what differs.
 #[derive(Drop)]
-pub(crate) struct Changed<'s> {
-    pub(crate) id: &'s str,
-    pub(crate) node: NodeRef,
-    pub(crate) changes: Vec<Change>,
+pub struct Changed<'s> {
+    /// Its id.
+    pub id: &'s str,
+    /// Where it stands.
+    pub node: NodeRef,
+    /// What differs.
+    pub changes: Vec<Change>,
 }
 
 // ---- which element of the base is meant
@@ -188,8 +194,8 @@ fn changed_by<'s>(
 }
 
 /// The elements of the profile at a place that differ from those of the base at a url, in the profile's order. There are none where one of
-/// the two can't be used.
-pub(crate) fn changed_elements<'s>(
+/// the two can't be used. The one refusal is want of memory.
+pub fn changed_elements<'s>(
     alloc: Global,
     schema: &'s Schema,
     place: usize,

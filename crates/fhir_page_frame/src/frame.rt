@@ -3,7 +3,7 @@
 ghost use Rattle.std.specs.Prelude.{◌≡◌, IfOk};
 ghost use Rattle.fhir_markup.specs.Markup.{Node};
 ghost use Rattle.fhir_markup.specs.Views.{element_node};
-ghost use Rattle.fhir_page.specs.Page.{framed};
+ghost use Rattle.fhir_page_frame.specs.Frame.{framed};
 
 use crate::style::{POLICY, style};
 use fhir_markup::{Attribute, AttributeName, Element, Tag};
@@ -60,8 +60,8 @@ fn around(alloc: Global, head: Element, content: Element) -> Result<Element, All
     Ok(page)
 }
 
-/// A page of a title and a content.
-pub(crate) fn page_of(alloc: Global, title: &str, content: Element) -> Result<Element, AllocError>
+/// A page of a title and a content. The one refusal is want of memory.
+pub fn page_of(alloc: Global, title: &str, content: Element) -> Result<Element, AllocError>
     ensures { IfOk result (λ page. (head : Node) × (element_node page ≡ framed head (element_node content))) }
 {
     let head = head(alloc, title)?;

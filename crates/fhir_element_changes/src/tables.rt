@@ -1,10 +1,20 @@
 //! What differs, as a table.
 
 use crate::changes::{Change, Changed};
-use crate::failing::Failing;
-use crate::pieces::{scrolled, worded};
+use crate::element_words::Aspect;
 use fhir_markup::{Attribute, AttributeName, Element, Part, Tag};
+use fhir_page_frame::{scrolled, worded};
+use fhir_schema::NodeRef;
 use std::alloc::{AllocError, Global};
+
+/// An element of the profile, and by what it fails.
+#[derive(Clone, Copy, Debug)]
+pub struct Failing {
+    /// Where the element stands.
+    pub node: NodeRef,
+    /// By what it fails.
+    pub aspect: Aspect,
+}
 
 fn heading_cell(alloc: Global, scope: &'static str, text: &str) -> Result<Element, AllocError> {
     let mut cell = Element::of_text(alloc, Tag::Th, text)?;
@@ -47,7 +57,7 @@ fn change_row(alloc: Global, change: &Change, fails: bool) -> Result<Element, Al
 
 fn fails_at(failing: Option<Failing>, changed: &Changed<'_>, change: &Change) -> bool {
     match failing {
-        Some(failing) => failing.is_at(changed.node, change.aspect),
+        Some(failing) => failing.node == changed.node && failing.aspect == change.aspect,
         None => false,
     }
 }
@@ -79,7 +89,8 @@ fn table(
 }
 
 /// Puts in what differs between a profile and its base, if something does, under a heading of the profile's number.
-pub(crate) fn push_table(
+/// The one refusal is want of memory.
+pub fn push_table(
     alloc: Global,
     into: &mut Element,
     number: usize,

@@ -14,7 +14,7 @@ use std::alloc::{AllocError, Global};
 
 /// What elements are compared by.
 #[derive(Clone, Copy, Debug, PartialEq, Eq)]
-pub(crate) enum Aspect {
+pub enum Aspect {
     /// Which slice it is.
     Slice,
     /// How many items there may be.
