@@ -11,5 +11,7 @@
 #![tactic(auto)]
 
 mod listing;
+mod pieces;
+mod way;
 
 pub use listing::listed;

@@ -1,181 +1,66 @@
 //! The lines of a resource, with a place marked.
 
+ghost use Rattle.std.specs.Prelude.{◌≡◌, ◌++◌, false, codes, IfOk, OnOk, string_bytes};
+ghost use Rattle.std.specs.Str.Lossy.{utf8_lossy};
+ghost use Rattle.fhir_json.specs.Tree.{string};
+ghost use Rattle.fhir_json.specs.Compact.{compact, comma_if};
+ghost use Rattle.fhir_json.specs.Reading.{reading};
+ghost use Rattle.fhir_json.specs.Views.{tree_of, items_view, members_view};
+ghost use Rattle.fhir_markup.specs.Views.{element_node};
+ghost use Rattle.fhir_marked_json.specs.Lines.{deeper, line, name_shown, lines, item_lines, member_lines, lines_of, IsListing};
+ghost use Rattle.fhir_marked_json.specs.Views.{told};
+
+use crate::pieces::{Piece, pre_of, put, put_line};
+use crate::way::{Way, behind, ends_at, into_item, into_property, is_end, is_shared, steps_of};
 use fhir_json::{Json, JsonFault, Member, NoMemory, read};
-use fhir_markup::{Element, Tag};
+use fhir_markup::Element;
 use fhir_page_frame::json_text;
 use std::alloc::{AllocError, Global};
 use std::borrow::CowStr;
 
-// A step down a resource: the name of an element, and which of its items is meant, if it repeats.
-#[derive(Clone, Copy)]
-struct Step<'t> {
-    name: &'t str,
-    index: Option<usize>,
+// The margin of what stands inside.
+fn deeper(alloc: Global, margin: &str) -> Result<String, AllocError>
+    ensures { IfOk result (λ inner. string_bytes inner ≡ deeper margin.now) }
+{
+    let mut inner = String::from_str(alloc, margin)?;
+    inner.push_str("  ")?;
+    Ok(inner)
 }
 
-// `name` and 3 of `name[3]`.
-fn step_of(segment: &str) -> Step<'_> {
-    let Some((name, rest)) = segment.split_once('[') else {
-        return Step {
-            name: segment,
-            index: None,
-        };
-    };
-    let digits = rest.strip_suffix(']').unwrap_or(rest);
-    Step {
-        name,
-        index: digits.parse::<usize>().ok(),
-    }
-}
-
-// The steps of a place, of which the first is the resource itself.
-fn steps_of<'t>(alloc: Global, place: &'t str) -> Result<Vec<Step<'t>>, AllocError> {
-    let mut steps = Vec::new(alloc);
-    for segment in place.split('.') {
-        steps.push(step_of(segment))?;
-    }
-    Ok(steps)
-}
-
-// Whether a property is of the element of a name, which may be a choice of types.
-fn is_of(property: &str, name: &str) -> bool {
-    match property.strip_prefix(name) {
-        Some(rest) => is_type(rest),
-        None => false,
-    }
-}
-
-// Whether a text is none, or begins as the name of a type does behind that of a choice.
-fn is_type(text: &str) -> bool {
-    match text.as_bytes() {
-        [first, ..] => first.is_ascii_uppercase(),
-        [] => true,
-    }
-}
-
-// ---- lines
-
-// Lines of JSON, with what stands in them so far.
-#[derive(Drop)]
-struct Listing {
-    pre: Element,
-    text: String,
-}
-
-impl Listing {
-    fn put(&mut self, text: &str) -> Result<(), AllocError> {
-        self.text.push_str(text)
-    }
-
-    fn put_line(&mut self, depth: usize) -> Result<(), AllocError> {
-        self.text.push('\n')?;
-        for _ in 0..depth {
-            self.text.push_str("  ")?;
-        }
-        Ok(())
-    }
-
-    fn end_text(&mut self, alloc: Global) -> Result<(), AllocError> {
-        self.pre.push_text(alloc, self.text.as_str())?;
-        self.text.clear();
-        Ok(())
-    }
-
-    // Puts in a marked text.
-    fn mark(&mut self, alloc: Global, text: &str) -> Result<(), AllocError> {
-        self.end_text(alloc)?;
-        self.pre.push(Element::of_text(alloc, Tag::Mark, text)?)
-    }
-
-    fn put_marked(&mut self, alloc: Global, text: &str, is_marked: bool) -> Result<(), AllocError> {
-        if is_marked {
-            self.mark(alloc, text)
-        } else {
-            self.put(text)
-        }
-    }
-}
-
-// The way to the place from a value on, which is its first step: none where the way leads elsewhere.
-type Way<'w, 't> = Option<&'w [Step<'t>]>;
-
-// The way behind a value.
-fn behind<'w, 't>(way: Way<'w, 't>) -> Way<'w, 't> {
-    match way {
-        Some([_, rest @ ..]) => Some(rest),
-        _ => None,
-    }
-}
-
-fn is_end(way: Way<'_, '_>) -> bool {
-    matches!(way, Some([_]))
-}
-
-// Whether a step leads into the item at a position: to it, or by it, where it is the first of a property whose items have no positions.
-fn leads_into(step: Step<'_>, is_last: bool, position: usize) -> bool {
-    match step.index {
-        Some(index) => index == position,
-        None => position == 0 && !is_last,
-    }
-}
-
-// The way into the item at a position, if it leads there.
-fn into_item<'w, 't>(way: Way<'w, 't>, position: usize) -> Way<'w, 't> {
-    let steps = way?;
-    let step = steps.first()?;
-    if leads_into(*step, steps.len() == 1, position) {
-        way
-    } else {
-        None
-    }
-}
-
-// The way into a property, if it leads there.
-fn into_property<'w, 't>(rest: Way<'w, 't>, name: &str) -> Way<'w, 't> {
-    match rest {
-        Some([step, ..]) if is_of(name, step.name) => rest,
-        _ => None,
-    }
-}
-
-// Whether the way ends at the property as a whole, whatever items it has.
-fn is_shared(way: Way<'_, '_>) -> bool {
-    match way {
-        Some([step]) => step.index.is_none(),
-        _ => false,
-    }
-}
-
-// Whether the way ends at an object, or leads to a property that isn't in it.
-fn ends_at(way: Way<'_, '_>, members: &[Member<'_>]) -> bool {
-    match behind(way) {
-        Some([step, ..]) => !members
-            .iter()
-            .any(|member| is_of(member.name.as_str(), step.name)),
-        Some([]) => true,
-        None => false,
-    }
-}
-
-fn put_name(
-    alloc: Global,
-    name: &str,
-    way: Way<'_, '_>,
-    into: &mut Listing,
-) -> Result<(), NoMemory> {
-    let text = json_text(alloc, &Json::Str(CowStr::Borrowed(name)))?;
-    into.put_marked(alloc, text.as_str(), is_shared(way))?;
-    Ok(into.put(": ")?)
+fn json_of(text: &str) -> Json<'_>
+    ensures { tree_of result ≡ string text.now }
+{
+    Json::Str(CowStr::Borrowed(text))
 }
 
 fn put_plain(
     alloc: Global,
     json: &Json<'_>,
-    way: Way<'_, '_>,
-    into: &mut Listing,
-) -> Result<(), NoMemory> {
+    is_marked: bool,
+    into: &mut Vec<Piece>,
+) -> Result<(), NoMemory>
+    ensures { OnOk result (told into.new.items ≡ told into.old.items ++ compact (tree_of json.now)) }
+{
     let text = json_text(alloc, json)?;
-    Ok(into.put_marked(alloc, text.as_str(), is_end(way))?)
+    Ok(put(alloc, text.as_str(), is_marked, into)?)
+}
+
+fn put_name(
+    alloc: Global,
+    name: &str,
+    is_marked: bool,
+    into: &mut Vec<Piece>,
+) -> Result<(), NoMemory>
+    ensures { OnOk result (told into.new.items ≡ told into.old.items ++ name_shown name.now) }
+{
+    put_plain(alloc, &json_of(name), is_marked, into)?;
+    Ok(put(alloc, ": ", false, into)?)
+}
+
+fn put_comma(alloc: Global, begun: bool, into: &mut Vec<Piece>) -> Result<(), AllocError>
+    ensures { OnOk result (told into.new.items ≡ told into.old.items ++ comma_if begun) }
+{
+    put(alloc, if begun { "," } else { "" }, false, into)
 }
 
 #[cycle(listing)]
@@ -183,74 +68,122 @@ fn put_value(
     alloc: Global,
     json: &Json<'_>,
     way: Way<'_, '_>,
-    depth: usize,
-    into: &mut Listing,
-) -> Result<(), NoMemory> {
+    margin: &str,
+    into: &mut Vec<Piece>,
+) -> Result<(), NoMemory>
+    ensures { OnOk result (told into.new.items ≡ told into.old.items ++ lines margin.now (tree_of json.now)) }
+{
     match json {
-        Json::Obj(members) => put_members(alloc, members, way, depth, into),
-        Json::Arr(items) => put_items(alloc, items, way, depth, into),
-        _ => put_plain(alloc, json, way, into),
+        Json::Obj(members) => {
+            put(alloc, "{", ends_at(way, members), into)?;
+            put_members(
+                alloc,
+                members,
+                behind(way),
+                deeper(alloc, margin)?.as_str(),
+                into,
+            )?;
+            put_line(alloc, margin, into)?;
+            Ok(put(alloc, "}", false, into)?)
+        }
+        Json::Arr(items) => {
+            put(alloc, "[", false, into)?;
+            put_items(alloc, items, way, deeper(alloc, margin)?.as_str(), into)?;
+            put_line(alloc, margin, into)?;
+            Ok(put(alloc, "]", false, into)?)
+        }
+        Json::Null | Json::Bool(_) | Json::Num(_) | Json::Str(_) => {
+            put_plain(alloc, json, is_end(way), into)
+        }
     }
 }
 
+// Puts in members, which a way leads to.
 #[cycle(listing)]
 fn put_members(
     alloc: Global,
     members: &Vec<Member<'_>>,
     way: Way<'_, '_>,
-    depth: usize,
-    into: &mut Listing,
-) -> Result<(), NoMemory> {
-    into.put_marked(alloc, "{", ends_at(way, members))?;
-    let inner = depth.saturating_add(1);
-    let mut separator = "";
+    margin: &str,
+    into: &mut Vec<Piece>,
+) -> Result<(), NoMemory>
+    ensures { OnOk result (told into.new.items ≡ told into.old.items ++ member_lines margin.now false (members_view members.now.items)) }
+{
+    let mut begun = false;
     for member in members {
-        into.put(separator)?;
-        into.put_line(inner)?;
-        let inside = into_property(behind(way), member.name.as_str());
-        put_name(alloc, member.name.as_str(), inside, into)?;
-        put_value(alloc, &member.value, inside, inner, into)?;
-        separator = ",";
+        put_comma(alloc, begun, into)?;
+        put_line(alloc, margin, into)?;
+        let inside = into_property(way, member.name.as_str());
+        put_name(alloc, member.name.as_str(), is_shared(inside), into)?;
+        put_value(alloc, &member.value, inside, margin, into)?;
+        begun = true;
     }
-    into.put_line(depth)?;
-    Ok(into.put("}")?)
+    Ok(())
 }
 
+// Puts in the items of a property, which a way leads to.
 #[cycle(listing)]
 fn put_items(
     alloc: Global,
     items: &Vec<Json<'_>>,
     way: Way<'_, '_>,
-    depth: usize,
-    into: &mut Listing,
-) -> Result<(), NoMemory> {
-    into.put("[")?;
-    let inner = depth.saturating_add(1);
+    margin: &str,
+    into: &mut Vec<Piece>,
+) -> Result<(), NoMemory>
+    ensures { OnOk result (told into.new.items ≡ told into.old.items ++ item_lines margin.now false (items_view items.now.items)) }
+{
+    let mut begun = false;
     let mut position: usize = 0;
     for item in items {
-        into.put(if position == 0 { "" } else { "," })?;
-        into.put_line(inner)?;
-        put_value(alloc, item, into_item(way, position), inner, into)?;
+        put_comma(alloc, begun, into)?;
+        put_line(alloc, margin, into)?;
+        put_value(alloc, item, into_item(way, position), margin, into)?;
+        begun = true;
         position = position.saturating_add(1);
     }
-    into.put_line(depth)?;
-    Ok(into.put("]")?)
+    Ok(())
 }
 
-/// The lines of a resource, with the place marked: as they are, where it isn't JSON. The one refusal is want of memory.
-pub fn listed(alloc: Global, resource: &[u8], place: &str) -> Result<Element, NoMemory> {
-    let mut into = Listing {
-        pre: Element::new(alloc, Tag::Pre),
-        text: String::new(alloc),
-    };
+fn put_json(
+    alloc: Global,
+    json: &Json<'_>,
+    place: &str,
+    into: &mut Vec<Piece>,
+) -> Result<(), NoMemory>
+    ensures { OnOk result (told into.new.items ≡ told into.old.items ++ lines (codes "") (tree_of json.now)) }
+{
+    let steps = steps_of(alloc, place)?;
+    put_value(alloc, json, Some(&steps), "", into)
+}
+
+fn put_bytes(alloc: Global, bytes: &[u8], into: &mut Vec<Piece>) -> Result<(), AllocError>
+    ensures { OnOk result (told into.new.items ≡ told into.old.items ++ utf8_lossy bytes.now) }
+{
+    let text = String::from_utf8_lossy(alloc, bytes)?;
+    put(alloc, text.as_str(), false, into)
+}
+
+fn put_resource(
+    alloc: Global,
+    resource: &[u8],
+    place: &str,
+    into: &mut Vec<Piece>,
+) -> Result<(), NoMemory>
+    ensures { OnOk result (told into.new.items ≡ told into.old.items ++ lines_of resource.now (reading resource.now)) }
+{
     match read(alloc, resource) {
-        Ok(json) => {
-            let steps = steps_of(alloc, place)?;
-            put_value(alloc, &json, Some(&steps), 0, &mut into)?;
-        }
-        Err(JsonFault::NoMemory) => return Err(NoMemory),
-        Err(_) => into.put(String::from_utf8_lossy(alloc, resource)?.as_str())?,
+        Ok(json) => put_json(alloc, &json, place, into),
+        Err(JsonFault::NoMemory) => Err(NoMemory),
+        Err(_) => Ok(put_bytes(alloc, resource, into)?),
     }
-    into.end_text(alloc)?;
-    Ok(into.pre)
+}
+
+/// The lines of a resource, with the place marked: its bytes as a text, where it isn't JSON. The one refusal is want of memory.
+#[tactic(auto, using(crate::proofs::Listings::is_listing))]
+pub fn listed(alloc: Global, resource: &[u8], place: &str) -> Result<Element, NoMemory>
+    ensures { IfOk result (λ pre. IsListing (lines_of resource.now (reading resource.now)) (element_node pre)) }
+{
+    let mut pieces = Vec::new(alloc);
+    put_resource(alloc, resource, place, &mut pieces)?;
+    Ok(pre_of(alloc, &pieces)?)
 }

@@ -3,7 +3,7 @@
 //! ```
 //! /// A page that says a text.
 //! pub fn saying(alloc: Global, text: &str) -> Result<Element, AllocError>
-//!     ensures { IfOk result (λ page. (head : Node) × (element_node page ≡ framed head (saying Main [] text.now))) }
+//!     ensures { IfOk result (λ page. IsPageOf (codes "A text") (saying Main [] text.now) (element_node page)) }
 //! {
 //!     let main = Element::of_text(alloc, Tag::Main, text)?;
 //!     fhir_page_frame::page_of(alloc, "A text", main)

@@ -5,7 +5,7 @@ ghost use Rattle.fhir_json.specs.Compact.{compact};
 ghost use Rattle.fhir_json.specs.Views.{tree_of};
 ghost use Rattle.fhir_markup.specs.Markup.{none, with_child};
 ghost use Rattle.fhir_markup.specs.Views.{attribute_of, element_node};
-ghost use Rattle.fhir_page_frame.specs.Frame.{classed, saying, term_group, region, short_name};
+ghost use Rattle.fhir_page_frame.specs.Frame.{classed, saying, term_group, region, IsEnd};
 
 use fhir_json::{Json, NoMemory, write};
 use fhir_markup::{Attribute, AttributeName, Element, Tag};
@@ -27,7 +27,7 @@ pub fn worded(
 
 /// What is after the last slash of a url: a short name. It is the url itself where nothing is.
 pub fn short_name(url: &str) -> &str
-    ensures { result.now ≡ short_name url.now }
+    ensures { IsEnd url.now result.now }
 {
     match url.rsplit_once('/') {
         Some((_, name)) if !name.is_empty() => name,
