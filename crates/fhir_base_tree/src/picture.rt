@@ -1,5 +1,10 @@
 //! The tree as a picture.
 
+ghost use Rattle.std.specs.Prelude.{◌≡◌, IfOk};
+ghost use Rattle.fhir_markup.specs.Markup.{Node, also, none};
+ghost use Rattle.fhir_markup.specs.Views.{attribute_of, element_node};
+ghost use Rattle.fhir_page_frame.specs.Frame.{region};
+
 use crate::forest::{Forest, Profile, Row, Shape};
 use fhir_markup::{Attribute, AttributeName, Element, Part, Tag};
 use fhir_page_frame::{scrolled, short_name};
@@ -281,7 +286,9 @@ pub fn tree(
     alloc: Global,
     profiles: &[Profile<'_>],
     named_by: Attribute,
-) -> Result<Element, AllocError> {
+) -> Result<Element, AllocError>
+    ensures { IfOk result (λ tree. (picture : Node) × (element_node tree ≡ region (attribute_of named_by) (also picture none))) }
+{
     let forest = Forest::of(alloc, profiles)?;
     let rows = forest.rows(alloc, profiles.len())?;
     let mut around = scrolled(alloc, named_by)?;

@@ -1,6 +1,6 @@
 //! Pieces that pages are made of.
 
-ghost use Rattle.std.specs.Prelude.{◌≡◌, IfOk, OnOk, string_bytes};
+ghost use Rattle.std.specs.Prelude.{◌≡◌, IfOk, IfSome, OnOk, string_bytes};
 ghost use Rattle.fhir_json.specs.Compact.{compact};
 ghost use Rattle.fhir_json.specs.Views.{tree_of};
 ghost use Rattle.fhir_markup.specs.Markup.{none, with_child};
@@ -25,11 +25,17 @@ pub fn worded(
     Ok(element)
 }
 
+fn cut_at_last_slash(url: &str) -> Option<(&str, &str)>
+    ensures { IfSome result (λ parts. IsEnd url.now parts.1.now) }
+{
+    url.rsplit_once('/')
+}
+
 /// What is after the last slash of a url: a short name. It is the url itself where nothing is.
 pub fn short_name(url: &str) -> &str
     ensures { IsEnd url.now result.now }
 {
-    match url.rsplit_once('/') {
+    match cut_at_last_slash(url) {
         Some((_, name)) if !name.is_empty() => name,
         _ => url,
     }

@@ -1,9 +1,6 @@
 use Rattle.std.proofs.Common.{refl}
 use Rattle.fhir_page_frame.proofs.pieces.short_name.Goals as goal
 
-pub returns-in-Some : goal.returns-in-Some
-returns-in-Some c = (c.rsplit_once.ensures.cases.1.0, c.rsplit_once.ensures.cases.1.1.1.1.0)
-
 pub returns-in_default : goal.returns-in_default
 returns-in_default c = (0, refl)
 
