@@ -1,6 +1,5 @@
 //! Which profile stands below which base, and the rows that come of it.
 
-use fhir_definition::{empty_lists, put_at};
 use fhir_names::Index;
 use std::alloc::{AllocError, Global};
 
@@ -39,7 +38,10 @@ pub enum Shape {
 pub(crate) struct Forest<'s> {
     pub(crate) names: Vec<&'s str>,
     places: Index,
-    below: Vec<Vec<usize>>,
+    // the last that stands below each
+    last: Vec<Option<usize>>,
+    // the one before each, among those that stand below the same
+    before: Vec<Option<usize>>,
 }
 
 /// A line of the picture: who stands there, how deep, and in which line its base is.
@@ -48,6 +50,19 @@ pub(crate) struct Row {
     pub(crate) node: usize,
     pub(crate) depth: usize,
     pub(crate) base: Option<usize>,
+}
+
+// So many places, none of which is known.
+fn no_places(alloc: Global, count: usize) -> Result<Vec<Option<usize>>, AllocError> {
+    let mut places = Vec::with_capacity(alloc, count)?;
+    for _ in 0..count {
+        places.push(None)?;
+    }
+    Ok(places)
+}
+
+fn place_at(places: &[Option<usize>], at: usize) -> Option<usize> {
+    places.get(at).copied()?
 }
 
 impl<'s> Forest<'s> {
@@ -77,11 +92,22 @@ impl<'s> Forest<'s> {
         Ok(())
     }
 
-    fn put_below(&mut self, profiles: &[Profile<'s>]) -> Result<(), AllocError> {
-        for (place, one) in profiles.iter().enumerate() {
-            put_at(&mut self.below, self.places.get(one.base), place)?;
+    // Puts one behind those that stand below a base.
+    fn put_below(&mut self, base: Option<usize>, place: usize) {
+        let Some(base) = base else {
+            return;
+        };
+        if base < self.last.len() && place < self.before.len() {
+            self.before[place] = self.last[base];
+            self.last[base] = Some(place);
         }
-        Ok(())
+    }
+
+    fn put_all_below(&mut self, profiles: &[Profile<'s>]) {
+        for (place, one) in profiles.iter().enumerate() {
+            let base = self.places.get(one.base);
+            self.put_below(base, place);
+        }
     }
 
     /// That of profiles.
@@ -89,30 +115,30 @@ impl<'s> Forest<'s> {
         let mut forest = Forest {
             names: Vec::new(alloc),
             places: Index::new(alloc),
-            below: Vec::new(alloc),
+            last: Vec::new(alloc),
+            before: Vec::new(alloc),
         };
         forest.add_all(alloc, profiles)?;
         forest.add_bases(alloc, profiles)?;
-        forest.below = empty_lists(alloc, forest.names.len())?;
-        forest.put_below(profiles)?;
+        forest.last = no_places(alloc, forest.names.len())?;
+        forest.before = no_places(alloc, forest.names.len())?;
+        forest.put_all_below(profiles);
         Ok(forest)
     }
 
-    fn below(&self, node: usize) -> &[usize] {
-        match self.below.get(node) {
-            Some(nodes) => nodes,
-            None => Default::default(),
-        }
-    }
-
-    // Puts what stands below a row in front of what is still to come.
+    // Puts what stands below a row in front of what is still to come, the last first.
     fn put_waiting(&self, row: Row, line: usize, waiting: &mut Vec<Row>) -> Result<(), AllocError> {
-        for node in self.below(row.node).iter().rev() {
+        let mut next = place_at(&self.last, row.node);
+        for _ in 0..self.names.len() {
+            let Some(node) = next else {
+                return Ok(());
+            };
             waiting.push(Row {
-                node: *node,
+                node,
                 depth: row.depth.saturating_add(1),
                 base: Some(line),
             })?;
+            next = place_at(&self.before, node);
         }
         Ok(())
     }

@@ -1,9 +1,8 @@
 //! The tree as a picture.
 
-ghost use Rattle.std.specs.Prelude.{◌≡◌, IfOk};
-ghost use Rattle.fhir_markup.specs.Markup.{Node, also, none};
+ghost use Rattle.std.specs.Prelude.{IfOk};
 ghost use Rattle.fhir_markup.specs.Views.{attribute_of, element_node};
-ghost use Rattle.fhir_page_frame.specs.Frame.{region};
+ghost use Rattle.fhir_base_tree.specs.Tree.{IsShown};
 
 use crate::forest::{Forest, Profile, Row, Shape};
 use fhir_markup::{Attribute, AttributeName, Element, Part, Tag};
@@ -282,12 +281,13 @@ fn picture(
 }
 
 /// The tree of bases: each profile below its base, and bases that aren't among the profiles as its roots. The one refusal is want of memory.
+#[tactic(auto, using(crate::proofs::Shown::is_shown))]
 pub fn tree(
     alloc: Global,
     profiles: &[Profile<'_>],
     named_by: Attribute,
 ) -> Result<Element, AllocError>
-    ensures { IfOk result (λ tree. (picture : Node) × (element_node tree ≡ region (attribute_of named_by) (also picture none))) }
+    ensures { IfOk result (λ tree. IsShown (attribute_of named_by) (element_node tree)) }
 {
     let forest = Forest::of(alloc, profiles)?;
     let rows = forest.rows(alloc, profiles.len())?;
