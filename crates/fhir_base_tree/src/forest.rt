@@ -19,7 +19,7 @@ pub struct Profile<'s> {
 }
 
 /// The shape of a verdict.
-#[derive(Clone, Copy, Debug, PartialEq, Eq)]
+#[derive(Clone, Copy)]
 pub enum Shape {
     /// A dot.
     Dot,

@@ -16,7 +16,7 @@ use fhir_schema::{NodeRef, Schema};
 use std::alloc::{AllocError, Global};
 
 /// What elements are compared by.
-#[derive(Clone, Copy, Debug, PartialEq, Eq)]
+#[derive(Clone, Copy)]
 pub enum Aspect {
     /// Which slice it is.
     Slice,

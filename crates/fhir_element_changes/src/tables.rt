@@ -15,7 +15,7 @@ use fhir_schema::NodeRef;
 use std::alloc::{AllocError, Global};
 
 /// An element of the profile, and by what it fails.
-#[derive(Clone, Copy, Debug)]
+#[derive(Clone, Copy)]
 pub struct Failing {
     /// Where the element stands.
     pub node: NodeRef,

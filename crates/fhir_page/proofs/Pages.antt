@@ -7,7 +7,7 @@ use Rattle.fhir_markup.specs.Markup.{Node, Nodes, fixed, place, element, none, a
 use Rattle.fhir_markup.specs.declared.names.Tag.TheVariants.{Section, H3}
 use Rattle.fhir_markup.specs.declared.names.AttributeName.TheVariants.{Class}
 use Rattle.fhir_markup.specs.declared.names.Part.TheVariants.{Profile}
-use Rattle.fhir_page_frame.specs.Frame.{saying, framed}
+use Rattle.fhir_page_frame.specs.Frame.{saying, head_of, IsPageOf}
 use Rattle.fhir_page.specs.Page.{url_line, verdict_line, IsSection, AreTold, content_of, IsContent, IsPage}
 
 pub is_section : (number : ℕ) (told : AuditedValue) (name : Text) (a b c d u v rest : Node)
@@ -29,5 +29,6 @@ pub is_content : (told : List AuditedValue) (before profiles behind n : Node) �
     → IsContent told n
 is_content told before profiles behind n is are = record { before = before; profiles = profiles; behind = behind; is = is; are_told = are }
 
-pub is_page : (told : List AuditedValue) (content n : Node) → (head : Node) × (n ≡ framed head content) → IsContent told content → IsPage told n
-is_page told content n is of = record { head = is.0; content = content; is = is.1; is_content = of }
+pub is_page : (told : List AuditedValue) (title : Text) (content n : Node) → IsPageOf title content n → IsContent told content → IsPage told n
+is_page told title content n is of =
+    record { head = head_of title is.policy is.style; content = content; is = is.is; is_content = of }
