@@ -17,12 +17,12 @@ pub is_section : (number : ℕ) (told : AuditedValue) (name : Text) (a b c d u v
 is_section number told name a b c d u v rest of_a of_u of_b of_v of_c of_d = record {
   name = name;
   class = of_v.0;
-  more = of_v.1.0;
+  more = of_v.1;
   rest = rest;
   is =
       of_d
       ∙ ap (λ (x : Node). with_child x rest)
-      (of_c ∙ ap₂ (λ (x y : Node). with_child x y) (of_b ∙ ap₂ (λ (x y : Node). with_child x y) of_a of_u) of_v.1.1);
+      (of_c ∙ ap₂ (λ (x y : Node). with_child x y) (of_b ∙ ap₂ (λ (x y : Node). with_child x y) of_a of_u) of_v.2);
 }
 
 pub is_content : (told : List AuditedValue) (before profiles behind n : Node) → n ≡ content_of before profiles behind → AreTold told profiles

@@ -336,7 +336,7 @@ fn numbers_of(alloc: Global, audited: &[Audited<'_>]) -> Result<Index, AllocErro
 }
 
 /// The sections on the profiles, in order.
-#[tactic(auto, using(crate::proofs::Sections::started, crate::proofs::Sections::continued, crate::proofs::Sections::ended))]
+#[tactic(auto, using(crate::proofs::Sections::started, crate::proofs::Sections::ended))]
 pub(crate) fn sections(
     alloc: Global,
     sources: Sources<'_, '_>,
