@@ -3,7 +3,7 @@ use Rattle.std.proofs.Common.{◌≡◌, ◌∷◌, ◌∙◌, ℕ, List, [], co
 use Rattle.fhir_json.specs.Tree.{Text}
 use Rattle.fhir_audit.specs.Auditing.{AuditedValue}
 use Rattle.fhir_audit_lines.specs.Words.{verdict_word}
-use Rattle.fhir_markup.specs.Markup.{Node, Nodes, fixed, place, element, none, also, with_child}
+use Rattle.fhir_markup.specs.Markup.{Node, Nodes, fixed, place, element, none, also, with_child, document}
 use Rattle.fhir_markup.specs.declared.names.Tag.TheVariants.{Section, H3}
 use Rattle.fhir_markup.specs.declared.names.AttributeName.TheVariants.{Class}
 use Rattle.fhir_markup.specs.declared.names.Part.TheVariants.{Profile}
@@ -29,6 +29,10 @@ pub is_content : (told : List AuditedValue) (before profiles behind n : Node) �
     → IsContent told n
 is_content told before profiles behind n is are = record { before = before; profiles = profiles; behind = behind; is = is; are_told = are }
 
-pub is_page : (told : List AuditedValue) (title : Text) (content n : Node) → IsPageOf title content n → IsContent told content → IsPage told n
+is_page : (told : List AuditedValue) (title : Text) (content n : Node) → IsPageOf title content n → IsContent told content → IsPage told n
 is_page told title content n is of =
     record { head = head_of title is.policy is.style; content = content; is = is.is; is_content = of }
+
+pub is_written : (told : List AuditedValue) (title : Text) (content n : Node) (bytes : Text) → bytes ≡ document n → IsPageOf title content n
+    → IsContent told content → (m : Node) × (bytes ≡ document m) × IsPage told m
+is_written told title content n bytes is of are = (n, is, is_page told title content n of are)

@@ -147,7 +147,6 @@ fn content(
 
 /// The page of an audit: the counts, the tree of bases, and a section on each profile. It stands alone, and nothing in it runs or is loaded. The
 /// one refusal is want of memory.
-#[tactic(auto, using(crate::proofs::Pages::is_page))]
 pub fn page(
     alloc: Global,
     survey: &Survey<'_>,

@@ -6,5 +6,5 @@ use Rattle.fhir_element_changes.proofs.tables.put_rows.Given as goal
 
 abbrev pub invariant-loop-change : goal.invariant-loop-change
 invariant-loop-change l =
-    with_nodes (element_node l.into) (rows l.failing l.changed.now.node (changes_seen (drop l.change-index l.changed.now.changes.items)))
-    ≡ with_nodes (element_node l.fn.into) (rows l.failing l.changed.now.node (changes_seen l.changed.now.changes.items))
+    with_nodes (element_node l.into) (rows l.failing l.changed.node (changes_seen (drop l.change-index l.changed.changes.items)))
+    ≡ with_nodes (element_node l.fn.into) (rows l.failing l.changed.node (changes_seen l.changed.changes.items))
