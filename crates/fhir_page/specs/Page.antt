@@ -3,18 +3,11 @@ use Rattle.std.specs.Prelude.{◌≡◌, ℕ, suc, List, [], ◌∷◌, codes}
 use Rattle.fhir_json.specs.Tree.{Text}
 use Rattle.fhir_audit.specs.Auditing.{AuditedValue}
 use Rattle.fhir_audit_lines.specs.Words.{verdict_word}
-use Rattle.fhir_markup.specs.Markup.{AttributeValue, fixed, place, Node, Nodes, words, element, none, also}
-use Rattle.fhir_markup.specs.declared.names.Tag.{Tag}
+use Rattle.fhir_markup.specs.Markup.{fixed, place, Node, Nodes, element, none, also}
 use Rattle.fhir_markup.specs.declared.names.Tag.TheVariants as tags
-use Rattle.fhir_markup.specs.declared.names.AttributeName.TheVariants.{Class, Lang}
+use Rattle.fhir_markup.specs.declared.names.AttributeName.TheVariants.{Class}
 use Rattle.fhir_markup.specs.declared.names.Part.TheVariants.{Profile}
-
-abbrev pub classed : Text → List AttributeValue
-classed class = fixed Class class ∷ []
-
--- an element with a text in it
-abbrev pub saying : Tag → List AttributeValue → Text → Node
-saying tag xs text = element tag xs (also (words text) none)
+use Rattle.fhir_page_frame.specs.Frame.{classed, saying, framed}
 
 -- ---- a section
 
@@ -55,9 +48,6 @@ pub record AreTold (told : List AuditedValue) (n : Node) : Type 0 where
   pub are : AreSections 0 told sections
 
 -- ---- the page
-
-abbrev pub framed : (head content : Node) → Node
-framed head content = element tags.Html (fixed Lang (codes "en") ∷ []) (also head (also (element tags.Body [] (also content none)) none))
 
 -- what stands before the sections, these, and what stands behind them
 abbrev pub content_of : (before profiles behind : Node) → Node

@@ -1,8 +1,8 @@
 //! The counts.
 
-use crate::pieces::worded;
 use fhir_audit_lines::Counts;
 use fhir_markup::{Element, Tag};
+use fhir_page_frame::worded;
 use std::alloc::{AllocError, Global};
 
 // One that is none is shown without its colour.

@@ -1,16 +1,9 @@
 //! Where a pair fails a rule.
 
-use crate::element_words::Aspect;
 use fhir_cert_check::Rule;
 use fhir_certificate::{NodePair, Pair};
+use fhir_element_changes::{Aspect, Failing};
 use fhir_schema::{NodeRef, Schema};
-
-/// An element of the profile, and what it fails by.
-#[derive(Clone, Copy)]
-pub(crate) struct Failing {
-    node: NodeRef,
-    aspect: Aspect,
-}
 
 /// The nodes of a pair.
 pub(crate) fn nodes_of(pair: Pair) -> NodePair {
@@ -65,17 +58,10 @@ fn node_of(schema: &Schema, node: NodeRef, rule: Rule<'_>) -> Option<NodeRef> {
     }
 }
 
-impl Failing {
-    /// Where a pair fails a rule, if that is by something that is compared.
-    pub(crate) fn of(schema: &Schema, pair: Pair, rule: Rule<'_>) -> Option<Failing> {
-        Some(Failing {
-            node: node_of(schema, nodes_of(pair).derived, rule)?,
-            aspect: aspect_of(rule)?,
-        })
-    }
-
-    /// Whether it is there.
-    pub(crate) fn is_at(self, node: NodeRef, aspect: Aspect) -> bool {
-        self.node == node && self.aspect == aspect
-    }
+/// Where a pair fails a rule, if that is by something that is compared.
+pub(crate) fn failing_at(schema: &Schema, pair: Pair, rule: Rule<'_>) -> Option<Failing> {
+    Some(Failing {
+        node: node_of(schema, nodes_of(pair).derived, rule)?,
+        aspect: aspect_of(rule)?,
+    })
 }

@@ -14,20 +14,11 @@
 //! So no text of a package can be anything but a text in it.
 #![tactic(auto)]
 
-mod bases;
-mod changes;
-mod constraints;
 mod counterexample;
 mod counts;
-mod element_texts;
-mod element_words;
 mod failing;
-mod frame;
 mod making;
-mod pieces;
 mod profiles;
-mod style;
-mod tables;
 mod verdicts;
 
 pub use making::page;

@@ -6,17 +6,16 @@ ghost use Rattle.fhir_markup.specs.Markup.{Node, document};
 ghost use Rattle.fhir_markup.specs.Views.{element_node};
 ghost use Rattle.fhir_page.specs.Page.{content_of, IsContent, IsPage};
 
-use crate::bases::tree;
 use crate::counts::{header, title_text};
-use crate::frame::page_of;
-use crate::pieces::{short_name, worded};
-use crate::profiles::sections;
-use crate::verdicts::{class_of, is_good, meanings};
+use crate::profiles::{base_name, sections};
+use crate::verdicts::{class_of, is_good, meanings, shape_of};
 use fhir_audit::Audited;
 use fhir_audit_lines::{Counts, Sources, counts_of, verdict_word};
+use fhir_base_tree::{Profile, tree};
 use fhir_json::NoMemory;
 use fhir_markup::{Attribute, Element, Part, Tag, document};
 use fhir_package::Survey;
+use fhir_page_frame::{page_of, short_name, worded};
 use fhir_report::LackingTable;
 use fhir_schema::Schema;
 use std::alloc::{AllocError, Global};
@@ -63,6 +62,25 @@ fn push_pointers(
     into.push(pointers(alloc, audited)?)
 }
 
+// A profile of the tree.
+fn profile_of<'s>(audited: &Audited<'s>) -> Profile<'s> {
+    Profile {
+        url: audited.url,
+        base: base_name(audited),
+        class: class_of(&audited.verdict),
+        word: verdict_word(&audited.verdict),
+        shape: shape_of(&audited.verdict),
+    }
+}
+
+fn profiles_of<'s>(alloc: Global, audited: &[Audited<'s>]) -> Result<Vec<Profile<'s>>, AllocError> {
+    let mut profiles = Vec::new(alloc);
+    for one in audited {
+        profiles.push(profile_of(one))?;
+    }
+    Ok(profiles)
+}
+
 fn push_bases(
     alloc: Global,
     into: &mut Element,
@@ -71,7 +89,12 @@ fn push_bases(
     let mut heading = Element::of_text(alloc, Tag::H2, "Bases")?;
     heading.set(Attribute::Id(Part::Heading, BASES))?;
     into.push(heading)?;
-    into.push(tree(alloc, audited, Attribute::LabelledBy(Part::Heading, BASES))?)
+    let profiles = profiles_of(alloc, audited)?;
+    into.push(tree(
+        alloc,
+        &profiles,
+        Attribute::LabelledBy(Part::Heading, BASES),
+    )?)
 }
 
 // What stands before the sections: the counts, links to what is to be looked at, and the tree of bases.
@@ -124,7 +147,6 @@ fn content(
 
 /// The page of an audit: the counts, the tree of bases, and a section on each profile. It stands alone, and nothing in it runs or is loaded. The
 /// one refusal is want of memory.
-#[tactic(auto, using(crate::proofs::Pages::is_page))]
 pub fn page(
     alloc: Global,
     survey: &Survey<'_>,

@@ -9,23 +9,23 @@ ghost use Rattle.fhir_markup.specs.Views.{element_node};
 ghost use Rattle.fhir_markup.specs.declared.names.Tag.TheVariants.{Section, H3};
 ghost use Rattle.fhir_markup.specs.declared.names.AttributeName.TheVariants.{Class};
 ghost use Rattle.fhir_markup.specs.declared.names.Part.TheVariants.{Profile};
-ghost use Rattle.fhir_page.specs.Page.{saying, url_line, verdict_line, IsSection, AreTold};
+ghost use Rattle.fhir_page_frame.specs.Frame.{saying};
+ghost use Rattle.fhir_page.specs.Page.{url_line, verdict_line, IsSection, AreTold};
 
-use crate::changes::changed_elements;
 use crate::counterexample::push_counterexample;
-use crate::failing::{Failing, nodes_of};
-use crate::pieces::{short_name, worded};
-use crate::tables::push_table;
+use crate::failing::{failing_at, nodes_of};
 use crate::verdicts::class_of;
 use fhir_audit::{Audited, Verdict};
 use fhir_audit_lines::{Sources, unusable_line, verdict_word};
 use fhir_cert_check::Rule;
 use fhir_certificate::{Certificate, Pair};
 use fhir_derive_check::Side;
+use fhir_element_changes::{Failing, changed_elements, push_table};
 use fhir_json::NoMemory;
 use fhir_lines::Line;
 use fhir_markup::{Attribute, Element, Part, Tag};
 use fhir_names::Index;
+use fhir_page_frame::{short_name, worded};
 use fhir_report::rule_words;
 use std::alloc::{AllocError, Global};
 
@@ -38,13 +38,18 @@ struct Telling<'t, 's, 'f> {
 
 // ---- the verdict
 
+/// What a profile rests on, as it is named where it isn't there.
+pub(crate) fn base_name<'s>(audited: &Audited<'s>) -> &'s str {
+    audited.base.or(audited.canonical).unwrap_or("")
+}
+
 // The url of a base: a link, if it is audited too.
 fn base_words(
     alloc: Global,
     numbers: &Index,
     audited: &Audited<'_>,
 ) -> Result<Element, AllocError> {
-    let name = audited.base.or(audited.canonical).unwrap_or("");
+    let name = base_name(audited);
     let code = Element::of_text(alloc, Tag::Code, name)?;
     match numbers.get(name) {
         Some(number) => {
@@ -205,7 +210,7 @@ fn push_why(
 fn failing_of(sources: Sources<'_, '_>, verdict: &Verdict<'_>) -> Option<Failing> {
     match verdict {
         Verdict::DoesNotNarrow { pair, rule, .. } | Verdict::IsNotShown { pair, rule } => {
-            Failing::of(sources.schema, *pair, *rule)
+            failing_at(sources.schema, *pair, *rule)
         }
         _ => None,
     }
@@ -331,7 +336,7 @@ fn numbers_of(alloc: Global, audited: &[Audited<'_>]) -> Result<Index, AllocErro
 }
 
 /// The sections on the profiles, in order.
-#[tactic(auto, using(crate::proofs::Sections::started, crate::proofs::Sections::continued, crate::proofs::Sections::ended))]
+#[tactic(auto, using(crate::proofs::Sections::started, crate::proofs::Sections::ended))]
 pub(crate) fn sections(
     alloc: Global,
     sources: Sources<'_, '_>,

@@ -1,8 +1,9 @@
 //! How a verdict looks.
 
-use crate::pieces::push_term;
 use fhir_audit::Verdict;
+use fhir_base_tree::Shape;
 use fhir_markup::{Element, Tag};
+use fhir_page_frame::push_term;
 use std::alloc::{AllocError, Global};
 
 /// The class of a verdict.
@@ -21,19 +22,16 @@ pub(crate) fn is_good(verdict: &Verdict<'_>) -> bool {
     matches!(verdict, Verdict::Narrows(_))
 }
 
-/// The shape of a verdict in a picture, around its middle: a dot, a cross, a triangle, a square and a rhomb.
-pub(crate) fn shape_of(verdict: &Verdict<'_>) -> &'static str {
+/// The shape of a verdict in a picture.
+pub(crate) fn shape_of(verdict: &Verdict<'_>) -> Shape {
     match verdict {
-        Verdict::Narrows(_) => DOT,
-        Verdict::DoesNotNarrow { .. } => "M-4-4L4 4M4-4L-4 4",
-        Verdict::IsNotShown { .. } => "M0-5L5 4H-5Z",
-        Verdict::CannotBeUsed(_) => "M-4-4H4V4H-4Z",
-        Verdict::HasNoBase => "M0-5L5 0L0 5L-5 0Z",
+        Verdict::Narrows(_) => Shape::Dot,
+        Verdict::DoesNotNarrow { .. } => Shape::Cross,
+        Verdict::IsNotShown { .. } => Shape::Triangle,
+        Verdict::CannotBeUsed(_) => Shape::Square,
+        Verdict::HasNoBase => Shape::Rhomb,
     }
 }
-
-/// The shape of a base that isn't audited.
-pub(crate) const DOT: &str = "M-4 0A4 4 0 1 0 4 0A4 4 0 1 0-4 0";
 
 /// What each verdict says.
 pub(crate) fn meanings(alloc: Global) -> Result<Element, AllocError> {

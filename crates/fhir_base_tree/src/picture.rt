@@ -1,12 +1,12 @@
-//! The tree of bases, as a picture.
+//! The tree as a picture.
 
-use crate::pieces::{scrolled, short_name};
-use crate::verdicts::{DOT, class_of, shape_of};
-use fhir_audit::Audited;
-use fhir_audit_lines::verdict_word;
-use fhir_definition::{empty_lists, put_at};
+ghost use Rattle.std.specs.Prelude.{IfOk};
+ghost use Rattle.fhir_markup.specs.Views.{attribute_of, element_node};
+ghost use Rattle.fhir_base_tree.specs.Tree.{IsShown};
+
+use crate::forest::{Forest, Profile, Row, Shape};
 use fhir_markup::{Attribute, AttributeName, Element, Part, Tag};
-use fhir_names::Index;
+use fhir_page_frame::{scrolled, short_name};
 use std::alloc::{AllocError, Global};
 
 // How high a row is, and how far a profile stands behind its base.
@@ -20,139 +20,16 @@ const LONGEST: usize = 64;
 // How wide a character is, at most.
 const LETTER: usize = 8;
 
-// Profiles and the bases of them that aren't audited, which stand behind them.
-#[derive(Drop)]
-struct Forest<'s> {
-    names: Vec<&'s str>,
-    places: Index,
-    below: Vec<Vec<usize>>,
-}
-
-// A line of the picture: who stands there, how deep, and in which line its base is.
-#[derive(Clone, Copy)]
-struct Row {
-    node: usize,
-    depth: usize,
-    base: Option<usize>,
-}
-
-// What a profile rests on, as it is named where it isn't there.
-fn base_name<'s>(audited: &Audited<'s>) -> &'s str {
-    audited.base.or(audited.canonical).unwrap_or("")
-}
-
-impl<'s> Forest<'s> {
-    fn add(&mut self, alloc: Global, name: &'s str) -> Result<(), AllocError> {
-        self.places.add(alloc, name, self.names.len())?;
-        Ok(self.names.push(name)?)
-    }
-
-    fn add_base(&mut self, alloc: Global, name: &'s str) -> Result<(), AllocError> {
-        match self.places.get(name) {
-            Some(_) => Ok(()),
-            None => self.add(alloc, name),
-        }
-    }
-
-    fn add_all(&mut self, alloc: Global, audited: &[Audited<'s>]) -> Result<(), AllocError> {
-        for one in audited {
-            self.add(alloc, one.url)?;
-        }
-        Ok(())
-    }
-
-    fn add_bases(&mut self, alloc: Global, audited: &[Audited<'s>]) -> Result<(), AllocError> {
-        for one in audited {
-            self.add_base(alloc, base_name(one))?;
-        }
-        Ok(())
-    }
-
-    fn put_below(&mut self, audited: &[Audited<'s>]) -> Result<(), AllocError> {
-        for (place, one) in audited.iter().enumerate() {
-            put_at(&mut self.below, self.places.get(base_name(one)), place)?;
-        }
-        Ok(())
-    }
-
-    fn of(alloc: Global, audited: &[Audited<'s>]) -> Result<Forest<'s>, AllocError> {
-        let mut forest = Forest {
-            names: Vec::new(alloc),
-            places: Index::new(alloc),
-            below: Vec::new(alloc),
-        };
-        forest.add_all(alloc, audited)?;
-        forest.add_bases(alloc, audited)?;
-        forest.below = empty_lists(alloc, forest.names.len())?;
-        forest.put_below(audited)?;
-        Ok(forest)
-    }
-
-    fn below(&self, node: usize) -> &[usize] {
-        match self.below.get(node) {
-            Some(nodes) => nodes,
-            None => Default::default(),
-        }
-    }
-
-    // Puts what stands below a row in front of what is still to come.
-    fn put_waiting(&self, row: Row, line: usize, waiting: &mut Vec<Row>) -> Result<(), AllocError> {
-        for node in self.below(row.node).iter().rev() {
-            waiting.push(Row {
-                node: *node,
-                depth: row.depth.saturating_add(1),
-                base: Some(line),
-            })?;
-        }
-        Ok(())
-    }
-
-    // Puts in a tree's rows, from its root down. Each node comes once, also where bases run in a cycle.
-    fn put_tree(
-        &self,
-        alloc: Global,
-        root: usize,
-        seen: &mut [bool],
-        rows: &mut Vec<Row>,
-    ) -> Result<(), AllocError> {
-        let mut waiting = Vec::new(alloc);
-        waiting.push(Row {
-            node: root,
-            depth: 0,
-            base: None,
-        })?;
-        for _ in 0..=self.names.len() {
-            let Some(row) = waiting.pop() else {
-                return Ok(());
-            };
-            if row.node < seen.len() && !seen[row.node] {
-                seen[row.node] = true;
-                self.put_waiting(row, rows.len(), &mut waiting)?;
-                rows.push(row)?;
-            }
-        }
-        Ok(())
-    }
-
-    // All rows: those below bases that aren't audited, and then those that stand below none.
-    fn rows(&self, alloc: Global, audited: usize) -> Result<Vec<Row>, AllocError> {
-        let count = self.names.len();
-        let mut seen = Vec::with_capacity(alloc, count)?;
-        for _ in 0..count {
-            seen.push(false)?;
-        }
-        let mut rows = Vec::new(alloc);
-        for root in audited..count {
-            self.put_tree(alloc, root, &mut seen, &mut rows)?;
-        }
-        for root in 0..audited {
-            self.put_tree(alloc, root, &mut seen, &mut rows)?;
-        }
-        Ok(rows)
+// The lines of a shape, around its middle.
+fn path_of(shape: Shape) -> &'static str {
+    match shape {
+        Shape::Dot => "M-4 0A4 4 0 1 0 4 0A4 4 0 1 0-4 0",
+        Shape::Cross => "M-4-4L4 4M4-4L-4 4",
+        Shape::Triangle => "M0-5L5 4H-5Z",
+        Shape::Square => "M-4-4H4V4H-4Z",
+        Shape::Rhomb => "M0-5L5 0L0 5L-5 0Z",
     }
 }
-
-// ---- the picture
 
 fn left_of(row: Row) -> usize {
     row.depth.min(DEEPEST).saturating_mul(STEP)
@@ -301,16 +178,16 @@ fn put_row(
 fn put_profile(
     alloc: Global,
     into: &mut Element,
-    audited: &Audited<'_>,
+    profile: &Profile<'_>,
     row: Row,
     row_line: usize,
 ) -> Result<usize, AllocError> {
-    let mut group = Element::of_class(alloc, Tag::A, class_of(&audited.verdict))?;
+    let mut group = Element::of_class(alloc, Tag::A, profile.class)?;
     group.set(Attribute::Link(Part::Profile, row.node))?;
     let look = Look {
-        name: audited.url,
-        word: verdict_word(&audited.verdict),
-        path: shape_of(&audited.verdict),
+        name: profile.url,
+        word: profile.word,
+        path: path_of(profile.shape),
         class: "spot",
     };
     put_row(alloc, into, group, row, row_line, look)
@@ -327,7 +204,7 @@ fn put_base(
     let look = Look {
         name,
         word: "base",
-        path: DOT,
+        path: path_of(Shape::Dot),
         class: "spot hollow",
     };
     put_row(alloc, into, group, row, row_line, look)
@@ -337,12 +214,12 @@ fn put_at_line(
     alloc: Global,
     into: &mut Element,
     forest: &Forest<'_>,
-    audited: &[Audited<'_>],
+    profiles: &[Profile<'_>],
     row: Row,
     row_line: usize,
 ) -> Result<usize, AllocError> {
-    match audited.get(row.node) {
-        Some(audited) => put_profile(alloc, into, audited, row, row_line),
+    match profiles.get(row.node) {
+        Some(profile) => put_profile(alloc, into, profile, row, row_line),
         None => {
             let name = forest.names.get(row.node).copied().unwrap_or("");
             put_base(alloc, into, name, row, row_line)
@@ -379,12 +256,12 @@ fn put_rows(
     alloc: Global,
     into: &mut Element,
     forest: &Forest<'_>,
-    audited: &[Audited<'_>],
+    profiles: &[Profile<'_>],
     rows: &[Row],
 ) -> Result<usize, AllocError> {
     let mut width: usize = 0;
     for (row_line, row) in rows.iter().enumerate() {
-        width = width.max(put_at_line(alloc, into, forest, audited, *row, row_line)?);
+        width = width.max(put_at_line(alloc, into, forest, profiles, *row, row_line)?);
     }
     Ok(width)
 }
@@ -392,26 +269,29 @@ fn put_rows(
 fn picture(
     alloc: Global,
     forest: &Forest<'_>,
-    audited: &[Audited<'_>],
+    profiles: &[Profile<'_>],
     rows: &[Row],
 ) -> Result<Element, AllocError> {
     let mut picture = titled(alloc)?;
     put_lines(alloc, &mut picture, rows)?;
-    let width = put_rows(alloc, &mut picture, forest, audited, rows)?;
+    let width = put_rows(alloc, &mut picture, forest, profiles, rows)?;
     picture.set(Attribute::Number(AttributeName::Width, width))?;
     picture.set(Attribute::Number(AttributeName::Height, top_of(rows.len())))?;
     Ok(picture)
 }
 
-/// The tree of bases: each profile below its base, and bases that aren't audited as its roots.
-pub(crate) fn tree(
+/// The tree of bases: each profile below its base, and bases that aren't among the profiles as its roots. The one refusal is want of memory.
+#[tactic(auto, using(crate::proofs::Shown::is_shown))]
+pub fn tree(
     alloc: Global,
-    audited: &[Audited<'_>],
+    profiles: &[Profile<'_>],
     named_by: Attribute,
-) -> Result<Element, AllocError> {
-    let forest = Forest::of(alloc, audited)?;
-    let rows = forest.rows(alloc, audited.len())?;
+) -> Result<Element, AllocError>
+    ensures { IfOk result (λ tree. IsShown (attribute_of named_by) (element_node tree)) }
+{
+    let forest = Forest::of(alloc, profiles)?;
+    let rows = forest.rows(alloc, profiles.len())?;
     let mut around = scrolled(alloc, named_by)?;
-    around.push(picture(alloc, &forest, audited, &rows)?)?;
+    around.push(picture(alloc, &forest, profiles, &rows)?)?;
     Ok(around)
 }

@@ -1,5 +1,8 @@
 //! What an element says.
 
+ghost use Rattle.std.specs.Prelude.{◌≡◌};
+ghost use Rattle.fhir_element_changes.specs.Tables.{aspect_word};
+
 use crate::constraints::{are_alike, constraints_text};
 use crate::element_texts::{
     cardinality_text, length_text, member_text, node_types_text, range_text,
@@ -13,8 +16,8 @@ use fhir_schema::{NodeRef, Schema};
 use std::alloc::{AllocError, Global};
 
 /// What elements are compared by.
-#[derive(Clone, Copy, Debug, PartialEq, Eq)]
-pub(crate) enum Aspect {
+#[derive(Clone, Copy)]
+pub enum Aspect {
     /// Which slice it is.
     Slice,
     /// How many items there may be.
@@ -55,7 +58,9 @@ pub(crate) fn each_aspect() -> &'static [Aspect] {
 
 impl Aspect {
     /// Its name.
-    pub(crate) fn word(self) -> &'static str {
+    pub(crate) fn word(self) -> &'static str
+        ensures { result.now ≡ aspect_word self }
+    {
         match self {
             Aspect::Slice => "slice",
             Aspect::Cardinality => "cardinality",

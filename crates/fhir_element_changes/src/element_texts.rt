@@ -1,7 +1,8 @@
 //! What an element allows, in words.
 
 use fhir_elements::{ElementDef, Max, TypeEntry};
-use fhir_json::{Json, Member, NoMemory, write};
+use fhir_json::{Member, NoMemory};
+use fhir_page_frame::json_text;
 use fhir_schema::{NodeRef, Schema};
 use std::alloc::{AllocError, Global};
 
@@ -28,12 +29,6 @@ pub(crate) fn length_text(alloc: Global, element: &ElementDef) -> Result<String,
 }
 
 // ---- values
-
-/// The text of a value.
-pub(crate) fn json_text(alloc: Global, value: &Json<'_>) -> Result<String, NoMemory> {
-    let bytes = write(alloc, value)?;
-    Ok(String::from_utf8_lossy(alloc, &bytes)?)
-}
 
 // Puts in a value under its whole name, if there is one.
 fn put_member(

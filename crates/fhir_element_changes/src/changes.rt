@@ -1,5 +1,10 @@
 //! What differs between the elements of a profile and those of its base.
 
+ghost use Rattle.std.specs.Prelude.{◌≡◌, ℕ, IsTrue, IfOk, OnOk};
+ghost use Rattle.std.specs.List.{list_all};
+ghost use Rattle.fhir_element_changes.specs.Changes.{is_change, is_changed};
+ghost use Rattle.fhir_element_changes.specs.Views.{changes_seen, all_changed};
+
 use crate::element_words::{Aspect, aspect_text, each_aspect};
 use fhir_definition::{Definition, up_of};
 use fhir_elements::ElementDef;
@@ -10,18 +15,24 @@ use std::alloc::{AllocError, Global};
 
 /// What differs between an element and the base's.
 #[derive(Drop)]
-pub(crate) struct Change {
-    pub(crate) aspect: Aspect,
-    pub(crate) base: String,
-    pub(crate) derived: String,
+pub struct Change {
+    /// By what it differs.
+    pub aspect: Aspect,
+    /// What the base's says.
+    pub base: String,
+    /// What the element says.
+    pub derived: String,
 }
 
 /// An element with what differs.
 #[derive(Drop)]
-pub(crate) struct Changed<'s> {
-    pub(crate) id: &'s str,
-    pub(crate) node: NodeRef,
-    pub(crate) changes: Vec<Change>,
+pub struct Changed<'s> {
+    /// Its id.
+    pub id: &'s str,
+    /// Where it stands.
+    pub node: NodeRef,
+    /// What differs.
+    pub changes: Vec<Change>,
 }
 
 // ---- which element of the base is meant
@@ -115,7 +126,9 @@ fn push_change(
     derived: NodeRef,
     base: NodeRef,
     into: &mut Vec<Change>,
-) -> Result<(), NoMemory> {
+) -> Result<(), NoMemory>
+    ensures { IsTrue (list_all is_change (changes_seen into.old.items)) → OnOk result (IsTrue (list_all is_change (changes_seen into.new.items))) }
+{
     let said = aspect_text(alloc, schema, aspect, derived, base)?;
     let before = aspect_text(alloc, schema, aspect, base, derived)?;
     if said.as_str() != before.as_str() {
@@ -133,7 +146,9 @@ fn changes_between(
     schema: &Schema,
     derived: NodeRef,
     base: NodeRef,
-) -> Result<Vec<Change>, NoMemory> {
+) -> Result<Vec<Change>, NoMemory>
+    ensures { IfOk result (λ changes. IsTrue (list_all is_change (changes_seen changes.items))) }
+{
     let mut changes = Vec::new(alloc);
     for aspect in each_aspect() {
         push_change(alloc, schema, *aspect, derived, base, &mut changes)?;
@@ -148,7 +163,10 @@ fn push_changed<'s>(
     node: NodeRef,
     base: Option<NodeRef>,
     into: &mut Vec<Changed<'s>>,
-) -> Result<(), NoMemory> {
+) -> Result<(), NoMemory>
+    ensures { (place : ℕ) → node.definition ≡ place → IsTrue (list_all (is_changed place) (all_changed into.old.items))
+        → OnOk result (IsTrue (list_all (is_changed place) (all_changed into.new.items))) }
+{
     let Some(base) = base else {
         return Ok(());
     };
@@ -169,7 +187,9 @@ fn changed_by<'s>(
     place: usize,
     definition: &'s Definition,
     root: NodeRef,
-) -> Result<Vec<Changed<'s>>, NoMemory> {
+) -> Result<Vec<Changed<'s>>, NoMemory>
+    ensures { IfOk result (λ changed. IsTrue (list_all (is_changed place) (all_changed changed.items))) }
+{
     let counterparts = Counterparts::all(alloc, schema, definition, root)?;
     let mut changed = Vec::new(alloc);
     for (element_place, element) in definition.elements().iter().enumerate() {
@@ -188,13 +208,15 @@ fn changed_by<'s>(
 }
 
 /// The elements of the profile at a place that differ from those of the base at a url, in the profile's order. There are none where one of
-/// the two can't be used.
-pub(crate) fn changed_elements<'s>(
+/// the two can't be used. The one refusal is want of memory.
+pub fn changed_elements<'s>(
     alloc: Global,
     schema: &'s Schema,
     place: usize,
     base: &str,
-) -> Result<Vec<Changed<'s>>, NoMemory> {
+) -> Result<Vec<Changed<'s>>, NoMemory>
+    ensures { IfOk result (λ changed. IsTrue (list_all (is_changed place) (all_changed changed.items))) }
+{
     match (schema.definitions().get(place), schema.root(base)) {
         (Some(definition), Some(root)) => changed_by(alloc, schema, place, definition, root),
         _ => Ok(Vec::new(alloc)),
