@@ -3,5 +3,4 @@ pub mod Naming
 pub mod Counting
 pub mod Telling
 pub mod Trees
-pub mod Unusable
 pub mod Report

@@ -8,7 +8,8 @@ use Rattle.fhir_words.specs.declared.request.Format.TheVariants.{Text as AsText,
 use Rattle.fhir_audit.specs.declared.verdict.Audited.{Audited}
 use Rattle.fhir_audit.specs.Auditing.{AuditedValue}
 use Rattle.fhir_audit.specs.Views.{all_audited}
-use Rattle.fhir_audit_lines.specs.Counting.{counts_of, counts_text}
+use Rattle.fhir_audit_words.specs.Counting.{counts_of}
+use Rattle.fhir_audit_lines.specs.Counting.{counts_text}
 use Rattle.fhir_audit_lines.specs.Telling.{told_lines, IsToldText}
 use Rattle.fhir_audit_lines.specs.Trees.{IsToldTree, counts_tree}
 

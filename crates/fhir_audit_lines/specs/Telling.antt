@@ -15,7 +15,8 @@ use Rattle.fhir_derive_check.specs.declared.fault.Side.TheVariants.{Derived, Bas
 use Rattle.fhir_lines.specs.Lines.{escaped}
 use Rattle.fhir_audit.specs.Auditing.{AuditedValue}
 use Rattle.fhir_audit.specs.Verdicts.{VerdictValue, narrows, does_not_narrow, is_not_shown, cannot_be_used, has_no_base}
-use Rattle.fhir_audit_lines.specs.Words.{verdict_word, pair_count, pairs_text, base_shown}
+use Rattle.fhir_audit_words.specs.Words.{verdict_word}
+use Rattle.fhir_audit_lines.specs.Words.{pair_count, pairs_text, base_shown}
 
 -- ---- lines
 

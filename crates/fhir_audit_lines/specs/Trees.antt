@@ -5,8 +5,8 @@ use Rattle.fhir_json.specs.Tree.{Text, Tree, string, number, object, members_of,
 use Rattle.fhir_json.specs.Compact.{compact}
 use Rattle.fhir_lines.specs.Lines.{text_member}
 use Rattle.fhir_audit.specs.Auditing.{AuditedValue}
-use Rattle.fhir_audit_lines.specs.declared.counting.Counts.{Counts}
-use Rattle.fhir_audit_lines.specs.Words.{verdict_word}
+use Rattle.fhir_audit_words.specs.declared.counting.Counts.{Counts}
+use Rattle.fhir_audit_words.specs.Words.{verdict_word}
 
 -- the first members: the url, the verdict, and the url of the base, where it is there
 abbrev pub first_members : AuditedValue → List Property

@@ -4,10 +4,10 @@ ghost use Rattle.std.specs.Prelude.{◌≡◌};
 ghost use Rattle.std.specs.List.{list_all};
 ghost use Rattle.fhir_audit.specs.Standing.{standing_seen, is_holding};
 
-use crate::sources::Sources;
 use crate::texts::{failing_line, words_line};
 use crate::trees::{Members, object_text, put_failing, put_text};
 use fhir_audit::{Audited, Held, Standing};
+use fhir_audit_words::Sources;
 use fhir_cert_check::Rule;
 use fhir_certificate::Pair;
 use fhir_json::NoMemory;

@@ -21,16 +21,10 @@ mod held_lines;
 mod laws;
 mod naming;
 mod reporting;
-mod sources;
 mod texts;
 mod trees;
-mod unusable;
 
-pub use counting::{Counts, counts_of};
 pub use held_lines::{HeldFile, are_holding};
 pub use laws::names_differ;
 pub use naming::file_names;
 pub use reporting::audit_text;
-pub use sources::Sources;
-pub use texts::verdict_word;
-pub use unusable::unusable_line;

@@ -5,12 +5,12 @@ ghost use Rattle.fhir_audit.specs.Views.{audited_seen, all_audited};
 ghost use Rattle.fhir_audit_lines.specs.Telling.{told_line, told_lines};
 ghost use Rattle.fhir_audit_lines.specs.Report.{IsTold, AreTold, last_line, IsReport};
 
-use crate::counting::{counts_of, counts_text};
+use crate::counting::counts_text;
 use crate::held_lines::{HeldFile, held_lines};
-use crate::sources::Sources;
 use crate::texts::{push_all, text_lines};
 use crate::trees::{counts_object, tree_lines};
 use fhir_audit::Audited;
+use fhir_audit_words::{Sources, counts_of};
 use fhir_json::NoMemory;
 use fhir_lines::push_escaped;
 use fhir_words::Format;

@@ -7,12 +7,11 @@ ghost use Rattle.fhir_json.specs.Tree.{Text};
 ghost use Rattle.fhir_json.specs.Views.{text_seen};
 ghost use Rattle.fhir_cert_check.specs.Views.{rule_name};
 ghost use Rattle.fhir_audit.specs.Views.{verdict_seen, audited_seen};
-ghost use Rattle.fhir_audit_lines.specs.Words.{verdict_word, pair_count, pairs_text, base_shown};
+ghost use Rattle.fhir_audit_lines.specs.Words.{pair_count, pairs_text, base_shown};
 ghost use Rattle.fhir_audit_lines.specs.Telling.{under, narrowing_line, failing_line, verdict_front, side_text, unusable_front, lacking_line, is_of_resource, not_looked_for, IsHead, AreDetails, unread_lines, IsToldText};
 
-use crate::sources::Sources;
-use crate::unusable::unusable_line;
 use fhir_audit::{Audited, Verdict};
+use fhir_audit_words::{Sources, unusable_line, verdict_word};
 use fhir_cert_check::{Rule, pair_text, rule_text};
 use fhir_certificate::{Certificate, Pair};
 use fhir_derive_check::Side;
@@ -21,19 +20,6 @@ use fhir_lines::Line;
 use fhir_report::rule_words;
 use fhir_schema::Schema;
 use std::alloc::{AllocError, Global};
-
-/// A verdict in a few words.
-pub fn verdict_word(verdict: &Verdict<'_>) -> &'static str
-    ensures { result.now ≡ verdict_word (verdict_seen verdict.now) }
-{
-    match verdict {
-        Verdict::Narrows(_) => "narrows",
-        Verdict::DoesNotNarrow { .. } => "does not narrow",
-        Verdict::IsNotShown { .. } => "isn't shown to narrow",
-        Verdict::CannotBeUsed(_) => "can't be used",
-        Verdict::HasNoBase => "rests on a base that isn't here",
-    }
-}
 
 /// How many pairs a certificate has.
 pub(crate) fn pair_count(certificate: &Certificate) -> usize

@@ -8,11 +8,9 @@ ghost use Rattle.fhir_lines.specs.Lines.{text_member};
 ghost use Rattle.fhir_audit.specs.Views.{audited_seen};
 ghost use Rattle.fhir_audit_lines.specs.Trees.{first_members, IsToldTree, count_property, counts_tree};
 
-use crate::counting::Counts;
-use crate::sources::Sources;
-use crate::texts::{is_of_resource, pair_count, url_on, verdict_word};
-use crate::unusable::unusable_line;
+use crate::texts::{is_of_resource, pair_count, url_on};
 use fhir_audit::{Audited, Verdict};
+use fhir_audit_words::{Counts, Sources, unusable_line, verdict_word};
 use fhir_cert_check::{Rule, pair_text, rule_text};
 use fhir_certificate::Pair;
 use fhir_derive_check::Side;

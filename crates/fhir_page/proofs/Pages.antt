@@ -2,7 +2,7 @@
 use Rattle.std.proofs.Common.{◌≡◌, ◌∷◌, ◌∙◌, ℕ, List, [], codes, ap, ap₂}
 use Rattle.fhir_json.specs.Tree.{Text}
 use Rattle.fhir_audit.specs.Auditing.{AuditedValue}
-use Rattle.fhir_audit_lines.specs.Words.{verdict_word}
+use Rattle.fhir_audit_words.specs.Words.{verdict_word}
 use Rattle.fhir_markup.specs.Markup.{Node, Nodes, fixed, place, element, none, also, with_child, document}
 use Rattle.fhir_markup.specs.declared.names.Tag.TheVariants.{Section, H3}
 use Rattle.fhir_markup.specs.declared.names.AttributeName.TheVariants.{Class}

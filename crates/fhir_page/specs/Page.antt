@@ -2,7 +2,7 @@
 use Rattle.std.specs.Prelude.{◌≡◌, ℕ, suc, List, [], ◌∷◌, codes}
 use Rattle.fhir_json.specs.Tree.{Text}
 use Rattle.fhir_audit.specs.Auditing.{AuditedValue}
-use Rattle.fhir_audit_lines.specs.Words.{verdict_word}
+use Rattle.fhir_audit_words.specs.Words.{verdict_word}
 use Rattle.fhir_markup.specs.Markup.{fixed, place, Node, Nodes, element, none, also}
 use Rattle.fhir_markup.specs.declared.names.Tag.TheVariants as tags
 use Rattle.fhir_markup.specs.declared.names.AttributeName.TheVariants.{Class}

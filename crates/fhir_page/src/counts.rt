@@ -1,6 +1,6 @@
 //! The counts.
 
-use fhir_audit_lines::Counts;
+use fhir_audit_words::Counts;
 use fhir_markup::{Element, Tag};
 use fhir_page_frame::worded;
 use std::alloc::{AllocError, Global};

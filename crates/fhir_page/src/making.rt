@@ -10,7 +10,7 @@ use crate::counts::{header, title_text};
 use crate::profiles::{base_name, sections};
 use crate::verdicts::{class_of, is_good, meanings, shape_of};
 use fhir_audit::Audited;
-use fhir_audit_lines::{Counts, Sources, counts_of, verdict_word};
+use fhir_audit_words::{Counts, Sources, counts_of, verdict_word};
 use fhir_base_tree::{Profile, tree};
 use fhir_json::NoMemory;
 use fhir_markup::{Attribute, Element, Part, Tag, document};

@@ -3,7 +3,7 @@
 ghost use Rattle.std.specs.Prelude.{◌≡◌, ◌∷◌, [], codes, IfOk};
 ghost use Rattle.fhir_json.specs.Tree.{Text};
 ghost use Rattle.fhir_audit.specs.Views.{audited_seen, all_audited, verdict_seen};
-ghost use Rattle.fhir_audit_lines.specs.Words.{verdict_word};
+ghost use Rattle.fhir_audit_words.specs.Words.{verdict_word};
 ghost use Rattle.fhir_markup.specs.Markup.{Nodes, none, also, place, fixed, element};
 ghost use Rattle.fhir_markup.specs.Views.{element_node};
 ghost use Rattle.fhir_markup.specs.declared.names.Tag.TheVariants.{Section, H3};
@@ -16,7 +16,7 @@ use crate::counterexample::push_counterexample;
 use crate::failing::{failing_at, nodes_of};
 use crate::verdicts::class_of;
 use fhir_audit::{Audited, Verdict};
-use fhir_audit_lines::{Sources, unusable_line, verdict_word};
+use fhir_audit_words::{Sources, unusable_line, verdict_word};
 use fhir_cert_check::Rule;
 use fhir_certificate::{Certificate, Pair};
 use fhir_derive_check::Side;

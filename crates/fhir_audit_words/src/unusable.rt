@@ -4,7 +4,7 @@ ghost use Rattle.std.specs.Prelude.{◌≡◌, IfOk};
 ghost use Rattle.std.specs.Option.{option_map};
 ghost use Rattle.fhir_lines.specs.Lines.{line_seen};
 ghost use Rattle.fhir_report.specs.Report.{head, unusable_head};
-ghost use Rattle.fhir_audit_lines.specs.Unusable.{unusable_at};
+ghost use Rattle.fhir_audit_words.specs.Unusable.{unusable_at};
 
 use crate::sources::Sources;
 use fhir_findings::{Finding, Unusable};
