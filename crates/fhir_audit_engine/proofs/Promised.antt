@@ -1,5 +1,5 @@
 -- What status 0 of an audit promises.
-use Rattle.std.proofs.Common.{◌≡◌, List, Option, Result, Ok, Err, IfOk, IsTrue, subst, sym}
+use Rattle.std.proofs.Common.{◌≡◌, List, Option, IsTrue, subst}
 use Rattle.fhir_json.specs.Tree.{Text}
 use Rattle.fhir_package.specs.Surveying.{Surveyed}
 use Rattle.fhir_schema.specs.Schemas.{SchemaValue}
