@@ -1,16 +1,15 @@
 -- What it is that all profiles narrow, from what is told of each.
-use Rattle.std.proofs.Common.{◌≡◌, ◌↔◌, ℕ, map, true, List, [], ◌∷◌, Bool, ◌&&◌, Option, None, Some, IsTrue, ap, sym, subst, ◌∙◌, refl}
-use Rattle.std.specs.List.{list_all}
+use Rattle.std.proofs.Common.{◌≡◌, ◌↔◌, ℕ, map, true, List, [], ◌∷◌, Bool, Option, None, Some, IsTrue, ap, sym, ◌∙◌, refl}
 use Rattle.std.proofs.lemmas.Bool.{false≢true, and_parts}
 use Rattle.fhir_json.specs.Tree.{Text}
 use Rattle.fhir_package.specs.Definitions.{Definitions}
 use Rattle.fhir_package.specs.Surveying.{Surveyed}
 use Rattle.fhir_schema.specs.Schemas.{SchemaValue}
-use Rattle.fhir_derive_check.specs.declared.fault.DeriveFault.TheVariants.{Missing, Unusable}
+use Rattle.fhir_derive_check.specs.declared.fault.DeriveFault.TheVariants.{Missing}
 use Rattle.fhir_derive_check.specs.Faults.{derive_refusal}
 use Rattle.fhir_derive_check.specs.Reaching.{HasCertificate}
 use Rattle.fhir_audit.specs.Asked.{Placed, base_of, AreAsked, profiles_in}
-use Rattle.fhir_audit.specs.Auditing.{AuditedValue, IsAudited, AreAudited, IsAudit, are_narrowing, NarrowsBase, EachNarrows, AllNarrow}
+use Rattle.fhir_audit.specs.Auditing.{AuditedValue, AreAudited, IsAudit, are_narrowing, NarrowsBase, EachNarrows, AllNarrow}
 use Rattle.fhir_audit.specs.Verdicts.{VerdictValue, narrows, does_not_narrow, is_not_shown, cannot_be_used, has_no_base, is_narrowing, Narrows, IsSaid, IsVerdict}
 
 module _ (given : Option (List Text)) (s : SchemaValue) where

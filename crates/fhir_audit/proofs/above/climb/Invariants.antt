@@ -1,7 +1,6 @@
-use Rattle.std.proofs.Common.{◌≡◌, ◌⊎◌, ℕ, ◌<◌, Bool, not, length, IsTrue, Some, None}
+use Rattle.std.proofs.Common.{◌≡◌, ◌⊎◌, ℕ, ◌<◌, not, length, Some, None}
 use Rattle.std.specs.List.{count_by}
-use Rattle.fhir_audit.specs.Asked.{base_place}
-use Rattle.fhir_audit.specs.Marks.{marked, IsMarked, RestsWithin, AreWithin}
+use Rattle.fhir_audit.specs.Marks.{IsMarked, RestsWithin, AreWithin}
 use Rattle.fhir_audit.proofs.Climbing.{IsNextWithin}
 use Rattle.fhir_audit.proofs.above.climb.Given as goal
 

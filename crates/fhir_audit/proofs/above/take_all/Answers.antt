@@ -1,4 +1,4 @@
-use Rattle.std.proofs.Common.{map, string_bytes, ◌≡◌, length, arith}
+use Rattle.std.proofs.Common.{map, string_bytes, arith}
 use Rattle.fhir_audit.proofs.Climbing.{own_more, least_more, closed_by}
 use Rattle.fhir_audit.proofs.above.take_all.Goals as goal
 

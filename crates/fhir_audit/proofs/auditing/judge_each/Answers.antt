@@ -1,4 +1,3 @@
-use Rattle.std.proofs.Common.{arith}
 use Rattle.std.specs.Option.{option_map}
 use Rattle.fhir_audit.specs.Views.{all_audited}
 use Rattle.fhir_audit.proofs.Listing.{all_told}

@@ -1,9 +1,8 @@
-use Rattle.std.proofs.Common.{rules, ◌≡◌, sym, subst}
+use Rattle.std.proofs.Common.{rules, ◌≡◌}
 use Rattle.std.specs.Option.{option_map}
 use Rattle.std.proofs.lemmas.Result.{IfOk-weaker}
 use Rattle.fhir_derive_check.specs.declared.fault.DeriveFault.TheVariants.{Missing, Unusable}
 use Rattle.fhir_derive_check.specs.declared.outcome.Outcome.TheVariants.{Derives, NoCertificate}
-use Rattle.fhir_audit.specs.Verdicts.{IsSaid}
 use Rattle.fhir_audit.specs.Views.{verdict_seen}
 use Rattle.fhir_audit.proofs.Said.{narrows_so, fails_so, missing_so, unusable_so}
 use Rattle.fhir_audit.proofs.judging.said_of.Goals as goal
