@@ -1,6 +1,0 @@
-pub mod Derived
-pub mod Countered
-pub mod Judging
-pub mod LinesRead
-pub mod OnALine
-pub mod Sessions

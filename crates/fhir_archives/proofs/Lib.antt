@@ -1,4 +1,0 @@
-mod KnownLemmas
-mod Steps
-mod Members
-mod Told

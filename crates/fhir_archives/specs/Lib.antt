@@ -1,4 +1,0 @@
-pub mod Archives
-pub mod Views
-pub mod Known
-pub mod Telling

@@ -1,4 +1,0 @@
-pub mod Asking
-pub mod Steps
-pub mod Example
-pub mod Settling

@@ -1,4 +1,0 @@
-pub mod Zipped
-pub mod Grown
-pub mod Headings
-pub mod Clean

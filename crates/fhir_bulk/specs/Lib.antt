@@ -1,4 +1,0 @@
-pub mod Counting
-pub mod Rows
-pub mod Texts
-pub mod Running

@@ -1,3 +1,0 @@
-pub mod EachOnce
-pub mod Judged
-pub mod Loaded

@@ -1,3 +1,0 @@
-pub mod Commands
-pub mod Hashing
-pub mod Replies

@@ -1,6 +1,0 @@
-use Rattle.std.proofs.Common.{arith}
-use Rattle.std.proofs.lemmas.Grind.{text_groups}
-use Rattle.fhir_conformance.proofs.kids_by_name.put.Goals as goal
-
-pub returns : goal.returns
-returns c = λ other. grind (arith, text_groups)

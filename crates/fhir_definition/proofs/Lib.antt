@@ -1,6 +1,0 @@
-pub mod Gathers
-pub mod Identified
-pub mod Under
-pub mod Blamed
-pub mod RightHead
-pub mod OwnFault

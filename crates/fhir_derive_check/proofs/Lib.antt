@@ -1,8 +1,0 @@
-pub mod Same
-pub mod Found
-mod One
-mod Greatest
-mod Asking
-mod Pruned
-mod Rooted
-mod Certified

@@ -1,3 +1,0 @@
-mod WholeNumbers
-pub mod SeenCodes
-pub mod FirstFound

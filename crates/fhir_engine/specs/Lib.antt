@@ -1,7 +1,0 @@
-pub mod Reading
-pub mod Answering
-pub mod Promising
-pub mod Ending
-pub mod Agreeing
-pub mod Serving
-pub mod Gathers

@@ -1,4 +1,0 @@
-pub mod Total
-pub mod Same
-pub mod Entailment
-pub mod Truths

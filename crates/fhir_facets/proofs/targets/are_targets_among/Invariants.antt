@@ -1,9 +1,0 @@
-use Rattle.std.proofs.Common.{◌≡◌, drop, map, string_bytes}
-use Rattle.std.specs.List.{list_all, list_any}
-use Rattle.fhir_facets.specs.Targets.{target_narrower}
-use Rattle.fhir_facets.proofs.targets.are_targets_among.Given as goal
-
-abbrev pub invariant-loop-own : goal.invariant-loop-own
-invariant-loop-own l =
-    list_all (λ t. list_any (target_narrower l.schema t) (map string_bytes l.bases)) (map string_bytes (drop l.own-index l.owns))
-    ≡ list_all (λ t. list_any (target_narrower l.schema t) (map string_bytes l.bases)) (map string_bytes l.owns)

@@ -1,8 +1,0 @@
-use Rattle.std.proofs.Common.{[]}
-use Rattle.fhir_facets.proofs.values.LengthFacetView.holds_given.Goals as goal
-
-pub returns-clause-carried : goal.returns-clause-carried
-returns-clause-carried c = c.of.ensures.carried []
-
-pub returns-clause-vouched : goal.returns-clause-vouched
-returns-clause-vouched c = c.of.ensures.vouched c.args._given.now

@@ -1,6 +1,0 @@
-mod Capitals
-mod Spelled
-mod Meaning
-mod Told
-mod Blamed
-mod Distinct

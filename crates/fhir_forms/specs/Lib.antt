@@ -1,5 +1,0 @@
-pub mod Forms
-pub mod Slicings
-pub mod Criteria
-pub mod FormTables
-pub mod CriteriaSeen

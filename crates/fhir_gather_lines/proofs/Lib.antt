@@ -1,2 +1,0 @@
--- Lemmas on what is gathered.
-pub mod Equals

@@ -1,2 +1,0 @@
-pub mod GatherLines
-pub mod Counted

@@ -1,9 +1,0 @@
-pub mod Items
-pub mod Typing
-pub mod Accounting
-pub mod View
-pub mod Spelled
-pub mod Near
-pub mod Found
-pub mod Misfits
-pub mod TypingExample

@@ -1,2 +1,0 @@
--- Lemmas on lines.
-pub mod Shown

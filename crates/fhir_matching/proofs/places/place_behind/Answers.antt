@@ -1,5 +1,0 @@
-use Rattle.fhir_matching.proofs.Sides.{naming_found}
-use Rattle.fhir_matching.proofs.places.place_behind.Goals as goal
-
-pub returns-then-is_named-clause-named : goal.returns-then-is_named-clause-named
-returns-then-is_named-clause-named c = naming_found c.args.name.now c.args.members.now _ c.if-is_named.ensures.from

@@ -1,3 +1,0 @@
-pub mod Equality
-pub mod Fitting
-pub mod Places

@@ -1,3 +1,0 @@
-pub mod Folders
-pub mod Directories
-pub mod Memory

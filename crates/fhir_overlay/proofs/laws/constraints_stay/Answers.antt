@@ -1,8 +1,0 @@
-use Rattle.fhir_overlay.proofs.Staying.{stay, there}
-use Rattle.fhir_overlay.proofs.laws.constraints_stay.Goals as goal
-
-pub returns-clause-stay : goal.returns-clause-stay
-returns-clause-stay c = stay
-
-pub returns-clause-there : goal.returns-clause-there
-returns-clause-there c = there

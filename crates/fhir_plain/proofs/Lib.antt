@@ -1,2 +1,0 @@
-mod Keeping
-mod Hearing

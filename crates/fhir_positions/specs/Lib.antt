@@ -1,4 +1,0 @@
-pub mod Positions
-pub mod Lexing
-pub mod Values
-pub mod Among

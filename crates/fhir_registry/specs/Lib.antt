@@ -1,4 +1,0 @@
-pub mod Session
-pub mod Keeping
-pub mod Lines
-pub mod Sound

@@ -1,3 +1,0 @@
-pub mod Items
-pub mod Standings
-pub mod Told

@@ -1,4 +1,0 @@
-pub mod Standing
-pub mod Judging
-pub mod Outcomes
-pub mod Deriving

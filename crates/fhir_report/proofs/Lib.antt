@@ -1,5 +1,0 @@
--- Lemmas on reports.
-pub mod Carried
-pub mod Placing
-pub mod Saying
-pub mod Told

@@ -1,6 +1,0 @@
-pub mod CarrierLines
-pub mod ContradictionLines
-pub mod Lacking
-pub mod Faultless
-pub mod Report
-pub mod Growing

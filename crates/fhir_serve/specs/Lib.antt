@@ -1,5 +1,0 @@
-pub mod Lines
-pub mod Reading
-pub mod Answered
-pub mod Serving
-pub mod Ending

@@ -1,3 +1,0 @@
-pub mod Twos
-pub mod Called
-pub mod Same

@@ -1,4 +1,0 @@
-pub mod Belonging
-pub mod Finding
-pub mod SameCriteria
-pub mod Parcels

@@ -1,9 +1,0 @@
-pub mod Faults
-pub mod Order
-pub mod Listing
-pub mod Snapshots
-pub mod Chains
-pub mod Refusing
-pub mod Knowing
-pub mod Completing
-pub mod Planning

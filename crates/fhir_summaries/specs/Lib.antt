@@ -1,2 +1,0 @@
-pub mod Summaries
-pub mod ResourceTypes

@@ -1,5 +1,0 @@
-pub mod Issues
-pub mod Owned
-pub mod Parts
-pub mod Pushed
-pub mod Said

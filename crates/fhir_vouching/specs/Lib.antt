@@ -1,3 +1,0 @@
-pub mod Progress
-pub mod Given
-pub mod Example

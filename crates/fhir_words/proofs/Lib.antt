@@ -1,2 +1,0 @@
--- Lemmas on words.
-pub mod Among

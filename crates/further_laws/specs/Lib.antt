@@ -1,4 +1,0 @@
-pub mod Bases
-pub mod Children
-pub mod Types
-pub mod Standing
