@@ -3,7 +3,7 @@
 
 _fhirprof() {
     local current=${COMP_WORDS[COMP_CWORD]} options='' places=() place=0 is_value='' is_rest='' i word
-    local commands='check derive counter counter-given certify migrate validate validate-given validate-all unread snapshot serve serve-given gather'
+    local commands='check audit derive counter counter-given certify migrate validate validate-given validate-all unread snapshot serve serve-given gather'
     COMPREPLY=()
     if ((COMP_CWORD == 1)); then
         mapfile -t COMPREPLY < <(compgen -W "$commands --version" -- "$current")
@@ -11,6 +11,7 @@ _fhirprof() {
     fi
     case ${COMP_WORDS[1]} in
     check) options='--only --each --json' places=(folder file) ;;
+    audit) options='--only --given --html --certificates --against --json' places=(folder) ;;
     derive | counter) places=(folder url url) ;;
     counter-given) places=(folder url url file) ;;
     certify | migrate) places=(folder file) ;;
@@ -33,17 +34,19 @@ _fhirprof() {
             is_rest='' is_value=''
         elif [[ $is_value ]]; then
             is_value=''
-        elif [[ $word == --only ]]; then
+        elif [[ $word == --only || $word == --for ]]; then
             is_value=url
-        elif [[ $word == --given ]]; then
+        elif [[ $word == --given || $word == --html ]]; then
             is_value=file
+        elif [[ $word == --certificates || $word == --against ]]; then
+            is_value=folder
         elif [[ $word == - || $word != -* ]]; then
             # A dash alone is a word, and no option.
             ((place++))
         fi
     done
     [[ $is_rest || $current =~ ^[:=]+$ ]] && return
-    # A PREFIX is the front of a url.
+    # A PREFIX is the front of a url, and WHO is a word.
     [[ $is_value == url ]] && return
     if [[ ! $is_value && $current == -* ]]; then
         mapfile -t COMPREPLY < <(compgen -W "$options" -- "$current")

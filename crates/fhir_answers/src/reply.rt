@@ -57,7 +57,7 @@ impl From<Status> for ExitCode {
 }
 
 /// What is answered to a request.
-#[derive(Debug, Drop)]
+#[derive(Drop)]
 pub enum Reply {
     /// An answer, which is written to standard output.
     Answer {

@@ -36,12 +36,23 @@ use std::marker::Model;
 
 /// What is held between two answers: the survey of a folder's files, with the package of all that is right completed, and the schema
 /// of that package.
-#[derive(Drop)]
 pub struct Session<'f> {
     survey: Survey<'f>,
     lacking: LackingTable,
     schema: Schema,
     files: usize,
+}
+
+// A derived drop would be proved anew in each crate that owns one.
+impl Drop for Session<'_> {
+    fn drop(self) {
+        let Session {
+            survey: _survey,
+            lacking: _lacking,
+            schema: _schema,
+            files: _files,
+        } = self;
+    }
 }
 
 impl<'f> Model for Session<'f> {

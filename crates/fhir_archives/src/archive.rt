@@ -10,7 +10,7 @@ use fhir_json::{Json, Member, NoMemory};
 use std::alloc::Global;
 
 /// A `package.json` of a published archive, and the name of the folder that has it.
-#[derive(Clone, Copy, Debug)]
+#[derive(Clone, Copy)]
 pub struct PackageJson<'t, 'j> {
     /// The folder's name.
     pub folder: &'t str,

@@ -12,7 +12,7 @@ use fhir_json::{Member, NoMemory};
 use std::alloc::Global;
 
 /// An archive of a name that a dependency asks for.
-#[derive(Debug, Drop, PartialEq, Eq)]
+#[derive(Drop, PartialEq, Eq)]
 pub struct Found {
     /// Its folder's name.
     pub folder: String,
@@ -21,7 +21,7 @@ pub struct Found {
 }
 
 /// What is noted of an archive.
-#[derive(Debug, Drop, PartialEq, Eq)]
+#[derive(Drop, PartialEq, Eq)]
 pub enum Note {
     /// It tells no name.
     NoName {

@@ -21,7 +21,7 @@ use std::collections::BTreeMap;
 use std::marker::Model;
 
 /// An archive that has a name.
-#[derive(Clone, Copy, Debug)]
+#[derive(Clone, Copy)]
 pub(crate) struct Named<'t> {
     pub(crate) folder: &'t str,
     pub(crate) name: &'t str,

@@ -21,7 +21,7 @@ pub enum Origin {
 }
 
 /// A file of a run.
-#[derive(Debug, Drop)]
+#[derive(Drop)]
 pub struct InputFile {
     /// The name under which it is told.
     pub name: String,
@@ -32,7 +32,7 @@ pub struct InputFile {
 }
 
 /// The files of a run, in their order.
-#[derive(Debug, Drop)]
+#[derive(Drop)]
 pub struct Plan {
     /// The files.
     pub files: Vec<InputFile>,

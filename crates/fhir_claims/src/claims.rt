@@ -12,7 +12,7 @@ use fhir_schema::Schema;
 use std::alloc::{AllocError, Global};
 
 /// The profiles by which a resource is judged where a user names none.
-#[derive(Debug, Drop)]
+#[derive(Drop)]
 pub struct Claims<'c> {
     /// Whether the resource's type is there: its `resourceType` names a type that a resource may be of.
     pub is_typed: bool,

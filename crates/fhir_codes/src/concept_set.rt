@@ -15,9 +15,15 @@ use std::rc::RcSlice;
 
 /// A finite set of concepts: a table in the order of the codes' bytes, and then of the systems', in which each concept
 /// stands once.
-#[derive(Drop)]
 pub struct ConceptSet {
     table: RcSlice<SharedConcept>,
+}
+
+// A derived drop would be proved anew in each crate that owns one.
+impl Drop for ConceptSet {
+    fn drop(self) {
+        let ConceptSet { table: _table } = self;
+    }
 }
 
 impl Model for ConceptSet {
@@ -165,8 +171,8 @@ impl ConceptSet {
         self.contains(concept.system(), concept.code())
     }
 
-    /// The concepts, in order.
-    pub(crate) fn concepts(&self) -> &[SharedConcept]
+    /// The concepts, in the order of the codes' bytes, and then of the systems'.
+    pub fn concepts(&self) -> &[SharedConcept]
         ensures { set.from_list result.now ≡ self.now }
     {
         self.table.as_slice()

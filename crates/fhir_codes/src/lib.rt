@@ -41,5 +41,6 @@ mod worked;
 pub use code_set::{CodeSet, subset};
 pub use concept_set::ConceptSet;
 pub use laws::{algebra, any_order, codes_of_subset, least_closed, resolved, subsets};
+pub use shared_concept::SharedConcept;
 pub use value_sets::{ValueSets, expand};
 pub use worked::{examples, unread_examples};

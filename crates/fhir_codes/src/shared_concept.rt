@@ -14,7 +14,7 @@ use std::rc::RcStr;
 
 /// A concept. Its texts are shared with other sets that have it.
 #[derive(Drop)]
-pub(crate) struct SharedConcept {
+pub struct SharedConcept {
     code: RcStr,
     system: RcStr,
 }
@@ -80,14 +80,14 @@ impl SharedConcept {
     }
 
     /// The system.
-    pub(crate) fn system(&self) -> &str
+    pub fn system(&self) -> &str
         ensures { result.now ≡ self.now.system }
     {
         self.system.as_str()
     }
 
     /// The code.
-    pub(crate) fn code(&self) -> &str
+    pub fn code(&self) -> &str
         ensures { result.now ≡ self.now.code }
     {
         self.code.as_str()

@@ -35,10 +35,19 @@ pub(crate) struct FoundSet {
 }
 
 /// The value sets of a package with their concepts. They borrow nothing from the package.
-#[derive(Drop)]
 pub struct ValueSets {
     entries: Vec<FoundSet>,
     urls: Index,
+}
+
+// A derived drop would be proved anew in each crate that owns one.
+impl Drop for ValueSets {
+    fn drop(self) {
+        let ValueSets {
+            entries: _entries,
+            urls: _urls,
+        } = self;
+    }
 }
 
 impl Model for ValueSets {

@@ -11,9 +11,10 @@ ghost use Rattle.fhir_commands.specs.Commands.{remove, validate, derive, command
 use crate::question::Question;
 use fhir_json::{Json, JsonFault, Member, NoMemory, lists, read, write};
 use std::alloc::Global;
+use std::mem;
 
 /// What is asked of a session.
-#[derive(Debug, Drop)]
+#[derive(Drop)]
 pub enum Command<'a> {
     /// Definitions are put in, all of them or none.
     Put(Vec<Json<'a>>),
@@ -24,10 +25,9 @@ pub enum Command<'a> {
 }
 
 // The member, where there is one alone.
-fn take_only<'a>(members: Vec<Member<'a>>) -> Option<Member<'a>>
-    ensures { option_map property_of result ≡ only_of (map property_of members.entry.items) }
+fn take_only<'a>(members: &mut Vec<Member<'a>>) -> Option<Member<'a>>
+    ensures { option_map property_of result ≡ only_of (map property_of members.old.items) }
 {
-    let mut members = members;
     if members.len() != 1 {
         return None;
     }
@@ -37,18 +37,19 @@ fn take_only<'a>(members: Vec<Member<'a>>) -> Option<Member<'a>>
 fn only_member<'a>(json: Json<'a>) -> Option<Member<'a>>
     ensures { option_map property_of result ≡ only_member (tree_of json.entry) }
 {
-    match json {
+    let mut json = json;
+    match &mut json {
         Json::Obj(members) => take_only(members),
         _ => None,
     }
 }
 
-fn put_in<'a>(value: Json<'a>) -> Option<Command<'a>>
-    ensures { option_map command_seen result ≡ put_in (tree_of value.entry) }
+fn put_in<'a>(alloc: Global, value: &mut Json<'a>) -> Option<Command<'a>>
+    ensures { option_map command_seen result ≡ put_in (tree_of value.old) }
 {
     lists();
     match value {
-        Json::Arr(trees) => Some(Command::Put(trees)),
+        Json::Arr(trees) => Some(Command::Put(mem::replace(trees, Vec::new(alloc)))),
         _ => None,
     }
 }
@@ -141,8 +142,9 @@ fn derive_of<'o>(alloc: Global, value: &Json<'_>) -> Result<Option<Command<'o>>,
 fn command_of_member<'a>(alloc: Global, member: Member<'a>) -> Result<Option<Command<'a>>, NoMemory>
     ensures { IfOk result (λ c. option_map command_seen c ≡ command_of_member (property_of member.entry)) }
 {
+    let mut member = member;
     match member.name.as_str() {
-        "put" => Ok(put_in(member.value)),
+        "put" => Ok(put_in(alloc, &mut member.value)),
         "remove" => remove_in(alloc, &member.value),
         "validate" => validate_of(alloc, &member.value),
         "derive" => derive_of(alloc, &member.value),

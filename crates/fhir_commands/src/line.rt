@@ -6,7 +6,7 @@ ghost use Rattle.fhir_commands.specs.declared.reply.RemoveAnswer.TheVariants as 
 ghost use Rattle.fhir_commands.specs.Replies.{put, remove, derive, missing, unusable, reply_tree, fault_tree, line_of, line_seen};
 
 /// A line that is written, with its line feed.
-#[derive(Debug, Drop)]
+#[derive(Drop)]
 pub enum Line {
     /// One that needs no memory.
     Fixed(&'static str),

@@ -8,7 +8,7 @@ ghost use Rattle.fhir_commands.specs.Hashing.{hashed, hashed_alike};
 use std::hash::{Hash, Hasher};
 
 /// What is asked about definitions, which it leaves as they are.
-#[derive(Debug, PartialEq, Eq, Drop)]
+#[derive(PartialEq, Eq, Drop)]
 pub enum Question {
     /// How the bytes of a resource stand with the profile of a url.
     Validate {

@@ -49,7 +49,7 @@ pub enum Standing {
 }
 
 /// What comes of two profiles of which a certificate is to be derived.
-#[derive(Debug, Drop)]
+#[derive(Drop)]
 pub enum DeriveAnswer {
     /// There is a certificate.
     Derived {
@@ -72,7 +72,7 @@ pub enum DeriveAnswer {
 }
 
 /// What comes of a command, unless memory runs out.
-#[derive(Debug, Drop)]
+#[derive(Drop)]
 pub enum Reply {
     /// Of definitions that were to be put in.
     Put(PutAnswer),

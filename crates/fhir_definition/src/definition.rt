@@ -23,7 +23,6 @@ use std::alloc::{AllocError, Global};
 use std::marker::Model;
 
 /// A StructureDefinition by itself (FHIR R4, StructureDefinition). A contract sees its fields and its elements.
-#[derive(Drop)]
 pub struct Definition {
     place: usize,
     url: String,
@@ -35,6 +34,24 @@ pub struct Definition {
     base: Option<String>,
     blame: Option<Blame>,
     snapshot: Snapshot,
+}
+
+// A derived drop would be proved anew in each crate that owns one.
+impl Drop for Definition {
+    fn drop(self) {
+        let Definition {
+            place: _place,
+            url: _url,
+            version: _version,
+            kind: _kind,
+            is_abstract: _is_abstract,
+            type_code: _type_code,
+            is_type: _is_type,
+            base: _base,
+            blame: _blame,
+            snapshot: _snapshot,
+        } = self;
+    }
 }
 
 impl Model for Definition {

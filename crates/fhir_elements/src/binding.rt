@@ -50,7 +50,7 @@ fn is_required(strength: Strength) -> bool
 }
 
 /// To which codes an element is bound.
-#[derive(Debug, Drop)]
+#[derive(Drop)]
 pub struct BindingDef {
     strength: Option<Strength>,
     value_set: Option<String>,

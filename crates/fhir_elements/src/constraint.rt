@@ -43,7 +43,7 @@ fn is_error(severity: Severity) -> bool
 }
 
 /// One of an element's constraints.
-#[derive(Debug, Drop)]
+#[derive(Drop)]
 pub struct ConstraintDef {
     key: String,
     severity: Option<Severity>,

@@ -31,7 +31,7 @@ use std::borrow::CowStr;
 use std::marker::Model;
 
 /// The fields of an element, from which `ElementDef::new` makes one.
-#[derive(Debug, Drop)]
+#[derive(Drop)]
 pub struct ElementFields {
     /// Its id.
     pub id: String,
@@ -66,7 +66,6 @@ pub struct ElementFields {
 }
 
 /// An element of a definition.
-#[derive(Debug, Drop)]
 pub struct ElementDef {
     id: String,
     path: Option<String>,
@@ -83,6 +82,29 @@ pub struct ElementDef {
     binding: Option<BindingDef>,
     constraints: Vec<ConstraintDef>,
     slicing: Option<SlicingDef>,
+}
+
+// A derived drop would be proved anew in each crate that owns one.
+impl Drop for ElementDef {
+    fn drop(self) {
+        let ElementDef {
+            id: _id,
+            path: _path,
+            slice_name: _slice_name,
+            min: _min,
+            max: _max,
+            types: _types,
+            content_reference: _content_reference,
+            fixed: _fixed,
+            pattern: _pattern,
+            min_value: _min_value,
+            max_value: _max_value,
+            max_length: _max_length,
+            binding: _binding,
+            constraints: _constraints,
+            slicing: _slicing,
+        } = self;
+    }
 }
 
 impl Model for ElementDef {

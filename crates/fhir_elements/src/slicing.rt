@@ -67,7 +67,7 @@ impl Code for SlicingRules {
 }
 
 /// What tells the slices of an element apart.
-#[derive(Debug, Drop)]
+#[derive(Drop)]
 pub struct DiscriminatorDef {
     by: Option<DiscriminatorType>,
     path: Option<String>,
@@ -108,7 +108,7 @@ impl DiscriminatorDef {
 }
 
 /// How an element is sliced.
-#[derive(Debug, Drop)]
+#[derive(Drop)]
 pub struct SlicingDef {
     discriminators: Vec<DiscriminatorDef>,
     ordered: Option<bool>,

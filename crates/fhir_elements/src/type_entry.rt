@@ -16,7 +16,7 @@ use std::alloc::{AllocError, Global};
 use std::marker::Model;
 
 /// One of an element's types.
-#[derive(Debug, Drop)]
+#[derive(Drop)]
 pub struct TypeEntry {
     code: String,
     profiles: Vec<String>,

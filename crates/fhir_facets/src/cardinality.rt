@@ -11,7 +11,7 @@ use fhir_elements::{ElementDef, Max};
 use fhir_vouching::Vouching;
 
 /// How many items there may be (FHIR R4, ElementDefinition, min and max). A bound that is absent asks for nothing.
-#[derive(Clone, Copy, Debug)]
+#[derive(Clone, Copy)]
 pub struct Cardinality<'a>(pub &'a ElementDef);
 
 fn least_of(element: &ElementDef) -> u32

@@ -9,7 +9,7 @@ use crate::unread::Unread;
 use fhir_vouching::Vouching;
 
 /// What a facet comes to, where a user vouches for some of the unread rules by their texts.
-#[derive(Clone, Copy, Debug)]
+#[derive(Clone, Copy)]
 pub enum Holding<'a> {
     /// It holds, whatever the unread rules mean.
     Holds,

@@ -22,7 +22,7 @@ use fhir_vouching::Vouching;
 /// over.
 ///
 /// A bound is read anew each time, in time linear in its text and with no memory taken.
-#[derive(Clone, Copy, Debug)]
+#[derive(Clone, Copy)]
 pub struct Range<'a> {
     /// The least value, under its whole name, as `minValueInteger`.
     pub least: Option<&'a Member<'static>>,

@@ -17,7 +17,7 @@ use std::fmt;
 
 /// A rule that a definition has and that isn't judged here. `Display` prints what it says: `range`, its property and its
 /// compact value; `target`, `profile` or `binding` and its canonical; `expression` and its text; or `constraint` and its key.
-#[derive(Clone, Copy, Debug)]
+#[derive(Clone, Copy)]
 pub enum Unread<'a> {
     /// A bound of a type whose values aren't compared, as `minValueQuantity`.
     Range(&'a Member<'static>),

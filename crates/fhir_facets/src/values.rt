@@ -15,11 +15,11 @@ use fhir_vouching::Vouching;
 
 /// The value that an item is to be, and no more: a primitive may have neither an id nor extensions (FHIR R4,
 /// ElementDefinition, fixed[x]).
-#[derive(Clone, Copy, Debug)]
+#[derive(Clone, Copy)]
 pub struct Fixed<'a>(pub &'a Json<'static>);
 
 /// What an item's value is to have: each part of the pattern, and maybe more (FHIR R4, ElementDefinition, pattern[x]).
-#[derive(Clone, Copy, Debug)]
+#[derive(Clone, Copy)]
 pub struct Pattern<'a>(pub &'a Json<'static>);
 
 /// How many characters an item's text may have at most (FHIR R4, ElementDefinition, maxLength). An item without a text is

@@ -3,7 +3,7 @@
 use fhir_json::Json;
 
 /// What a facet sees of an item.
-#[derive(Clone, Copy, Debug)]
+#[derive(Clone, Copy)]
 pub struct View<'a, 'j> {
     /// The code of its type.
     pub code: &'a str,

@@ -15,7 +15,7 @@ use std::alloc::{AllocError, Global};
 use std::fmt;
 
 /// What is carried. `Display` prints it: `unread` and the rule, or `base` and the canonical.
-#[derive(Clone, Copy, Debug)]
+#[derive(Clone, Copy)]
 pub enum Carried<'s> {
     /// A rule that isn't judged: a resource that meets it may be left open.
     Rule(Unread<'s>),
@@ -24,7 +24,7 @@ pub enum Carried<'s> {
 }
 
 /// What carries a rule that isn't judged, or lacks a base.
-#[derive(Clone, Copy, Debug)]
+#[derive(Clone, Copy)]
 pub struct Carrier<'s> {
     /// The file that the definition stands in.
     pub file: &'s str,

@@ -19,7 +19,7 @@ pub struct Unusable<'r> {
 }
 
 /// What was found in a package.
-#[derive(Clone, Copy, Debug)]
+#[derive(Clone, Copy)]
 pub enum Finding<'s, 'f> {
     /// Something is wrong with a file.
     File(&'s FileFault<'f>),

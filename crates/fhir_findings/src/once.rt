@@ -14,7 +14,7 @@ use fhir_names::Index;
 use std::alloc::Global;
 
 /// What isn't judged, by the first that carries it.
-#[derive(Clone, Copy, Debug)]
+#[derive(Clone, Copy)]
 pub struct Told<'s> {
     /// The first that carries it.
     pub first: Carrier<'s>,

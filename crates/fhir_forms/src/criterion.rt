@@ -4,7 +4,7 @@ use fhir_elements::DiscriminatorType;
 use fhir_json::Json;
 
 /// What a discriminator looks for among the items at the end of its path (FHIR R4, Profiling, discriminator).
-#[derive(Debug, Drop)]
+#[derive(Drop)]
 pub enum Sought {
     /// One that is equal to the value.
     Fixed(Json<'static>),
@@ -20,7 +20,7 @@ pub enum Sought {
 
 /// A discriminator of an element, with what it looks for in one of the element's slices (FHIR R4, ElementDefinition,
 /// slicing.discriminator).
-#[derive(Debug, Drop)]
+#[derive(Drop)]
 pub struct Criterion {
     /// By what it tells slices apart.
     pub by: DiscriminatorType,

@@ -45,7 +45,7 @@ pub struct Property {
 }
 
 /// One type of an element: under which property it stands, and what that holds.
-#[derive(Debug, Drop)]
+#[derive(Drop)]
 pub struct Form {
     pub(crate) name: Name,
     pub(crate) property: String,

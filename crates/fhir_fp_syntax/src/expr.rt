@@ -79,7 +79,7 @@ pub enum TypeTest {
 }
 
 /// An expression. A function at the start of a path has `$this` before it. `FHIR.T` is the type T.
-#[derive(Debug, Drop)]
+#[derive(Drop)]
 pub enum Expr {
     /// `{}`
     Empty,

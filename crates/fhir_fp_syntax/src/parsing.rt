@@ -14,7 +14,7 @@ use fhir_json::NoMemory;
 use std::alloc::Global;
 
 /// What a text is.
-#[derive(Debug, Drop)]
+#[derive(Drop)]
 pub enum Parsed {
     /// An expression.
     Read(Expr),

@@ -12,7 +12,7 @@ use fhir_package::Kind;
 use std::alloc::{AllocError, Global};
 
 /// Where a definition stands.
-#[derive(Debug, Drop)]
+#[derive(Drop)]
 pub struct Origin {
     /// The name of the folder.
     pub folder: String,
@@ -23,7 +23,7 @@ pub struct Origin {
 }
 
 /// A definition that isn't kept, since one of the same kind and url is.
-#[derive(Debug, Drop)]
+#[derive(Drop)]
 pub struct DroppedOne {
     /// The kind.
     pub kind: Kind,

@@ -4,7 +4,7 @@ use crate::dropped::DroppedOne;
 use fhir_archives::Note;
 
 /// What is told of what is gathered.
-#[derive(Debug, Drop)]
+#[derive(Drop)]
 pub struct Gathered {
     /// How many folders were read.
     pub folders: usize,

@@ -9,7 +9,7 @@ ghost use Rattle.fhir_gather.specs.FolderViews.{file_seen, read_folders};
 use fhir_package::{FolderFile, FolderFiles};
 
 /// A folder that was read.
-#[derive(Debug, Drop)]
+#[derive(Drop)]
 pub struct ReadFolder {
     /// The name of the folder.
     pub name: String,
@@ -18,7 +18,7 @@ pub struct ReadFolder {
 }
 
 /// The names of a folder and of a file in it.
-#[derive(Clone, Copy, Debug)]
+#[derive(Clone, Copy)]
 pub(crate) struct FileAt<'f> {
     pub(crate) folder: &'f str,
     pub(crate) file: &'f str,

@@ -149,8 +149,8 @@ fn made(
         (made making.now.sources.now making.now.url.now making.now.differential.now (fields_seen inherited) (map string_bytes names.now) (map string_bytes slices.now))) }
 {
     let slices = all_slices(alloc, making.differential, inherited.id.as_str(), slices)?;
-    let element = laid(alloc, making.differential, &slices, inherited)?;
     let names = all_owned(alloc, names)?;
+    let element = laid(alloc, making.differential, &slices, inherited)?;
     node_of(alloc, making, element, names, slices)
 }
 
@@ -352,11 +352,13 @@ fn written(alloc: Global, elements: &Elements, id: &str) -> Result<NodeStep, NoM
     let Some(element) = elements.get(id) else {
         return Ok(nothing());
     };
+    let names = all_owned(alloc, elements.names_under(id))?;
+    let slices = all_owned(alloc, elements.slices_under(id))?;
     let fields = copied(alloc, element)?;
     Ok(Step::Found(Some(NodeDef {
         element: ElementDef::new(fields),
-        names: all_owned(alloc, elements.names_under(id))?,
-        slices: all_owned(alloc, elements.slices_under(id))?,
+        names,
+        slices,
         touched: false,
     })))
 }

@@ -14,7 +14,7 @@ use std::alloc::{AllocError, Global};
 
 /// A property of an object: its place among the others, and its name as written; and which of the items in it is meant,
 /// if it is an array. The items are counted through all the forms of one element, so it has how many there are before.
-#[derive(Clone, Copy, Debug)]
+#[derive(Clone, Copy)]
 pub(crate) struct Spot<'a> {
     pub(crate) at: usize,
     pub(crate) property: &'a str,
@@ -45,7 +45,7 @@ impl<'a> Spot<'a> {
 }
 
 /// The properties of a value and of its companion.
-#[derive(Clone, Copy, Debug)]
+#[derive(Clone, Copy)]
 pub(crate) struct Spots<'a> {
     pub(crate) value: Spot<'a>,
     pub(crate) companion: Spot<'a>,
@@ -79,14 +79,14 @@ impl<'a> Spots<'a> {
 }
 
 /// A step from an item to a child.
-#[derive(Clone, Copy, Debug)]
+#[derive(Clone, Copy)]
 pub(crate) struct Step<'a> {
     pub(crate) name: &'a str,
     pub(crate) index: Option<usize>,
 }
 
 /// A misfit in an object: which of its properties has it, and where in that it is.
-#[derive(Debug, Drop)]
+#[derive(Drop)]
 pub(crate) struct FoundMisfit<'a> {
     pub(crate) kind: MisfitKind,
     pub(crate) at: usize,

@@ -29,7 +29,7 @@ fn form_near(forms: &[Form], from: usize, name: &str) -> Option<usize>
 
 /// The form that comes next, where properties stand in the order of their forms, as most do. Where they don't, this is soon
 /// given up, and they are looked up by their names alone.
-#[derive(Clone, Copy, Debug)]
+#[derive(Clone, Copy)]
 pub(crate) struct Near {
     form: usize,
     misses: usize,

@@ -53,7 +53,7 @@ pub(crate) fn form_at(forms: &[Form], at: usize) -> &Form
 }
 
 /// The last form's element: its name, how many items it has before those of the form, and where these are.
-#[derive(Clone, Copy, Debug)]
+#[derive(Clone, Copy)]
 pub(crate) struct Tally<'a> {
     name: &'a str,
     before: usize,

@@ -22,7 +22,7 @@ use std::alloc::{AllocError, Global};
 
 /// A property of an object: the place of the form that it belongs to, whether it is that one's companion, and its own
 /// place in the object.
-#[derive(Clone, Copy, Debug)]
+#[derive(Clone, Copy)]
 pub(crate) struct Spelled {
     pub(crate) form: usize,
     pub(crate) is_companion: bool,
@@ -30,7 +30,7 @@ pub(crate) struct Spelled {
 }
 
 /// Where the properties of one form are in an object: its own, and that of its companions.
-#[derive(Clone, Copy, Debug)]
+#[derive(Clone, Copy)]
 pub(crate) struct Places {
     pub(crate) value: Option<usize>,
     pub(crate) companion: Option<usize>,
@@ -254,7 +254,7 @@ fn places_among(all: &[Spelled]) -> Places
 }
 
 /// The properties of one form: which it is, where they are, and how many they are.
-#[derive(Clone, Copy, Debug)]
+#[derive(Clone, Copy)]
 pub(crate) struct Group {
     pub(crate) form: usize,
     pub(crate) places: Places,

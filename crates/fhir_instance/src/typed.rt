@@ -10,7 +10,6 @@ use fhir_names::Name;
 use fhir_schema::Form;
 
 /// An item: a value of a resource as its type definition sees it.
-#[derive(Drop)]
 #[cycle(typed)]
 pub struct Typed<'a, 'j> {
     pub(crate) code: &'a str,
@@ -19,13 +18,38 @@ pub struct Typed<'a, 'j> {
 }
 
 /// A child of an item, under the name of its element.
-#[derive(Drop)]
 #[cycle(typed)]
 pub struct Kid<'a, 'j> {
     // the form as which it was typed, which knows its name
     pub(crate) form: &'a Form,
     pub(crate) item: Typed<'a, 'j>,
 }
+
+// A derived drop would be proved anew in each crate that owns an item.
+impl Drop for Typed<'_, '_> {
+    #[cycle(typed)]
+    fn drop(self) {
+        let Typed {
+            code: _code,
+            json: _json,
+            kids,
+        } = self;
+        drop_kids(kids);
+    }
+}
+
+impl Drop for Kid<'_, '_> {
+    #[cycle(typed)]
+    fn drop(self) {
+        let Kid {
+            form: _form,
+            item: _item,
+        } = self;
+    }
+}
+
+#[cycle(typed)]
+fn drop_kids(_kids: Vec<Kid<'_, '_>>) {}
 
 impl<'a, 'j> Typed<'a, 'j> {
     /// The code of its type.

@@ -83,7 +83,7 @@ impl<'r> Details<'r> {
 }
 
 /// A line of a report: something that was found, and where.
-#[derive(Debug, Drop)]
+#[derive(Drop)]
 pub struct Line<'r> {
     /// The file.
     pub file: Option<&'r str>,

@@ -9,9 +9,15 @@ use std::marker::Model;
 
 /// Places under names, each a place in some list. The names are kept in the order of their bytes, so that a look-up takes
 /// time logarithmic in their number whatever they are.
-#[derive(Drop)]
 pub struct Index {
     places: BTreeMap<String, usize>,
+}
+
+// A derived drop would be proved anew in each crate that owns one.
+impl Drop for Index {
+    fn drop(self) {
+        let Index { places: _places } = self;
+    }
 }
 
 impl Model for Index {

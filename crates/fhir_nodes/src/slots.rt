@@ -17,7 +17,7 @@ use std::marker::Model;
 
 /// A name that the children of an item may have, or that of a slice, and the place of the element that says what its items
 /// are.
-#[derive(Debug, Drop)]
+#[derive(Drop)]
 pub struct Slot {
     name: Name,
     entry: usize,

@@ -177,7 +177,7 @@ fn push_entry<'a>(
 ) -> Result<(), NoMemory>
     ensures { OnOk result (into.new.items ≡ into.old.items ++ in_entry levels (tree_of entry.entry)) }
 {
-    match take_field(entry, "resource") {
+    match take_field(alloc, entry, "resource") {
         Some(resource) => push_held(alloc, resource, levels, into),
         None => Ok(()),
     }

@@ -13,7 +13,7 @@ use std::collections::BTreeSet;
 use std::marker::Model;
 
 /// A file of a folder: its name, and its bytes, or none where the device doesn't give them.
-#[derive(Debug, Drop)]
+#[derive(Drop)]
 pub struct FolderFile {
     /// The name.
     pub name: String,
@@ -22,9 +22,15 @@ pub struct FolderFile {
 }
 
 /// The files of a folder whose names end in `.json`, in the order of their names' bytes, each name once.
-#[derive(Debug, Drop)]
 pub struct FolderFiles {
     files: Vec<FolderFile>,
+}
+
+// A derived drop would be proved anew in each crate that owns one.
+impl Drop for FolderFiles {
+    fn drop(self) {
+        let FolderFiles { files: _files } = self;
+    }
 }
 
 impl Model for FolderFiles {

@@ -22,11 +22,21 @@ use std::marker::Model;
 
 /// The definitions of a package, of each kind in the order in which they were put in, under their urls. Their texts may borrow
 /// from the bytes of the files that they were read from.
-#[derive(Drop)]
 pub struct Package<'a> {
     structure_definitions: UrlMap<'a>,
     value_sets: UrlMap<'a>,
     code_systems: UrlMap<'a>,
+}
+
+// A derived drop would be proved anew in each crate that owns one.
+impl Drop for Package<'_> {
+    fn drop(self) {
+        let Package {
+            structure_definitions: _structure_definitions,
+            value_sets: _value_sets,
+            code_systems: _code_systems,
+        } = self;
+    }
 }
 
 impl<'a> Model for Package<'a> {

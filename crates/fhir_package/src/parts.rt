@@ -6,24 +6,33 @@ ghost use Rattle.fhir_json.specs.Fields.{value_named, field, as_items, items_in}
 
 use fhir_json::{Json, Member};
 use std::alloc::Global;
+use std::mem;
+
+fn taken<'a>(member: Member<'a>) -> Json<'a>
+    ensures { tree_of result ≡ tree_of member.entry.value }
+{
+    let mut member = member;
+    mem::replace(&mut member.value, Json::Null)
+}
 
 fn take_named<'a>(members: Vec<Member<'a>>, name: &str) -> Option<Json<'a>>
     ensures { option_map tree_of result ≡ value_named name.now (members_view members.entry.items) }
 {
     for member in members {
         if name == member.name.as_str() {
-            return Some(member.value);
+            return Some(taken(member));
         }
     }
     None
 }
 
 /// The field of a name.
-pub(crate) fn take_field<'a>(json: Json<'a>, name: &str) -> Option<Json<'a>>
+pub(crate) fn take_field<'a>(alloc: Global, json: Json<'a>, name: &str) -> Option<Json<'a>>
     ensures { option_map tree_of result ≡ field name.now (tree_of json.entry) }
 {
-    match json {
-        Json::Obj(members) => take_named(members, name),
+    let mut json = json;
+    match &mut json {
+        Json::Obj(members) => take_named(mem::replace(members, Vec::new(alloc)), name),
         _ => None,
     }
 }
@@ -31,8 +40,9 @@ pub(crate) fn take_field<'a>(json: Json<'a>, name: &str) -> Option<Json<'a>>
 fn into_items<'a>(alloc: Global, json: Json<'a>) -> Vec<Json<'a>>
     ensures { items_view result.items ≡ as_items (tree_of json.entry) }
 {
-    match json {
-        Json::Arr(items) => items,
+    let mut json = json;
+    match &mut json {
+        Json::Arr(items) => mem::replace(items, Vec::new(alloc)),
         _ => Vec::new(alloc),
     }
 }
@@ -42,7 +52,7 @@ fn into_items<'a>(alloc: Global, json: Json<'a>) -> Vec<Json<'a>>
 pub(crate) fn take_items<'a>(alloc: Global, json: Json<'a>, name: &str) -> Vec<Json<'a>>
     ensures { trees_of result.items ≡ items_in name.now (tree_of json.entry) }
 {
-    match take_field(json, name) {
+    match take_field(alloc, json, name) {
         Some(value) => into_items(alloc, value),
         None => Vec::new(alloc),
     }

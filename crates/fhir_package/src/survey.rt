@@ -21,7 +21,7 @@ use std::marker::Model;
 use std::mem;
 
 /// Two different definitions of one kind and url.
-#[derive(Debug, Drop)]
+#[derive(Drop)]
 pub struct Clash<'f> {
     /// The kind.
     pub kind: Kind,
@@ -45,7 +45,7 @@ pub struct NotJson<'f> {
 }
 
 /// What is wrong with a file.
-#[derive(Debug, Drop)]
+#[derive(Drop)]
 pub enum FileFault<'f> {
     /// The device doesn't give the file of this name.
     Unreadable(&'f str),
@@ -166,11 +166,21 @@ impl<'f> Sources<'f> {
 }
 
 /// What is wrong with the files of a folder, and the package of all that is right.
-#[derive(Drop)]
 pub struct Survey<'f> {
     package: Package<'f>,
     sources: Sources<'f>,
     faults: Vec<FileFault<'f>>,
+}
+
+// A derived drop would be proved anew in each crate that owns one.
+impl Drop for Survey<'_> {
+    fn drop(self) {
+        let Survey {
+            package: _package,
+            sources: _sources,
+            faults: _faults,
+        } = self;
+    }
 }
 
 impl<'f> Model for Survey<'f> {

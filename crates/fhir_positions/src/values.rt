@@ -16,7 +16,7 @@ use fhir_json::{NoMemory, Position};
 use std::alloc::Global;
 
 // What the next byte stands in.
-#[derive(Clone, Copy, Debug)]
+#[derive(Clone, Copy)]
 enum Inside {
     // none of the others
     Between,
@@ -28,7 +28,7 @@ enum Inside {
 }
 
 // Which bytes mean the same outside of strings, or end them.
-#[derive(Clone, Copy, Debug)]
+#[derive(Clone, Copy)]
 enum Kind {
     Blank,
     Colon,
@@ -42,7 +42,7 @@ enum Kind {
 }
 
 // What a byte says of the values.
-#[derive(Clone, Copy, Debug)]
+#[derive(Clone, Copy)]
 enum Turn {
     // nothing
     Passes,

@@ -5,7 +5,7 @@ use fhir_json::{Json, Member, NoMemory};
 use fhir_schema::{Content, Form, NodeRef, Schema};
 
 // By what an object is typed.
-#[derive(Clone, Copy, Debug)]
+#[derive(Clone, Copy)]
 enum Typing {
     Node(Option<NodeRef>),
     // the type that it says it has
@@ -13,7 +13,7 @@ enum Typing {
 }
 
 // What a property holds.
-#[derive(Clone, Copy, Debug)]
+#[derive(Clone, Copy)]
 struct Meaning<'s> {
     // the element's, as places have it
     name: &'s str,
@@ -22,7 +22,7 @@ struct Meaning<'s> {
 }
 
 // Where a property leads, if a place is wanted there, and what it holds.
-#[derive(Clone, Copy, Debug)]
+#[derive(Clone, Copy)]
 struct Way {
     stop: Option<usize>,
     typing: Typing,

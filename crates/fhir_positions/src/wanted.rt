@@ -8,7 +8,7 @@ use std::alloc::{AllocError, Global};
 use std::fmt::Write;
 
 /// Which JSON value stands for a stop best: the last of these.
-#[derive(Clone, Copy, Debug, PartialEq, Eq, PartialOrd, Ord)]
+#[derive(Clone, Copy, PartialEq, Eq, PartialOrd, Ord)]
 pub(crate) enum Standing {
     /// Null, which stands for nothing.
     Null,
@@ -23,14 +23,14 @@ pub(crate) enum Standing {
 }
 
 /// The value that stands for a stop: its number, in the order of the text.
-#[derive(Clone, Copy, Debug)]
+#[derive(Clone, Copy)]
 struct Found {
     number: usize,
     standing: Standing,
 }
 
 /// A stop on the way to a place that is wanted.
-#[derive(Clone, Copy, Debug)]
+#[derive(Clone, Copy)]
 pub(crate) struct Stop {
     /// The stop that it is reached from, which has a lower number. The first one has its own.
     pub(crate) above: usize,

@@ -6,7 +6,7 @@ ghost use Rattle.fhir_reach.specs.Keys.{key_seen};
 use fhir_json::NoMemory;
 
 /// What stands for definitions.
-#[derive(Debug, PartialEq, Eq, Hash, Drop)]
+#[derive(PartialEq, Eq, Hash, Drop)]
 pub enum Key {
     /// A url: the definitions of that url, of each kind.
     Url(String),

@@ -17,7 +17,7 @@ use std::borrow::CowStr;
 use std::collections::BTreeSet;
 
 /// What an issue says: one of `OperationOutcome.issue`.
-#[derive(Debug, Drop)]
+#[derive(Drop)]
 struct OutcomeIssue {
     severity: &'static str,
     code: &'static str,

@@ -52,7 +52,7 @@ pub struct Subject<'s, 'f> {
 }
 
 /// A report.
-#[derive(Debug, Drop)]
+#[derive(Drop)]
 pub struct Report {
     /// Whether nothing is wrong.
     pub is_clean: bool,

@@ -45,19 +45,23 @@ use std::alloc::Global;
 use std::marker::Model;
 
 /// The schema of a package: its definitions, why some can't be used, the nodes of the others, and its value sets.
-#[derive(Drop)]
 pub struct Schema {
     table: Table,
-    lineage: Lineage,
-    blames: Vec<Option<Blame>>,
-    nodes: Nodes,
-    slices: Nodes,
-    summaries: Summaries,
-    resource_types: ResourceTypes,
-    criteria: Criteria,
-    forms: NodeForms,
+    own: OwnParts,
+    judged: JudgedParts,
     value_sets: ValueSets,
-    expressions: Expressions,
+}
+
+// A derived drop would be proved anew in each crate that owns one.
+impl Drop for Schema {
+    fn drop(self) {
+        let Schema {
+            table: _table,
+            own: _own,
+            judged: _judged,
+            value_sets: _value_sets,
+        } = self;
+    }
 }
 
 impl Model for Schema {
@@ -83,9 +87,9 @@ impl Model for Schema {
     ghost use Rattle.fhir_schema.specs.Blaming.{reasons_of};
     ghost use Rattle.fhir_definition.specs.Blames.{AreBlamesAmong};
 
-    ghost view = { λ s. record { definitions = s.table; reasons = reasons_of s.blames.items; value_sets = s.value_sets } };
+    ghost view = { λ s. record { definitions = s.table; reasons = reasons_of s.judged.blames.items; value_sets = s.value_sets } };
 
-    ghost invariant = { λ s. (s.nodes ≡ all_slots s.table) × (s.slices ≡ all_slices s.table) × (s.criteria.criteria ≡ all_criteria s.table) × (s.forms.forms ≡ all_forms s.table) × (lists_seen s.expressions ≡ all_expressions s.table) × (s.summaries ≡ all_summaries s.table) × (s.resource_types ≡ of_resources s.table) × IsLineage s.table s.lineage × AreBlamesAmong s.table s.blames.items };
+    ghost invariant = { λ s. (s.own.nodes ≡ all_slots s.table) × (s.own.slices ≡ all_slices s.table) × (s.judged.criteria.criteria ≡ all_criteria s.table) × (s.judged.forms.forms ≡ all_forms s.table) × (lists_seen s.own.expressions ≡ all_expressions s.table) × (s.own.summaries ≡ all_summaries s.table) × (s.own.resource_types ≡ of_resources s.table) × IsLineage s.table s.own.lineage × AreBlamesAmong s.table s.judged.blames.items };
 }
 
 fn stated_version(definition: &Definition) -> Option<&str>
@@ -175,16 +179,9 @@ impl Schema {
         let judged = judged_parts(alloc, &table, &own.nodes)?;
         Ok(Schema {
             table,
-            lineage: own.lineage,
-            blames: judged.blames,
-            nodes: own.nodes,
-            slices: own.slices,
-            summaries: own.summaries,
-            resource_types: own.resource_types,
-            criteria: judged.criteria,
-            forms: judged.forms,
+            own,
+            judged,
             value_sets,
-            expressions: own.expressions,
         })
     }
 
@@ -206,7 +203,7 @@ impl Schema {
     pub fn reason(&self, place: usize) -> Option<Reason>
         ensures { result ≡ reason_at self.now.reasons place }
     {
-        let blame = blame_at(&self.blames, place)?;
+        let blame = blame_at(&self.judged.blames, place)?;
         Some(blame.cause.reason())
     }
 
@@ -228,7 +225,7 @@ impl Schema {
     {
         self.table.are_placed();
         match self.table.url_place(url) {
-            Some(place) => blame_at(&self.blames, place),
+            Some(place) => blame_at(&self.judged.blames, place),
             None => None,
         }
     }
@@ -236,7 +233,7 @@ impl Schema {
     fn is_usable(&self, place: usize) -> bool
         ensures { result ≡ is_usable self.now place }
     {
-        blame_at(&self.blames, place).is_none()
+        blame_at(&self.judged.blames, place).is_none()
     }
 
     /// Whether a definition stands at a url and can be used.
@@ -395,14 +392,14 @@ impl Schema {
     pub fn slots(&self, node: NodeRef) -> &[Slot]
         ensures { result.now ≡ slots self.now node }
     {
-        self.nodes.slots(node)
+        self.own.nodes.slots(node)
     }
 
     /// The slot of a name among a node's.
     pub fn slot(&self, node: NodeRef, name: &str) -> Option<&Slot>
         ensures { option_copied result ≡ slot_named self.now node name.now }
     {
-        self.nodes.find(node, name)
+        self.own.nodes.find(node, name)
     }
 
     /// The slices of a node's element, in the definition's order (FHIR R4, Profiling, slicing). A node that the schema doesn't
@@ -410,14 +407,14 @@ impl Schema {
     pub fn slices(&self, node: NodeRef) -> &[Slot]
         ensures { result.now ≡ slices self.now node }
     {
-        self.slices.slots(node)
+        self.own.slices.slots(node)
     }
 
     /// The slice of a name among those of a node's element.
     pub fn slice(&self, node: NodeRef, name: &str) -> Option<&Slot>
         ensures { option_copied result ≡ slice_named self.now node name.now }
     {
-        self.slices.find(node, name)
+        self.own.slices.find(node, name)
     }
 
     /// By what an item is told to belong to the slice that a node is (FHIR R4, ElementDefinition, slicing.discriminator): one
@@ -425,7 +422,7 @@ impl Schema {
     pub fn criteria(&self, node: NodeRef) -> &[Criterion]
         ensures { criteria_seen result.now ≡ criteria self.now node }
     {
-        self.criteria.at(node)
+        self.judged.criteria.at(node)
     }
 
     /// Whether each item of a node's element has to be in one of its slices (FHIR R4, ElementDefinition, slicing.rules).
@@ -450,14 +447,14 @@ impl Schema {
     pub fn holder(&self, node: NodeRef) -> Option<NodeRef>
         ensures { result ≡ holder self.now node }
     {
-        holder(&self.nodes, &self.table, node)
+        holder(&self.own.nodes, &self.table, node)
     }
 
     /// That one, if it has children.
     pub fn child_holder(&self, node: NodeRef) -> Option<NodeRef>
         ensures { result ≡ child_holder self.now node }
     {
-        child_holder(&self.nodes, &self.table, node)
+        child_holder(&self.own.nodes, &self.table, node)
     }
 
     /// The type entries of a node. A root has none, whatever is written there.
@@ -486,7 +483,7 @@ impl Schema {
     pub fn expression(&self, node: NodeRef, position: usize) -> Option<&Expr>
         ensures { option_map (λ e. tree_of e.now) result ≡ expression_at self.now node position }
     {
-        self.expressions.at(node, position)
+        self.own.expressions.at(node, position)
     }
 
     /// The code of the type that a node's definition defines or constrains.
@@ -514,7 +511,7 @@ impl Schema {
     pub fn only_type_root(&self, node: NodeRef) -> Option<NodeRef>
         ensures { result ≡ only_type_root self.now node }
     {
-        match self.summaries.one_type(node) {
+        match self.own.summaries.one_type(node) {
             Some(place) => self.node_in(place, self.root_element(place)),
             None => None,
         }
@@ -526,7 +523,7 @@ impl Schema {
     pub fn is_lenient(&self, node: NodeRef) -> bool
         ensures { result ≡ is_lenient self.now node }
     {
-        self.summaries.is_lenient(node)
+        self.own.summaries.is_lenient(node)
     }
 
     fn is_concrete(&self, code: &str) -> bool
@@ -555,21 +552,21 @@ impl Schema {
     pub fn forms(&self, node: NodeRef) -> &[Form]
         ensures { result.now ≡ forms self.now node }
     {
-        self.forms.forms(node)
+        self.judged.forms.forms(node)
     }
 
     /// What the name of a property means at a node: the form that it belongs to, and whether it is that one's companion.
     pub fn property(&self, node: NodeRef, name: &str) -> Option<Property>
         ensures { result ≡ property self.now node name.now }
     {
-        self.forms.property(node, name)
+        self.judged.forms.property(node, name)
     }
 
     /// No two forms of a node's children spell one property. It does nothing.
     pub fn forms_are_apart(&self, node: NodeRef)
         ensures { IsTrue (are_apart (forms self.now node)) }
     {
-        self.forms.forms_are_apart(node)
+        self.judged.forms.forms_are_apart(node)
     }
 
     /// Whether a code is of a type of resources (FHIR R4, StructureDefinition, kind).
@@ -584,7 +581,7 @@ impl Schema {
     pub fn is_of_resource(&self, node: NodeRef) -> bool
         ensures { result ≡ names_resource self.now.definitions (type_at self.now node) }
     {
-        match self.resource_types.at(node.definition) {
+        match self.own.resource_types.at(node.definition) {
             Some(is_resource) => is_resource,
             None => names_resource(&self.table, ""),
         }
@@ -595,13 +592,13 @@ impl Schema {
     pub fn covers(&self, code: &str, other: &str) -> bool
         ensures { result ≡ covers self.now code.now other.now }
     {
-        covers(&self.table, &self.lineage, code, other)
+        covers(&self.table, &self.own.lineage, code, other)
     }
 
     /// Whether a type is another, or derives from it by its chain of bases (FHIR R4, StructureDefinition, baseDefinition).
     pub fn derives(&self, code: &str, ancestor: &str) -> bool
         ensures { result ≡ derives self.now code.now ancestor.now }
     {
-        derives(&self.table, &self.lineage, code, ancestor)
+        derives(&self.table, &self.own.lineage, code, ancestor)
     }
 }

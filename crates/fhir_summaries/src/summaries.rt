@@ -15,7 +15,7 @@ use std::alloc::{AllocError, Global};
 use std::marker::Model;
 
 // What is known of a node.
-#[derive(Debug, Drop)]
+#[derive(Drop)]
 struct Summary {
     is_lenient: bool,
     one_type: Option<usize>,

@@ -11,7 +11,7 @@ use fhir_json::{Json, Position};
 use std::alloc::Global;
 
 /// What is noted beside an issue.
-#[derive(Debug, Drop)]
+#[derive(Drop)]
 pub struct Note {
     /// Where it is in the resource's text.
     pub at: Position,
@@ -20,7 +20,7 @@ pub struct Note {
 }
 
 /// How a resource stands with a profile, and the outcome that says so, with a note for each of its issues.
-#[derive(Debug, Drop)]
+#[derive(Drop)]
 pub struct Judgement {
     /// The url of the profile.
     pub profile: String,
@@ -33,7 +33,7 @@ pub struct Judgement {
 }
 
 /// The verdict on a line, and the judgements on its resource that it rests on.
-#[derive(Debug, Drop)]
+#[derive(Drop)]
 pub struct Told {
     /// The verdict.
     pub verdict: LineVerdict,

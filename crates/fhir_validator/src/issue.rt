@@ -7,7 +7,7 @@ use fhir_instance::Misfit;
 use fhir_schema::NodeRef;
 
 /// A rule that an item breaks, whatever unread rules mean.
-#[derive(Debug, Drop)]
+#[derive(Drop)]
 pub struct Breach<'s> {
     /// What is broken.
     pub rule: BrokenRule<'s>,
@@ -22,7 +22,7 @@ pub struct Breach<'s> {
 }
 
 /// Why a resource doesn't conform.
-#[derive(Debug, Drop)]
+#[derive(Drop)]
 pub enum Issue<'s> {
     /// It is no resource of the type that it names.
     Misfit(Misfit),
@@ -31,7 +31,7 @@ pub enum Issue<'s> {
 }
 
 /// An unread rule that a verdict hangs on.
-#[derive(Debug, Drop)]
+#[derive(Drop)]
 pub struct Site<'s> {
     /// The rule.
     pub unread: Unread<'s>,

@@ -8,7 +8,7 @@ ghost use Rattle.fhir_validator.specs.Judgements.{under, same_judgement};
 use fhir_facets::Holding;
 
 /// Whether something holds of an item, where unread rules may mean anything and a user vouches for some of them.
-#[derive(Clone, Copy, Debug, PartialEq, Eq)]
+#[derive(Clone, Copy, PartialEq, Eq)]
 pub(crate) enum Judgement {
     /// It holds, whatever they mean.
     Holds,

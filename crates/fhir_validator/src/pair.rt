@@ -3,7 +3,7 @@
 use fhir_schema::NodeRef;
 
 /// A node, and an item that it is asked of.
-#[derive(Clone, Copy, Debug, PartialEq, Eq, PartialOrd, Ord)]
+#[derive(Clone, Copy, PartialEq, Eq, PartialOrd, Ord)]
 pub(crate) struct ItemPair {
     /// The item's number.
     pub(crate) item: usize,

@@ -9,7 +9,7 @@ use std::fmt::Write;
 
 /// Where an item stands in a resource. `Display` prints the type of the resource and the names of the elements down to it,
 /// as `Patient.name[0].given`: an index where the element is an array, and no `[x]`.
-#[derive(Debug, Drop)]
+#[derive(Drop)]
 pub struct Place {
     text: String,
 }

@@ -3,7 +3,7 @@
 use crate::issue::{Issue, Site};
 
 /// Whether a resource conforms to a profile, where unread rules may mean anything.
-#[derive(Debug, Drop)]
+#[derive(Drop)]
 pub enum Verdict<'s> {
     /// It does, whatever they mean.
     Conforms,
@@ -33,7 +33,7 @@ impl Verdict<'_> {
 }
 
 /// Whether a resource conforms to a profile, where a user vouches for some of the unread rules.
-#[derive(Debug, Drop)]
+#[derive(Drop)]
 pub enum Vouched<'s> {
     /// It does where these of the given rules hold, whatever the others mean. There is none of them where it conforms whatever
     /// unread rules mean.

@@ -15,7 +15,7 @@ use std::alloc::Global;
 use thiserror::Error;
 
 /// A line of a file that is not passed over, with its text.
-#[derive(Debug, Drop)]
+#[derive(Drop)]
 pub struct GivenLine {
     /// Its number in the file, from 1.
     pub number: usize,

@@ -13,158 +13,224 @@ use clap::error::ErrorKind;
 use clap::{Arg, ArgAction, ArgMatches, Command};
 use std::alloc::{AllocError, Global};
 
-fn certify<'a>(alloc: Global) -> Result<Command<'a>, AllocError> {
-    Command::new(alloc, "certify")
-        .arg(Arg::new(alloc, "PACKAGE").required(true))?
-        .arg(Arg::new(alloc, "CERTIFICATE").required(true))
+// How a part of a command is given.
+#[derive(Clone, Copy)]
+enum Kind {
+    // It has to be there.
+    Required,
+    // It may be there.
+    Optional,
+    // One or more have to be there.
+    Several,
+    // An option without a word.
+    Flag,
+    // An option with a word.
+    Option,
+    // The same, which may stand several times.
+    Options,
 }
 
-fn migrate<'a>(alloc: Global) -> Result<Command<'a>, AllocError> {
-    Command::new(alloc, "migrate")
-        .arg(Arg::new(alloc, "PACKAGE").required(true))?
-        .arg(Arg::new(alloc, "CERTIFICATE").required(true))
+// A part of a command: a word, or an option.
+#[derive(Clone, Copy)]
+struct Part {
+    name: &'static str,
+    kind: Kind,
 }
 
-fn validate<'a>(alloc: Global) -> Result<Command<'a>, AllocError> {
-    Command::new(alloc, "validate")
-        .arg(Arg::new(alloc, "PACKAGE").required(true))?
-        .arg(Arg::new(alloc, "PROFILE").required(true))?
-        .arg(Arg::new(alloc, "RESOURCE").required(true))
+fn required(name: &'static str) -> Part {
+    Part {
+        name,
+        kind: Kind::Required,
+    }
 }
 
-fn validate_given<'a>(alloc: Global) -> Result<Command<'a>, AllocError> {
-    Command::new(alloc, "validate-given")
-        .arg(Arg::new(alloc, "PACKAGE").required(true))?
-        .arg(Arg::new(alloc, "PROFILE").required(true))?
-        .arg(Arg::new(alloc, "RESOURCE").required(true))?
-        .arg(Arg::new(alloc, "FILE").required(true))
+fn optional(name: &'static str) -> Part {
+    Part {
+        name,
+        kind: Kind::Optional,
+    }
 }
 
-fn snapshot<'a>(alloc: Global) -> Result<Command<'a>, AllocError> {
-    Command::new(alloc, "snapshot")
-        .arg(Arg::new(alloc, "PACKAGE").required(true))?
-        .arg(Arg::new(alloc, "URL").required(true))
+fn several(name: &'static str) -> Part {
+    Part {
+        name,
+        kind: Kind::Several,
+    }
 }
 
-fn derive<'a>(alloc: Global) -> Result<Command<'a>, AllocError> {
-    Command::new(alloc, "derive")
-        .arg(Arg::new(alloc, "PACKAGE").required(true))?
-        .arg(Arg::new(alloc, "DERIVED").required(true))?
-        .arg(Arg::new(alloc, "BASE").required(true))
+fn flag(name: &'static str) -> Part {
+    Part {
+        name,
+        kind: Kind::Flag,
+    }
 }
 
-fn counter<'a>(alloc: Global) -> Result<Command<'a>, AllocError> {
-    Command::new(alloc, "counter")
-        .arg(Arg::new(alloc, "PACKAGE").required(true))?
-        .arg(Arg::new(alloc, "DERIVED").required(true))?
-        .arg(Arg::new(alloc, "BASE").required(true))
+fn option(name: &'static str) -> Part {
+    Part {
+        name,
+        kind: Kind::Option,
+    }
 }
 
-fn counter_given<'a>(alloc: Global) -> Result<Command<'a>, AllocError> {
-    Command::new(alloc, "counter-given")
-        .arg(Arg::new(alloc, "PACKAGE").required(true))?
-        .arg(Arg::new(alloc, "DERIVED").required(true))?
-        .arg(Arg::new(alloc, "BASE").required(true))?
-        .arg(Arg::new(alloc, "FILE").required(true))
+fn options(name: &'static str) -> Part {
+    Part {
+        name,
+        kind: Kind::Options,
+    }
 }
 
-fn flag<'a>(alloc: Global, name: &'static str) -> Arg<'a> {
-    Arg::new(alloc, name).long(name).action(ArgAction::SetTrue)
+fn argument<'a>(alloc: Global, part: Part) -> Arg<'a> {
+    let argument = Arg::new(alloc, part.name);
+    match part.kind {
+        Kind::Required => argument.required(true),
+        Kind::Optional => argument,
+        Kind::Several => argument.required(true).num_args(1..),
+        Kind::Flag => argument.long(part.name).action(ArgAction::SetTrue),
+        Kind::Option => argument.long(part.name),
+        Kind::Options => argument.long(part.name).action(ArgAction::Append),
+    }
 }
 
-// An option that has a word, and one that may stand several times.
-fn option<'a>(alloc: Global, name: &'static str) -> Arg<'a> {
-    Arg::new(alloc, name).long(name)
+// A command with these parts.
+fn with<'a>(alloc: Global, name: &'static str, parts: &[Part]) -> Result<Command<'a>, AllocError> {
+    let mut command = Command::new(alloc, name);
+    for part in parts {
+        command = command.arg(argument(alloc, *part))?;
+    }
+    Ok(command)
 }
 
-fn options<'a>(alloc: Global, name: &'static str) -> Arg<'a> {
-    option(alloc, name).action(ArgAction::Append)
+// A command whose words all have to be there.
+fn all_required<'a>(
+    alloc: Global,
+    name: &'static str,
+    words: &[&'static str],
+) -> Result<Command<'a>, AllocError> {
+    let mut command = Command::new(alloc, name);
+    for word in words {
+        command = command.arg(argument(alloc, required(*word)))?;
+    }
+    Ok(command)
 }
 
 fn check<'a>(alloc: Global) -> Result<Command<'a>, AllocError> {
-    Command::new(alloc, "check")
-        .arg(Arg::new(alloc, "PACKAGE").required(true))?
-        .arg(Arg::new(alloc, "CERTIFICATE"))?
-        .arg(options(alloc, "only"))?
-        .arg(flag(alloc, "each"))?
-        .arg(flag(alloc, "json"))
+    with(
+        alloc,
+        "check",
+        &[
+            required("PACKAGE"),
+            optional("CERTIFICATE"),
+            options("only"),
+            flag("each"),
+            flag("json"),
+        ],
+    )
 }
 
 fn unread<'a>(alloc: Global) -> Result<Command<'a>, AllocError> {
-    Command::new(alloc, "unread")
-        .arg(Arg::new(alloc, "PACKAGE").required(true))?
-        .arg(Arg::new(alloc, "PROFILE"))
+    with(alloc, "unread", &[required("PACKAGE"), optional("PROFILE")])
 }
 
 fn gather<'a>(alloc: Global) -> Result<Command<'a>, AllocError> {
-    let folders = Arg::new(alloc, "FOLDER").required(true).num_args(1..);
-    Command::new(alloc, "gather")
-        .arg(Arg::new(alloc, "OUT").required(true))?
-        .arg(folders)?
-        .arg(flag(alloc, "each"))
+    with(
+        alloc,
+        "gather",
+        &[required("OUT"), several("FOLDER"), flag("each")],
+    )
 }
 
 fn validate_all<'a>(alloc: Global) -> Result<Command<'a>, AllocError> {
-    let inputs = Arg::new(alloc, "INPUT").required(true).num_args(1..);
-    Command::new(alloc, "validate-all")
-        .arg(Arg::new(alloc, "PACKAGE").required(true))?
-        .arg(Arg::new(alloc, "PROFILE").required(true))?
-        .arg(inputs)?
-        .arg(option(alloc, "given"))?
-        .arg(flag(alloc, "json"))?
-        .arg(flag(alloc, "only-bad"))?
-        .arg(flag(alloc, "skip-unknown"))
+    with(
+        alloc,
+        "validate-all",
+        &[
+            required("PACKAGE"),
+            required("PROFILE"),
+            several("INPUT"),
+            option("given"),
+            flag("json"),
+            flag("only-bad"),
+            flag("skip-unknown"),
+        ],
+    )
 }
 
 fn audit<'a>(alloc: Global) -> Result<Command<'a>, AllocError> {
-    Command::new(alloc, "audit")
-        .arg(Arg::new(alloc, "PACKAGE").required(true))?
-        .arg(options(alloc, "only"))?
-        .arg(option(alloc, "given"))?
-        .arg(option(alloc, "html"))?
-        .arg(option(alloc, "certificates"))?
-        .arg(option(alloc, "against"))?
-        .arg(flag(alloc, "json"))
+    with(
+        alloc,
+        "audit",
+        &[
+            required("PACKAGE"),
+            options("only"),
+            option("given"),
+            option("html"),
+            option("certificates"),
+            option("against"),
+            flag("json"),
+        ],
+    )
 }
 
 fn compare<'a>(alloc: Global) -> Result<Command<'a>, AllocError> {
-    Command::new(alloc, "compare")
-        .arg(Arg::new(alloc, "OLD").required(true))?
-        .arg(Arg::new(alloc, "NEW").required(true))?
-        .arg(option(alloc, "for"))?
-        .arg(flag(alloc, "json"))
+    with(
+        alloc,
+        "compare",
+        &[
+            required("OLD"),
+            required("NEW"),
+            option("for"),
+            flag("json"),
+        ],
+    )
 }
 
-fn serve<'a>(alloc: Global) -> Result<Command<'a>, AllocError> {
-    Command::new(alloc, "serve").arg(Arg::new(alloc, "PACKAGE").required(true))
-}
+const COMMANDS: [&str; 16] = [
+    "certify",
+    "migrate",
+    "validate",
+    "validate-given",
+    "snapshot",
+    "derive",
+    "counter",
+    "counter-given",
+    "check",
+    "unread",
+    "serve",
+    "serve-given",
+    "gather",
+    "validate-all",
+    "audit",
+    "compare",
+];
 
-fn serve_given<'a>(alloc: Global) -> Result<Command<'a>, AllocError> {
-    Command::new(alloc, "serve-given")
-        .arg(Arg::new(alloc, "PACKAGE").required(true))?
-        .arg(Arg::new(alloc, "FILE").required(true))
+// The command of that name.
+fn command<'a>(alloc: Global, name: &'static str) -> Result<Command<'a>, AllocError> {
+    match name {
+        "certify" | "migrate" => all_required(alloc, name, &["PACKAGE", "CERTIFICATE"]),
+        "validate" => all_required(alloc, name, &["PACKAGE", "PROFILE", "RESOURCE"]),
+        "validate-given" => all_required(alloc, name, &["PACKAGE", "PROFILE", "RESOURCE", "FILE"]),
+        "snapshot" => all_required(alloc, name, &["PACKAGE", "URL"]),
+        "derive" | "counter" => all_required(alloc, name, &["PACKAGE", "DERIVED", "BASE"]),
+        "counter-given" => all_required(alloc, name, &["PACKAGE", "DERIVED", "BASE", "FILE"]),
+        "serve" => all_required(alloc, name, &["PACKAGE"]),
+        "serve-given" => all_required(alloc, name, &["PACKAGE", "FILE"]),
+        "check" => check(alloc),
+        "unread" => unread(alloc),
+        "gather" => gather(alloc),
+        "validate-all" => validate_all(alloc),
+        "audit" => audit(alloc),
+        _ => compare(alloc),
+    }
 }
 
 fn program<'a>(alloc: Global) -> Result<Command<'a>, AllocError> {
-    Command::new(alloc, "fhirprof")
+    let mut program = Command::new(alloc, "fhirprof")
         .version(VERSION)
-        .subcommand_required(true)
-        .subcommand(certify(alloc)?)?
-        .subcommand(migrate(alloc)?)?
-        .subcommand(validate(alloc)?)?
-        .subcommand(validate_given(alloc)?)?
-        .subcommand(snapshot(alloc)?)?
-        .subcommand(derive(alloc)?)?
-        .subcommand(counter(alloc)?)?
-        .subcommand(counter_given(alloc)?)?
-        .subcommand(check(alloc)?)?
-        .subcommand(unread(alloc)?)?
-        .subcommand(serve(alloc)?)?
-        .subcommand(serve_given(alloc)?)?
-        .subcommand(gather(alloc)?)?
-        .subcommand(validate_all(alloc)?)?
-        .subcommand(audit(alloc)?)?
-        .subcommand(compare(alloc)?)
+        .subcommand_required(true);
+    for name in COMMANDS {
+        program = program.subcommand(command(alloc, name)?)?;
+    }
+    Ok(program)
 }
 
 // What words ask for that `clap` gives back with an error of a kind.

@@ -36,7 +36,7 @@ pub struct Manner {
 }
 
 /// What is asked.
-#[derive(Debug, Drop)]
+#[derive(Drop)]
 pub enum Request<'w> {
     /// Whether the certificate in a file is right, over the definitions in a folder.
     Certify {
@@ -177,7 +177,7 @@ impl<'w> Request<'w> {
 }
 
 /// What words ask for that is answered once.
-#[derive(Debug, Drop)]
+#[derive(Drop)]
 pub enum Invocation<'w> {
     /// An answer to a request.
     Request(Request<'w>),
@@ -186,7 +186,7 @@ pub enum Invocation<'w> {
 }
 
 /// That the definitions in folders are gathered into a new one.
-#[derive(Debug, Drop)]
+#[derive(Drop)]
 pub struct GatherRequest<'w> {
     /// The new folder.
     pub out: &'w str,
@@ -197,7 +197,7 @@ pub struct GatherRequest<'w> {
 }
 
 /// That all resources of some inputs are validated.
-#[derive(Debug, Drop)]
+#[derive(Drop)]
 pub struct BulkRequest<'w> {
     /// The folder of the definitions.
     pub folder: &'w str,
@@ -217,7 +217,7 @@ pub struct BulkRequest<'w> {
 }
 
 /// That each profile of a package is told, and whether it narrows its base.
-#[derive(Debug, Drop)]
+#[derive(Drop)]
 pub struct AuditRequest<'w> {
     /// The folder of the definitions.
     pub folder: &'w str,
@@ -245,7 +245,7 @@ pub enum Audience {
 }
 
 /// That the profiles of two packages are compared.
-#[derive(Debug, Drop)]
+#[derive(Drop)]
 pub struct CompareRequest<'w> {
     /// The folder of the old definitions.
     pub old: &'w str,
@@ -258,7 +258,7 @@ pub struct CompareRequest<'w> {
 }
 
 /// What words ask for.
-#[derive(Debug, Drop)]
+#[derive(Drop)]
 pub enum Task<'w> {
     /// An answer.
     Answer(Invocation<'w>),

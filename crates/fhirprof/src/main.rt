@@ -11,6 +11,7 @@ ghost use Rattle.fhir_engine.specs.Reading.{IsReadOf};
 ghost use Rattle.fhir_answers.specs.Views.{files_seen};
 ghost use Rattle.fhir_words.specs.Views.{asked_seen};
 
+use fhir_audit_engine::{ProfileMeter, audit_directory};
 use fhir_bulk_engine::{RateMeter, validate_directory};
 use fhir_engine::{
     Meter, Opened, gather_directories, open_asked, run, serve_directory, serve_directory_given,
@@ -71,10 +72,14 @@ fn main(rt: HostRuntime) -> ExitCode {
                 &rt, &request, input, &mut meter, &mut watch, &mut out, &mut err,
             ))
         }
-        // They are read, and there is no answer to them yet.
-        Ok(Task::Audit(_request)) => {
-            answer(&rt, Err(WordsFault::Usage), &mut meter, &mut out, &mut err)
+        Ok(Task::Audit(request)) => {
+            let mut terminal = rt.stderr();
+            let mut watch = ProfileMeter::new(&rt, &mut terminal, is_terminal);
+            ExitCode::from(audit_directory(
+                &rt, &request, &mut meter, &mut watch, &mut out, &mut err,
+            ))
         }
+        // It is read, and there is no answer to it yet.
         Ok(Task::Compare(_request)) => {
             answer(&rt, Err(WordsFault::Usage), &mut meter, &mut out, &mut err)
         }

@@ -171,29 +171,73 @@ fn do_line<R: Print + AllocGlobal + Clone + Drop>(
     }
 }
 
-fn do_all<R: Files + Print + AllocGlobal + Clone + Drop>(
+fn do_lines<R: Print + AllocGlobal + Clone + Drop>(
     rt: &R,
-    package: &Package<'_>,
+    registry: &mut Registry,
+    lines: &str,
 ) -> io::Result<()> {
-    let sessions = fs::read_to_string(rt, "sessions.txt")?;
-    let mut registry = registry_of(rt.alloc(), package).map_err(|_| AllocError)?;
-    for line in sessions.lines() {
-        match line.strip_prefix("session ") {
-            Some(name) => {
-                registry = registry_of(rt.alloc(), package).map_err(|_| AllocError)?;
-                println!(rt; "{name}")?;
-            }
-            None => do_line(rt, &mut registry, line)?,
-        }
+    for line in lines.lines() {
+        do_line(rt, registry, line)?;
     }
     Ok(())
 }
 
-fn main(rt: HostRuntime) -> io::Result<()> {
-    let text = fs::read_to_string(&rt, "package.txt")?;
-    let mut folder = folder_of_lines(rt.alloc(), text.as_str())?;
-    match load(rt.alloc(), &mut folder) {
-        Ok(package) => do_all(&rt, &package),
-        Err(fault) => println!(&rt; "{fault}"),
+// Does the lines of a session with a new registry.
+fn do_session<R: Print + AllocGlobal + Clone + Drop>(
+    rt: &R,
+    package: &Package<'_>,
+    lines: &str,
+) -> io::Result<()> {
+    match registry_of(rt.alloc(), package) {
+        Ok(registry) => {
+            let mut registry = registry;
+            do_lines(rt, &mut registry, lines)
+        }
+        Err(_) => Err(AllocError.into()),
     }
+}
+
+fn do_all<R: Print + AllocGlobal + Clone + Drop>(
+    rt: &R,
+    package: &Package<'_>,
+    text: &str,
+) -> io::Result<()> {
+    // What stands before the first session is for the reader.
+    for session in text.split("\nsession ").skip(1) {
+        let (name, lines) = session.split_once('\n').unwrap_or((session, ""));
+        println!(rt; "{name}")?;
+        do_session(rt, package, lines)?;
+    }
+    Ok(())
+}
+
+fn ask<R: Files + Print + AllocGlobal + Clone + Drop>(
+    rt: &R,
+    package: &Package<'_>,
+) -> io::Result<()> {
+    let text = fs::read_to_string(rt, "sessions.txt")?;
+    do_all(rt, package, text.as_str())
+}
+
+fn ask_folder<R: Files + Print + AllocGlobal + Clone + Drop>(
+    rt: &R,
+    folder: &mut MemoryFolder,
+) -> io::Result<()> {
+    match load(rt.alloc(), folder) {
+        Ok(package) => ask(rt, &package),
+        Err(fault) => println!(rt; "{fault}"),
+    }
+}
+
+fn folder_at<R: Files + AllocGlobal + Clone + Drop>(
+    rt: &R,
+    path: &str,
+) -> io::Result<MemoryFolder> {
+    let text = fs::read_to_string(rt, path)?;
+    Ok(folder_of_lines(rt.alloc(), text.as_str())?)
+}
+
+fn main(rt: HostRuntime) -> io::Result<()> {
+    let mut folder = folder_at(&rt, "package.txt")?;
+    ask_folder(&rt, &mut folder)
 }

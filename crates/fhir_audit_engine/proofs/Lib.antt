@@ -1,0 +1,2 @@
+-- Lemmas on what an audit promises.
+mod Promised

@@ -1,0 +1,271 @@
+//! An audit of what paths name.
+
+use crate::asked::{Asked, NamedBytes};
+use crate::certificate_files::part_of;
+use crate::new_file::PageFile;
+use crate::outputs::{Named, Outputs};
+use crate::running::audit_folder;
+use fhir_answers::{NamedFile, Status, fault_text};
+use fhir_audit::Watch;
+use fhir_engine::{bytes_at, directory_at, end_with};
+use fhir_json::NoMemory;
+use fhir_new_folder::NewDirectory;
+use fhir_package::{MemoryFolder, Progress};
+use fhir_words::AuditRequest;
+use std::alloc::{AllocError, Global};
+use std::collections::BTreeMap;
+use std::fs::DirEntry;
+use std::io::{ErrorKind, Write};
+use std::rt::Files;
+use std::{fs, io};
+
+// ---- a folder of certificates
+
+/// The certificates of a folder, or what is told of why they can't be read.
+type Certificates = Result<Vec<NamedBytes>, String>;
+
+// Puts in the name and the path of an entry of a directory, if its name is UTF-8. An error is of the listing, or of memory.
+fn put_entry<R: Files + AllocGlobal + Clone + Drop>(
+    rt: &R,
+    entry: io::Result<DirEntry<R, Global>>,
+    paths: &mut BTreeMap<String, String>,
+) -> io::Result<()> {
+    let entry = match entry {
+        Ok(entry) => entry,
+        Err(error) if error.kind() == ErrorKind::InvalidFilename => return Ok(()),
+        Err(error) => return Err(error),
+    };
+    let name = String::from_str(rt.alloc(), entry.file_name())?;
+    let path = String::from_str(rt.alloc(), entry.path().as_str())?;
+    paths.insert(name, path)?;
+    Ok(())
+}
+
+// The paths of what a directory holds, by their names.
+fn paths_at<R: Files + AllocGlobal + Clone + Drop>(
+    rt: &R,
+    path: &str,
+) -> io::Result<BTreeMap<String, String>> {
+    let mut paths = BTreeMap::new(rt.alloc());
+    for entry in fs::read_dir(rt, path)? {
+        put_entry(rt, entry, &mut paths)?;
+    }
+    Ok(paths)
+}
+
+fn read_each<R: Files + AllocGlobal>(
+    rt: &R,
+    folder: &str,
+    paths: BTreeMap<String, String>,
+) -> Result<Certificates, NoMemory> {
+    let mut files = Vec::with_capacity(rt.alloc(), paths.len())?;
+    for (name, path) in paths {
+        let Some(bytes) = bytes_at(rt, path.as_str())? else {
+            let path = format!(in rt.alloc(); "{folder}/{}", name.as_str())?;
+            return Ok(Err(fault_text(rt.alloc(), "P1", path.as_str())?));
+        };
+        files.push(NamedBytes { name, bytes })?;
+    }
+    Ok(Ok(files))
+}
+
+fn certificates_at<R: Files + AllocGlobal + Clone + Drop>(
+    rt: &R,
+    folder: &str,
+) -> Result<Certificates, NoMemory> {
+    match paths_at(rt, folder) {
+        Ok(paths) => read_each(rt, folder, paths),
+        Err(error) if error.kind() == ErrorKind::OutOfMemory => Err(NoMemory),
+        Err(_) => Ok(Err(fault_text(rt.alloc(), "P1", folder)?)),
+    }
+}
+
+// ---- what a request names
+
+/// What a request names: the folder of the definitions, the bytes of the file of texts, where it can be read, and the certificates of which it is
+/// asked whether they hold still.
+#[derive(Drop)]
+pub struct Opened {
+    /// The folder.
+    pub folder: MemoryFolder,
+    /// The texts.
+    pub given: Option<Vec<u8>>,
+    /// The certificates.
+    pub held: Option<Vec<NamedBytes>>,
+}
+
+fn given_bytes<R: Files + AllocGlobal>(
+    rt: &R,
+    given: Option<&str>,
+) -> Result<Option<Vec<u8>>, NoMemory> {
+    match given {
+        Some(path) => bytes_at(rt, path),
+        None => Ok(None),
+    }
+}
+
+fn held_at<R: Files + AllocGlobal + Clone + Drop>(
+    rt: &R,
+    against: Option<&str>,
+) -> Result<Result<Option<Vec<NamedBytes>>, String>, NoMemory> {
+    match against {
+        Some(folder) => Ok(certificates_at(rt, folder)?.map(|files| Some(files))),
+        None => Ok(Ok(None)),
+    }
+}
+
+fn open_request<R: Files + AllocGlobal + Clone + Drop, P: Progress>(
+    rt: &R,
+    request: &AuditRequest<'_>,
+    progress: &mut P,
+) -> Result<Result<Opened, String>, NoMemory> {
+    let folder = directory_at(rt, request.folder, progress)?;
+    let given = given_bytes(rt, request.given)?;
+    match held_at(rt, request.against)? {
+        Ok(held) => Ok(Ok(Opened {
+            folder,
+            given,
+            held,
+        })),
+        Err(text) => Ok(Err(text)),
+    }
+}
+
+// ---- where it is written
+
+// Whether something stands at a path, be it a link that leads nowhere.
+fn is_taken<R: Files>(rt: &R, path: &str) -> bool {
+    path.is_empty() || fs::symlink_metadata(rt, path).is_ok()
+}
+
+// What is told where a new folder of that name isn't begun, as far as it is seen before anything is read.
+fn standing<R: Files + AllocGlobal>(
+    rt: &R,
+    certificates: Option<&str>,
+) -> Result<Option<String>, AllocError> {
+    let Some(name) = certificates else {
+        return Ok(None);
+    };
+    if is_taken(rt, name.trim_end_matches('/')) {
+        return Ok(Some(fault_text(rt.alloc(), "exists", name)?));
+    }
+    let part = part_of(rt.alloc(), name)?;
+    if is_taken(rt, part.as_str()) {
+        return Ok(Some(fault_text(rt.alloc(), "exists", part.as_str())?));
+    }
+    Ok(None)
+}
+
+fn outputs_of<'r, 'w, R: Files + AllocGlobal>(
+    rt: &'r R,
+    request: &AuditRequest<'w>,
+) -> Result<Outputs<'w, NewDirectory<'r, R>, PageFile<'r, R>>, NoMemory> {
+    let certificates = match request.certificates {
+        Some(name) => Some(Named {
+            name,
+            output: NewDirectory::new(rt, name)?,
+        }),
+        None => None,
+    };
+    let page = match request.page {
+        Some(name) => Some(Named {
+            name,
+            output: PageFile::new(rt, name)?,
+        }),
+        None => None,
+    };
+    Ok(Outputs { certificates, page })
+}
+
+// ---- the run
+
+fn asked_of<'a>(
+    request: &'a AuditRequest<'_>,
+    given: Option<&'a [u8]>,
+    held: Option<&'a [NamedBytes]>,
+) -> Asked<'a> {
+    Asked {
+        prefixes: &request.prefixes,
+        given: match request.given {
+            Some(name) => Some(NamedFile { name, bytes: given }),
+            None => None,
+        },
+        held,
+        format: request.format,
+    }
+}
+
+fn run_opened<R: Files + AllocGlobal, P: Progress, V: Watch, W: Write, E: Write>(
+    rt: &R,
+    request: &AuditRequest<'_>,
+    opened: Opened,
+    progress: &mut P,
+    watch: &mut V,
+    out: &mut W,
+    err: &mut E,
+) -> Status {
+    let Opened {
+        folder,
+        given,
+        held,
+    } = opened;
+    let asked = asked_of(request, given.as_deref(), held.as_deref());
+    match outputs_of(rt, request) {
+        Ok(mut outputs) => audit_folder(
+            rt.alloc(),
+            request.folder,
+            folder,
+            asked,
+            &mut outputs,
+            progress,
+            watch,
+            out,
+            err,
+        ),
+        Err(NoMemory) => end_with(err, "no memory\n", Status::NoMemory),
+    }
+}
+
+fn run_free<R: Files + AllocGlobal + Clone + Drop, P: Progress, V: Watch, W: Write, E: Write>(
+    rt: &R,
+    request: &AuditRequest<'_>,
+    progress: &mut P,
+    watch: &mut V,
+    out: &mut W,
+    err: &mut E,
+) -> Status {
+    match open_request(rt, request, progress) {
+        Ok(Ok(opened)) => run_opened(rt, request, opened, progress, watch, out, err),
+        Ok(Err(text)) => {
+            progress.end();
+            end_with(err, text.as_str(), Status::Fault)
+        }
+        Err(NoMemory) => {
+            progress.end();
+            end_with(err, "no memory\n", Status::NoMemory)
+        }
+    }
+}
+
+/// Does what `audit` asks, of the directory that the request names. A folder for certificates is refused first where something stands at its path.
+/// How far the work is, is told to `progress` and to `watch`.
+pub fn audit_directory<
+    R: Files + AllocGlobal + Clone + Drop,
+    P: Progress,
+    V: Watch,
+    W: Write,
+    E: Write,
+>(
+    rt: &R,
+    request: &AuditRequest<'_>,
+    progress: &mut P,
+    watch: &mut V,
+    out: &mut W,
+    err: &mut E,
+) -> Status {
+    match standing(rt, request.certificates) {
+        Ok(None) => run_free(rt, request, progress, watch, out, err),
+        Ok(Some(text)) => end_with(err, text.as_str(), Status::Fault),
+        Err(_) => end_with(err, "no memory\n", Status::NoMemory),
+    }
+}

@@ -1,0 +1,481 @@
+//! An audit of the definitions in a folder.
+
+ghost use Rattle.std.specs.Prelude.{◌≡◌, map, string_bytes, IfOk, IsTrue};
+ghost use Rattle.fhir_answers.specs.Session.{schema_in};
+ghost use Rattle.fhir_audit.specs.Auditing.{are_narrowing, AllNarrow};
+ghost use Rattle.fhir_audit.specs.Views.{all_audited};
+ghost use Rattle.fhir_audit_engine.specs.Promising.{AllNarrowIn, AuditPromise};
+
+use crate::asked::{Asked, NamedBytes};
+use crate::certificate_files::{files_fault_text, write_certificates};
+use crate::new_file::NewFile;
+use crate::outputs::Outputs;
+use fhir_answers::{Reply, Session, Status, fault_text, refused_reply};
+use fhir_audit::{Audited, Watch, are_narrowing, audit, narrowing_profiles, recheck};
+use fhir_audit_lines::{HeldFile, are_holding, audit_text};
+use fhir_audit_words::Sources;
+use fhir_engine::{end_with, files_of, is_written, vouched};
+use fhir_findings::{SelectFault, Selection};
+use fhir_json::NoMemory;
+use fhir_new_folder::{NewFolder, WriteFault};
+use fhir_package::{Folder, FolderFault, Progress};
+use fhir_page::page;
+use fhir_unread::Given;
+use fhir_vouching::Vouching;
+use std::alloc::{AllocError, Global};
+use std::io::Write;
+
+/// Why nothing is told, or not all of it.
+#[derive(Drop)]
+pub(crate) enum Refusal {
+    /// A fault: what is told of it.
+    Fault(String),
+    /// The output failed.
+    Unwritten,
+}
+
+// What is told of a fault.
+fn text_of(alloc: Global, reply: Reply) -> String {
+    match reply {
+        Reply::Fault(text) => text,
+        Reply::Answer { .. } | Reply::Noted { .. } => String::new(alloc),
+    }
+}
+
+fn sources_of<'s, 'f: 's>(session: &'s Session<'f>) -> Sources<'s, 'f>
+    ensures survey { result.survey.now ≡ session.now.survey }
+    ensures schema { result.schema.now ≡ schema_in session.now }
+{
+    Sources {
+        survey: session.survey(),
+        schema: session.schema(),
+        lacking: session.lacking(),
+    }
+}
+
+// ---- the certificates that were made before
+
+fn held_file<'s>(
+    alloc: Global,
+    session: &'s Session<'_>,
+    file: &NamedBytes,
+) -> Result<HeldFile<'s>, NoMemory> {
+    let package = session.survey().package();
+    Ok(HeldFile {
+        name: file.name.clone()?,
+        held: recheck(alloc, package, session.schema(), &file.bytes)?,
+    })
+}
+
+fn held_files<'s>(
+    alloc: Global,
+    session: &'s Session<'_>,
+    files: &[NamedBytes],
+) -> Result<Vec<HeldFile<'s>>, NoMemory> {
+    let mut all: Vec<HeldFile<'s>> = Vec::with_capacity(alloc, files.len())?;
+    for file in files {
+        all.push(held_file(alloc, session, file)?)?;
+    }
+    Ok(all)
+}
+
+fn all_held<'s>(
+    alloc: Global,
+    session: &'s Session<'_>,
+    files: Option<&[NamedBytes]>,
+) -> Result<Option<Vec<HeldFile<'s>>>, NoMemory> {
+    match files {
+        Some(files) => Ok(Some(held_files(alloc, session, files)?)),
+        None => Ok(None),
+    }
+}
+
+// ---- what is written
+
+fn are_held(held: Option<&[HeldFile<'_>]>) -> bool {
+    match held {
+        Some(files) => are_holding(files),
+        None => true,
+    }
+}
+
+fn status_of(audited: &[Audited<'_>], held: Option<&[HeldFile<'_>]>) -> Status
+    ensures { result ≡ Status.Yes → IsTrue (are_narrowing (all_audited audited.now)) }
+{
+    if !are_narrowing(audited) {
+        Status::No
+    } else if are_held(held) {
+        Status::Yes
+    } else {
+        Status::No
+    }
+}
+
+// What is told where something of that name isn't finished.
+fn unfinished(
+    alloc: Global,
+    name: &str,
+    finished: Result<(), WriteFault>,
+) -> Result<Result<(), Refusal>, NoMemory> {
+    match finished {
+        Ok(()) => Ok(Ok(())),
+        Err(WriteFault::Device) => Ok(Err(Refusal::Fault(fault_text(alloc, "write", name)?))),
+        Err(WriteFault::NoMemory) => Err(NoMemory),
+    }
+}
+
+fn finish_folder<N: NewFolder, G>(
+    alloc: Global,
+    outputs: &mut Outputs<'_, N, G>,
+) -> Result<Result<(), Refusal>, NoMemory> {
+    match &mut outputs.certificates {
+        Some(new) => unfinished(alloc, new.name, new.output.finish()),
+        None => Ok(Ok(())),
+    }
+}
+
+fn finish_page<N, G: NewFile>(
+    alloc: Global,
+    outputs: &mut Outputs<'_, N, G>,
+) -> Result<Result<(), Refusal>, NoMemory> {
+    match &mut outputs.page {
+        Some(page) => unfinished(alloc, page.name, page.output.finish()),
+        None => Ok(Ok(())),
+    }
+}
+
+// Gives the folder and the page, which are written, their names.
+fn finish<N: NewFolder, G: NewFile>(
+    alloc: Global,
+    outputs: &mut Outputs<'_, N, G>,
+) -> Result<Result<(), Refusal>, NoMemory> {
+    match finish_folder(alloc, outputs)? {
+        Ok(()) => finish_page(alloc, outputs),
+        Err(refusal) => Ok(Err(refusal)),
+    }
+}
+
+// Takes away what is written and has no name yet.
+fn abandon<N: NewFolder, G: NewFile>(outputs: &mut Outputs<'_, N, G>) {
+    if let Some(new) = &mut outputs.certificates {
+        let _abandoned = new.output.abandon();
+    }
+    if let Some(page) = &mut outputs.page {
+        page.output.abandon();
+    }
+}
+
+// Writes the certificates, where they are written.
+fn put_certificates<N: NewFolder, G>(
+    alloc: Global,
+    sources: Sources<'_, '_>,
+    audited: &[Audited<'_>],
+    outputs: &mut Outputs<'_, N, G>,
+) -> Result<Result<(), Refusal>, NoMemory> {
+    let Some(new) = &mut outputs.certificates else {
+        return Ok(Ok(()));
+    };
+    match write_certificates(alloc, sources.schema, audited, &mut new.output) {
+        Ok(()) => Ok(Ok(())),
+        Err(fault) => match files_fault_text(alloc, new.name, &fault)? {
+            Some(text) => Ok(Err(Refusal::Fault(text))),
+            None => Err(NoMemory),
+        },
+    }
+}
+
+// Writes the page, where it is written.
+fn put_page<N, G: NewFile>(
+    alloc: Global,
+    sources: Sources<'_, '_>,
+    audited: &[Audited<'_>],
+    outputs: &mut Outputs<'_, N, G>,
+) -> Result<Result<(), Refusal>, NoMemory> {
+    let Some(file) = &mut outputs.page else {
+        return Ok(Ok(()));
+    };
+    let bytes = page(
+        alloc,
+        sources.survey,
+        sources.schema,
+        sources.lacking,
+        audited,
+    )?;
+    match file.output.write(&bytes) {
+        Ok(()) => Ok(Ok(())),
+        Err(WriteFault::Device) => {
+            let text = fault_text(alloc, "write", file.name)?;
+            Ok(Err(Refusal::Fault(text)))
+        }
+        Err(WriteFault::NoMemory) => Err(NoMemory),
+    }
+}
+
+fn put_files<N: NewFolder, G: NewFile>(
+    alloc: Global,
+    sources: Sources<'_, '_>,
+    audited: &[Audited<'_>],
+    outputs: &mut Outputs<'_, N, G>,
+) -> Result<Result<(), Refusal>, NoMemory> {
+    match put_certificates(alloc, sources, audited, outputs)? {
+        Ok(()) => put_page(alloc, sources, audited, outputs),
+        Err(refusal) => Ok(Err(refusal)),
+    }
+}
+
+// Writes what is told, and gives the files their names.
+fn tell<N: NewFolder, G: NewFile, W: Write>(
+    alloc: Global,
+    text: &str,
+    outputs: &mut Outputs<'_, N, G>,
+    out: &mut W,
+) -> Result<Result<(), Refusal>, NoMemory> {
+    if is_written(out, text.as_bytes()) {
+        finish(alloc, outputs)
+    } else {
+        Ok(Err(Refusal::Unwritten))
+    }
+}
+
+fn put_all<N: NewFolder, G: NewFile, W: Write>(
+    alloc: Global,
+    sources: Sources<'_, '_>,
+    audited: &[Audited<'_>],
+    text: &str,
+    outputs: &mut Outputs<'_, N, G>,
+    out: &mut W,
+) -> Result<Result<(), Refusal>, NoMemory> {
+    match put_files(alloc, sources, audited, outputs)? {
+        Ok(()) => tell(alloc, text, outputs, out),
+        Err(refusal) => Ok(Err(refusal)),
+    }
+}
+
+// The same; where it fails, nothing is left of the files.
+fn put<N: NewFolder, G: NewFile, W: Write>(
+    alloc: Global,
+    sources: Sources<'_, '_>,
+    audited: &[Audited<'_>],
+    text: &str,
+    outputs: &mut Outputs<'_, N, G>,
+    out: &mut W,
+) -> Result<Result<(), Refusal>, NoMemory> {
+    let done = put_all(alloc, sources, audited, text, outputs, out);
+    if !matches!(done, Ok(Ok(()))) {
+        abandon(outputs);
+    }
+    done
+}
+
+// ---- the run
+
+// Says that there is no profile, where that is so.
+fn note_none<E: Write>(audited: &[Audited<'_>], err: &mut E) {
+    if audited.is_empty() {
+        let _ = is_written(err, b"no profiles\n");
+    }
+}
+
+// Where a user vouches for these rules, if one does. The notes are on the texts that give them, and are told where all else is.
+fn run_vouched<N: NewFolder, G: NewFile, V: Watch, W: Write, E: Write>(
+    alloc: Global,
+    session: &Session<'_>,
+    asked: Asked<'_>,
+    given: Option<&Vouching>,
+    notes: &str,
+    outputs: &mut Outputs<'_, N, G>,
+    watch: &mut V,
+    out: &mut W,
+    err: &mut E,
+) -> Result<Result<Status, Refusal>, NoMemory>
+    ensures { IfOk result (λ r. IfOk r (λ status. status ≡ Status.Yes → AllNarrow (map string_bytes asked.entry.prefixes.now) (schema_in session.now) session.now.survey.definitions)) }
+{
+    narrowing_profiles();
+    let sources = sources_of(session);
+    let audited = audit(
+        alloc,
+        sources.survey,
+        sources.schema,
+        asked.prefixes,
+        given,
+        watch,
+    )?;
+    let held = all_held(alloc, session, asked.held)?;
+    let held = held.as_deref();
+    let text = audit_text(alloc, asked.format, sources, &audited, held)?;
+    watch.end();
+    match put(alloc, sources, &audited, text.as_str(), outputs, out)? {
+        Ok(()) => {
+            let _ = is_written(err, notes.as_bytes());
+            note_none(&audited, err);
+            Ok(Ok(status_of(&audited, held)))
+        }
+        Err(refusal) => Ok(Err(refusal)),
+    }
+}
+
+// Where the file of the texts is read, if one is named.
+fn run_given<N: NewFolder, G: NewFile, V: Watch, W: Write, E: Write>(
+    alloc: Global,
+    session: &Session<'_>,
+    asked: Asked<'_>,
+    outputs: &mut Outputs<'_, N, G>,
+    watch: &mut V,
+    out: &mut W,
+    err: &mut E,
+) -> Result<Result<Status, Refusal>, NoMemory>
+    ensures { IfOk result (λ r. IfOk r (λ status. status ≡ Status.Yes → AllNarrow (map string_bytes asked.entry.prefixes.now) (schema_in session.now) session.now.survey.definitions)) }
+{
+    let Some(file) = asked.given else {
+        return run_vouched(alloc, session, asked, None, "", outputs, watch, out, err);
+    };
+    match vouched(alloc, session, file)? {
+        Ok(Given { vouching, notes }) => run_vouched(
+            alloc,
+            session,
+            asked,
+            Some(&vouching),
+            notes.as_str(),
+            outputs,
+            watch,
+            out,
+            err,
+        ),
+        Err(reply) => Ok(Err(Refusal::Fault(text_of(alloc, reply)))),
+    }
+}
+
+// That no url begins with the prefix at a place.
+fn only_refusal(alloc: Global, prefixes: &[String], place: usize) -> Result<Refusal, AllocError> {
+    let prefix = match prefixes.get(place) {
+        Some(prefix) => prefix.as_str(),
+        None => "",
+    };
+    Ok(Refusal::Fault(fault_text(alloc, "only", prefix)?))
+}
+
+// Why prefixes are refused, if they are.
+fn refusal_of(
+    alloc: Global,
+    session: &Session<'_>,
+    prefixes: &[String],
+) -> Result<Option<Refusal>, NoMemory> {
+    match Selection::of(alloc, session.survey().package(), prefixes) {
+        Ok(_selection) => Ok(None),
+        Err(SelectFault::Unknown(place)) => Ok(Some(only_refusal(alloc, prefixes, place)?)),
+        Err(SelectFault::NoMemory) => Err(NoMemory),
+    }
+}
+
+// Where the files are a package.
+fn run_package<N: NewFolder, G: NewFile, V: Watch, W: Write, E: Write>(
+    alloc: Global,
+    session: &Session<'_>,
+    asked: Asked<'_>,
+    outputs: &mut Outputs<'_, N, G>,
+    watch: &mut V,
+    out: &mut W,
+    err: &mut E,
+) -> Result<Result<Status, Refusal>, NoMemory>
+    ensures { IfOk result (λ r. IfOk r (λ status. status ≡ Status.Yes → AllNarrow (map string_bytes asked.entry.prefixes.now) (schema_in session.now) session.now.survey.definitions)) }
+{
+    match refusal_of(alloc, session, asked.prefixes)? {
+        Some(refusal) => Ok(Err(refusal)),
+        None => run_given(alloc, session, asked, outputs, watch, out, err),
+    }
+}
+
+fn run_session<N: NewFolder, G: NewFile, V: Watch, W: Write, E: Write>(
+    alloc: Global,
+    session: &Session<'_>,
+    asked: Asked<'_>,
+    outputs: &mut Outputs<'_, N, G>,
+    watch: &mut V,
+    out: &mut W,
+    err: &mut E,
+) -> Result<Result<Status, Refusal>, NoMemory>
+    ensures { IfOk result (λ r. IfOk r (λ status. status ≡ Status.Yes → AllNarrowIn (map string_bytes asked.entry.prefixes.now) session.now)) }
+{
+    match session.package() {
+        Ok(_schema) => run_package(alloc, session, asked, outputs, watch, out, err),
+        Err(fault) => {
+            let reply = refused_reply(alloc, fault)?;
+            Ok(Err(Refusal::Fault(text_of(alloc, reply))))
+        }
+    }
+}
+
+// That a folder can't be listed.
+fn unlisted(alloc: Global, name: &str) -> Result<Refusal, AllocError> {
+    Ok(Refusal::Fault(fault_text(alloc, "P1", name)?))
+}
+
+fn run_folder<
+    F: Folder + Drop,
+    N: NewFolder,
+    G: NewFile,
+    P: Progress,
+    V: Watch,
+    W: Write,
+    E: Write,
+>(
+    alloc: Global,
+    name: &str,
+    folder: F,
+    asked: Asked<'_>,
+    outputs: &mut Outputs<'_, N, G>,
+    progress: &mut P,
+    watch: &mut V,
+    out: &mut W,
+    err: &mut E,
+) -> Result<Result<Status, Refusal>, NoMemory>
+    ensures { IfOk result (λ r. IfOk r (λ status. status ≡ Status.Yes → AuditPromise (map string_bytes asked.entry.prefixes.now) (F.files folder))) }
+{
+    match files_of(alloc, folder) {
+        Ok(files) => {
+            let session = Session::of(alloc, &files, progress)?;
+            progress.end();
+            run_session(alloc, &session, asked, outputs, watch, out, err)
+        }
+        Err(FolderFault::Device) => Ok(Err(unlisted(alloc, name)?)),
+        Err(FolderFault::NoMemory) => Err(NoMemory),
+    }
+}
+
+/// Tells of each profile of the package in a folder of that name whether it narrows its base, and writes the certificates and the page, where they
+/// are wanted. What is wrong with the files is told on standard error. How far the work is, is told to `progress` and to `watch`. Where anything
+/// fails, neither the folder of the certificates nor the page is made.
+pub fn audit_folder<
+    F: Folder + Drop,
+    N: NewFolder,
+    G: NewFile,
+    P: Progress,
+    V: Watch,
+    W: Write,
+    E: Write,
+>(
+    alloc: Global,
+    name: &str,
+    folder: F,
+    asked: Asked<'_>,
+    outputs: &mut Outputs<'_, N, G>,
+    progress: &mut P,
+    watch: &mut V,
+    out: &mut W,
+    err: &mut E,
+) -> Status
+    // What a yes promises: the folder's files are a package, and each profile that is asked about narrows its base.
+    ensures { result ≡ Status.Yes → AuditPromise (map string_bytes asked.entry.prefixes.now) (F.files folder) }
+{
+    let ended = run_folder(
+        alloc, name, folder, asked, outputs, progress, watch, out, err,
+    );
+    progress.end();
+    watch.end();
+    match ended {
+        Ok(Ok(status)) => status,
+        Ok(Err(Refusal::Fault(text))) => end_with(err, text.as_str(), Status::Fault),
+        Ok(Err(Refusal::Unwritten)) => Status::Unwritten,
+        Err(NoMemory) => end_with(err, "no memory\n", Status::NoMemory),
+    }
+}

@@ -1,0 +1,3 @@
+-- Lemmas on what an audit tells.
+mod Names
+mod Told

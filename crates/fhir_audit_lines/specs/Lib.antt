@@ -1,0 +1,6 @@
+pub mod Words
+pub mod Naming
+pub mod Counting
+pub mod Telling
+pub mod Trees
+pub mod Report

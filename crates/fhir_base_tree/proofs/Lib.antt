@@ -1,0 +1,2 @@
+-- A lemma on the tree of bases.
+pub mod Shown

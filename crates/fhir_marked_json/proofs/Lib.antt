@@ -1,0 +1,2 @@
+-- Lemmas on pieces.
+pub mod Listings

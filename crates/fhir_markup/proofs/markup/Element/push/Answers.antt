@@ -1,0 +1,11 @@
+use Rattle.std.proofs.Common.{◌∙◌, sym, ap, map}
+use Rattle.fhir_markup.specs.Markup.{Node, Nodes, element, with_child}
+use Rattle.fhir_markup.specs.Views.{attribute_of, nodes_seen, element_node}
+use Rattle.fhir_markup.proofs.Growing.{rolled, opened, one_more, element_seen}
+use Rattle.fhir_markup.proofs.markup.Element.push.Goals as goal
+
+pub returns : goal.returns
+returns c =
+    let xs = map attribute_of c.args.self.now.attributes.items in
+    let grown = ap nodes_seen c.in_ok-push.ensures.items ∙ one_more c.args.self.now.children.items _ (element_node c.args.child) (element_seen c.args.child) in
+    rolled _ ∙ ap (λ (ns : Nodes). element c.args.self.now.tag xs ns) grown ∙ ap (λ (x : Node). with_child x (element_node c.args.child)) (sym (opened c.args.self.now))

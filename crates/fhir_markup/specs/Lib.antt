@@ -1,0 +1,3 @@
+pub mod Markup
+pub mod Reading
+pub mod Views

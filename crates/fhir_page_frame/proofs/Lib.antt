@@ -1,0 +1,2 @@
+-- Lemmas on the pieces of a page.
+pub mod Names

@@ -1,0 +1,2 @@
+-- Lemmas on pages.
+pub mod Clean
