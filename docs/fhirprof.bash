@@ -3,7 +3,7 @@
 
 _fhirprof() {
     local current=${COMP_WORDS[COMP_CWORD]} options='' places=() place=0 is_value='' is_rest='' i word
-    local commands='check audit derive counter counter-given certify migrate validate validate-given validate-all unread snapshot serve serve-given gather'
+    local commands='check audit compare derive counter counter-given certify migrate validate validate-given validate-all unread snapshot serve serve-given gather'
     COMPREPLY=()
     if ((COMP_CWORD == 1)); then
         mapfile -t COMPREPLY < <(compgen -W "$commands --version" -- "$current")
@@ -12,6 +12,7 @@ _fhirprof() {
     case ${COMP_WORDS[1]} in
     check) options='--only --each --json' places=(folder file) ;;
     audit) options='--only --given --html --certificates --against --json' places=(folder) ;;
+    compare) options='--for --json' places=(folder folder) ;;
     derive | counter) places=(folder url url) ;;
     counter-given) places=(folder url url file) ;;
     certify | migrate) places=(folder file) ;;

@@ -13,6 +13,7 @@ ghost use Rattle.fhir_words.specs.Views.{asked_seen};
 
 use fhir_audit_engine::{ProfileMeter, audit_directory};
 use fhir_bulk_engine::{RateMeter, validate_directory};
+use fhir_compare_engine::compare_directories;
 use fhir_engine::{
     Meter, Opened, gather_directories, open_asked, run, serve_directory, serve_directory_given,
 };
@@ -79,9 +80,8 @@ fn main(rt: HostRuntime) -> ExitCode {
                 &rt, &request, &mut meter, &mut watch, &mut out, &mut err,
             ))
         }
-        // It is read, and there is no answer to it yet.
-        Ok(Task::Compare(_request)) => {
-            answer(&rt, Err(WordsFault::Usage), &mut meter, &mut out, &mut err)
+        Ok(Task::Compare(request)) => {
+            ExitCode::from(compare_directories(&rt, &request, &mut meter, &mut out, &mut err))
         }
         Err(fault) => answer(&rt, Err(fault), &mut meter, &mut out, &mut err),
     }

@@ -1,0 +1,200 @@
+//! The value sets to which OLD's profiles are bound, as they are put in.
+
+ghost use Rattle.std.specs.Prelude.{◌≡◌, ◌++◌, [], IfOk, OnOk, map, option_map, replicate, length, None};
+ghost use Rattle.std.specs.Option.{option_map_or, option_to_list};
+ghost use Rattle.std.specs.List.{slice_get, filter_map};
+ghost use Rattle.fhir_json.specs.Views.{tree_of, text_seen};
+ghost use Rattle.fhir_package.specs.Definitions.{ByUrl};
+ghost use Rattle.fhir_schema.specs.Schemas.{schema_of};
+ghost use Rattle.fhir_alike.specs.ValueSets.{kept_by};
+ghost use Rattle.fhir_beside.specs.Listing.{version_of};
+ghost use Rattle.fhir_beside.specs.Made.{moved_set, canonicals_at, canonicals, AreSets, IsSetPut, IsSetPutIf};
+ghost use Rattle.fhir_beside.specs.Naming.{name_set, name_all, names_seen};
+ghost use Rattle.fhir_beside.specs.Views.{entries_seen};
+
+use crate::bindings::{Sides, moved_set};
+use crate::entries::Entry;
+use crate::listing::listed;
+use crate::profile::compared_at;
+use fhir_alike::{marked, place_named};
+use fhir_definition::Definition;
+use fhir_elements::ElementDef;
+use fhir_json::{Json, NoMemory};
+use fhir_package::{Kind, Package};
+use fhir_schema::Schema;
+use std::alloc::{AllocError, Global};
+
+// ---- by which canonicals
+
+fn push_canonical<'o>(
+    sides: Sides<'_, '_, '_>,
+    element: &'o ElementDef,
+    canonicals: &mut Vec<&'o str>,
+) -> Result<(), AllocError>
+    ensures { OnOk result (map (λ c. c.now) canonicals.new.items ≡ map (λ c. c.now) canonicals.old.items
+        ++ option_to_list (moved_set (kept_by sides.entry.old.now sides.entry.new.now sides.entry.changes.now.changed.items) element.entry.now)) }
+{
+    match moved_set(sides, element) {
+        Some(canonical) => Ok(canonicals.push(canonical)?),
+        None => Ok(()),
+    }
+}
+
+fn push_canonicals<'o>(
+    sides: Sides<'_, '_, '_>,
+    definition: &'o Definition,
+    canonicals: &mut Vec<&'o str>,
+) -> Result<(), AllocError>
+    ensures { OnOk result (map (λ c. c.now) canonicals.new.items ≡ map (λ c. c.now) canonicals.old.items
+        ++ filter_map (moved_set (kept_by sides.entry.old.now sides.entry.new.now sides.entry.changes.now.changed.items)) definition.entry.now.elements) }
+{
+    for element in definition.elements() {
+        push_canonical(sides, element, canonicals)?;
+    }
+    Ok(())
+}
+
+fn push_canonicals_at<'o>(
+    sides: Sides<'o, '_, '_>,
+    schema: &'o Schema,
+    place: usize,
+    canonicals: &mut Vec<&'o str>,
+) -> Result<(), AllocError>
+    requires { schema.now ≡ schema_of sides.old.now }
+    ensures { OnOk result (map (λ c. c.now) canonicals.new.items ≡ map (λ c. c.now) canonicals.old.items
+        ++ option_map_or (canonicals_at sides.entry.old.now sides.entry.new.now (kept_by sides.entry.old.now sides.entry.new.now sides.entry.changes.now.changed.items) place) (slice_get sides.entry.old.now.structure_definitions place) []) }
+{
+    match compared_at(sides.old, schema, sides.new, place) {
+        Some(profile) => push_canonicals(sides, profile.definition, canonicals),
+        None => Ok(()),
+    }
+}
+
+// Those by which the profiles that are put in are bound to value sets that aren't kept.
+fn canonicals<'o>(
+    alloc: Global,
+    sides: Sides<'o, '_, '_>,
+    schema: &'o Schema,
+) -> Result<Vec<&'o str>, AllocError>
+    requires { schema.now ≡ schema_of sides.old.now }
+    ensures { IfOk result (λ v. map (λ c. c.now) v.items
+        ≡ canonicals sides.entry.old.now sides.entry.new.now (kept_by sides.entry.old.now sides.entry.new.now sides.entry.changes.now.changed.items)) }
+{
+    let mut canonicals: Vec<&'o str> = Vec::new(alloc);
+    for place in 0..sides.old.len(Kind::StructureDefinition) {
+        push_canonicals_at(sides, schema, place, &mut canonicals)?;
+    }
+    Ok(canonicals)
+}
+
+// ---- which value sets
+
+fn no_names<'o>(alloc: Global, count: usize) -> Result<Vec<Option<&'o str>>, AllocError>
+    ensures { IfOk result (λ v. names_seen v.items ≡ replicate count None) }
+{
+    let mut names: Vec<Option<&'o str>> = Vec::with_capacity(alloc, count)?;
+    for _place in 0..count {
+        names.push(None)?;
+    }
+    Ok(names)
+}
+
+// Puts a canonical at the place of the value set that it names.
+fn name_set<'o>(old: &Package<'_>, canonical: &'o str, names: &mut Vec<Option<&'o str>>)
+    ensures { names_seen names.new.items ≡ name_set old.now canonical.entry.now (names_seen names.old.items) }
+{
+    if let Some(place) = place_named(old, Kind::ValueSet, canonical) {
+        if place < names.len() {
+            names[place] = Some(canonical);
+        }
+    }
+}
+
+// For each value set of OLD one of some canonicals that names it, if one does.
+fn all_named<'o>(
+    alloc: Global,
+    old: &Package<'_>,
+    canonicals: &[&'o str],
+) -> Result<Vec<Option<&'o str>>, AllocError>
+    ensures { IfOk result (λ v. names_seen v.items
+        ≡ name_all old.now (map (λ c. c.now) canonicals.now) (replicate (length old.now.value_sets) None)) }
+{
+    let mut names = no_names(alloc, old.len(Kind::ValueSet))?;
+    for canonical in canonicals {
+        name_set(old, *canonical, &mut names);
+    }
+    Ok(names)
+}
+
+// ---- what is put in
+
+// The version of a value set. One that is no text is told as an empty one, since no canonical names either.
+fn version_of<'t>(tree: &'t Json<'_>) -> Option<&'t str>
+    ensures { text_seen result ≡ version_of (tree_of tree.entry.now) }
+{
+    match tree.field("version") {
+        Some(version) => Some(version.text_or_empty()),
+        None => None,
+    }
+}
+
+// The value set at a place of OLD, as a list of its concepts, if they can be read.
+fn put_set<'f>(
+    alloc: Global,
+    sides: Sides<'_, '_, '_>,
+    schema: &Schema,
+    place: usize,
+    canonical: &str,
+    entries: &mut Vec<Entry<'f>>,
+) -> Result<(), NoMemory>
+    requires { schema.now ≡ schema_of sides.old.now }
+    ensures { OnOk result ((sets : ByUrl) × IsSetPut sides.entry.old.now sides.entry.mark.now place canonical.now sets
+        × (entries_seen entries.new.items ≡ entries_seen entries.old.items ++ sets)) }
+{
+    let (Some((url, tree)), Some(concepts)) = (
+        sides.old.at(Kind::ValueSet, place),
+        schema.concepts(canonical),
+    ) else {
+        return Ok(());
+    };
+    let url = marked(alloc, sides.mark, url)?;
+    let tree = listed(alloc, url.as_str(), version_of(tree), concepts.concepts())?;
+    entries.push(Entry { url, tree })?;
+    Ok(())
+}
+
+fn put_set_if<'f>(
+    alloc: Global,
+    sides: Sides<'_, '_, '_>,
+    schema: &Schema,
+    place: usize,
+    canonical: Option<&str>,
+    entries: &mut Vec<Entry<'f>>,
+) -> Result<(), NoMemory>
+    requires { schema.now ≡ schema_of sides.old.now }
+    ensures { OnOk result ((sets : ByUrl) × IsSetPutIf sides.entry.old.now sides.entry.mark.now place (text_seen canonical.entry) sets
+        × (entries_seen entries.new.items ≡ entries_seen entries.old.items ++ sets)) }
+{
+    match canonical {
+        Some(canonical) => put_set(alloc, sides, schema, place, canonical, entries),
+        None => Ok(()),
+    }
+}
+
+/// The value sets of OLD that aren't kept, and to which the profiles that are put in are bound, each behind the mark and as a list of its concepts.
+pub(crate) fn sets_put<'f>(
+    alloc: Global,
+    sides: Sides<'_, '_, '_>,
+    schema: &Schema,
+) -> Result<Vec<Entry<'f>>, NoMemory>
+    requires { schema.now ≡ schema_of sides.old.now }
+    ensures { IfOk result (λ v. AreSets sides.entry.old.now sides.entry.new.now (kept_by sides.entry.old.now sides.entry.new.now sides.entry.changes.now.changed.items) sides.entry.mark.now 0 sides.entry.old.now.value_sets (entries_seen v.items)) }
+{
+    let canonicals = canonicals(alloc, sides, schema)?;
+    let names = all_named(alloc, sides.old, &canonicals)?;
+    let mut entries: Vec<Entry<'f>> = Vec::new(alloc);
+    for (place, canonical) in names.iter().enumerate() {
+        put_set_if(alloc, sides, schema, place, *canonical, &mut entries)?;
+    }
+    Ok(entries)
+}

@@ -1,0 +1,72 @@
+//! The profiles of OLD.
+
+ghost use Rattle.std.specs.Prelude.{◌≡◌, ◌&&◌, option_map};
+ghost use Rattle.fhir_json.specs.Views.{tree_of};
+ghost use Rattle.fhir_schema.specs.Schemas.{schema_of, is_usable};
+ghost use Rattle.fhir_alike.specs.Profiles.{is_profile, has_profile};
+ghost use Rattle.fhir_beside.specs.Standing.{profile_at, compared_at};
+ghost use Rattle.fhir_beside.specs.Views.{profile_seen};
+
+use fhir_alike::{has_profile, is_profile};
+use fhir_definition::Definition;
+use fhir_json::Json;
+use fhir_package::{Kind, Package};
+use fhir_schema::Schema;
+
+/// A profile of OLD.
+#[derive(Clone, Copy)]
+pub struct Profile<'o, 'a> {
+    /// Its url.
+    pub url: &'o str,
+    /// What the schema of OLD has of it.
+    pub definition: &'o Definition,
+    /// Its tree.
+    pub tree: &'o Json<'a>,
+}
+
+/// The profile at a place of a package, if one stands there. `schema` is the package's.
+pub fn profile_at<'o, 'a>(
+    package: &'o Package<'a>,
+    schema: &'o Schema,
+    place: usize,
+) -> Option<Profile<'o, 'a>>
+    requires { schema.now ≡ schema_of «package».now }
+    ensures { option_map profile_seen result ≡ profile_at «package».now place }
+{
+    let (url, tree) = package.at(Kind::StructureDefinition, place)?;
+    let definition = schema.definitions().get(place)?;
+    if is_profile(tree) {
+        Some(Profile {
+            url,
+            definition,
+            tree,
+        })
+    } else {
+        None
+    }
+}
+
+// Whether a profile at a place of OLD can be used, and NEW has one of its url.
+fn are_both(schema: &Schema, new: &Package<'_>, place: usize, url: &str) -> bool
+    ensures { result ≡ (is_usable schema.now place && has_profile new.now url.now) }
+{
+    schema.reason(place).is_none() && has_profile(new, url)
+}
+
+/// The profile at a place of OLD, if one stands there that can be used, and NEW has one of its url. `schema` is OLD's.
+pub(crate) fn compared_at<'o, 'a>(
+    old: &'o Package<'a>,
+    schema: &'o Schema,
+    new: &Package<'_>,
+    place: usize,
+) -> Option<Profile<'o, 'a>>
+    requires { schema.now ≡ schema_of old.now }
+    ensures { option_map profile_seen result ≡ compared_at old.now new.now place }
+{
+    let profile = profile_at(old, schema, place)?;
+    if are_both(schema, new, place, profile.url) {
+        Some(profile)
+    } else {
+        None
+    }
+}

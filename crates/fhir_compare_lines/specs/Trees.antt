@@ -1,0 +1,46 @@
+-- What a comparison tells in JSON: an object on each url, two where a profile can't be used in either, and one with the counts.
+use Rattle.std.specs.Prelude.{◌≡◌, ℕ, List, [], ◌∷◌, ◌++◌, Bool, true, false, codes}
+use Rattle.std.specs.Fmt.{decimal}
+use Rattle.fhir_json.specs.Tree.{Text, Tree, string, number, object, members_of, Property}
+use Rattle.fhir_json.specs.Compact.{compact}
+use Rattle.fhir_compare.specs.Comparing.{VerdictValue, both, unusable_in, only_in_old, only_in_new, change_of}
+use Rattle.fhir_compare_lines.specs.declared.counting.Counts.{Counts}
+use Rattle.fhir_compare_lines.specs.declared.parts.Part.{Part}
+use Rattle.fhir_compare_lines.specs.Parts.{part_word}
+use Rattle.fhir_compare_lines.specs.Words.{change_word, unusable_in_old, unusable_in_new}
+
+-- one line, that spells an object with the url, these words, and others behind them
+abbrev pub IsObject : (url words : Text) → List Text → Type 0
+IsObject url words ls =
+    (more : List Property)
+    × (ls ≡ compact (object (members_of ((codes "url", string url) ∷ (codes "verdict", string words) ∷ more))) ∷ [])
+
+abbrev pub IsObjectIf : Bool → (url words : Text) → List Text → Type 0
+IsObjectIf false url words ls = ls ≡ []
+IsObjectIf true url words ls = IsObject url words ls
+
+abbrev pub AreObjects : (in_old in_new : Bool) → Text → List Text → Type 0
+AreObjects in_old in_new url ls =
+    (first second : List Text) × IsObjectIf in_old url unusable_in_old first × IsObjectIf in_new url unusable_in_new second
+    × (ls ≡ first ++ second)
+
+abbrev pub IsToldTree : Text → VerdictValue → List Text → Type 0
+IsToldTree url (both w) ls = IsObject url (change_word (change_of w)) ls
+IsToldTree url (unusable_in in_old in_new) ls = AreObjects in_old in_new url ls
+IsToldTree url only_in_old ls = IsObject url (codes "only in OLD") ls
+IsToldTree url only_in_new ls = IsObject url (codes "only in NEW") ls
+
+abbrev pub count_property : Text → ℕ → Property
+count_property name n = (name, number (decimal n))
+
+abbrev pub verdict_counts : Counts → List Property
+verdict_counts c =
+    count_property (codes "profiles") c.profiles ∷ count_property (codes "same") c.same ∷ count_property (codes "narrow") c.narrow
+    ∷ count_property (codes "widen") c.widen ∷ count_property (codes "neither") c.neither ∷ count_property (codes "unusable") c.unusable
+    ∷ count_property (codes "onlyInOld") c.only_in_old ∷ count_property (codes "onlyInNew") c.only_in_new ∷ []
+
+abbrev pub counts_tree : Counts → (types : ℕ) → Part → Tree
+counts_tree c types part =
+    object
+    (members_of
+    (verdict_counts c ++ count_property (codes "typesThatDiffer") types ∷ (codes "version", string (part_word part)) ∷ []))
