@@ -12,21 +12,20 @@ use fhir_json::{Json, Member, NoMemory};
 use fhir_overlay::with_snapshot;
 use std::alloc::{AllocError, Global};
 use std::borrow::CowStr;
+use std::mem::replace;
 
 // A member, with another value if it is the url.
 fn with_url_member<'o>(
     alloc: Global,
-    member: Member<'o>,
+    mut member: Member<'o>,
     url: &str,
 ) -> Result<Member<'o>, AllocError>
-    ensures { IfOk result (λ m. property_of m ≡ with_url_member url.now (property_of member)) }
+    ensures { IfOk result (λ m. property_of m ≡ with_url_member url.now (property_of member.entry)) }
 {
-    let Member { name, value } = member;
-    if name.as_str() != "url" {
-        return Ok(Member { name, value });
+    if member.name.as_str() == "url" {
+        member.value = Json::Str(CowStr::Owned(String::from_str(alloc, url)?));
     }
-    let value = Json::Str(CowStr::Owned(String::from_str(alloc, url)?));
-    Ok(Member { name, value })
+    Ok(member)
 }
 
 fn with_url_members<'o>(
@@ -44,13 +43,14 @@ fn with_url_members<'o>(
 }
 
 // A definition with another url.
-fn with_url<'o>(alloc: Global, json: Json<'o>, url: &str) -> Result<Json<'o>, AllocError>
+fn with_url<'o>(alloc: Global, mut json: Json<'o>, url: &str) -> Result<Json<'o>, AllocError>
     ensures { IfOk result (λ j. tree_of j ≡ with_url url.now (tree_of json.entry)) }
 {
-    match json {
-        Json::Obj(members) => Ok(Json::Obj(with_url_members(alloc, members, url)?)),
-        other => Ok(other),
+    if let Json::Obj(members) = &mut json {
+        let all = replace(members, Vec::new(alloc));
+        *members = with_url_members(alloc, all, url)?;
     }
+    Ok(json)
 }
 
 /// A profile of OLD with another url, and with its elements bound to OLD's value sets.
