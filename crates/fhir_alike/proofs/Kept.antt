@@ -1,12 +1,17 @@
 -- What is told of value sets tells of each canonical whether it means the same in both packages.
-use Rattle.std.proofs.Common.{◌≡◌, ◌↔◌, ℕ, Bool, true, false, List, Option, None, Some, is_none, refl, ap, sym, ◌∙◌, subst, IsTrue, arith, ◌&&◌}
+use Rattle.std.proofs.Common.{◌≡◌, ℕ, Bool, true, false, List, ◌++◌, ◌∷◌, ◌<◌, ◌+◌, length, get_or, drop, Option, None, Some, is_none, append_assoc, refl, ap, sym, ◌∙◌, subst, IsTrue, arith, rules, ◌&&◌}
 use Rattle.std.specs.Option.{option_map_or}
-use Rattle.fhir_json.specs.Tree.{Text}
+use Rattle.std.specs.List.{filter_map, flat_map}
+use Rattle.std.proofs.lemmas.List.{drop_more}
+use Rattle.std.proofs.lemmas.List.Elements.{filter_map-append}
+use Rattle.fhir_json.specs.Views.{tree_of, trees_of}
+use Rattle.fhir_json.specs.declared.json.Json.{Json}
+use Rattle.fhir_codes.specs.ValueSets.{sets_named}
 use Rattle.fhir_package.specs.declared.kind.Kind.TheVariants.{ValueSet}
 use Rattle.fhir_package.specs.Definitions.{Definitions}
 use Rattle.fhir_alike.specs.Naming.{place_named, name_stays}
 use Rattle.fhir_alike.specs.Spreading.{Edges, Reaches, is_marked, told_at, IsSpread}
-use Rattle.fhir_alike.specs.ValueSets.{set_edges, set_marks, AreChanges, IsChanged, IsKept, TellsKept, kept_by}
+use Rattle.fhir_alike.specs.ValueSets.{set_edges, set_marks, AreChanges, TellsKept, kept_by, places_in}
 
 -- a marked place is reached
 MarkedFrom : Edges → List Bool → ℕ → Type 0
@@ -55,3 +60,20 @@ changes_tell old new told s canonical = (
   there (set_edges old) (set_marks old new) told s (name_stays ValueSet old new canonical) (place_named ValueSet old canonical),
   back (set_edges old) (set_marks old new) told s (name_stays ValueSet old new canonical) (place_named ValueSet old canonical),
 )
+
+-- ---- turns of loops
+
+pub places_turn : (old : Definitions) (xs : List Json) (i : ℕ) (x : Json) (acc next all : List ℕ) → i < length xs → x ≡ get_or xs i x
+    → acc ++ places_in old (trees_of (drop i xs)) ≡ all
+    → next ≡ acc ++ filter_map (place_named ValueSet old) (sets_named (tree_of x))
+    → next ++ places_in old (trees_of (drop (i + 1) xs)) ≡ all
+places_turn old xs i x acc next all h is was now =
+    let named : List ℕ = filter_map (place_named ValueSet old) (sets_named (tree_of x)) in
+    let rest : List ℕ = places_in old (trees_of (drop (i + 1) xs)) in
+    ap (λ ys. ys ++ rest) now
+    ∙ append_assoc acc named rest
+    ∙ ap (λ ys. acc ++ ys)
+    (sym (filter_map-append (place_named ValueSet old) (sets_named (tree_of x)) (flat_map sets_named (trees_of (drop (i + 1) xs)))))
+    ∙ ap (λ y. acc ++ places_in old (tree_of y ∷ trees_of (drop (i + 1) xs))) is
+    ∙ sym (ap (λ ys. acc ++ places_in old (trees_of ys)) (drop_more xs i x h))
+    ∙ was

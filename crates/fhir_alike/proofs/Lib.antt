@@ -1,4 +1,6 @@
+pub mod Fresh
 pub mod Rests
+pub mod Tails
 pub mod Users
 pub mod Told
 pub mod Spreads

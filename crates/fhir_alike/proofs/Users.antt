@@ -1,8 +1,8 @@
 -- Who leads to a place.
-use Rattle.std.proofs.Common.{◌≡◌, ℕ, zero, suc, ◌<◌, ◌≤◌, ◌+◌, List, [], ◌∷◌, ◌++◌, map, length, get_or, set, drop, replicate, Vec, refl, ap, sym, ◌∙◌, subst, ◌⊎◌, inl, inr, arith, Some, None, add-one}
+use Rattle.std.proofs.Common.{◌≡◌, ℕ, zero, suc, ◌<◌, ◌+◌, List, [], ◌∷◌, length, get_or, drop, replicate, Vec, refl, ap, sym, ◌∙◌, subst, ◌⊎◌, inl, inr, arith, Some, add-one}
 use Rattle.std.specs.List.{Contains}
 use Rattle.std.specs.declared.alloc.Global.{Global}
-use Rattle.std.proofs.lemmas.List.{drop_more, get_or-set_same, get_or-set_other}
+use Rattle.std.proofs.lemmas.List.{drop_more}
 use Rattle.std.proofs.lemmas.List.Elements.{Contains-push, Contains-push_cases, Contains-append_left, Contains-append_right, Contains-append_cases}
 use Rattle.fhir_definition.specs.Gathering.{put_at}
 use Rattle.fhir_definition.specs.Views.{lists_in}

@@ -1,6 +1,6 @@
 -- A text that begins no text of two packages: it stands in front of what one of them has and the other hasn't.
-use Rattle.std.specs.Prelude.{ℕ, zero, suc, List, [], ◌∷◌, ◌++◌, length, drop, Bool, nat_le, nat_eq, Option, codes, if◌then◌else◌}
-use Rattle.std.specs.List.{flat_map, starts_with}
+use Rattle.std.specs.Prelude.{◌≡◌, ℕ, zero, suc, List, [], ◌∷◌, ◌++◌, length, drop, false, nat_le, nat_eq, codes, if◌then◌else◌}
+use Rattle.std.specs.List.{flat_map, starts_with, Contains}
 use Rattle.fhir_json.specs.Tree.{Text, Tree, null, boolean, number, string, array, object, Items, no_items, item, Members, no_members, member, Property}
 use Rattle.fhir_package.specs.declared.kind.Kind.{Kind}
 use Rattle.fhir_package.specs.declared.kind.Kind.TheVariants.{StructureDefinition, ValueSet, CodeSystem}
@@ -41,6 +41,10 @@ package_texts p = kind_texts StructureDefinition p ++ (kind_texts ValueSet p ++ 
 
 -- ---- the mark
 
+-- none of some texts begins with it
+abbrev pub BeginsNone : Text → List Text → Type 0
+BeginsNone mark texts = (text : Text) → Contains texts text → starts_with nat_eq text mark ≡ false
+
 abbrev pub stem : Text
 stem = codes "urn:fhirprof:old:"
 
@@ -50,6 +54,10 @@ tail_of stem text = if starts_with nat_eq text stem then drop (length stem) text
 
 abbrev pub tails_of : Text → List Text → List Text
 tails_of stem texts = flat_map (tail_of stem) texts
+
+-- of a definition (used by private contracts alone)
+abbrev pub definition_tails : Text → Text × Tree → List Text
+definition_tails stem e = tails_of stem (definition_texts e)
 
 -- the digit with which fewer texts begin, with what stands behind it in these
 abbrev pub fewer_of : List Text → List Text → Text × List Text

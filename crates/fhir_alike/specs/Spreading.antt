@@ -1,5 +1,5 @@
 -- Marks that are carried along a graph, against its edges.
-use Rattle.std.specs.Prelude.{◌≡◌, ◌<◌, ℕ, zero, suc, List, [], ◌∷◌, ◌++◌, length, replicate, get_or, set, Bool, true, false, Option, None, Some, is_none, if◌then◌else◌}
+use Rattle.std.specs.Prelude.{◌≡◌, ℕ, zero, suc, List, [], ◌∷◌, ◌++◌, length, replicate, get_or, set, Bool, true, false, Option, None, Some, is_none, if◌then◌else◌}
 use Rattle.std.specs.List.{Contains, slice_get}
 use Rattle.std.specs.Option.{option_map_or}
 use Rattle.fhir_definition.specs.Gathering.{put_at}

@@ -1,16 +1,22 @@
 //! A text that begins no text of two packages.
 
 ghost use Rattle.std.specs.Prelude.{◌≡◌, ◌++◌, [], IfOk, OnOk, map, string_bytes};
-ghost use Rattle.std.specs.List.{flat_map};
+ghost use Rattle.std.specs.List.{flat_map, slice_get};
+ghost use Rattle.std.specs.Option.{option_map_or};
 ghost use Rattle.fhir_json.specs.Views.{tree_of, trees_of, property_of};
-ghost use Rattle.fhir_alike.specs.Mark.{stem, tail_of, tails_of, texts_in, member_texts, definition_texts, kind_texts, package_texts, fewer_behind, grown, mark_between};
+ghost use Rattle.fhir_package.specs.Definitions.{of_kind};
+ghost use Rattle.fhir_alike.specs.Mark.{stem, tail_of, tails_of, texts_in, member_texts, definition_tails, kind_texts, package_texts, fewer_behind, grown, mark_between, BeginsNone};
 
 use fhir_json::{Json, Member, NoMemory};
 use fhir_package::{Kind, Package};
 use std::alloc::{AllocError, Global};
 
 // What the mark begins with.
-const STEM: &str = "urn:fhirprof:old:";
+fn stem() -> &'static str
+    ensures { result.now ≡ stem }
+{
+    "urn:fhirprof:old:"
+}
 
 // Puts in what stands behind a stem, where a text begins with it.
 fn push_tail<'t>(stem: &[u8], text: &'t [u8], tails: &mut Vec<&'t [u8]>) -> Result<(), AllocError>
@@ -79,10 +85,27 @@ fn push_definition<'t>(
     tails: &mut Vec<&'t [u8]>,
 ) -> Result<(), AllocError>
     ensures { OnOk result (map (λ t. t.now) tails.new.items
-        ≡ map (λ t. t.now) tails.old.items ++ tails_of stem.now (definition_texts (url.entry.now, tree_of definition.entry.now))) }
+        ≡ map (λ t. t.now) tails.old.items ++ definition_tails stem.now (url.entry.now, tree_of definition.entry.now)) }
 {
     push_tail(stem, url.as_bytes(), tails)?;
     push_tree(stem, definition, tails)
+}
+
+// The same of the definition at a place, if there is one.
+fn push_at<'t>(
+    stem: &[u8],
+    kind: Kind,
+    package: &'t Package<'_>,
+    place: usize,
+    tails: &mut Vec<&'t [u8]>,
+) -> Result<(), AllocError>
+    ensures { OnOk result (map (λ t. t.now) tails.new.items
+        ≡ map (λ t. t.now) tails.old.items ++ option_map_or (definition_tails stem.now) (slice_get (of_kind kind «package».entry.now) place) []) }
+{
+    match package.at(kind, place) {
+        Some((url, definition)) => push_definition(stem, url, definition, tails),
+        None => Ok(()),
+    }
 }
 
 fn push_kind<'t>(
@@ -95,9 +118,7 @@ fn push_kind<'t>(
         ≡ map (λ t. t.now) tails.old.items ++ tails_of stem.now (kind_texts kind «package».entry.now)) }
 {
     for place in 0..package.len(kind) {
-        if let Some((url, definition)) = package.at(kind, place) {
-            push_definition(stem, url, definition, tails)?;
-        }
+        push_at(stem, kind, package, place, tails)?;
     }
     Ok(())
 }
@@ -159,12 +180,14 @@ fn grown(alloc: Global, mark: String, tails: Vec<&[u8]>) -> Result<String, Alloc
 /// A text that no text of two packages begins with. Each is looked at once, and each digit behind what the mark begins with leaves at most half of
 /// those that have to be looked at again.
 pub fn mark_between(alloc: Global, old: &Package<'_>, new: &Package<'_>) -> Result<String, NoMemory>
-    ensures { IfOk result (λ m. string_bytes m ≡ mark_between old.now new.now) }
+    ensures mark { IfOk result (λ m. string_bytes m ≡ mark_between old.now new.now) }
+    ensures fresh { IfOk result (λ m. BeginsNone (string_bytes m) (package_texts old.now ++ package_texts new.now)) }
 {
+    let front = stem();
     let mut tails = Vec::new(alloc);
-    push_package(STEM.as_bytes(), old, &mut tails)?;
-    push_package(STEM.as_bytes(), new, &mut tails)?;
-    let mark = String::from_str(alloc, STEM)?;
+    push_package(front.as_bytes(), old, &mut tails)?;
+    push_package(front.as_bytes(), new, &mut tails)?;
+    let mark = String::from_str(alloc, front)?;
     Ok(grown(alloc, mark, tails)?)
 }
 

@@ -1,9 +1,10 @@
 //! What a profile names, and what that is in a package.
 
-ghost use Rattle.std.specs.Prelude.{◌≡◌, ◌++◌, IfOk, OnOk, map, string_bytes};
+ghost use Rattle.std.specs.Prelude.{◌≡◌, ◌++◌, IfOk, OnOk, map, option_map, string_bytes};
 ghost use Rattle.std.specs.List.{flat_map};
 ghost use Rattle.fhir_json.specs.Views.{tree_seen};
-ghost use Rattle.fhir_alike.specs.Naming.{place_named, agree, name_stays, profile_stays, is_type, is_type_in_both, content_stays, entry_names, element_names, names_of};
+ghost use Rattle.fhir_names.specs.Texts.{cut_at_first};
+ghost use Rattle.fhir_alike.specs.Naming.{hash, place_named, agree, name_stays, profile_stays, is_type, is_type_in_both, content_stays, entry_names, element_names, names_of};
 
 use crate::profile::is_profile;
 use fhir_definition::Definition;
@@ -71,12 +72,18 @@ fn is_type_in_both(old: &Package<'_>, new: &Package<'_>, canonical: &str) -> boo
     in_old & in_new
 }
 
+fn cut_at_hash(text: &str) -> Option<(&str, &str)>
+    ensures { option_map (λ p. (p.0.now, p.1.now)) result ≡ cut_at_first hash text.now }
+{
+    text.split_once('#')
+}
+
 /// Whether the definition that an element refers to for its content, if it names one, is no profile in both packages. What its content is hangs on a
 /// single element then, of which it isn't derived that one narrows the other.
 pub fn content_stays(old: &Package<'_>, new: &Package<'_>, reference: &str) -> bool
     ensures { result ≡ content_stays old.now new.now reference.now }
 {
-    match reference.split_once('#') {
+    match cut_at_hash(reference) {
         Some((canonical, _id)) => canonical.is_empty() || is_type_in_both(old, new, canonical),
         None => true,
     }

@@ -159,7 +159,8 @@ fn edges_of(alloc: Global, old: &Package<'_>) -> Result<Vec<Vec<usize>>, NoMemor
 {
     let mut edges = Vec::with_capacity(alloc, old.len(Kind::ValueSet))?;
     for place in 0..old.len(Kind::ValueSet) {
-        edges.push(leads_at(alloc, old, place)?)?;
+        let leads = leads_at(alloc, old, place)?;
+        edges.push(leads)?;
     }
     Ok(edges)
 }

@@ -1,5 +1,5 @@
-use Rattle.std.proofs.Common.{◌≡◌, ℕ, get_or, rules, ap, sym, subst, ◌∙◌, length, arith}
-use Rattle.std.proofs.lemmas.List.{length-map}
+use Rattle.std.proofs.Common.{◌≡◌, ℕ, get_or, ap, sym, subst, ◌∙◌, length, arith}
+use Rattle.std.proofs.lemmas.List.{length-map, get_or_default}
 use Rattle.fhir_definition.specs.Views.{lists_in}
 use Rattle.fhir_alike.specs.Spreading.{ToldValue, users_of, carry}
 use Rattle.fhir_alike.proofs.Spreads.{IsCarried, carried_first, carried_turn, carried_last}
@@ -18,7 +18,8 @@ pub loop-at-preserved : goal.loop-at-preserved
 loop-at-preserved c =
     let old : ToldValue = (c.loop-at.told.marks.items, c.loop-at.told.queue.items) in
     let place : ℕ = c.index-place.result.now in
-    let there : place ≡ get_or c.loop-at.told.queue.items c.loop-at.at 0 = search (rules, c.index-place.ensures) in
+    let there : place ≡ get_or c.loop-at.told.queue.items c.loop-at.at 0 =
+    c.index-place.ensures ∙ get_or_default c.loop-at.told.queue.items c.loop-at.at place 0 (omega arith) in
     record {
       users = c.loop-at.invariant.users;
       carried = carried_turn (lists_in c.args.edges.now) c.args.marks.now c.loop-at.at old

@@ -1,4 +1,4 @@
-use Rattle.std.proofs.Common.{◌≡◌, drop, length}
+use Rattle.std.proofs.Common.{◌≡◌, drop}
 use Rattle.fhir_definition.specs.Views.{lists_in}
 use Rattle.fhir_alike.specs.Spreading.{users_from, users_of}
 use Rattle.fhir_alike.proofs.spreading.users_of.Given as goal
