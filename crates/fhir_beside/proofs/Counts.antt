@@ -1,10 +1,10 @@
 -- Counts of a loop over places.
-use Rattle.std.proofs.Common.{◌≡◌, ℕ, zero, suc, ◌<◌, ◌≤◌, ◌+◌, Bool, true, false, cond, List, [], ◌∷◌, length, drop, Option, None, Some, if◌then◌else◌}
-use Rattle.std.proofs.Common.{refl, ap, sym, ◌∙◌, arith, add-one}
+use Rattle.std.proofs.Common.{◌≡◌, ℕ, suc, ◌<◌, ◌≤◌, ◌+◌, Bool, true, false, cond, List, ◌∷◌, length, drop, if◌then◌else◌}
+use Rattle.std.proofs.Common.{ap, sym, ◌∙◌, arith, add-one}
 use Rattle.std.specs.Option.{option_map_or}
 use Rattle.std.specs.List.{slice_get, count_by}
 use Rattle.std.proofs.lemmas.List.Sums.{sum_by-drop_more}
-use Rattle.fhir_alike.proofs.Rests.{rest_at, rest_none}
+use Rattle.fhir_alike.proofs.Rests.{rest_at}
 
 sums : (count one rest here next after total : ℕ) → next ≡ count + one → count + here ≡ total → here ≡ one + rest → after ≡ rest → next + after ≡ total
 sums count one rest here next after total e f g h = omega arith

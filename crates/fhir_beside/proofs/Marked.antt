@@ -1,5 +1,5 @@
 -- What is put in stands under urls that begin with the mark, so no text of the two packages names it.
-use Rattle.std.proofs.Common.{◌≡◌, ℕ, suc, Bool, true, false, ◌&&◌, cond, List, [], ◌∷◌, ◌++◌, Option, None, Some, Result, Ok, Err, nat_eq, if◌then◌else◌}
+use Rattle.std.proofs.Common.{◌≡◌, ℕ, suc, Bool, true, false, ◌&&◌, cond, [], ◌∷◌, ◌++◌, Option, None, Some, Result, Ok, Err, nat_eq, if◌then◌else◌}
 use Rattle.std.proofs.Common.{refl, ap, sym, ◌∙◌, subst, arith}
 use Rattle.std.proofs.lemmas.Bool.Decides.{nat_tests}
 use Rattle.std.proofs.lemmas.Slice.Eq.{bytes_eq-Decides}
@@ -18,7 +18,7 @@ use Rattle.fhir_package.specs.declared.kind.Kind.TheVariants.{StructureDefinitio
 use Rattle.fhir_package.specs.Definitions.{ByUrl, Definitions, at_url}
 use Rattle.fhir_package.specs.Canonical.{where_version, at_version, named_by}
 use Rattle.fhir_codes.specs.Concepts.{Concepts}
-use Rattle.fhir_alike.specs.Mark.{package_texts, tails_of, stem, BeginsNone}
+use Rattle.fhir_alike.specs.Mark.{package_texts, stem, BeginsNone}
 use Rattle.fhir_alike.proofs.Fresh.{grown_fresh}
 use Rattle.fhir_beside.specs.Standing.{is_compared}
 use Rattle.fhir_beside.specs.Made.{IsListed, IsListedIf, concepts_at, is_bound, elements_of, moved, profiles_from, AreSets, with_more}

@@ -1,5 +1,5 @@
 -- A canonical that names the value set at a place has the concepts of that one; and which canonicals name which.
-use Rattle.std.proofs.Common.{◌≡◌, ℕ, zero, suc, ◌<◌, ◌+◌, Bool, true, false, ◌||◌, cond, nat_eq, List, [], ◌∷◌, map, set, replicate, Option, None, Some, if◌then◌else◌, option_map}
+use Rattle.std.proofs.Common.{◌≡◌, ℕ, zero, suc, ◌+◌, Bool, true, false, ◌||◌, cond, nat_eq, List, [], ◌∷◌, map, set, replicate, Option, None, Some, if◌then◌else◌, option_map}
 use Rattle.std.proofs.Common.{refl, ap, sym, ◌∙◌, subst, ◌⊎◌, inl, inr, arith}
 use Rattle.std.proofs.lemmas.Bool.Decides.{nat_tests}
 use Rattle.std.proofs.lemmas.Map.Made.{lookup-map_values}
@@ -13,7 +13,6 @@ use Rattle.fhir_names.specs.Canonicals.{CanonicalParts, read_canonical}
 use Rattle.fhir_package.specs.declared.kind.Kind.TheVariants.{ValueSet}
 use Rattle.fhir_package.specs.Definitions.{ByUrl, Definitions, place_in}
 use Rattle.fhir_package.specs.Canonical as canonicals
-use Rattle.fhir_codes.specs.Concepts.{Concepts}
 use Rattle.fhir_codes.specs.Expanding.{Expansion, expansion_of, expansions_of, where_version, at_version, concepts_in}
 use Rattle.fhir_alike.specs.Naming.{place_named}
 use Rattle.fhir_beside.specs.Made.{concepts_at, names_set}

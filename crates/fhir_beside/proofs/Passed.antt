@@ -4,7 +4,7 @@ use Rattle.std.specs.Option.{option_map_or, option_and_then}
 use Rattle.fhir_json.specs.Tree.{Text, Tree}
 use Rattle.fhir_package.specs.Definitions.{Definitions}
 use Rattle.fhir_alike.proofs.Rests.{append_nothing}
-use Rattle.fhir_beside.specs.Standing.{is_compared, standing, ProfileValue, compared_of}
+use Rattle.fhir_beside.specs.Standing.{is_compared, standing, compared_of}
 
 module _ {A : Type 0} (old new : Definitions) (place : ℕ) (one : Text × Tree → List A)
     (none : (e : Text × Tree) → is_compared old new place e ≡ false → one e ≡ []) where

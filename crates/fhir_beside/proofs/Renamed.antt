@@ -1,10 +1,10 @@
 -- The members of an object, of which one is changed.
-use Rattle.std.proofs.Common.{◌≡◌, Bool, true, false, List, map, Vec, rules, refl, ap, sym, ◌∙◌}
+use Rattle.std.proofs.Common.{◌≡◌, true, false, map, Vec, rules, refl, ap, sym, ◌∙◌}
 use Rattle.std.specs.declared.alloc.Global.{Global}
-use Rattle.fhir_json.specs.Tree.{Text, Tree, null, boolean, number, string, array, object, Members, Property, members_of, properties_of}
+use Rattle.fhir_json.specs.Tree.{Text, Tree, null, boolean, number, string, array, object, Members, members_of, properties_of}
 use Rattle.fhir_json.specs.Fields.{is_object, members_in}
 use Rattle.fhir_json.specs.Views.{tree_of, property_of, members_view}
-use Rattle.fhir_json.specs.declared.json.Json.{Json, fold-roll-Json}
+use Rattle.fhir_json.specs.declared.json.Json.{fold-roll-Json}
 use Rattle.fhir_json.specs.declared.json.Json.TheVariants as json
 use Rattle.fhir_json.specs.declared.json.Member.{Member}
 use Rattle.fhir_json.proofs.Trees.{pairs_again}

@@ -1,7 +1,7 @@
 -- The value sets that are put in, one place after another.
-use Rattle.std.proofs.Common.{◌≡◌, ℕ, zero, suc, ◌<◌, ◌≤◌, ◌+◌, Bool, true, false, List, [], ◌∷◌, ◌++◌, length, get_or, set, drop, replicate, Bor, Option, None, Some}
+use Rattle.std.proofs.Common.{◌≡◌, ℕ, zero, suc, ◌<◌, ◌≤◌, ◌+◌, Bool, List, [], ◌∷◌, ◌++◌, length, get_or, set, drop, replicate, Bor, Option, None, Some}
 use Rattle.std.proofs.Common.{refl, ap, sym, ◌∙◌, subst, arith, append_assoc, add-one}
-use Rattle.std.specs.List.{slice_get, list_any}
+use Rattle.std.specs.List.{slice_get}
 use Rattle.std.specs.Option.{option_map_or}
 use Rattle.std.proofs.lemmas.List.{length-map, length-set, length-replicate}
 use Rattle.fhir_json.specs.Views.{text_seen}
@@ -10,7 +10,7 @@ use Rattle.fhir_alike.specs.Naming.{place_named}
 use Rattle.fhir_json.specs.Tree.{Text, Tree}
 use Rattle.fhir_package.specs.Definitions.{ByUrl, Definitions}
 use Rattle.fhir_alike.proofs.Rests.{rest_at, rest_none, append_nothing}
-use Rattle.fhir_beside.specs.Made.{IsListed, IsListedIf, IsListedAt, IsSetPutIf, concepts_at, names_set, canonicals, is_bound, AreSets}
+use Rattle.fhir_beside.specs.Made.{IsListed, IsListedIf, IsSetPutIf, concepts_at, canonicals, is_bound, AreSets}
 use Rattle.fhir_beside.specs.Naming.{names_seen, name_set, name_all}
 use Rattle.fhir_beside.proofs.NamedSets.{concepts_named, none_names, some_names}
 

@@ -1,7 +1,7 @@
 -- The definitions of a schema are those of its package.
-use Rattle.std.proofs.Common.{◌≡◌, ℕ, zero, suc, ◌+◌, List, [], ◌∷◌, Option, None, Some, option_map, refl, ap, ◌∙◌, subst, sym, arith}
+use Rattle.std.proofs.Common.{◌≡◌, ℕ, zero, suc, ◌+◌, [], ◌∷◌, Some, option_map, refl, ap, ◌∙◌, arith}
 use Rattle.std.specs.List.{slice_get}
-use Rattle.fhir_package.specs.Definitions.{ByUrl, Definitions}
+use Rattle.fhir_package.specs.Definitions.{ByUrl}
 use Rattle.fhir_definition.specs.Definition.{definition_of, definitions_from}
 
 pub definition_from : (n : ℕ) (es : ByUrl) (k : ℕ)

@@ -1,4 +1,4 @@
-use Rattle.std.proofs.Common.{◌≡◌, refl, map, arith}
+use Rattle.std.proofs.Common.{refl, map, arith}
 use Rattle.fhir_alike.specs.ValueSets.{kept_by}
 use Rattle.fhir_alike.proofs.Rests.{from_turn, from_end}
 use Rattle.fhir_beside.specs.Made.{canonicals_at, canonicals_from, canonicals}

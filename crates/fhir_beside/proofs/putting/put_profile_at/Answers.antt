@@ -1,7 +1,5 @@
-use Rattle.std.proofs.Common.{[], ◌∷◌, ◌++◌, ap, if◌then◌else◌}
+use Rattle.std.proofs.Common.{[], ◌++◌, ap, if◌then◌else◌}
 use Rattle.std.specs.List.{slice_get}
-use Rattle.fhir_json.specs.Tree.{Text, Tree}
-use Rattle.fhir_package.specs.Definitions.{ByUrl}
 use Rattle.fhir_alike.specs.ValueSets.{kept_by}
 use Rattle.fhir_beside.specs.Made.{moved, elements_of, profile_put}
 use Rattle.fhir_beside.specs.Views.{entries_seen}
