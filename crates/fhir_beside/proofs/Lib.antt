@@ -1,0 +1,9 @@
+pub mod Standing
+pub mod NamedSets
+pub mod Sets
+pub mod Counts
+pub mod Passed
+pub mod Renamed
+pub mod Marked
+pub mod NewSets
+pub mod Listed

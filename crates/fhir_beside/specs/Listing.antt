@@ -1,5 +1,5 @@
 -- A value set that lists concepts (FHIR R4, ValueSet, compose): an include for each.
-use Rattle.std.specs.Prelude.{List, [], ◌∷◌, ◌++◌, map, Option, None, Some, codes}
+use Rattle.std.specs.Prelude.{List, [], ◌∷◌, ◌++◌, map, Option, codes}
 use Rattle.std.specs.Option.{option_map, option_map_or}
 use Rattle.fhir_json.specs.Tree.{Text, Tree, string, array, object, Property, items_of, members_of}
 use Rattle.fhir_json.specs.Fields.{field, text_or_empty}

@@ -5,7 +5,7 @@ use Rattle.std.specs.Option.{option_map, option_map_or, option_and_then}
 use Rattle.std.specs.List.{list_any, slice_get, filter_map}
 use Rattle.std.specs.Str.{bytes_eq}
 use Rattle.std.specs.FinSet as set
-use Rattle.fhir_json.specs.Tree.{Text, Tree, string, object, Property, members_of, properties_of}
+use Rattle.fhir_json.specs.Tree.{Text, Tree, string, object, Members, Property, members_of, properties_of}
 use Rattle.fhir_codes.specs.Concepts.{Concept, Concepts}
 use Rattle.fhir_codes.specs.Expanding.{expansions_of}
 use Rattle.fhir_package.specs.declared.kind.Kind.TheVariants.{ValueSet}
@@ -24,8 +24,11 @@ use Rattle.fhir_beside.specs.Listing.{listed, version_of}
 abbrev pub with_url_member : Text → Property → Property
 with_url_member url m = if bytes_eq m.0 (codes "url") then (m.0, string url) else m
 
+abbrev pub with_url_in : Text → Members → Tree
+with_url_in url ms = object (members_of (map (with_url_member url) (properties_of ms)))
+
 abbrev pub with_url : Text → Tree → Tree
-with_url url (object ms) = object (members_of (map (with_url_member url) (properties_of ms)))
+with_url url (object ms) = with_url_in url ms
 with_url url t = t
 
 -- ---- bindings, by a test that tells which canonicals mean one value set in both packages
@@ -73,14 +76,13 @@ abbrev pub IsListedIf : Bool → Text → Text × Tree → Option Concepts → B
 IsListedIf true mark e s sets = IsListed mark e s sets
 IsListedIf false mark e s sets = sets ≡ []
 
--- the value set of OLD at a place, which a canonical names (used by private contracts alone, like the next)
-abbrev pub IsSetPut : Definitions → Text → ℕ → Text → ByUrl → Type 0
-IsSetPut old mark place canonical sets =
-    (e : Text × Tree) × (slice_get old.value_sets place ≡ Some e) × IsListed mark e (named_concepts (schema_of old) canonical) sets
+-- the value set of OLD at a place, if one stands there, with these concepts (used by private contracts alone, like the next)
+abbrev pub IsListedAt : Definitions → Text → ℕ → Option Concepts → ByUrl → Type 0
+IsListedAt old mark place s sets = (e : Text × Tree) → slice_get old.value_sets place ≡ Some e → IsListed mark e s sets
 
 abbrev pub IsSetPutIf : Definitions → Text → ℕ → Option Text → ByUrl → Type 0
 IsSetPutIf old mark place None sets = sets ≡ []
-IsSetPutIf old mark place (Some canonical) sets = IsSetPut old mark place canonical sets
+IsSetPutIf old mark place (Some canonical) sets = IsListedAt old mark place (named_concepts (schema_of old) canonical) sets
 
 -- ---- all of it: of OLD and NEW, both completed
 

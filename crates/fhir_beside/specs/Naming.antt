@@ -1,6 +1,7 @@
 -- For each value set a canonical that names it (used by private contracts alone).
-use Rattle.std.specs.Prelude.{ℕ, List, [], ◌∷◌, map, set, Option, Some, Bor}
-use Rattle.std.specs.Option.{option_map, option_map_or}
+use Rattle.std.specs.Prelude.{List, [], ◌∷◌, map, set, Option, Some}
+use Rattle.std.specs.Borrow.{Bor}
+use Rattle.std.specs.Option.{option_map_or}
 use Rattle.fhir_json.specs.Tree.{Text}
 use Rattle.fhir_json.specs.Views.{text_seen}
 use Rattle.fhir_package.specs.declared.kind.Kind.TheVariants.{ValueSet}

@@ -1,5 +1,5 @@
 -- How many types OLD and NEW don't have alike.
-use Rattle.std.specs.Prelude.{ℕ, zero, suc, ◌+◌, List, [], ◌∷◌, Bool, not, ◌&&◌, ◌||◌, Some, is_none, is_some, if◌then◌else◌}
+use Rattle.std.specs.Prelude.{ℕ, suc, ◌+◌, List, [], ◌∷◌, Bool, not, ◌&&◌, ◌||◌, Some, is_none, is_some, if◌then◌else◌}
 use Rattle.std.specs.List.{list_any, count_by}
 use Rattle.fhir_json.specs.Tree.{Text, Tree}
 use Rattle.fhir_package.specs.declared.kind.Kind.TheVariants.{StructureDefinition}

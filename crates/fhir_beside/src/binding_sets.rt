@@ -1,6 +1,6 @@
 //! The value sets to which OLD's profiles are bound, as they are put in.
 
-ghost use Rattle.std.specs.Prelude.{◌≡◌, ◌++◌, [], IfOk, OnOk, map, option_map, replicate, length, None};
+ghost use Rattle.std.specs.Prelude.{◌≡◌, ◌++◌, [], IfOk, OnOk, map, option_map, replicate, length, Some, None};
 ghost use Rattle.std.specs.Option.{option_map_or, option_to_list};
 ghost use Rattle.std.specs.List.{slice_get, filter_map};
 ghost use Rattle.fhir_json.specs.Views.{tree_of, text_seen};
@@ -8,7 +8,7 @@ ghost use Rattle.fhir_package.specs.Definitions.{ByUrl};
 ghost use Rattle.fhir_schema.specs.Schemas.{schema_of};
 ghost use Rattle.fhir_alike.specs.ValueSets.{kept_by};
 ghost use Rattle.fhir_beside.specs.Listing.{version_of};
-ghost use Rattle.fhir_beside.specs.Made.{moved_set, canonicals_at, canonicals, AreSets, IsSetPut, IsSetPutIf};
+ghost use Rattle.fhir_beside.specs.Made.{moved_set, canonicals_at, canonicals, AreSets, IsListed, IsListedAt, IsSetPutIf};
 ghost use Rattle.fhir_beside.specs.Naming.{name_set, name_all, names_seen};
 ghost use Rattle.fhir_beside.specs.Views.{entries_seen};
 
@@ -17,6 +17,7 @@ use crate::entries::Entry;
 use crate::listing::listed;
 use crate::profile::compared_at;
 use fhir_alike::{marked, place_named};
+use fhir_codes::ConceptSet;
 use fhir_definition::Definition;
 use fhir_elements::ElementDef;
 use fhir_json::{Json, NoMemory};
@@ -138,7 +139,41 @@ fn version_of<'t>(tree: &'t Json<'_>) -> Option<&'t str>
     }
 }
 
-// The value set at a place of OLD, as a list of its concepts, if they can be read.
+fn put_entry<'f>(
+    alloc: Global,
+    mark: &str,
+    value_set: (&str, &Json<'_>),
+    concepts: &ConceptSet,
+    entries: &mut Vec<Entry<'f>>,
+) -> Result<(), NoMemory>
+    ensures { OnOk result ((sets : ByUrl) × IsListed mark.now (value_set.entry.0.now, tree_of value_set.entry.1.now) (Some concepts.now) sets
+        × (entries_seen entries.new.items ≡ entries_seen entries.old.items ++ sets)) }
+{
+    let (url, tree) = value_set;
+    let url = marked(alloc, mark, url)?;
+    let tree = listed(alloc, url.as_str(), version_of(tree), concepts.concepts())?;
+    entries.push(Entry { url, tree })?;
+    Ok(())
+}
+
+// The value set at a place of OLD, as a list of concepts.
+fn put_listed<'f>(
+    alloc: Global,
+    sides: Sides<'_, '_, '_>,
+    place: usize,
+    concepts: &ConceptSet,
+    entries: &mut Vec<Entry<'f>>,
+) -> Result<(), NoMemory>
+    ensures { OnOk result ((sets : ByUrl) × IsListedAt sides.entry.old.now sides.entry.mark.now place (Some concepts.now) sets
+        × (entries_seen entries.new.items ≡ entries_seen entries.old.items ++ sets)) }
+{
+    match sides.old.at(Kind::ValueSet, place) {
+        Some(value_set) => put_entry(alloc, sides.mark, value_set, concepts, entries),
+        None => Ok(()),
+    }
+}
+
+// The same of the concepts of a canonical, if they can be read.
 fn put_set<'f>(
     alloc: Global,
     sides: Sides<'_, '_, '_>,
@@ -148,19 +183,13 @@ fn put_set<'f>(
     entries: &mut Vec<Entry<'f>>,
 ) -> Result<(), NoMemory>
     requires { schema.now ≡ schema_of sides.old.now }
-    ensures { OnOk result ((sets : ByUrl) × IsSetPut sides.entry.old.now sides.entry.mark.now place canonical.now sets
+    ensures { OnOk result ((sets : ByUrl) × IsSetPutIf sides.entry.old.now sides.entry.mark.now place (Some canonical.now) sets
         × (entries_seen entries.new.items ≡ entries_seen entries.old.items ++ sets)) }
 {
-    let (Some((url, tree)), Some(concepts)) = (
-        sides.old.at(Kind::ValueSet, place),
-        schema.concepts(canonical),
-    ) else {
-        return Ok(());
-    };
-    let url = marked(alloc, sides.mark, url)?;
-    let tree = listed(alloc, url.as_str(), version_of(tree), concepts.concepts())?;
-    entries.push(Entry { url, tree })?;
-    Ok(())
+    match schema.concepts(canonical) {
+        Some(concepts) => put_listed(alloc, sides, place, concepts, entries),
+        None => Ok(()),
+    }
 }
 
 fn put_set_if<'f>(

@@ -22,8 +22,8 @@ pub(crate) fn put_all<'f>(
     entries: Vec<Entry<'f>>,
     package: &mut Package<'f>,
 ) -> Result<(), NoMemory>
-    ensures { OnOk result (package.new
-        ≡ with_kind kind (of_kind kind package.old ++ entries_seen entries.entry.items) package.old) }
+    ensures { OnOk result («package».new
+        ≡ with_kind kind (of_kind kind «package».old ++ entries_seen entries.entry.items) «package».old) }
 {
     for entry in entries {
         let Entry { url, tree } = entry;

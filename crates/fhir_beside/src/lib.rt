@@ -6,6 +6,7 @@
 mod binding_sets;
 mod bindings;
 mod entries;
+mod laws;
 mod listing;
 mod making;
 mod moving;
@@ -13,5 +14,6 @@ mod profile;
 mod putting;
 mod types;
 
+pub use laws::{concepts_mean_new, listed_sets_are_read, names_mean_new};
 pub use making::{Made, beside};
 pub use profile::{Profile, profile_at};

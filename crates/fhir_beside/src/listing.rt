@@ -1,6 +1,7 @@
 //! A value set that lists the concepts which it has in OLD.
 
 ghost use Rattle.std.specs.Prelude.{◌≡◌, ◌++◌, ◌∷◌, [], IfOk, OnOk, map, codes};
+ghost use Rattle.std.specs.Option.{option_map_or};
 ghost use Rattle.fhir_json.specs.Tree.{string};
 ghost use Rattle.fhir_json.specs.Views.{tree_of, trees_of, property_of, text_seen};
 ghost use Rattle.fhir_codes.specs.Concepts.{concept};
@@ -86,6 +87,20 @@ fn compose_json<'o>(alloc: Global, concepts: &[SharedConcept]) -> Result<Json<'o
     Ok(Json::Obj(members))
 }
 
+fn push_version(
+    alloc: Global,
+    members: &mut Vec<Member<'_>>,
+    version: Option<&str>,
+) -> Result<(), AllocError>
+    ensures { OnOk result (map property_of members.new.items ≡ map property_of members.old.items
+        ++ option_map_or (λ v. (codes "version", string v) ∷ []) (text_seen version.entry) []) }
+{
+    match version {
+        Some(version) => push_text(alloc, members, "version", version),
+        None => Ok(()),
+    }
+}
+
 /// A value set of that url and that version which lists these concepts.
 pub(crate) fn listed<'o>(
     alloc: Global,
@@ -98,9 +113,7 @@ pub(crate) fn listed<'o>(
     let mut members: Vec<Member<'o>> = Vec::with_capacity(alloc, 4)?;
     push_text(alloc, &mut members, "resourceType", "ValueSet")?;
     push_text(alloc, &mut members, "url", url)?;
-    if let Some(version) = version {
-        push_text(alloc, &mut members, "version", version)?;
-    }
+    push_version(alloc, &mut members, version)?;
     let compose = compose_json(alloc, concepts)?;
     members.push(member("compose", compose))?;
     Ok(Json::Obj(members))

@@ -74,7 +74,7 @@ pub fn beside<'f>(
     new: Package<'f>,
 ) -> Result<Made<'f>, NoMemory>
     requires { schema.now ≡ schema_of old.now }
-    ensures { IfOk result (λ m. IsBeside old.now new (string_bytes m.mark) m.«package» m.types) }
+    ensures { IfOk result (λ m. IsBeside old.now new.entry (string_bytes m.mark) m.«package» m.types) }
 {
     let mark = mark_between(alloc, old, &new)?;
     let Puts {

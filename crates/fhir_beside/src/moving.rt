@@ -1,9 +1,10 @@
 //! A profile of OLD as it stands beside NEW's definitions.
 
 ghost use Rattle.std.specs.Prelude.{◌≡◌, IfOk, map};
-ghost use Rattle.fhir_json.specs.Views.{tree_of, property_of};
+ghost use Rattle.fhir_json.specs.Fields.{members_in};
+ghost use Rattle.fhir_json.specs.Views.{tree_of, members_view, property_of};
 ghost use Rattle.fhir_overlay.specs.Completed.{with_snapshot};
-ghost use Rattle.fhir_beside.specs.Made.{with_url_member, with_url, bound_anew};
+ghost use Rattle.fhir_beside.specs.Made.{with_url_member, with_url_in, with_url, bound_anew};
 ghost use Rattle.fhir_alike.specs.ValueSets.{kept_by};
 
 use crate::bindings::{Sides, all_bound_anew};
@@ -33,7 +34,7 @@ fn with_url_members<'o>(
     members: Vec<Member<'o>>,
     url: &str,
 ) -> Result<Vec<Member<'o>>, AllocError>
-    ensures { IfOk result (λ v. map property_of v.items ≡ map (with_url_member url.now) (map property_of members.items)) }
+    ensures { IfOk result (λ v. map property_of v.items ≡ map (with_url_member url.now) (map property_of members.entry.items)) }
 {
     let mut all: Vec<Member<'o>> = Vec::with_capacity(alloc, members.len())?;
     for member in members {
@@ -42,15 +43,34 @@ fn with_url_members<'o>(
     Ok(all)
 }
 
+// The members of an object; none of what is no object.
+fn into_members<'o>(alloc: Global, json: Json<'o>) -> Vec<Member<'o>>
+    ensures { members_view result.items ≡ members_in (tree_of json.entry) }
+{
+    let mut json = json;
+    match &mut json {
+        Json::Obj(members) => replace(members, Vec::new(alloc)),
+        _ => Vec::new(alloc),
+    }
+}
+
+// An object with another url.
+fn renamed<'o>(alloc: Global, json: Json<'o>, url: &str) -> Result<Json<'o>, AllocError>
+    ensures { IfOk result (λ j. tree_of j ≡ with_url_in url.now (members_in (tree_of json.entry))) }
+{
+    let members = with_url_members(alloc, into_members(alloc, json), url)?;
+    Ok(Json::Obj(members))
+}
+
 // A definition with another url.
-fn with_url<'o>(alloc: Global, mut json: Json<'o>, url: &str) -> Result<Json<'o>, AllocError>
+fn with_url<'o>(alloc: Global, json: Json<'o>, url: &str) -> Result<Json<'o>, AllocError>
     ensures { IfOk result (λ j. tree_of j ≡ with_url url.now (tree_of json.entry)) }
 {
-    if let Json::Obj(members) = &mut json {
-        let all = replace(members, Vec::new(alloc));
-        *members = with_url_members(alloc, all, url)?;
+    if json.is_object() {
+        renamed(alloc, json, url)
+    } else {
+        Ok(json)
     }
-    Ok(json)
 }
 
 /// A profile of OLD with another url, and with its elements bound to OLD's value sets.

@@ -1,7 +1,11 @@
 //! The profiles of OLD.
 
 ghost use Rattle.std.specs.Prelude.{◌≡◌, ◌&&◌, option_map};
+ghost use Rattle.std.specs.Option.{option_copied};
+ghost use Rattle.std.specs.List.{slice_get};
 ghost use Rattle.fhir_json.specs.Views.{tree_of};
+ghost use Rattle.fhir_package.specs.Definitions.{Definitions};
+ghost use Rattle.fhir_definition.specs.Definition.{definition_of};
 ghost use Rattle.fhir_schema.specs.Schemas.{schema_of, is_usable};
 ghost use Rattle.fhir_alike.specs.Profiles.{is_profile, has_profile};
 ghost use Rattle.fhir_beside.specs.Standing.{profile_at, compared_at};
@@ -24,6 +28,20 @@ pub struct Profile<'o, 'a> {
     pub tree: &'o Json<'a>,
 }
 
+fn nth(definitions: &[Definition], place: usize) -> Option<&Definition>
+    ensures { option_copied result ≡ slice_get definitions.now place }
+{
+    definitions.get(place)
+}
+
+/// What a schema has of the definition at a place of its package.
+pub(crate) fn definition_at(schema: &Schema, place: usize) -> Option<&Definition>
+    ensures { (p : Definitions) → schema.now ≡ schema_of p
+        → option_copied result ≡ option_map (λ e. definition_of place e.0 e.1) (slice_get p.structure_definitions place) }
+{
+    nth(schema.definitions(), place)
+}
+
 /// The profile at a place of a package, if one stands there. `schema` is the package's.
 pub fn profile_at<'o, 'a>(
     package: &'o Package<'a>,
@@ -34,7 +52,7 @@ pub fn profile_at<'o, 'a>(
     ensures { option_map profile_seen result ≡ profile_at «package».now place }
 {
     let (url, tree) = package.at(Kind::StructureDefinition, place)?;
-    let definition = schema.definitions().get(place)?;
+    let definition = definition_at(schema, place)?;
     if is_profile(tree) {
         Some(Profile {
             url,

@@ -1,6 +1,6 @@
 //! How many types OLD and NEW don't have alike.
 
-ghost use Rattle.std.specs.Prelude.{◌≡◌, ◌-◌, ◌^◌, min, false, IfOk};
+ghost use Rattle.std.specs.Prelude.{◌≡◌, ◌+◌, ◌-◌, ◌^◌, ◌<◌, min, false, IfOk, if◌then◌else◌};
 ghost use Rattle.std.specs.Option.{option_map_or};
 ghost use Rattle.std.specs.List.{slice_get, count_by};
 ghost use Rattle.fhir_json.specs.Views.{tree_of};
@@ -11,6 +11,7 @@ ghost use Rattle.fhir_beside.specs.Made.{elements_of};
 ghost use Rattle.fhir_beside.specs.Types.{binds_another, is_other_tree, is_other_type, count_other, is_new_type, types_differing};
 
 use crate::bindings::{Sides, moved_set};
+use crate::profile::definition_at;
 use fhir_alike::{is_profile, same_tree};
 use fhir_definition::Definition;
 use fhir_json::{Json, NoMemory};
@@ -74,7 +75,7 @@ fn is_other_at(
     ensures { Gives (λ b. b) result (option_map_or (λ e. is_other_type sides.entry.new.now (kept_by sides.entry.old.now sides.entry.new.now sides.entry.changes.now.changed.items) (elements_of place e) e) (slice_get sides.entry.old.now.structure_definitions place) false) }
 {
     match (
-        schema.definitions().get(place),
+        definition_at(schema, place),
         sides.old.at(Kind::StructureDefinition, place),
     ) {
         (Some(definition), Some((url, tree))) => {
@@ -84,15 +85,22 @@ fn is_other_at(
     }
 }
 
+// A count, and one more where something counts.
+fn one_more_if(count: usize, counts: bool) -> usize
+    requires { count < usize.MAX }
+    ensures { result ≡ count + (if counts then 1 else 0) }
+{
+    if counts { count + 1 } else { count }
+}
+
 fn count_other(alloc: Global, sides: Sides<'_, '_, '_>, schema: &Schema) -> Result<usize, NoMemory>
     requires { schema.now ≡ schema_of sides.old.now }
     ensures { Gives (λ n. n) result (count_other sides.entry.new.now (kept_by sides.entry.old.now sides.entry.new.now sides.entry.changes.now.changed.items) 0 sides.entry.old.now.structure_definitions) }
 {
     let mut count: usize = 0;
     for place in 0..sides.old.len(Kind::StructureDefinition) {
-        if is_other_at(alloc, sides, schema, place)? {
-            count += 1;
-        }
+        let is_other = is_other_at(alloc, sides, schema, place)?;
+        count = one_more_if(count, is_other);
     }
     Ok(count)
 }
@@ -114,9 +122,7 @@ fn count_new(old: &Package<'_>, new: &Package<'_>) -> usize
 {
     let mut count: usize = 0;
     for place in 0..new.len(Kind::StructureDefinition) {
-        if is_new_at(old, new, place) {
-            count += 1;
-        }
+        count = one_more_if(count, is_new_at(old, new, place));
     }
     count
 }
