@@ -1,19 +1,18 @@
 -- What is said of each profile of OLD by itself tells where a way is derived.
-use Rattle.std.proofs.Common.{◌≡◌, ℕ, zero, suc, ◌<◌, ◌+◌, Bool, true, false, not, ◌&&◌, ◌||◌, List, [], ◌∷◌, ◌++◌, map, get_or, Option, None, Some, is_none, is_some, IsTrue, IsSome}
-use Rattle.std.proofs.Common.{refl, ap, sym, ◌∙◌, subst, arith, if◌then◌else◌}
+use Rattle.std.proofs.Common.{◌≡◌, ℕ, zero, suc, ◌+◌, Bool, true, false, not, ◌&&◌, ◌||◌, List, [], ◌∷◌, ◌++◌, Option, None, Some, is_none, is_some, IsTrue, IsSome}
+use Rattle.std.proofs.Common.{refl, ap, subst, arith, if◌then◌else◌}
 use Rattle.std.specs.Option.{option_and_then}
 use Rattle.std.specs.List.{slice_get}
 use Rattle.std.proofs.lemmas.Option.{none-some}
 use Rattle.fhir_json.specs.Tree.{Text, Tree}
 use Rattle.fhir_package.specs.Definitions.{ByUrl, Definitions}
 use Rattle.fhir_schema.specs.Schemas.{SchemaValue, schema_of, is_usable, unusable}
-use Rattle.fhir_derive_check.specs.declared.fault.DeriveFault.{DeriveFault}
 use Rattle.fhir_derive_check.specs.Faults.{derive_refusal}
 use Rattle.fhir_derive_check.specs.Reaching.{HasCertificate}
 use Rattle.fhir_alike.specs.Profiles.{is_profile, has_profile}
 use Rattle.fhir_alike.specs.Naming.{lost_name}
 use Rattle.fhir_alike.specs.Spreading.{is_marked}
-use Rattle.fhir_beside.specs.Standing.{ProfileValue, standing, profile_of, profile_at}
+use Rattle.fhir_beside.specs.Standing.{standing, profile_of}
 use Rattle.fhir_compare.specs.Comparing.{ShownValue, narrows, fails as fails_by, cannot_be_used, is_narrowing, Direction, new_in_old, old_in_new, sides_by, IsShownBy, IsShown, IsDerivedAt, definition_at}
 use Rattle.fhir_compare.specs.Owns.{OwnValue, own_both, own_unusable, own_only_in_old, own_other, IsOwnOf, IsOwnBy, IsOwnAt, AreOwnsFrom, shown_of, fails, all_fail}
 use Rattle.fhir_compare.proofs.Refused.{refused_none}
@@ -25,6 +24,35 @@ pub marked_own : (way : Direction) (owns : List OwnValue) (j : ℕ) (own : OwnVa
 marked_own way [] j own h = absurd (none-some own h)
 marked_own way (o ∷ owns) zero own h = let same : o ≡ own = cc in ap (fails way) same
 marked_own way (o ∷ owns) (suc j) own h = marked_own way owns j own h
+
+-- ---- tests over plain variables
+
+pub usable_both : {A : Type 0} (b : Bool) (u : Option A) → b ≡ true → u ≡ None → IsTrue (b && is_none u)
+usable_both true None p q = refl
+usable_both true (Some x) p q = cc
+usable_both false u p q = cc
+
+kept_all : {A : Type 0} (l lost : Option A) → is_some l ≡ false → l ≡ lost → IsTrue (is_none lost)
+kept_all l None p q = refl
+kept_all None (Some x) p q = cc
+kept_all (Some y) (Some x) p q = cc
+
+lost_some : {A : Type 0} (b : Bool) (l lost : Option A) → b ≡ true → (not b || is_some l) ≡ true → l ≡ lost → IsTrue (is_none lost) → ⊥
+lost_some false l lost p f q n = cc
+lost_some true None lost p f q n = cc
+lost_some true (Some x) None p f q n = cc
+lost_some true (Some x) (Some y) p f q n = cc
+
+unusable_one : {A : Type 0} (b : Bool) (u : Option A) (i n : Bool) → IsTrue (i || n) → i ≡ not b → n ≡ is_some u → IsTrue (b && is_none u) → ⊥
+unusable_one false u i n a p q c = cc
+unusable_one true (Some x) i n a p q c = cc
+unusable_one true None true n a p q c = cc
+unusable_one true None false true a p q c = cc
+unusable_one true None false false a p q c = cc
+
+true_or_false : (b : Bool) → b ≡ false → IsTrue b → ⊥
+true_or_false true p t = cc
+true_or_false false p t = cc
 
 module _ (old made : Definitions) (mark : Text) where
   pub own_there : (k : ℕ) (es : ByUrl) (owns : List OwnValue) → AreOwnsFrom old made mark k es owns → (j : ℕ) (e : Text × Tree)
@@ -42,8 +70,8 @@ module _ (old made : Definitions) (mark : Text) where
   -- what is marked stands somewhere
   pub mark_there : (way : Direction) (k : ℕ) (es : ByUrl) (owns : List OwnValue) → AreOwnsFrom old made mark k es owns → (j : ℕ)
       → is_marked (all_fail way owns) j ≡ true → (e : Text × Tree) × (slice_get es j ≡ Some e)
-  mark_there way k [] [] a j h = cc
-  mark_there way k [] (o ∷ owns) a j h = cc
+  mark_there way k [] [] a j h = absurd cc
+  mark_there way k [] (o ∷ owns) a j h = absurd cc
   mark_there way k (x ∷ es) [] a j h = absurd a
   mark_there way k (x ∷ es) (o ∷ owns) a zero h = (x, refl)
   mark_there way k (x ∷ es) (o ∷ owns) a (suc j) h = mark_there way (suc k) es owns a.1 j h
@@ -56,7 +84,7 @@ module _ (old made : Definitions) (mark : Text) where
       → IsOwnBy old made mark place (if b then Some (standing place e) else None) own
       → IsOwnOf old made mark (schema_of old) (schema_of made) place (standing place e) own
   by_profile place e own true f a = a
-  by_profile place e own false f a = cc
+  by_profile place e own false f a = absurd cc
 
   -- of a profile
   pub own_of : (place : ℕ) (e : Text × Tree) (own : OwnValue) → slice_get old.structure_definitions place ≡ Some e → is_profile e.1 ≡ true
@@ -78,11 +106,11 @@ module _ (old made : Definitions) (mark : Text) where
   narrowing_has : (s : SchemaValue) (sides : Text × Text) (shows : Text → Type 0) (shown : ShownValue) → IsShownBy s sides shows shown
       → is_narrowing shown ≡ true → HasCertificate s sides.0 sides.1
   narrowing_has s sides shows narrows is e = is
-  narrowing_has s sides shows (fails_by pair rule resource) is e = cc
-  narrowing_has s sides shows cannot_be_used is e = cc
+  narrowing_has s sides shows (fails_by pair rule resource) is e = absurd cc
+  narrowing_has s sides shows cannot_be_used is e = absurd cc
 
   some_of : {A : Type 0} (o : Option A) → IsSome o → (x : A) × (o ≡ Some x)
-  some_of None h = absurd h
+  some_of None h = absurd cc
   some_of (Some x) h = (x, refl)
 
   other_has : (s : SchemaValue) (sides : Text × Text) (shows : Text → Type 0) (shown : ShownValue) → IsShownBy s sides shows shown
@@ -106,9 +134,9 @@ module _ (old made : Definitions) (mark : Text) where
       let narrowing : is_narrowing (shown_of way n o) ≡ true = grind arith in
       let kept : is_some l ≡ false = grind arith in
       let shown = shown_by way e.0 n o a.3.1 a.3.2 in
-      (a.0, ?, ?, narrowing_has (schema_of made) (sides_by way e.0 (mark ++ e.0)) _ (shown_of way n o) shown narrowing)
-  derived_from way place e (own_unusable in_old in_new) a f = cc
-  derived_from way place e own_only_in_old a f = cc
+      (a.0, usable_both (is_usable (schema_of old) place) (unusable (schema_of made) e.0) a.1 a.2, kept_all l (lost_name old made (definition_at place e)) kept a.3.0, narrowing_has (schema_of made) (sides_by way e.0 (mark ++ e.0)) _ (shown_of way n o) shown narrowing)
+  derived_from way place e (own_unusable in_old in_new) a f = absurd cc
+  derived_from way place e own_only_in_old a f = absurd cc
   derived_from way place e own_other a f = absurd a
 
   pub not_derived : (way : Direction) (place : ℕ) (e : Text × Tree) (own : OwnValue)
@@ -119,7 +147,8 @@ module _ (old made : Definitions) (mark : Text) where
       go : (b : Bool) → is_narrowing (shown_of way n o) ≡ b → ⊥
       go false is =
           other_has (schema_of made) (sides_by way e.0 (mark ++ e.0)) _ (shown_of way n o) (shown_by way e.0 n o a.3.1 a.3.2) is d.3
-      go true is = ?
-  not_derived way place e (own_unusable in_old in_new) a f d = ?
-  not_derived way place e own_only_in_old a f d = ?
+      go true is = lost_some (is_narrowing (shown_of way n o)) l (lost_name old made (definition_at place e)) is f a.3.0 d.2
+  not_derived way place e (own_unusable in_old in_new) a f d =
+      unusable_one (is_usable (schema_of old) place) (unusable (schema_of made) e.0) in_old in_new a.1 a.2 a.3 d.1
+  not_derived way place e own_only_in_old a f d = true_or_false (has_profile made e.0) a d.0
   not_derived way place e own_other a f d = absurd a

@@ -1,18 +1,17 @@
 -- Where a definition isn't there, or can't be used, no certificate exists.
-use Rattle.std.proofs.Common.{◌≡◌, ℕ, Bool, true, false, ◌&&◌, Option, None, Some, is_none, is_some, refl, ap, sym, ◌∙◌, subst, arith, if◌then◌else◌}
+use Rattle.std.proofs.Common.{◌≡◌, ℕ, Bool, true, false, ◌&&◌, Option, None, Some, is_none, is_some, refl, if◌then◌else◌}
 use Rattle.std.specs.Option.{option_map, option_and_then}
 use Rattle.fhir_json.specs.Tree.{Text}
 use Rattle.fhir_elements.specs.declared.reason.Reason.{Reason}
 use Rattle.fhir_nodes.specs.declared.node.NodeRef.{NodeRef}
 use Rattle.fhir_nodes.specs.Urls.{url_place}
 use Rattle.fhir_schema.specs.Settling.{reason_at}
-use Rattle.fhir_schema.specs.Schemas.{SchemaValue, root, root_in, root_element, node_in, unusable}
+use Rattle.fhir_schema.specs.Schemas.{SchemaValue, root, root_in, root_element, unusable}
 use Rattle.fhir_certificate.specs.declared.pair.NodePair.{NodePair}
-use Rattle.fhir_derive_check.specs.declared.fault.Side.{Side}
 use Rattle.fhir_derive_check.specs.declared.fault.Side.TheVariants.{Derived, Base}
 use Rattle.fhir_derive_check.specs.declared.fault.DeriveFault.{DeriveFault}
 use Rattle.fhir_derive_check.specs.Faults.{is_missing, is_unusable, refusal, derive_refusal}
-use Rattle.fhir_derive_check.specs.Reaching.{HasCertificate, roots_between}
+use Rattle.fhir_derive_check.specs.Reaching.{HasCertificate}
 
 -- ---- no root
 

@@ -1,8 +1,6 @@
 -- What is said of the profiles of a url of which OLD or NEW has one.
-use Rattle.std.specs.Prelude.{◌≡◌, ◌↔◌, ℕ, suc, List, [], ◌∷◌, ◌++◌, map, filter, Bool, true, false, not, ◌&&◌, ◌||◌, Option, None, Some, is_none, is_some, nat_eq, IsSome, IfSome, IsTrue, if◌then◌else◌}
-use Rattle.std.specs.Option.{option_map, option_map_or}
+use Rattle.std.specs.Prelude.{◌≡◌, ℕ, suc, List, [], ◌∷◌, ◌++◌, map, filter, Bool, true, false, not, ◌&&◌, ◌||◌, Option, None, Some, is_none, is_some, nat_eq, IsSome, IfSome, IsTrue, if◌then◌else◌}
 use Rattle.std.specs.List.{slice_get, filter_map, starts_with}
-use Rattle.std.specs.Str.{bytes_eq}
 use Rattle.fhir_json.specs.Tree.{Text, Tree}
 use Rattle.fhir_package.specs.declared.kind.Kind.TheVariants.{StructureDefinition}
 use Rattle.fhir_package.specs.Definitions.{ByUrl, Definitions}

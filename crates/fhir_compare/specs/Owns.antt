@@ -1,15 +1,15 @@
 -- What is said of each profile of OLD by itself, and how all of it is put together (used by private contracts alone).
-use Rattle.std.specs.Prelude.{◌≡◌, ℕ, suc, List, [], ◌∷◌, ◌++◌, map, get_or, Bool, true, false, not, ◌||◌, Option, None, Some, is_none, is_some, IsTrue}
-use Rattle.std.specs.Option.{option_map, option_map_or, option_and_then, option_to_list}
+use Rattle.std.specs.Prelude.{◌≡◌, ℕ, suc, List, [], ◌∷◌, ◌++◌, map, Bool, true, false, not, ◌||◌, Option, None, Some, is_some, IsTrue}
+use Rattle.std.specs.Option.{option_map, option_and_then}
 use Rattle.std.specs.List.{slice_get}
 use Rattle.fhir_json.specs.Tree.{Text, Tree}
 use Rattle.fhir_package.specs.Definitions.{ByUrl, Definitions}
 use Rattle.fhir_schema.specs.Schemas.{SchemaValue, schema_of, is_usable, unusable}
-use Rattle.fhir_alike.specs.Profiles.{is_profile, has_profile}
+use Rattle.fhir_alike.specs.Profiles.{has_profile}
 use Rattle.fhir_alike.specs.Naming.{lost_name}
 use Rattle.fhir_alike.specs.Spreading.{told_at}
 use Rattle.fhir_beside.specs.Standing.{ProfileValue, profile_at}
-use Rattle.fhir_compare.specs.Comparing.{ShownValue, Direction, new_in_old, old_in_new, IsShown, is_narrowing, WayValue, WaysValue, ways_with, VerdictValue, both, unusable_in, only_in_old, Said}
+use Rattle.fhir_compare.specs.Comparing.{ShownValue, Direction, new_in_old, old_in_new, IsShown, is_narrowing, WayValue, ways_with, VerdictValue, both, unusable_in, only_in_old, Said}
 
 pub data OwnValue : Type 0 where
   own_both : (new_in_old old_in_new : ShownValue) → (lost : Option Text) → OwnValue

@@ -1,6 +1,6 @@
 //! The profiles of two packages, url by url.
 
-ghost use Rattle.std.specs.Prelude.{◌≡◌, ◌++◌, IfOk, OnOk, option_map};
+ghost use Rattle.std.specs.Prelude.{◌≡◌, ◌++◌, Some, IfOk, OnOk, option_map};
 ghost use Rattle.std.specs.List.{slice_get};
 ghost use Rattle.fhir_json.specs.Views.{tree_of, text_seen};
 ghost use Rattle.fhir_schema.specs.Schemas.{schema_of};
@@ -178,10 +178,8 @@ fn said_of_old<'s>(
         ≡ all_said_by old.entry.now blamed.now.new_in_old.items blamed.now.old_in_new.items 0 (all_owns all.entry.items)) }
 {
     let mut said: Vec<Compared<'s>> = Vec::new(alloc);
-    let mut place = 0;
-    for own in all {
+    for (place, own) in all.into_iter().enumerate() {
         push_verdict(old, blamed, place, own, &mut said)?;
-        place += 1;
     }
     Ok(said)
 }
@@ -203,6 +201,23 @@ fn is_new_url(sides: Comparison<'_, '_, '_>, url: &str) -> bool
 
 fn push_if_new<'s>(
     sides: Comparison<'s, '_, '_>,
+    url: &'s str,
+    definition: &Json<'_>,
+    into: &mut Vec<Compared<'s>>,
+) -> Result<(), AllocError>
+    ensures { OnOk result (all_said into.new.items ≡ all_said into.old.items
+        ++ new_at sides.entry.old.now sides.entry.mark.now (Some (url.entry.now, tree_of definition.now))) }
+{
+    if is_new(sides, url, definition) {
+        let verdict = Verdict::OnlyInNew;
+        Ok(into.push(Compared { url, verdict })?)
+    } else {
+        Ok(())
+    }
+}
+
+fn push_new_at<'s>(
+    sides: Comparison<'s, '_, '_>,
     place: usize,
     into: &mut Vec<Compared<'s>>,
 ) -> Result<(), AllocError>
@@ -210,11 +225,8 @@ fn push_if_new<'s>(
         ++ new_at sides.entry.old.now sides.entry.mark.now (slice_get sides.entry.new.now.structure_definitions place)) }
 {
     match sides.new.at(Kind::StructureDefinition, place) {
-        Some((url, definition)) if is_new(sides, url, definition) => Ok(into.push(Compared {
-            url,
-            verdict: Verdict::OnlyInNew,
-        })?),
-        _ => Ok(()),
+        Some((url, definition)) => push_if_new(sides, url, definition, into),
+        None => Ok(()),
     }
 }
 
@@ -227,7 +239,7 @@ fn push_new<'s>(
         ++ all_new sides.entry.old.now sides.entry.new.now sides.entry.mark.now) }
 {
     for place in 0..sides.new.len(Kind::StructureDefinition) {
-        push_if_new(sides, place, into)?;
+        push_new_at(sides, place, into)?;
     }
     Ok(())
 }

@@ -7,7 +7,7 @@ ghost use Rattle.fhir_cert_check.specs.Views.{rule_name};
 ghost use Rattle.fhir_derive_check.specs.Deriving.{IsFirstFailing};
 ghost use Rattle.fhir_derive_check.specs.Reaching.{HasCertificate};
 ghost use Rattle.fhir_counter.specs.Shows.{AlwaysConforms, NeverConforms};
-ghost use Rattle.fhir_compare.specs.Comparing.{IsShown, ShowsBy, ShowsBetween, sides_by};
+ghost use Rattle.fhir_compare.specs.Comparing.{IsShownBy, IsShown, ShowsBy, ShowsBetween, sides_by};
 ghost use Rattle.fhir_compare.specs.Views.{direction_seen, shown_seen};
 
 use crate::verdict::Shown;
@@ -127,15 +127,16 @@ fn fails<'s>(
     alloc: Global,
     direction: Direction,
     two: Two<'s, '_>,
+    derived: &str,
+    base: &str,
     pair: Pair,
     rule: Rule<'s>,
 ) -> Result<Shown<'s>, NoMemory>
-    requires none { HasCertificate two.schema.now (sides_by (direction_seen direction) two.url.now two.own.now).0 (sides_by (direction_seen direction) two.url.now two.own.now).1 → ⊥ }
-    requires first { IsFirstFailing two.schema.now (sides_by (direction_seen direction) two.url.now two.own.now).0 (sides_by (direction_seen direction) two.url.now two.own.now).1 pair (rule_name rule) }
-    ensures { IfOk result (λ w. IsShown (direction_seen direction) two.entry.old_schema.now two.entry.schema.now two.entry.url.now two.entry.own.now
-        (shown_seen w)) }
+    requires none { HasCertificate two.schema.now derived.now base.now → ⊥ }
+    requires first { IsFirstFailing two.schema.now derived.now base.now pair (rule_name rule) }
+    ensures { IfOk result (λ w. IsShownBy two.entry.schema.now (derived.now, base.now)
+        (ShowsBetween (direction_seen direction) two.entry.old_schema.now two.entry.schema.now two.entry.url.now) (shown_seen w)) }
 {
-    let (derived, base) = sides_of(direction, two);
     let found = counterexample(alloc, two.schema, derived, base, pair)?;
     let resource = kept_if_shown(alloc, direction, two, found)?;
     Ok(Shown::Fails {
@@ -143,6 +144,27 @@ fn fails<'s>(
         rule,
         resource,
     })
+}
+
+fn shown_between<'s>(
+    alloc: Global,
+    direction: Direction,
+    two: Two<'s, '_>,
+    derived: &str,
+    base: &str,
+) -> Result<Shown<'s>, NoMemory>
+    ensures { IfOk result (λ w. IsShownBy two.entry.schema.now (derived.now, base.now)
+        (ShowsBetween (direction_seen direction) two.entry.old_schema.now two.entry.schema.now two.entry.url.now) (shown_seen w)) }
+{
+    match derive(alloc, two.schema, derived, base) {
+        Ok(Outcome::Derives(_certificate)) => Ok(Shown::Narrows),
+        Ok(Outcome::NoCertificate(pair, rule)) => {
+            fails(alloc, direction, two, derived, base, pair, rule)
+        }
+        Err(DeriveFault::Missing(_side)) => Ok(Shown::CannotBeUsed),
+        Err(DeriveFault::Unusable(_side)) => Ok(Shown::CannotBeUsed),
+        Err(DeriveFault::NoMemory) => Err(NoMemory),
+    }
 }
 
 /// What is shown of the profiles of a url, in one way: that the one narrows the other, or that no certificate exists; with a resource, if one is found
@@ -156,10 +178,5 @@ pub(crate) fn shown<'s>(
         (shown_seen w)) }
 {
     let (derived, base) = sides_of(direction, two);
-    match derive(alloc, two.schema, derived, base) {
-        Ok(Outcome::Derives(_certificate)) => Ok(Shown::Narrows),
-        Ok(Outcome::NoCertificate(pair, rule)) => fails(alloc, direction, two, pair, rule),
-        Err(DeriveFault::Missing(_)) | Err(DeriveFault::Unusable(_)) => Ok(Shown::CannotBeUsed),
-        Err(DeriveFault::NoMemory) => Err(NoMemory),
-    }
+    shown_between(alloc, direction, two, derived, base)
 }

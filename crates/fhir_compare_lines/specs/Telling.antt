@@ -9,7 +9,7 @@ use Rattle.fhir_package.specs.declared.kind.Kind.TheVariants.{StructureDefinitio
 use Rattle.fhir_package.specs.Definitions.{Definitions}
 use Rattle.fhir_package.specs.Canonical.{named_by}
 use Rattle.fhir_lines.specs.Lines.{escaped}
-use Rattle.fhir_compare.specs.Comparing.{ShownValue, narrows, fails, cannot_be_used, Direction, new_in_old, old_in_new, WayValue, WaysValue, VerdictValue, both, unusable_in, only_in_old, only_in_new, change_of, Said}
+use Rattle.fhir_compare.specs.Comparing.{ShownValue, narrows, fails, cannot_be_used, Direction, new_in_old, old_in_new, WayValue, WaysValue, VerdictValue, both, unusable_in, only_in_old, only_in_new, change_of}
 use Rattle.fhir_compare_lines.specs.Words.{change_word, way_words, unusable_in_old, unusable_in_new}
 
 -- ---- lines

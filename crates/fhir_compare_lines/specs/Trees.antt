@@ -33,14 +33,21 @@ IsToldTree url only_in_new ls = IsObject url (codes "only in NEW") ls
 abbrev pub count_property : Text → ℕ → Property
 count_property name n = (name, number (decimal n))
 
-abbrev pub verdict_counts : Counts → List Property
-verdict_counts c =
+abbrev pub shown_counts : Counts → List Property
+shown_counts c =
     count_property (codes "profiles") c.profiles ∷ count_property (codes "same") c.same ∷ count_property (codes "narrow") c.narrow
-    ∷ count_property (codes "widen") c.widen ∷ count_property (codes "neither") c.neither ∷ count_property (codes "unusable") c.unusable
-    ∷ count_property (codes "onlyInOld") c.only_in_old ∷ count_property (codes "onlyInNew") c.only_in_new ∷ []
+    ∷ count_property (codes "widen") c.widen ∷ []
+
+abbrev pub alone_counts : Counts → List Property
+alone_counts c = count_property (codes "onlyInOld") c.only_in_old ∷ count_property (codes "onlyInNew") c.only_in_new ∷ []
+
+abbrev pub other_counts : Counts → List Property
+other_counts c = count_property (codes "neither") c.neither ∷ count_property (codes "unusable") c.unusable ∷ alone_counts c
+
+-- the counts, how many types differ, and the part of a version that has to change
+abbrev pub last_properties : Counts → (types : ℕ) → Part → List Property
+last_properties c types part =
+    shown_counts c ++ other_counts c ++ count_property (codes "typesThatDiffer") types ∷ (codes "version", string (part_word part)) ∷ []
 
 abbrev pub counts_tree : Counts → (types : ℕ) → Part → Tree
-counts_tree c types part =
-    object
-    (members_of
-    (verdict_counts c ++ count_property (codes "typesThatDiffer") types ∷ (codes "version", string (part_word part)) ∷ []))
+counts_tree c types part = object (members_of (last_properties c types part))

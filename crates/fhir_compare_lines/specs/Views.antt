@@ -1,5 +1,5 @@
 -- What contracts see of a way that isn't shown.
-use Rattle.std.specs.Prelude.{Option, string_bytes}
+use Rattle.std.specs.Prelude.{string_bytes}
 use Rattle.std.specs.Option.{option_map}
 use Rattle.fhir_compare.specs.Comparing.{Direction, new_in_old, old_in_new}
 use Rattle.fhir_compare_lines.specs.declared.failing.Direction.{Direction as Towards}

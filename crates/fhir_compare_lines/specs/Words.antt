@@ -3,7 +3,7 @@ use Rattle.std.specs.Prelude.{Bool, true, false, codes}
 use Rattle.fhir_json.specs.Tree.{Text}
 use Rattle.fhir_compare.specs.declared.verdict.Change.{Change}
 use Rattle.fhir_compare.specs.declared.verdict.Change.TheVariants.{Same, Narrows, Widens, Neither}
-use Rattle.fhir_compare.specs.Comparing.{Direction, new_in_old, old_in_new, VerdictValue, both, unusable_in, only_in_old, only_in_new, change_of}
+use Rattle.fhir_compare.specs.Comparing.{Direction, new_in_old, old_in_new}
 
 abbrev pub change_word : Change → Text
 change_word Same = codes "same"

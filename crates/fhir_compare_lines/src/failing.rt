@@ -1,6 +1,6 @@
 //! Why a way isn't shown.
 
-ghost use Rattle.std.specs.Prelude.{◌≡◌, IfOk, string_bytes, option_map};
+ghost use Rattle.std.specs.Prelude.{◌≡◌, ◌++◌, IfOk, codes, string_bytes, option_map};
 ghost use Rattle.std.specs.Str.Lossy.{utf8_lossy};
 ghost use Rattle.fhir_json.specs.Views.{text_seen};
 ghost use Rattle.fhir_compare.specs.Views.{shown_seen, way_seen};
@@ -16,6 +16,7 @@ use fhir_compare::{Shown, Way};
 use fhir_json::NoMemory;
 use fhir_package::Kind;
 use fhir_report::rule_words;
+use fhir_schema::Schema;
 use std::alloc::{AllocError, Global};
 
 /// Why a way isn't shown, in texts without the mark.
@@ -68,7 +69,7 @@ pub(crate) fn is_refuted(why: &Why) -> bool
 }
 
 fn resource_text(alloc: Global, resource: Option<&Vec<u8>>) -> Result<Option<String>, AllocError>
-    ensures { IfOk result (λ r. option_map string_bytes r ≡ option_map (λ bytes. utf8_lossy bytes.now.items) resource) }
+    ensures { IfOk result (λ r. option_map string_bytes r ≡ option_map (λ bytes. utf8_lossy bytes.now.items) resource.entry) }
 {
     match resource {
         Some(bytes) => Ok(Some(String::from_utf8_lossy(alloc, bytes)?)),
@@ -83,7 +84,7 @@ fn why_fails(
     rule: Rule<'_>,
     resource: Option<&Vec<u8>>,
 ) -> Result<Why, NoMemory>
-    ensures { IfOk result (λ why. IsFailingWhy (option_map (λ bytes. utf8_lossy bytes.now.items) resource) (why_seen why)) }
+    ensures { IfOk result (λ why. IsFailingWhy (option_map (λ bytes. utf8_lossy bytes.now.items) resource.entry) (why_seen why)) }
 {
     let schema = sources.new.schema;
     let pair_words = pair_text(alloc, schema, pair)?;
@@ -98,16 +99,28 @@ fn why_fails(
     })
 }
 
+// The number of the reason why the definition at a url can't be used.
+fn number_at(schema: &Schema, url: &str) -> &'static str {
+    match schema.unusable(url) {
+        Some(reason) => reason.number(),
+        None => "",
+    }
+}
+
+fn unusable_text(alloc: Global, number: &str) -> Result<String, AllocError>
+    ensures { IfOk result (λ text. string_bytes text ≡ codes "OLD's can't be used beside NEW's definitions: " ++ number.now) }
+{
+    format!(in alloc; "OLD's can't be used beside NEW's definitions: {number}")
+}
+
 // That OLD's profile can't be used beside NEW's definitions.
 fn why_unusable(alloc: Global, sources: Sources<'_, '_, '_>, url: &str) -> Result<Why, NoMemory>
     ensures { IfOk result (λ why. IsUnusableWhy (why_seen why)) }
 {
     let own = format!(in alloc; "{}{url}", sources.mark)?;
-    let number = match sources.new.schema.unusable(own.as_str()) {
-        Some(reason) => reason.number(),
-        None => "",
-    };
-    Ok(Why::Says(format!(in alloc; "OLD's can't be used beside NEW's definitions: {number}")?))
+    let number = number_at(sources.new.schema, own.as_str());
+    let text = unusable_text(alloc, number)?;
+    Ok(Why::Says(text))
 }
 
 // Whether a package has a definition that a canonical names.

@@ -2,7 +2,7 @@
 
 ghost use Rattle.std.specs.Prelude.{◌≡◌};
 ghost use Rattle.fhir_compare.specs.Views.{verdict_seen, all_said};
-ghost use Rattle.fhir_compare_lines.specs.Parts.{change_part, verdict_part, worse, part_of, part_word};
+ghost use Rattle.fhir_compare_lines.specs.Parts.{change_part, unusable_part, verdict_part, worse, part_of, part_word};
 
 use fhir_compare::{Change, Compared, Verdict};
 use fhir_words::Audience;
@@ -45,13 +45,19 @@ fn change_part(audience: Audience, change: Change) -> Part
     }
 }
 
+// What can't be used in NEW breaks both.
+fn unusable_part(in_new: bool) -> Part
+    ensures { result ≡ unusable_part in_new }
+{
+    if in_new { Part::Major } else { Part::Minor }
+}
+
 fn part_of_one(audience: Audience, verdict: &Verdict<'_>) -> Part
     ensures { result ≡ verdict_part audience (verdict_seen verdict.now) }
 {
     match verdict {
         Verdict::Both(ways) => change_part(audience, ways.change()),
-        Verdict::CannotBeUsed { in_new: true, .. } => Part::Major,
-        Verdict::CannotBeUsed { in_new: false, .. } => Part::Minor,
+        Verdict::CannotBeUsed { in_new, .. } => unusable_part(*in_new),
         Verdict::OnlyInOld => Part::Major,
         Verdict::OnlyInNew => Part::Minor,
     }

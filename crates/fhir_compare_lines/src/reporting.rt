@@ -123,6 +123,14 @@ fn last_lines(
     }
 }
 
+// Lines, and others behind them.
+fn joined(mut lines: Vec<String>, others: Vec<String>) -> Result<Vec<String>, AllocError>
+    ensures { IfOk result (λ ls. map string_bytes ls.items ≡ map string_bytes lines.items ++ map string_bytes others.items) }
+{
+    push_all(others, &mut lines)?;
+    Ok(lines)
+}
+
 /// What is told of two packages' profiles: of each url what is said of it, that types differ, if they do, and last the counts with the part of a
 /// version that has to change. The one refusal is want of memory.
 pub fn comparison_text<'s>(
@@ -134,10 +142,9 @@ pub fn comparison_text<'s>(
 ) -> Result<String, NoMemory>
     ensures { IfOk result (λ text. IsReport format sources.entry.old.survey.now.definitions sources.entry.new.survey.now.definitions compared.now sources.entry.types part (string_bytes text)) }
 {
-    let mut lines = all_lines(alloc, format, sources, compared)?;
-    push_all(
-        last_lines(alloc, format, compared, sources.types, part)?,
-        &mut lines,
-    )?;
-    Ok(written(alloc, &lines)?)
+    let lines = all_lines(alloc, format, sources, compared)?;
+    let last = last_lines(alloc, format, compared, sources.types, part)?;
+    let all = joined(lines, last)?;
+    let text = written(alloc, all.as_slice())?;
+    Ok(text)
 }

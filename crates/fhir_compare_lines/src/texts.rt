@@ -1,11 +1,11 @@
 //! What is said of a url, in lines of text.
 
-ghost use Rattle.std.specs.Prelude.{◌≡◌, ◌∷◌, ◌++◌, [], IfOk, OnOk, map, codes, string_bytes};
+ghost use Rattle.std.specs.Prelude.{◌≡◌, ◌∷◌, ◌++◌, [], IfOk, OnOk, true, map, codes, option_map, string_bytes};
 ghost use Rattle.fhir_json.specs.Tree.{Text};
 ghost use Rattle.fhir_json.specs.Views.{text_seen};
 ghost use Rattle.fhir_compare.specs.Views.{way_seen, ways_seen, verdict_seen};
 ghost use Rattle.fhir_compare_lines.specs.Words.{change_word};
-ghost use Rattle.fhir_compare_lines.specs.Telling.{under, named, resource_lines, why_lines, AreWayLines, AreWaysLines, AreUnusableIf, AreUnusable, IsToldText};
+ghost use Rattle.fhir_compare_lines.specs.Telling.{under, named, resource_lines, why_lines, lines_if, AreWayLines, AreWaysLines, AreUnusableIf, AreUnusable, IsToldText};
 ghost use Rattle.fhir_compare_lines.specs.Views.{direction_seen, why_seen};
 
 use crate::failing::{Direction, Why, is_refuted, way_words, why_of};
@@ -43,9 +43,17 @@ fn under(alloc: Global, text: &str) -> Result<String, AllocError>
 }
 
 fn named(alloc: Global, url: &str, words: &str) -> Result<String, AllocError>
-    ensures { IfOk result (λ line. string_bytes line ≡ named url.now words.now) }
+    ensures { IfOk result (λ line. string_bytes line ≡ url.now ++ codes ": " ++ words.now) }
 {
     format!(in alloc; "{url}: {words}")
+}
+
+fn one_line(alloc: Global, url: &str, words: &str) -> Result<Vec<String>, NoMemory>
+    ensures { IfOk result (λ ls. map string_bytes ls.items ≡ named url.now words.now ∷ []) }
+{
+    let mut lines: Vec<String> = Vec::new(alloc);
+    lines.push(named(alloc, url, words)?)?;
+    Ok(lines)
 }
 
 // ---- ways
@@ -98,6 +106,19 @@ fn why_lines(alloc: Global, direction: Direction, why: &Why) -> Result<Vec<Strin
     Ok(lines)
 }
 
+fn lines_if(
+    alloc: Global,
+    direction: Direction,
+    why: Option<Why>,
+) -> Result<Vec<String>, AllocError>
+    ensures { IfOk result (λ ls. map string_bytes ls.items ≡ lines_if (direction_seen direction) (option_map why_seen why)) }
+{
+    match why {
+        Some(why) => why_lines(alloc, direction, &why),
+        None => Ok(Vec::new(alloc)),
+    }
+}
+
 fn way_lines(
     alloc: Global,
     sources: Sources<'_, '_, '_>,
@@ -108,10 +129,26 @@ fn way_lines(
 ) -> Result<Vec<String>, NoMemory>
     ensures { IfOk result (λ ls. AreWayLines sources.entry.old.survey.now.definitions sources.entry.new.survey.now.definitions url.now (direction_seen direction) (text_seen lost.entry) (way_seen way.now) (map string_bytes ls.items)) }
 {
-    match why_of(alloc, sources, url, way, lost)? {
-        Some(why) => Ok(why_lines(alloc, direction, &why)?),
-        None => Ok(Vec::new(alloc)),
-    }
+    let why = why_of(alloc, sources, url, way, lost)?;
+    let lines = lines_if(alloc, direction, why)?;
+    Ok(lines)
+}
+
+// The line on both, with lines behind it.
+fn with_head(
+    alloc: Global,
+    head: String,
+    narrowing: Vec<String>,
+    widening: Vec<String>,
+) -> Result<Vec<String>, AllocError>
+    ensures { IfOk result (λ ls. map string_bytes ls.items
+        ≡ string_bytes head ∷ map string_bytes narrowing.items ++ map string_bytes widening.items) }
+{
+    let mut lines: Vec<String> = Vec::new(alloc);
+    lines.push(head)?;
+    push_all(narrowing, &mut lines)?;
+    push_all(widening, &mut lines)?;
+    Ok(lines)
 }
 
 fn ways_lines(
@@ -122,35 +159,18 @@ fn ways_lines(
 ) -> Result<Vec<String>, NoMemory>
     ensures { IfOk result (λ ls. AreWaysLines sources.entry.old.survey.now.definitions sources.entry.new.survey.now.definitions url.now (ways_seen ways.now) (map string_bytes ls.items)) }
 {
-    let mut lines: Vec<String> = Vec::new(alloc);
-    lines.push(named(alloc, url, change_word(ways.change()))?)?;
-    let narrowing = way_lines(
-        alloc,
-        sources,
-        url,
-        Direction::NewInOld,
-        &ways.new_in_old,
-        ways.lost,
-    )?;
-    push_all(narrowing, &mut lines)?;
-    let widening = way_lines(
-        alloc,
-        sources,
-        url,
-        Direction::OldInNew,
-        &ways.old_in_new,
-        ways.lost,
-    )?;
-    push_all(widening, &mut lines)?;
+    let head = named(alloc, url, change_word(ways.change()))?;
+    let (new, old) = (&ways.new_in_old, &ways.old_in_new);
+    let narrowing = way_lines(alloc, sources, url, Direction::NewInOld, new, ways.lost)?;
+    let widening = way_lines(alloc, sources, url, Direction::OldInNew, old, ways.lost)?;
+    let lines = with_head(alloc, head, narrowing, widening)?;
     Ok(lines)
 }
 
 // ---- profiles that can't be used
 
 // Puts in a part of a line, and a colon in front.
-fn push_part(part: Option<&str>, into: &mut String) -> Result<(), AllocError>
-    ensures { OnOk result ((more : Text) × (string_bytes into.new ≡ string_bytes into.old ++ more)) }
-{
+fn push_part(part: Option<&str>, into: &mut String) -> Result<(), AllocError> {
     let Some(part) = part else {
         return Ok(());
     };
@@ -158,28 +178,35 @@ fn push_part(part: Option<&str>, into: &mut String) -> Result<(), AllocError>
     into.push_str(part)
 }
 
-fn push_reason(line: Option<Line<'_>>, into: &mut String) -> Result<(), AllocError>
-    ensures { OnOk result ((more : Text) × (string_bytes into.new ≡ string_bytes into.old ++ more)) }
-{
-    let Some(line) = line else {
-        return Ok(());
-    };
-    push_part(line.number.map(|number| number.text()), into)?;
-    push_part(line.id, into)?;
-    push_part(Some(line.text.as_str()), into)
+// Why it can't be used: the number, the element and the reason.
+fn reason_text(alloc: Global, line: Option<Line<'_>>) -> Result<String, AllocError> {
+    let mut why = String::new(alloc);
+    if let Some(line) = line {
+        push_part(line.number.map(|number| number.text()), &mut why)?;
+        push_part(line.id, &mut why)?;
+        push_part(Some(line.text.as_str()), &mut why)?;
+    }
+    Ok(why)
 }
 
-fn unusable_words<'s, 'f: 's>(
+fn with_reason(alloc: Global, words: &str, why: &str) -> Result<String, AllocError>
+    ensures { IfOk result (λ text. string_bytes text ≡ words.now ++ why.now) }
+{
+    format!(in alloc; "{words}{why}")
+}
+
+fn unusable_one<'s, 'f: 's>(
     alloc: Global,
     side: Side<'s, 'f>,
     url: &'s str,
     words: &str,
-) -> Result<String, NoMemory>
-    ensures { IfOk result (λ text. (why : Text) × (string_bytes text ≡ words.now ++ why)) }
+) -> Result<Vec<String>, NoMemory>
+    ensures { IfOk result (λ ls. AreUnusableIf true url.now words.now (map string_bytes ls.items)) }
 {
-    let mut text = String::from_str(alloc, words)?;
-    push_reason(unusable_line(alloc, side, url)?, &mut text)?;
-    Ok(text)
+    let why = reason_text(alloc, unusable_line(alloc, side, url)?)?;
+    let text = with_reason(alloc, words, why.as_str())?;
+    let lines = one_line(alloc, url, text.as_str())?;
+    Ok(lines)
 }
 
 fn unusable_if<'s, 'f: 's>(
@@ -191,12 +218,11 @@ fn unusable_if<'s, 'f: 's>(
 ) -> Result<Vec<String>, NoMemory>
     ensures { IfOk result (λ ls. AreUnusableIf is_unusable url.now words.now (map string_bytes ls.items)) }
 {
-    let mut lines: Vec<String> = Vec::new(alloc);
     if is_unusable {
-        let text = unusable_words(alloc, side, url, words)?;
-        lines.push(named(alloc, url, text.as_str())?)?;
+        unusable_one(alloc, side, url, words)
+    } else {
+        Ok(Vec::new(alloc))
     }
-    Ok(lines)
 }
 
 fn unusable_lines<'s>(
@@ -209,22 +235,12 @@ fn unusable_lines<'s>(
     ensures { IfOk result (λ ls. AreUnusable in_old in_new url.now (map string_bytes ls.items)) }
 {
     let mut lines = unusable_if(alloc, sources.old, url, in_old, "can't be used in OLD")?;
-    push_all(
-        unusable_if(alloc, sources.new, url, in_new, "can't be used in NEW")?,
-        &mut lines,
-    )?;
+    let others = unusable_if(alloc, sources.new, url, in_new, "can't be used in NEW")?;
+    push_all(others, &mut lines)?;
     Ok(lines)
 }
 
 // ---- a url
-
-fn one_line(alloc: Global, url: &str, words: &str) -> Result<Vec<String>, NoMemory>
-    ensures { IfOk result (λ ls. map string_bytes ls.items ≡ named url.now words.now ∷ []) }
-{
-    let mut lines: Vec<String> = Vec::new(alloc);
-    lines.push(named(alloc, url, words)?)?;
-    Ok(lines)
-}
 
 /// The lines on a url.
 pub(crate) fn text_lines<'s>(

@@ -7,7 +7,7 @@ ghost use Rattle.fhir_json.specs.Views.{tree_of, property_of, text_seen};
 ghost use Rattle.fhir_lines.specs.Lines.{text_member};
 ghost use Rattle.fhir_compare.specs.Comparing.{both};
 ghost use Rattle.fhir_compare.specs.Views.{ways_seen, verdict_seen};
-ghost use Rattle.fhir_compare_lines.specs.Trees.{IsObject, IsObjectIf, AreObjects, IsToldTree, count_property, verdict_counts, counts_tree};
+ghost use Rattle.fhir_compare_lines.specs.Trees.{IsObject, IsObjectIf, AreObjects, IsToldTree, count_property, shown_counts, alone_counts, other_counts, last_properties, counts_tree};
 
 use crate::counting::Counts;
 use crate::failing::{Direction, Why, is_refuted, way_words, why_of};
@@ -24,11 +24,20 @@ use std::borrow::CowStr;
 // The members of an object in the making.
 type Members = Vec<Member<'static>>;
 
+fn member(name: &'static str, value: Json<'static>) -> Member<'static>
+    ensures { property_of result ≡ (name.now, tree_of value.entry) }
+{
+    Member {
+        name: CowStr::Borrowed(name),
+        value,
+    }
+}
+
 fn put(members: &mut Members, name: &'static str, value: Json<'static>) -> Result<(), AllocError>
     ensures { OnOk result (map property_of members.new.items ≡ map property_of members.old.items ++ (name.now, tree_of value.entry) ∷ []) }
 {
-    let name = CowStr::Borrowed(name);
-    Ok(members.push(Member { name, value })?)
+    members.push(member(name, value))?;
+    Ok(())
 }
 
 fn put_text(
@@ -227,6 +236,19 @@ fn put_reason(
     put_text(alloc, members, "text", line.text.as_str())
 }
 
+fn unusable_row<'s, 'f: 's>(
+    alloc: Global,
+    side: Side<'s, 'f>,
+    url: &'s str,
+    words: &str,
+) -> Result<Vec<String>, NoMemory>
+    ensures { IfOk result (λ ls. IsObject url.now words.now (map string_bytes ls.items)) }
+{
+    let mut members: Members = Vec::new(alloc);
+    put_reason(alloc, unusable_line(alloc, side, url)?, &mut members)?;
+    object_row(alloc, url, words, members)
+}
+
 fn unusable_if<'s, 'f: 's>(
     alloc: Global,
     side: Side<'s, 'f>,
@@ -236,12 +258,11 @@ fn unusable_if<'s, 'f: 's>(
 ) -> Result<Vec<String>, NoMemory>
     ensures { IfOk result (λ ls. IsObjectIf is_unusable url.now words.now (map string_bytes ls.items)) }
 {
-    if !is_unusable {
-        return Ok(Vec::new(alloc));
+    if is_unusable {
+        unusable_row(alloc, side, url, words)
+    } else {
+        Ok(Vec::new(alloc))
     }
-    let mut members: Members = Vec::new(alloc);
-    put_reason(alloc, unusable_line(alloc, side, url)?, &mut members)?;
-    object_row(alloc, url, words, members)
 }
 
 fn unusable_rows<'s>(
@@ -254,10 +275,8 @@ fn unusable_rows<'s>(
     ensures { IfOk result (λ ls. AreObjects in_old in_new url.now (map string_bytes ls.items)) }
 {
     let mut rows = unusable_if(alloc, sources.old, url, in_old, "can't be used in OLD")?;
-    push_all(
-        unusable_if(alloc, sources.new, url, in_new, "can't be used in NEW")?,
-        &mut rows,
-    )?;
+    let others = unusable_if(alloc, sources.new, url, in_new, "can't be used in NEW")?;
+    push_all(others, &mut rows)?;
     Ok(rows)
 }
 
@@ -282,17 +301,46 @@ pub(crate) fn tree_lines<'s>(
     }
 }
 
-fn put_verdicts(alloc: Global, counts: Counts, members: &mut Members) -> Result<(), AllocError>
-    ensures { OnOk result (map property_of members.new.items ≡ map property_of members.old.items ++ verdict_counts counts) }
+fn put_shown(alloc: Global, counts: Counts, members: &mut Members) -> Result<(), AllocError>
+    ensures { OnOk result (map property_of members.new.items ≡ map property_of members.old.items ++ shown_counts counts) }
 {
     put_count(alloc, members, "profiles", counts.profiles)?;
     put_count(alloc, members, "same", counts.same)?;
     put_count(alloc, members, "narrow", counts.narrow)?;
-    put_count(alloc, members, "widen", counts.widen)?;
+    put_count(alloc, members, "widen", counts.widen)
+}
+
+fn put_alone(alloc: Global, counts: Counts, members: &mut Members) -> Result<(), AllocError>
+    ensures { OnOk result (map property_of members.new.items ≡ map property_of members.old.items ++ alone_counts counts) }
+{
+    put_count(alloc, members, "onlyInOld", counts.only_in_old)?;
+    put_count(alloc, members, "onlyInNew", counts.only_in_new)?;
+    Ok(())
+}
+
+fn put_others(alloc: Global, counts: Counts, members: &mut Members) -> Result<(), AllocError>
+    ensures { OnOk result (map property_of members.new.items ≡ map property_of members.old.items ++ other_counts counts) }
+{
     put_count(alloc, members, "neither", counts.neither)?;
     put_count(alloc, members, "unusable", counts.unusable)?;
-    put_count(alloc, members, "onlyInOld", counts.only_in_old)?;
-    put_count(alloc, members, "onlyInNew", counts.only_in_new)
+    put_alone(alloc, counts, members)?;
+    Ok(())
+}
+
+fn last_members(
+    alloc: Global,
+    counts: Counts,
+    types: usize,
+    part: Part,
+) -> Result<Members, AllocError>
+    ensures { IfOk result (λ members. map property_of members.items ≡ last_properties counts types part) }
+{
+    let mut members: Members = Vec::new(alloc);
+    put_shown(alloc, counts, &mut members)?;
+    put_others(alloc, counts, &mut members)?;
+    put_count(alloc, &mut members, "typesThatDiffer", types)?;
+    put_text(alloc, &mut members, "version", part.text())?;
+    Ok(members)
 }
 
 /// The last object: the counts, how many types differ, and the part of a version.
@@ -304,9 +352,6 @@ pub(crate) fn last_row(
 ) -> Result<String, NoMemory>
     ensures { IfOk result (λ text. string_bytes text ≡ compact (counts_tree counts types part)) }
 {
-    let mut members: Members = Vec::new(alloc);
-    put_verdicts(alloc, counts, &mut members)?;
-    put_count(alloc, &mut members, "typesThatDiffer", types)?;
-    put_text(alloc, &mut members, "version", part.text())?;
+    let members = last_members(alloc, counts, types, part)?;
     row_of(alloc, members)
 }
