@@ -1,12 +1,13 @@
 //! A comparison of two folders.
 
 ghost use Rattle.std.specs.Prelude.{◌≡◌, None, IfOk, IsTrue, string_bytes};
-ghost use Rattle.fhir_package.specs.Folder.{Files as FolderFiles};
-ghost use Rattle.fhir_package.specs.Surveying.{refusal};
+ghost use Rattle.fhir_package.specs.Folder.{Files as NamedFiles};
+ghost use Rattle.fhir_package.specs.Surveying.{survey, refusal};
 ghost use Rattle.fhir_package.specs.ReadFiles.{ReadFiles};
 ghost use Rattle.fhir_schema.specs.Schemas.{schema_of};
-ghost use Rattle.fhir_answers.specs.Replying.{code_of, is_told, reply_seen};
-ghost use Rattle.fhir_answers.specs.Session.{IsSessionOf};
+ghost use Rattle.fhir_answers.specs.Replying.{is_told, reply_seen};
+ghost use Rattle.fhir_answers.specs.Session.{IsSessionOf, schema_in};
+ghost use Rattle.fhir_answers.specs.Status.{code_of};
 ghost use Rattle.fhir_compare_engine.specs.Answering.{part_status, IsReplyBy, IsNew, IsReply, IsReplyRead, IsPromised};
 
 use fhir_answers::{Reply, Session, Status, fault_reply};
@@ -45,16 +46,79 @@ fn status_of(part: Part) -> Status
     }
 }
 
+// A fault of the input.
+fn told(alloc: Global, number: &str, subject: &str) -> Result<Reply, AllocError>
+    ensures { IfOk result (λ r. IsTrue (is_told (reply_seen r))) }
+{
+    let reply = fault_reply(alloc, number, subject)?;
+    Ok(reply)
+}
+
 // What is answered where the files of a folder are no package. A file is named with its folder, since there are two.
 fn refused_in(alloc: Global, folder: &str, fault: &FileFault<'_>) -> Result<Reply, AllocError>
     ensures { IfOk result (λ r. IsTrue (is_told (reply_seen r))) }
 {
     match fault {
-        FileFault::Clash(_) => fault_reply(alloc, fault.number(), fault.subject()),
+        FileFault::Clash(_) => told(alloc, fault.number(), fault.subject()),
         FileFault::Unreadable(_) | FileFault::NotJson(_) => {
             let path = format!(in alloc; "{folder}/{}", fault.subject())?;
-            fault_reply(alloc, fault.number(), path.as_str())
+            told(alloc, fault.number(), path.as_str())
         }
+    }
+}
+
+// What is answered where a folder isn't listed.
+fn unlisted(alloc: Global, folder: &str, fault: FolderFault) -> Result<Reply, NoMemory>
+    ensures { IfOk result (λ r. IsTrue (is_told (reply_seen r))) }
+{
+    match fault {
+        FolderFault::Device => Ok(told(alloc, "P1", folder)?),
+        FolderFault::NoMemory => Err(NoMemory),
+    }
+}
+
+fn sides_of<'s, 'o, 'n>(
+    old: &'s Session<'o>,
+    new: &'s New<'n>,
+    schema: &'s Schema,
+) -> Comparison<'s, 'o, 'n>
+    ensures old { result.old.now ≡ old.now.survey.definitions }
+    ensures old_schema { result.old_schema.now ≡ schema_in old.now }
+    ensures new { result.new.now ≡ new.now.survey.definitions }
+    ensures schema { result.schema.now ≡ schema.now }
+    ensures mark { result.mark.now ≡ string_bytes new.now.mark }
+{
+    Comparison {
+        old: old.survey().package(),
+        old_schema: old.schema(),
+        new: new.survey.package(),
+        schema,
+        mark: new.mark.as_str(),
+    }
+}
+
+fn sources_of<'s, 'o, 'n>(
+    old: &'s Session<'o>,
+    new: &'s New<'n>,
+    schema: &'s Schema,
+) -> Sources<'s, 'o, 'n>
+    ensures old { result.old.survey.now ≡ old.now.survey }
+    ensures new { result.new.survey.now ≡ new.now.survey }
+    ensures types { result.types ≡ new.now.types }
+{
+    Sources {
+        old: Side {
+            survey: old.survey(),
+            lacking: old.lacking(),
+            schema: old.schema(),
+        },
+        new: Side {
+            survey: &new.survey,
+            lacking: &new.lacking,
+            schema,
+        },
+        mark: new.mark.as_str(),
+        types: new.types,
     }
 }
 
@@ -69,34 +133,14 @@ fn reply_by(
     requires { schema.now ≡ schema_of new.now.survey.definitions }
     ensures { IfOk result (λ r. IsReplyBy request.now.audience request.now.format old.now.survey.definitions new.now.survey.definitions (string_bytes new.now.mark) new.now.types (reply_seen r)) }
 {
-    let sides = Comparison {
-        old: old.survey().package(),
-        old_schema: old.schema(),
-        new: new.survey.package(),
-        schema,
-        mark: new.mark.as_str(),
-    };
+    let sides = sides_of(old, new, schema);
     let compared = compare(alloc, sides)?;
-    let sources = Sources {
-        old: Side {
-            survey: old.survey(),
-            lacking: old.lacking(),
-            schema: old.schema(),
-        },
-        new: Side {
-            survey: &new.survey,
-            lacking: &new.lacking,
-            schema,
-        },
-        mark: new.mark.as_str(),
-        types: new.types,
-    };
-    let part = part_of(request.audience, &compared);
-    let text = comparison_text(alloc, request.format, sources, &compared, part)?;
-    Ok(Reply::Answer {
-        status: status_of(part),
-        out: text.into_bytes(),
-    })
+    let sources = sources_of(old, new, schema);
+    let part = part_of(request.audience, compared.as_slice());
+    let text = comparison_text(alloc, request.format, sources, compared.as_slice(), part)?;
+    let status = status_of(part);
+    let out = text.into_bytes();
+    Ok(Reply::Answer { status, out })
 }
 
 // What is made of NEW's definitions.
@@ -121,6 +165,24 @@ fn new_of<'n>(alloc: Global, old: &Session<'_>, survey: Survey<'n>) -> Result<Ne
     })
 }
 
+// What is answered where the files of both are packages.
+fn reply_made(
+    alloc: Global,
+    request: &CompareRequest<'_>,
+    old: &Session<'_>,
+    found: Survey<'_>,
+) -> Result<Reply, NoMemory>
+    requires old_right { refusal old.now.survey ≡ None }
+    requires new_right { refusal found ≡ None }
+    ensures { IfOk result (λ r. (read new : ReadFiles) → IsSessionOf read old.now → found.entry ≡ survey new
+        → IsReply request.now.audience request.now.format read new (reply_seen r)) }
+{
+    let new = new_of(alloc, old, found)?;
+    let schema = Schema::build(alloc, new.survey.package())?;
+    let reply = reply_by(alloc, request, old, &new, &schema)?;
+    Ok(reply)
+}
+
 // What is answered where OLD's files are a package.
 fn reply_to<P: Progress>(
     alloc: Global,
@@ -132,13 +194,12 @@ fn reply_to<P: Progress>(
     requires old_right { refusal old.now.survey ≡ None }
     ensures { IfOk result (λ r. (read : ReadFiles) → IsSessionOf read old.now → IsReply request.now.audience request.now.format read new.now (reply_seen r)) }
 {
-    let survey = Survey::of(alloc, new, progress)?;
-    if let Some(fault) = survey.refusal() {
+    let found = Survey::of(alloc, new, progress)?;
+    if let Some(fault) = found.refusal() {
         return Ok(refused_in(alloc, request.new, fault)?);
     }
-    let new = new_of(alloc, old, survey)?;
-    let schema = Schema::build(alloc, new.survey.package())?;
-    reply_by(alloc, request, old, &new, &schema)
+    let reply = reply_made(alloc, request, old, found)?;
+    Ok(reply)
 }
 
 fn reply_of<P: Progress>(
@@ -169,9 +230,8 @@ fn reply_read<P: Progress>(
 {
     match (old, new) {
         (Ok(old), Ok(new)) => reply_of(alloc, request, old, new, progress),
-        (Err(FolderFault::NoMemory), _) | (_, Err(FolderFault::NoMemory)) => Err(NoMemory),
-        (Err(FolderFault::Device), _) => Ok(fault_reply(alloc, "P1", request.old)?),
-        (_, Err(FolderFault::Device)) => Ok(fault_reply(alloc, "P1", request.new)?),
+        (Err(fault), _) => unlisted(alloc, request.old, *fault),
+        (_, Err(fault)) => unlisted(alloc, request.new, *fault),
     }
 }
 
@@ -216,7 +276,7 @@ pub fn compare_directories<R: Files + AllocGlobal + Clone + Drop, P: Progress, W
     out: &mut W,
     err: &mut E,
 ) -> Status
-    ensures { (old new : FolderFiles) × IsPromised result request.now.audience request.now.format old new (W.contents out.old) (W.contents out.new) }
+    ensures { (old new : NamedFiles) × IsPromised result request.now.audience request.now.format old new (W.contents out.old) (W.contents out.new) }
 {
     match open(rt, request, progress) {
         Ok((old, new)) => compare_folders(rt.alloc(), request, old, new, progress, out, err),
