@@ -16,7 +16,7 @@ use Rattle.fhir_answers.specs.Replying.{ReplyValue, written, noted, told, status
 use Rattle.fhir_engine.specs.Ending.{HasEnded}
 use Rattle.fhir_engine.specs.Reading.{IsReadOf}
 use Rattle.fhir_compare.specs.declared.verdict.Compared.{Compared}
-use Rattle.fhir_compare.specs.Comparing.{IsComparison}
+use Rattle.fhir_compare.specs.Comparing.{IsComparison, Said}
 use Rattle.fhir_compare.specs.Views.{all_said}
 use Rattle.fhir_compare_lines.specs.declared.parts.Part.{Part}
 use Rattle.fhir_compare_lines.specs.declared.parts.Part.TheVariants as part
@@ -49,6 +49,13 @@ module _ (audience : Audience) (format : Format) where
   }
   answer_so session old new made mark types (noted status out notes) is old_right new_right is_new told_is = absurd told_is
   answer_so session old new made mark types (told status err) is old_right new_right is_new told_is = absurd told_is
+
+-- a comparison of equal packages behind equal marks
+pub compared_as : (old made o m : Definitions) (mark k : Text) (said : List Said) → o ≡ old → m ≡ made → k ≡ mark → IsComparison o m k said
+    → IsComparison old made mark said
+compared_as old made o m mark k said e f g is =
+    subst (λ (x : Definitions). IsComparison x made mark said) e
+    (subst (λ (y : Definitions). IsComparison o y mark said) f (subst (λ (t : Text). IsComparison o m t said) g is))
 
 -- ---- statuses
 
