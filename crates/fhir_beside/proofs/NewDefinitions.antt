@@ -1,5 +1,5 @@
 -- NEW's definitions stand at their places in the schema of the package that is made, and each type is NEW's.
-use Rattle.std.proofs.Common.{◌≡◌, ℕ, zero, suc, ◌<◌, ◌+◌, Bool, true, false, not, ◌&&◌, List, [], ◌∷◌, ◌++◌, map, length, filter, Option, None, Some, is_some, nat_eq, if◌then◌else◌, cond, codes}
+use Rattle.std.proofs.Common.{◌≡◌, ℕ, zero, suc, ◌<◌, ◌+◌, Bool, true, false, not, ◌&&◌, List, [], ◌∷◌, ◌++◌, map, length, Option, None, Some, is_some, nat_eq, if◌then◌else◌, cond, codes}
 use Rattle.std.proofs.Common.{refl, ap, sym, ◌∙◌, subst, arith}
 use Rattle.std.proofs.lemmas.Bool.{and_parts}
 use Rattle.std.proofs.lemmas.Slice.Eq.{bytes_eq-Decides}
@@ -22,7 +22,7 @@ use Rattle.fhir_nodes.specs.Urls.{url_place, where_versioned, version_place, can
 use Rattle.fhir_nodes.specs.Types.{type_place}
 use Rattle.fhir_schema.specs.Schemas.{schema_of}
 use Rattle.fhir_alike.specs.Mark.{package_texts}
-use Rattle.fhir_alike.specs.Profiles.{is_profile, has_profile}
+use Rattle.fhir_alike.specs.Profiles.{is_profile}
 use Rattle.fhir_beside.specs.Standing.{is_compared}
 use Rattle.fhir_beside.specs.Made.{with_url_member, with_url, elements_of, bound_anew, moved, profiles_from}
 use Rattle.fhir_beside.specs.Beside.{IsBeside}
