@@ -13,10 +13,19 @@ use std::marker::Model;
 use std::rc::RcStr;
 
 /// A concept. Its texts are shared with other sets that have it.
-#[derive(Drop)]
 pub struct SharedConcept {
     code: RcStr,
     system: RcStr,
+}
+
+// A derived drop would be proved anew in each crate that owns one.
+impl Drop for SharedConcept {
+    fn drop(self) {
+        let SharedConcept {
+            code: _code,
+            system: _system,
+        } = self;
+    }
 }
 
 impl Model for SharedConcept {

@@ -27,7 +27,6 @@ use std::marker::Model;
 
 /// A package, with the places of its value sets, the code systems that are complete, the tables that have been made (of code
 /// systems taken whole, and of value sets), and the number of each one's.
-#[derive(Drop)]
 pub(crate) struct Sources<'p, 'a> {
     from: &'p Package<'a>,
     value_sets: Index,
@@ -35,6 +34,20 @@ pub(crate) struct Sources<'p, 'a> {
     tables: Vec<ConceptSet>,
     systems: Index,
     numbers: Vec<Option<usize>>,
+}
+
+// A derived drop would be proved anew in each crate that owns one.
+impl Drop for Sources<'_, '_> {
+    fn drop(self) {
+        let Sources {
+            from: _from,
+            value_sets: _value_sets,
+            complete: _complete,
+            tables: _tables,
+            systems: _systems,
+            numbers: _numbers,
+        } = self;
+    }
 }
 
 impl<'p, 'a> Model for Sources<'p, 'a> {

@@ -11,12 +11,21 @@ use std::mem::replace;
 use std::rc::RcStr;
 
 /// The texts that have been shared: urls of systems, and codes.
-#[derive(Drop)]
 pub(crate) struct Texts {
     // In the order of their bytes, so that a look-up takes time logarithmic in their number whatever they are.
     kept: BTreeSet<RcStr>,
     // Those that aren't kept yet: many at once are put into the order faster than one by one.
     recent: Vec<RcStr>,
+}
+
+// A derived drop would be proved anew in each crate that owns one.
+impl Drop for Texts {
+    fn drop(self) {
+        let Texts {
+            kept: _kept,
+            recent: _recent,
+        } = self;
+    }
 }
 
 impl Texts {

@@ -27,11 +27,21 @@ use std::alloc::Global;
 use std::marker::Model;
 
 /// A value set: its url and its version, and its concepts, if they can be read.
-#[derive(Drop)]
 pub(crate) struct FoundSet {
     pub(crate) url: String,
     pub(crate) version: Option<Json<'static>>,
     pub(crate) concepts: Option<ConceptSet>,
+}
+
+// A derived drop would be proved anew in each crate that owns one.
+impl Drop for FoundSet {
+    fn drop(self) {
+        let FoundSet {
+            url: _url,
+            version: _version,
+            concepts: _concepts,
+        } = self;
+    }
 }
 
 /// The value sets of a package with their concepts. They borrow nothing from the package.
