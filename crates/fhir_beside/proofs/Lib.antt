@@ -6,4 +6,5 @@ pub mod Passed
 pub mod Renamed
 pub mod Marked
 pub mod NewSets
+pub mod NewDefinitions
 pub mod Listed

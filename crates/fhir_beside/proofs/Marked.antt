@@ -44,7 +44,7 @@ front_not (m ∷ mark) (x ∷ front) rest h = go (nat_eq m x) (front_not mark fr
     go true so e = so e
     go false so e = refl
 
-abbrev AllMarked : Text → ByUrl → Type 0
+abbrev pub AllMarked : Text → ByUrl → Type 0
 AllMarked mark [] = Unit {0}
 AllMarked mark (e ∷ es) = (starts_with nat_eq e.0 mark ≡ true) × AllMarked mark es
 
@@ -53,7 +53,7 @@ marked_append mark [] ys h k = k
 marked_append mark (x ∷ xs) ys h k = (h.0, marked_append mark xs ys h.1 k)
 
 module _ (mark url : Text) (h : starts_with nat_eq url mark ≡ false) where
-  other : (key : Text) → starts_with nat_eq key mark ≡ true → bytes_eq url key ≡ false
+  pub other : (key : Text) → starts_with nat_eq key mark ≡ true → bytes_eq url key ≡ false
   other key k = go (bytes_eq url key) refl
     where
       go : (b : Bool) → bytes_eq url key ≡ b → b ≡ false
@@ -110,12 +110,12 @@ module _ (new : Definitions) (profiles sets : ByUrl) (mark : Text) (ps : AllMark
   read_new kind None h = refl
   read_new kind (Some r) h = ap (option_and_then (where_version r.1)) (found_new kind r.0 (h r refl))
 
-  url_not : (text : Text) → starts_with nat_eq text mark ≡ false → (r : CanonicalParts) → text ≡ canonical_text r
+  pub url_not : (text : Text) → starts_with nat_eq text mark ≡ false → (r : CanonicalParts) → text ≡ canonical_text r
       → starts_with nat_eq r.0 mark ≡ false
   url_not text h (url, None) e = ap (λ s. starts_with nat_eq s mark) (sym e) ∙ h
   url_not text h (url, Some v) e = front_not mark url (bar ∷ v) (ap (λ s. starts_with nat_eq s mark) (sym e) ∙ h)
 
-  read_so : (x : Result CanonicalParts NameFault) (r : CanonicalParts) → result_ok x ≡ Some r → x ≡ Ok r
+  pub read_so : (x : Result CanonicalParts NameFault) (r : CanonicalParts) → result_ok x ≡ Some r → x ≡ Ok r
   read_so (Ok y) r e = let same : y ≡ r = cc in ap Ok same
   read_so (Err f) r e = cc
 
@@ -133,10 +133,10 @@ module _ (old new beside : Definitions) (mark : Text) (types : ℕ) (b : IsBesid
   mark_new =
       subst (λ m. BeginsNone m (package_texts old ++ package_texts new)) (sym b.mark_is) (grown_fresh stem (package_texts old ++ package_texts new))
 
-  put_profiles : AllMarked mark b.profiles
+  pub put_profiles : AllMarked mark b.profiles
   put_profiles = subst (AllMarked mark) (sym b.are_put.profiles_are) (profiles_marked old new b.are_put.keeps mark 0 old.structure_definitions)
 
-  put_sets : AllMarked mark b.sets
+  pub put_sets : AllMarked mark b.sets
   put_sets = sets_marked old new b.are_put.keeps mark 0 old.value_sets b.sets b.are_put.are_sets
 
   pub at_new : (kind : Kind) (url : Text) → Contains (package_texts old ++ package_texts new) url → at_url kind url beside ≡ at_url kind url new

@@ -1,7 +1,7 @@
 //! Laws: what the package that is made says of the two that it is made of.
 
-ghost use Rattle.std.specs.Prelude.{◌≡◌, ◌++◌, ℕ, List, Option, Some};
-ghost use Rattle.std.specs.List.{Contains};
+ghost use Rattle.std.specs.Prelude.{◌≡◌, ◌<◌, ◌++◌, ℕ, length, List, Option, Some};
+ghost use Rattle.std.specs.List.{Contains, slice_get};
 ghost use Rattle.std.specs.FinSet as set;
 ghost use Rattle.fhir_json.specs.Tree.{Text};
 ghost use Rattle.fhir_package.specs.declared.kind.Kind.{Kind};
@@ -9,6 +9,9 @@ ghost use Rattle.fhir_package.specs.Definitions.{Definitions, at_url};
 ghost use Rattle.fhir_package.specs.Canonical.{named_by};
 ghost use Rattle.fhir_codes.specs.Concepts.{Concept, Concepts};
 ghost use Rattle.fhir_codes.specs.ValueSets.{expansion, concepts_of};
+ghost use Rattle.fhir_nodes.specs.Urls.{canonical_place};
+ghost use Rattle.fhir_nodes.specs.Types.{type_place};
+ghost use Rattle.fhir_schema.specs.Schemas.{schema_of};
 ghost use Rattle.fhir_alike.specs.Mark.{package_texts, BeginsNone};
 ghost use Rattle.fhir_beside.specs.Listing.{listed};
 ghost use Rattle.fhir_beside.specs.Beside.{IsBeside};
@@ -35,6 +38,19 @@ pub fn concepts_mean_new()
 {
     least_closed();
 }
+
+/// In the schema of the package that is made NEW's definitions stand at their places, a canonical of either package names what it names in NEW's schema,
+/// and each type is NEW's.
+pub fn definitions_stay()
+    ensures places { (old new beside : Definitions) (mark : Text) (types : ℕ) → IsBeside old new mark beside types
+        → (place : ℕ) → place < length new.structure_definitions
+        → slice_get (schema_of beside).definitions place ≡ slice_get (schema_of new).definitions place }
+    ensures canonicals { (old new beside : Definitions) (mark : Text) (types : ℕ) → IsBeside old new mark beside types
+        → (canonical : Text) → Contains (package_texts old ++ package_texts new) canonical
+        → canonical_place (schema_of beside).definitions canonical ≡ canonical_place (schema_of new).definitions canonical }
+    ensures types { (old new beside : Definitions) (mark : Text) (types : ℕ) → IsBeside old new mark beside types
+        → (code : Text) → type_place (schema_of beside).definitions code ≡ type_place (schema_of new).definitions code }
+{}
 
 /// A value set that lists concepts has these and no others, in whatever package it stands. So OLD's value sets have there the concepts that they have
 /// in OLD.

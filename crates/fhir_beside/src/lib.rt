@@ -14,6 +14,6 @@ mod profile;
 mod putting;
 mod types;
 
-pub use laws::{concepts_mean_new, listed_sets_are_read, names_mean_new};
+pub use laws::{concepts_mean_new, definitions_stay, listed_sets_are_read, names_mean_new};
 pub use making::{Made, beside};
 pub use profile::{Profile, profile_at};
