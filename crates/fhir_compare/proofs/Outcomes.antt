@@ -1,5 +1,5 @@
 -- What is shown of two profiles, by what `derive` answers.
-use Rattle.std.proofs.Common.{◌≡◌, ◌↔◌, true, false, Option, None, Some, is_some, IsSome, IfSome, sym, ap, ◌∙◌, subst}
+use Rattle.std.proofs.Common.{◌≡◌, ◌↔◌, true, false, Option, None, Some, is_some, IsSome, IfSome, IsTrue, sym, ap, ◌∙◌, subst}
 use Rattle.std.proofs.lemmas.Bool.{false≢true}
 use Rattle.std.specs.Option.{option_map}
 use Rattle.fhir_json.specs.Tree.{Text}
@@ -8,6 +8,7 @@ use Rattle.fhir_certificate.specs.Certificate.{CertificateValue}
 use Rattle.fhir_certificate.specs.declared.pair.Pair.{Pair}
 use Rattle.fhir_cert_check.specs.declared.rule.Rule.{Rule}
 use Rattle.fhir_cert_check.specs.Views.{rule_name}
+use Rattle.fhir_cert_check.specs.Inclusion.{Includes}
 use Rattle.fhir_derive_check.specs.declared.outcome.Outcome.{Outcome}
 use Rattle.fhir_derive_check.specs.declared.outcome.Outcome.TheVariants.{Derives, NoCertificate}
 use Rattle.fhir_derive_check.specs.declared.fault.DeriveFault.{DeriveFault}
@@ -20,6 +21,10 @@ module _ (s : SchemaValue) (derived base : Text) where
   pub narrows_so : (o : Outcome) (certificate : CertificateValue) → o ≡ Derives certificate
       → ((is_some (certificate_of o) ≡ true) ↔ HasCertificate s derived base) → HasCertificate s derived base
   narrows_so o certificate is exactly = exactly.0 (ap (λ (x : Outcome). is_some (certificate_of x)) is)
+
+  pub includes_so : (o : Outcome) (certificate : CertificateValue) → o ≡ Derives certificate
+      → (IsTrue (is_some (certificate_of o)) → Includes s derived base) → Includes s derived base
+  includes_so o certificate is includes = includes (ap (λ (x : Outcome). is_some (certificate_of x)) is)
 
   pub none_so : (o : Outcome) (pair : Pair) (rule : Rule) → o ≡ NoCertificate pair rule
       → ((is_some (certificate_of o) ≡ true) ↔ HasCertificate s derived base) → HasCertificate s derived base → ⊥

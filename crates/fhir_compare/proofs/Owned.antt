@@ -13,7 +13,7 @@ use Rattle.fhir_alike.specs.Profiles.{is_profile, has_profile}
 use Rattle.fhir_alike.specs.Naming.{lost_name}
 use Rattle.fhir_alike.specs.Spreading.{is_marked}
 use Rattle.fhir_beside.specs.Standing.{standing, profile_of}
-use Rattle.fhir_compare.specs.Comparing.{ShownValue, narrows, fails as fails_by, cannot_be_used, is_narrowing, Direction, new_in_old, old_in_new, sides_by, IsShownBy, IsShown, IsDerivedAt, definition_at}
+use Rattle.fhir_compare.specs.Comparing.{ShownValue, narrows, fails as fails_by, cannot_be_used, is_narrowing, Direction, new_in_old, old_in_new, sides_by, NarrowsBy, IsShownBy, IsShown, IsDerivedAt, definition_at}
 use Rattle.fhir_compare.specs.Owns.{OwnValue, own_both, own_unusable, own_only_in_old, own_other, IsOwnOf, IsOwnBy, IsOwnAt, AreOwnsFrom, shown_of, fails, all_fail}
 use Rattle.fhir_compare.proofs.Refused.{refused_none}
 
@@ -104,7 +104,7 @@ module _ (old made : Definitions) (mark : Text) where
   -- ---- where a way is derived
 
   narrowing_has : (s : SchemaValue) (sides : Text × Text) (shows : Text → Type 0) (shown : ShownValue) → IsShownBy s sides shows shown
-      → is_narrowing shown ≡ true → HasCertificate s sides.0 sides.1
+      → is_narrowing shown ≡ true → NarrowsBy s sides
   narrowing_has s sides shows narrows is e = is
   narrowing_has s sides shows (fails_by pair rule resource) is e = absurd cc
   narrowing_has s sides shows cannot_be_used is e = absurd cc
@@ -146,7 +146,7 @@ module _ (old made : Definitions) (mark : Text) where
     where
       go : (b : Bool) → is_narrowing (shown_of way n o) ≡ b → ⊥
       go false is =
-          other_has (schema_of made) (sides_by way e.0 (mark ++ e.0)) _ (shown_of way n o) (shown_by way e.0 n o a.3.1 a.3.2) is d.3
+          other_has (schema_of made) (sides_by way e.0 (mark ++ e.0)) _ (shown_of way n o) (shown_by way e.0 n o a.3.1 a.3.2) is d.3.0
       go true is = lost_some (is_narrowing (shown_of way n o)) l (lost_name old made (definition_at place e)) is f a.3.0 d.2
   not_derived way place e (own_unusable in_old in_new) a f d =
       unusable_one (is_usable (schema_of old) place) (unusable (schema_of made) e.0) in_old in_new a.1 a.2 a.3 d.1

@@ -8,6 +8,7 @@ use Rattle.fhir_definition.specs.Definition.{Definition, definition_of}
 use Rattle.fhir_schema.specs.Schemas.{SchemaValue, schema_of, is_usable, unusable}
 use Rattle.fhir_certificate.specs.declared.pair.Pair.{Pair}
 use Rattle.fhir_cert_check.specs.Rule.{RuleName}
+use Rattle.fhir_cert_check.specs.Inclusion.{Includes}
 use Rattle.fhir_derive_check.specs.Deriving.{IsFirstFailing}
 use Rattle.fhir_derive_check.specs.Faults.{derive_refusal}
 use Rattle.fhir_derive_check.specs.Reaching.{HasCertificate}
@@ -52,9 +53,13 @@ abbrev pub sides_by : Direction → (url own : Text) → Text × Text
 sides_by new_in_old url own = (url, own)
 sides_by old_in_new url own = (own, url)
 
+-- The one profile narrows the other: a certificate shows it, and each JSON value that conforms to the one conforms to the other.
+abbrev pub NarrowsBy : SchemaValue → Text × Text → Type 0
+NarrowsBy made sides = HasCertificate made sides.0 sides.1 × Includes made sides.0 sides.1
+
 -- It is what `derive` says of two profiles, in the package that is made, and a resource shows it.
 abbrev pub IsShownBy : SchemaValue → Text × Text → (Text → Type 0) → ShownValue → Type 0
-IsShownBy made sides shows narrows = HasCertificate made sides.0 sides.1
+IsShownBy made sides shows narrows = NarrowsBy made sides
 IsShownBy made sides shows (fails pair rule resource) =
     (HasCertificate made sides.0 sides.1 → ⊥) × IsFirstFailing made sides.0 sides.1 pair rule × IfSome resource shows
 IsShownBy made sides shows cannot_be_used = IsSome (derive_refusal made sides.0 sides.1)
@@ -151,7 +156,7 @@ module _ (old made : Definitions) (mark : Text) where
   abbrev pub IsDerivedAt : Direction → ℕ → Text × Tree → Type 0
   IsDerivedAt way place e =
       IsTrue (are_in_both e) × IsTrue (are_usable place e) × IsTrue (is_none (lost_name old made (definition_at place e)))
-      × HasCertificate (schema_of made) (sides_by way e.0 (mark ++ e.0)).0 (sides_by way e.0 (mark ++ e.0)).1
+      × NarrowsBy (schema_of made) (sides_by way e.0 (mark ++ e.0))
 
   -- A way fails at a place: a profile stands there, of which it isn't derived.
   abbrev pub FailsAt : Direction → ℕ → Type 0

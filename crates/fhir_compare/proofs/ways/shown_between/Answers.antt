@@ -2,14 +2,17 @@ use Rattle.std.proofs.Common.{rules, ◌≡◌, false}
 use Rattle.fhir_derive_check.specs.declared.fault.DeriveFault.TheVariants.{Missing, Unusable}
 use Rattle.fhir_derive_check.specs.declared.outcome.Outcome.TheVariants.{Derives, NoCertificate}
 use Rattle.fhir_derive_check.specs.Faults.{is_no_memory}
-use Rattle.fhir_compare.proofs.Outcomes.{narrows_so, none_so, first_so, refused_so}
+use Rattle.fhir_compare.proofs.Outcomes.{narrows_so, includes_so, none_so, first_so, refused_so}
 use Rattle.fhir_compare.proofs.ways.shown_between.Goals as goal
 
 pub returns-in-Ok-Derives : goal.returns-in-Ok-Derives
 returns-in-Ok-Derives c =
     let found = c.in-Ok-Derives in
     let is : found.field-0 ≡ Derives found._certificate = search rules in
-    narrows_so c.args.two.schema.now c.args.derived.now c.args.base.now found.field-0 found._certificate is found.ensures.derives
+    let s = c.args.two.schema.now in (
+      narrows_so s c.args.derived.now c.args.base.now found.field-0 found._certificate is found.ensures.derives,
+      includes_so s c.args.derived.now c.args.base.now found.field-0 found._certificate is found.ensures.includes,
+    )
 
 pub fails-requires-clause-none : goal.fails-requires-clause-none
 fails-requires-clause-none c =
