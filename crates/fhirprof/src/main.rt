@@ -18,11 +18,12 @@ use fhir_engine::{
     Meter, Opened, gather_directories, open_asked, run, serve_directory, serve_directory_given,
 };
 use fhir_package::{Folder, FolderFault, Progress};
-use fhir_words::{Invocation, Task, WordsFault, task_of};
+use fhir_words::{AuditRequest, BulkRequest, Invocation, Task, WordsFault, task_of};
 use std::alloc::Global;
-use std::io::{ErrorKind, IsTerminal, Write};
+use std::io::{ErrorKind, IsTerminal, Read, Write};
 use std::process::ExitCode;
 use std::rt::{Env, Files};
+use std::time::Clock;
 use std::{env, io};
 
 fn main(rt: HostRuntime) -> ExitCode {
@@ -38,53 +39,88 @@ fn main(rt: HostRuntime) -> ExitCode {
     };
     match task {
         Ok(Task::Answer(asked)) => answer(&rt, Ok(asked), &mut meter, &mut out, &mut err),
-        Ok(
-            Task::Serve {
-                folder,
-                given: None,
-            },
-        ) => {
-            let input = rt.stdin();
-            ExitCode::from(serve_directory(&rt, folder, input, &mut meter, &mut out, &mut err))
+        Ok(Task::Serve { folder, given }) => {
+            serve(&rt, folder, given, rt.stdin(), &mut meter, &mut out, &mut err)
         }
-        Ok(
-            Task::Serve {
-                folder,
-                given: Some(given),
-            },
-        ) => {
-            let input = rt.stdin();
-            ExitCode::from(serve_directory_given(
-                &rt, folder, given, input, &mut meter, &mut out, &mut err,
-            ))
-        }
-        Ok(Task::Gather(gathering)) => {
-            ExitCode::from(gather_directories(&rt, &gathering, &mut meter, &mut out, &mut err))
-        }
-        // Where a profile is asked for, none that a resource claims is looked at.
-        Ok(Task::ValidateAll(request)) if request.skip_unknown && request.profile.is_some() => {
-            answer(&rt, Err(WordsFault::Usage), &mut meter, &mut out, &mut err)
+        Ok(Task::Gather(request)) => {
+            ExitCode::from(gather_directories(&rt, &request, &mut meter, &mut out, &mut err))
         }
         Ok(Task::ValidateAll(request)) => {
-            let input = rt.stdin();
-            let mut terminal = rt.stderr();
-            let mut watch = RateMeter::new(&rt, &mut terminal, is_terminal);
-            ExitCode::from(validate_directory(
-                &rt, &request, input, &mut meter, &mut watch, &mut out, &mut err,
-            ))
+            validate_all(&rt, &request, rt.stdin(), rt.stderr(), &mut meter, &mut out, &mut err)
         }
         Ok(Task::Audit(request)) => {
-            let mut terminal = rt.stderr();
-            let mut watch = ProfileMeter::new(&rt, &mut terminal, is_terminal);
-            ExitCode::from(audit_directory(
-                &rt, &request, &mut meter, &mut watch, &mut out, &mut err,
-            ))
+            audit(&rt, &request, rt.stderr(), &mut meter, &mut out, &mut err)
         }
         Ok(Task::Compare(request)) => {
             ExitCode::from(compare_directories(&rt, &request, &mut meter, &mut out, &mut err))
         }
         Err(fault) => answer(&rt, Err(fault), &mut meter, &mut out, &mut err),
     }
+}
+
+// Serves a folder, with the rules of a file where one is given.
+fn serve<R: Files + AllocGlobal + Clone + Drop, I: Read + Drop, P: Progress, W: Write, E: Write>(
+    rt: &R,
+    folder: &str,
+    given: Option<&str>,
+    input: I,
+    progress: &mut P,
+    out: &mut W,
+    err: &mut E,
+) -> ExitCode {
+    ExitCode::from(match given {
+        None => serve_directory(rt, folder, input, progress, out, err),
+        Some(given) => serve_directory_given(rt, folder, given, input, progress, out, err),
+    })
+}
+
+// Validates many resources. Where a profile is asked for, none that a resource claims is looked at, so that none can be skipped.
+fn validate_all<
+    R: Files + Clock + AllocGlobal + Clone + Drop,
+    S: Read + Copy,
+    T: Write + IsTerminal + Drop,
+    P: Progress,
+    W: Write,
+    E: Write,
+>(
+    rt: &R,
+    request: &BulkRequest<'_>,
+    input: S,
+    mut terminal: T,
+    progress: &mut P,
+    out: &mut W,
+    err: &mut E,
+) -> ExitCode {
+    if request.skip_unknown && request.profile.is_some() {
+        return answer(rt, Err(WordsFault::Usage), progress, out, err);
+    }
+    let is_terminal = terminal.is_terminal();
+    let mut watch = RateMeter::new(rt, &mut terminal, is_terminal);
+    ExitCode::from(validate_directory(
+        rt, request, input, progress, &mut watch, out, err,
+    ))
+}
+
+// Audits a package.
+fn audit<
+    R: Files + Clock + AllocGlobal + Clone + Drop,
+    T: Write + IsTerminal + Drop,
+    P: Progress,
+    W: Write,
+    E: Write,
+>(
+    rt: &R,
+    request: &AuditRequest<'_>,
+    mut terminal: T,
+    progress: &mut P,
+    out: &mut W,
+    err: &mut E,
+) -> ExitCode {
+    let is_terminal = terminal.is_terminal();
+    let mut watch = ProfileMeter::new(rt, &mut terminal, is_terminal);
+    ExitCode::from(audit_directory(
+        rt, request, progress, &mut watch, out, err,
+    ))
 }
 
 // Answers what is asked.
