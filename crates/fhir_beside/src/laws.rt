@@ -30,7 +30,7 @@ pub fn names_mean_new()
         → named_by kind canonical beside ≡ named_by kind canonical new }
 {}
 
-/// A canonical of either package has in the package that is made the concepts that it has in NEW: no binding of NEW means another set there.
+/// A canonical that is a text of either package has in the package that is made the concepts that it has in NEW: no binding of NEW means another set there.
 pub fn concepts_mean_new()
     ensures { (old new beside : Definitions) (mark : Text) (types : ℕ) → IsBeside old new mark beside types
         → (canonical : Text) → Contains (package_texts old ++ package_texts new) canonical
@@ -39,8 +39,8 @@ pub fn concepts_mean_new()
     least_closed();
 }
 
-/// In the schema of the package that is made NEW's definitions stand at their places, a canonical of either package names what it names in NEW's schema,
-/// and each type is NEW's.
+/// In the schema of the package that is made NEW's definitions stand at their places, a canonical that is a text of either package names what it names in
+/// NEW's schema, and each type is NEW's.
 pub fn definitions_stay()
     ensures places { (old new beside : Definitions) (mark : Text) (types : ℕ) → IsBeside old new mark beside types
         → (place : ℕ) → place < length new.structure_definitions
