@@ -7,7 +7,7 @@ use Rattle.fhir_words.specs.declared.request.Format.{Format}
 use Rattle.fhir_audit.specs.declared.verdict.Audited.{Audited}
 use Rattle.fhir_audit.specs.Views.{audited_seen, all_audited}
 use Rattle.fhir_audit_lines.specs.Report.{IsTold, AreTold}
-use Rattle.fhir_audit_lines.specs.Telling.{told_lines}
+use Rattle.fhir_lines.specs.Lines.{text_rows}
 
 module _ (format : Format) (s : SchemaValue) where
   -- one profile more is told
@@ -31,7 +31,7 @@ module _ (format : Format) (s : SchemaValue) where
       (so [] (subst (λ l. AreTold format s l []) (sym (at_drop_all (λ l. all_audited l) told i past)) refl))
 
 -- all that is told, from the lines
-pub all_told : (text : Text) (all on_profiles others : List Text) (line last : Text) → text ≡ told_lines all → all ≡ on_profiles ++ others ++ line ∷ []
-    → line ≡ last → text ≡ told_lines (on_profiles ++ others ++ last ∷ [])
+pub all_told : (text : Text) (all on_profiles others : List Text) (line last : Text) → text ≡ text_rows all → all ≡ on_profiles ++ others ++ line ∷ []
+    → line ≡ last → text ≡ text_rows (on_profiles ++ others ++ last ∷ [])
 all_told text all on_profiles others line last written joined same =
-    written ∙ ap (λ (l : List Text). told_lines l) (joined ∙ ap (λ (l : Text). on_profiles ++ others ++ l ∷ []) same)
+    written ∙ ap (λ (l : List Text). text_rows l) (joined ∙ ap (λ (l : Text). on_profiles ++ others ++ l ∷ []) same)

@@ -1,11 +1,8 @@
 -- How the counts of an audit are told in text.
-use Rattle.std.specs.Prelude.{ℕ, ◌++◌, codes}
-use Rattle.std.specs.Fmt.{decimal}
+use Rattle.std.specs.Prelude.{◌++◌, codes}
 use Rattle.fhir_json.specs.Tree.{Text}
+use Rattle.fhir_lines.specs.Lines.{counted}
 use Rattle.fhir_audit_words.specs.declared.counting.Counts.{Counts}
-
-abbrev pub counted : Text → ℕ → Text
-counted word n = word ++ decimal n
 
 abbrev pub counts_text : Counts → Text
 counts_text c =

@@ -9,8 +9,9 @@ use Rattle.fhir_audit.specs.declared.verdict.Audited.{Audited}
 use Rattle.fhir_audit.specs.Auditing.{AuditedValue}
 use Rattle.fhir_audit.specs.Views.{all_audited}
 use Rattle.fhir_audit_words.specs.Counting.{counts_of}
+use Rattle.fhir_lines.specs.Lines.{text_rows}
 use Rattle.fhir_audit_lines.specs.Counting.{counts_text}
-use Rattle.fhir_audit_lines.specs.Telling.{told_lines, IsToldText}
+use Rattle.fhir_audit_lines.specs.Telling.{IsToldText}
 use Rattle.fhir_audit_lines.specs.Trees.{IsToldTree, counts_tree}
 
 -- the lines on a profile
@@ -34,4 +35,4 @@ pub record IsReport (format : Format) (s : SchemaValue) (told : List Audited) (t
   pub on_profiles : List Text
   pub are_told : AreTold format s (all_audited told) on_profiles
   pub on_certificates : List Text
-  pub written : text ≡ told_lines (on_profiles ++ on_certificates ++ last_line format told ∷ [])
+  pub written : text ≡ text_rows (on_profiles ++ on_certificates ++ last_line format told ∷ [])

@@ -12,20 +12,12 @@ use Rattle.fhir_cert_check.specs.Rule.{RuleName, rule_text}
 use Rattle.fhir_cert_check.specs.Texts.{pair_text}
 use Rattle.fhir_derive_check.specs.declared.fault.Side.{Side}
 use Rattle.fhir_derive_check.specs.declared.fault.Side.TheVariants.{Derived, Base}
-use Rattle.fhir_lines.specs.Lines.{escaped}
 use Rattle.fhir_audit.specs.Auditing.{AuditedValue}
 use Rattle.fhir_audit.specs.Verdicts.{VerdictValue, narrows, does_not_narrow, is_not_shown, cannot_be_used, has_no_base}
 use Rattle.fhir_audit_words.specs.Words.{verdict_word}
 use Rattle.fhir_audit_lines.specs.Words.{pair_count, pairs_text, base_shown}
 
 -- ---- lines
-
--- a line, in which no text puts in a control character
-abbrev pub told_line : Text → Text
-told_line text = escaped text ++ codes "\n"
-
-abbrev pub told_lines : List Text → Text
-told_lines ls = flat_map told_line ls
 
 -- a line that belongs to the one above it
 abbrev pub under : Text → Text → Text

@@ -1,39 +1,19 @@
 //! All that an audit tells.
 
-ghost use Rattle.std.specs.Prelude.{◌≡◌, ◌∷◌, ◌++◌, [], map, string_bytes, IfOk, OnOk};
+ghost use Rattle.std.specs.Prelude.{◌≡◌, ◌∷◌, ◌++◌, [], map, string_bytes, IfOk};
 ghost use Rattle.fhir_audit.specs.Views.{audited_seen, all_audited};
-ghost use Rattle.fhir_audit_lines.specs.Telling.{told_line, told_lines};
 ghost use Rattle.fhir_audit_lines.specs.Report.{IsTold, AreTold, last_line, IsReport};
 
 use crate::counting::counts_text;
 use crate::held_lines::{HeldFile, held_lines};
-use crate::texts::{push_all, text_lines};
+use crate::texts::text_lines;
 use crate::trees::{counts_object, tree_lines};
 use fhir_audit::Audited;
 use fhir_audit_words::{Sources, counts_of};
 use fhir_json::NoMemory;
-use fhir_lines::push_escaped;
+use fhir_lines::{push_texts, text_rows};
 use fhir_words::Format;
 use std::alloc::{AllocError, Global};
-
-// ---- lines
-
-fn push_line(line: &str, into: &mut String) -> Result<(), AllocError>
-    ensures { OnOk result (string_bytes into.new ≡ string_bytes into.old ++ told_line line.now) }
-{
-    push_escaped(line, into)?;
-    into.push('\n')
-}
-
-fn written(alloc: Global, lines: &[String]) -> Result<String, AllocError>
-    ensures { IfOk result (λ text. string_bytes text ≡ told_lines (map string_bytes lines.now)) }
-{
-    let mut text = String::new(alloc);
-    for line in lines {
-        push_line(line.as_str(), &mut text)?;
-    }
-    Ok(text)
-}
 
 // ---- what is told
 
@@ -62,7 +42,7 @@ fn all_lines<'s, 'f: 's>(
     let mut lines: Vec<String> = Vec::new(alloc);
     for one in audited {
         let own = lines_of(alloc, format, sources, one)?;
-        push_all(own, &mut lines)?;
+        push_texts(own, &mut lines)?;
     }
     Ok(lines)
 }
@@ -99,7 +79,7 @@ fn joined(
     ensures { IfOk result (λ ls. map string_bytes ls.items
         ≡ map string_bytes lines.items ++ map string_bytes others.items ++ string_bytes last ∷ []) }
 {
-    push_all(others, &mut lines)?;
+    push_texts(others, &mut lines)?;
     lines.push(last)?;
     Ok(lines)
 }
@@ -119,6 +99,6 @@ pub fn audit_text<'s, 'f: 's>(
     let others = lines_held(alloc, format, sources, audited, held)?;
     let last = last_line(alloc, format, audited)?;
     let all = joined(lines, others, last)?;
-    let text = written(alloc, all.as_slice())?;
+    let text = text_rows(alloc, all.as_slice())?;
     Ok(text)
 }

@@ -16,7 +16,7 @@ use fhir_cert_check::{Rule, pair_text, rule_text};
 use fhir_certificate::{Certificate, Pair};
 use fhir_derive_check::Side;
 use fhir_json::NoMemory;
-use fhir_lines::Line;
+use fhir_lines::{Line, push_texts};
 use fhir_report::rule_words;
 use fhir_schema::Schema;
 use std::alloc::{AllocError, Global};
@@ -343,13 +343,6 @@ fn push_unread(alloc: Global, texts: &[String], into: &mut Vec<String>) -> Resul
     Ok(())
 }
 
-/// Puts in lines behind others.
-pub(crate) fn push_all(mut lines: Vec<String>, into: &mut Vec<String>) -> Result<(), AllocError>
-    ensures { OnOk result (map string_bytes into.new.items ≡ map string_bytes into.old.items ++ map string_bytes lines.items) }
-{
-    into.append(&mut lines)
-}
-
 /// The lines on a profile.
 pub(crate) fn text_lines<'s, 'f: 's>(
     alloc: Global,
@@ -362,7 +355,7 @@ pub(crate) fn text_lines<'s, 'f: 's>(
     let head = head_line(alloc, sources, audited)?;
     lines.push(head)?;
     let below = details(alloc, sources.schema, audited)?;
-    push_all(below, &mut lines)?;
+    push_texts(below, &mut lines)?;
     push_unread(alloc, &audited.unread, &mut lines)?;
     Ok(lines)
 }

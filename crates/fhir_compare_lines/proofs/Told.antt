@@ -7,7 +7,7 @@ use Rattle.fhir_words.specs.declared.request.Format.{Format}
 use Rattle.fhir_compare.specs.declared.verdict.Compared.{Compared}
 use Rattle.fhir_compare.specs.Views.{said_of, all_said}
 use Rattle.fhir_compare_lines.specs.Report.{IsTold, AreTold}
-use Rattle.fhir_compare_lines.specs.Telling.{told_lines}
+use Rattle.fhir_lines.specs.Lines.{text_rows}
 
 module _ (format : Format) (old new : Definitions) where
   -- one url more is told
@@ -31,7 +31,7 @@ module _ (format : Format) (old new : Definitions) where
       (so [] (subst (λ l. AreTold format old new l []) (sym (at_drop_all (λ l. all_said l) told i past)) refl))
 
 -- all that is told, from the lines
-pub all_told : (text : Text) (all on_urls others last : List Text) → text ≡ told_lines all → all ≡ on_urls ++ others → others ≡ last
-    → text ≡ told_lines (on_urls ++ last)
+pub all_told : (text : Text) (all on_urls others last : List Text) → text ≡ text_rows all → all ≡ on_urls ++ others → others ≡ last
+    → text ≡ text_rows (on_urls ++ last)
 all_told text all on_urls others last written joined same =
-    written ∙ ap (λ (l : List Text). told_lines l) (joined ∙ ap (λ (l : List Text). on_urls ++ l) same)
+    written ∙ ap (λ (l : List Text). text_rows l) (joined ∙ ap (λ (l : List Text). on_urls ++ l) same)

@@ -1,8 +1,8 @@
 -- How many profiles there are of each verdict.
 use Rattle.std.specs.Prelude.{ℕ, List, ◌++◌, length, Bool, true, false, codes}
-use Rattle.std.specs.Fmt.{decimal}
 use Rattle.std.specs.List.{count_by}
 use Rattle.fhir_json.specs.Tree.{Text}
+use Rattle.fhir_lines.specs.Lines.{counted}
 use Rattle.fhir_compare.specs.declared.verdict.Change.{Change}
 use Rattle.fhir_compare.specs.declared.verdict.Change.TheVariants.{Same, Narrows, Widens, Neither}
 use Rattle.fhir_compare.specs.declared.verdict.Compared.{Compared}
@@ -57,9 +57,6 @@ counts_of told = record {
   only_in_old = with_verdict is_in_old_alone told;
   only_in_new = with_verdict is_in_new_alone told;
 }
-
-abbrev pub counted : Text → ℕ → Text
-counted word n = word ++ decimal n
 
 abbrev pub counts_text : Counts → Text
 counts_text c =

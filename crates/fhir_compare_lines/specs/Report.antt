@@ -8,10 +8,11 @@ use Rattle.fhir_words.specs.declared.request.Format.TheVariants.{Text as AsText,
 use Rattle.fhir_compare.specs.declared.verdict.Compared.{Compared}
 use Rattle.fhir_compare.specs.Comparing.{Said}
 use Rattle.fhir_compare.specs.Views.{all_said}
+use Rattle.fhir_lines.specs.Lines.{text_rows}
 use Rattle.fhir_compare_lines.specs.declared.parts.Part.{Part}
 use Rattle.fhir_compare_lines.specs.Parts.{part_word}
 use Rattle.fhir_compare_lines.specs.Counting.{counts_of, counts_text}
-use Rattle.fhir_compare_lines.specs.Telling.{told_lines, IsToldText, types_lines}
+use Rattle.fhir_compare_lines.specs.Telling.{IsToldText, types_lines}
 use Rattle.fhir_compare_lines.specs.Trees.{IsToldTree, counts_tree}
 
 -- the lines on a url
@@ -33,4 +34,4 @@ last_lines AsJson told types part = compact (counts_tree (counts_of told) types 
 pub record IsReport (format : Format) (old new : Definitions) (told : List Compared) (types : ℕ) (part : Part) (text : Text) : Type 0 where
   pub on_urls : List Text
   pub are_told : AreTold format old new (all_said told) on_urls
-  pub written : text ≡ told_lines (on_urls ++ last_lines format told types part)
+  pub written : text ≡ text_rows (on_urls ++ last_lines format told types part)

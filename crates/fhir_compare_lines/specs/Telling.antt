@@ -8,18 +8,10 @@ use Rattle.fhir_json.specs.Tree.{Text}
 use Rattle.fhir_package.specs.declared.kind.Kind.TheVariants.{StructureDefinition}
 use Rattle.fhir_package.specs.Definitions.{Definitions}
 use Rattle.fhir_package.specs.Canonical.{named_by}
-use Rattle.fhir_lines.specs.Lines.{escaped}
 use Rattle.fhir_compare.specs.Comparing.{ShownValue, narrows, fails, cannot_be_used, Direction, new_in_old, old_in_new, WayValue, WaysValue, VerdictValue, both, unusable_in, only_in_old, only_in_new, change_of}
 use Rattle.fhir_compare_lines.specs.Words.{change_word, way_words, unusable_in_old, unusable_in_new}
 
 -- ---- lines
-
--- a line, in which no text puts in a control character
-abbrev pub told_line : Text → Text
-told_line text = escaped text ++ codes "\n"
-
-abbrev pub told_lines : List Text → Text
-told_lines ls = flat_map told_line ls
 
 -- a line that belongs to the one above it
 abbrev pub under : Text → Text

@@ -1,10 +1,11 @@
 //! How many profiles there are of each verdict.
 
-ghost use Rattle.std.specs.Prelude.{◌≡◌, ◌++◌, IfOk, OnOk, string_bytes};
+ghost use Rattle.std.specs.Prelude.{◌≡◌, IfOk, string_bytes};
 ghost use Rattle.fhir_compare.specs.Views.{verdict_seen};
-ghost use Rattle.fhir_compare_lines.specs.Counting.{same_change, is_changed_so, is_unusable, is_in_old_alone, is_in_new_alone, with_verdict, counts_of, counted, counts_text};
+ghost use Rattle.fhir_compare_lines.specs.Counting.{same_change, is_changed_so, is_unusable, is_in_old_alone, is_in_new_alone, with_verdict, counts_of, counts_text};
 
 use fhir_compare::{Change, Compared, Verdict};
+use fhir_lines::push_counted;
 use std::alloc::{AllocError, Global};
 
 /// How many profiles there are of each verdict.
@@ -110,26 +111,18 @@ pub fn counts_of(compared: &[Compared<'_>]) -> Counts
     }
 }
 
-fn push_count(alloc: Global, word: &str, count: usize, into: &mut String) -> Result<(), AllocError>
-    ensures { OnOk result (string_bytes into.new ≡ string_bytes into.old ++ counted word.now count) }
-{
-    let number = format!(in alloc; "{count}")?;
-    into.push_str(word)?;
-    into.push_str(number.as_str())
-}
-
 /// The counts in a line, without the part of a version behind them.
 pub(crate) fn counts_text(alloc: Global, counts: Counts) -> Result<String, AllocError>
     ensures { IfOk result (λ text. string_bytes text ≡ counts_text counts) }
 {
     let mut text = String::new(alloc);
-    push_count(alloc, "profiles: ", counts.profiles, &mut text)?;
-    push_count(alloc, ", same: ", counts.same, &mut text)?;
-    push_count(alloc, ", narrow: ", counts.narrow, &mut text)?;
-    push_count(alloc, ", widen: ", counts.widen, &mut text)?;
-    push_count(alloc, ", neither: ", counts.neither, &mut text)?;
-    push_count(alloc, ", can't be used: ", counts.unusable, &mut text)?;
-    push_count(alloc, ", only in OLD: ", counts.only_in_old, &mut text)?;
-    push_count(alloc, ", only in NEW: ", counts.only_in_new, &mut text)?;
+    push_counted(alloc, "profiles: ", counts.profiles, &mut text)?;
+    push_counted(alloc, ", same: ", counts.same, &mut text)?;
+    push_counted(alloc, ", narrow: ", counts.narrow, &mut text)?;
+    push_counted(alloc, ", widen: ", counts.widen, &mut text)?;
+    push_counted(alloc, ", neither: ", counts.neither, &mut text)?;
+    push_counted(alloc, ", can't be used: ", counts.unusable, &mut text)?;
+    push_counted(alloc, ", only in OLD: ", counts.only_in_old, &mut text)?;
+    push_counted(alloc, ", only in NEW: ", counts.only_in_new, &mut text)?;
     Ok(text)
 }

@@ -1,41 +1,22 @@
 //! All that is told of two packages' profiles.
 
-ghost use Rattle.std.specs.Prelude.{◌≡◌, ◌++◌, map, codes, string_bytes, IfOk, OnOk};
+ghost use Rattle.std.specs.Prelude.{◌≡◌, ◌++◌, map, codes, string_bytes, IfOk};
 ghost use Rattle.fhir_compare.specs.Views.{said_of, all_said};
 ghost use Rattle.fhir_compare_lines.specs.Parts.{part_word};
 ghost use Rattle.fhir_compare_lines.specs.Counting.{counts_of, counts_text};
-ghost use Rattle.fhir_compare_lines.specs.Telling.{told_line, told_lines, types_line, types_lines};
+ghost use Rattle.fhir_compare_lines.specs.Telling.{types_line, types_lines};
 ghost use Rattle.fhir_compare_lines.specs.Report.{IsTold, AreTold, last_lines, IsReport};
 
 use crate::counting::{counts_of, counts_text};
 use crate::parts::Part;
 use crate::sources::Sources;
-use crate::texts::{push_all, text_lines};
+use crate::texts::text_lines;
 use crate::trees::{last_row, tree_lines};
 use fhir_compare::Compared;
 use fhir_json::NoMemory;
-use fhir_lines::push_escaped;
+use fhir_lines::{push_texts, text_rows};
 use fhir_words::Format;
 use std::alloc::{AllocError, Global};
-
-// ---- lines
-
-fn push_line(line: &str, into: &mut String) -> Result<(), AllocError>
-    ensures { OnOk result (string_bytes into.new ≡ string_bytes into.old ++ told_line line.now) }
-{
-    push_escaped(line, into)?;
-    into.push('\n')
-}
-
-fn written(alloc: Global, lines: &[String]) -> Result<String, AllocError>
-    ensures { IfOk result (λ text. string_bytes text ≡ told_lines (map string_bytes lines.now)) }
-{
-    let mut text = String::new(alloc);
-    for line in lines {
-        push_line(line.as_str(), &mut text)?;
-    }
-    Ok(text)
-}
 
 // ---- on each url
 
@@ -64,7 +45,7 @@ fn all_lines<'s>(
     let mut lines: Vec<String> = Vec::new(alloc);
     for one in compared {
         let own = lines_of(alloc, format, sources, one)?;
-        push_all(own, &mut lines)?;
+        push_texts(own, &mut lines)?;
     }
     Ok(lines)
 }
@@ -127,7 +108,7 @@ fn last_lines(
 fn joined(mut lines: Vec<String>, others: Vec<String>) -> Result<Vec<String>, AllocError>
     ensures { IfOk result (λ ls. map string_bytes ls.items ≡ map string_bytes lines.items ++ map string_bytes others.items) }
 {
-    push_all(others, &mut lines)?;
+    push_texts(others, &mut lines)?;
     Ok(lines)
 }
 
@@ -145,6 +126,6 @@ pub fn comparison_text<'s>(
     let lines = all_lines(alloc, format, sources, compared)?;
     let last = last_lines(alloc, format, compared, sources.types, part)?;
     let all = joined(lines, last)?;
-    let text = written(alloc, all.as_slice())?;
+    let text = text_rows(alloc, all.as_slice())?;
     Ok(text)
 }

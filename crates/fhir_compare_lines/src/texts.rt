@@ -13,7 +13,7 @@ use crate::sources::{Side, Sources};
 use crate::unusable::unusable_line;
 use fhir_compare::{Change, Compared, Verdict, Way, Ways};
 use fhir_json::NoMemory;
-use fhir_lines::Line;
+use fhir_lines::{Line, push_texts};
 use std::alloc::{AllocError, Global};
 
 /// A change in a few words.
@@ -26,13 +26,6 @@ pub(crate) fn change_word(change: Change) -> &'static str
         Change::Widens => "widens",
         Change::Neither => "neither is shown",
     }
-}
-
-/// Puts in lines behind others.
-pub(crate) fn push_all(mut lines: Vec<String>, into: &mut Vec<String>) -> Result<(), AllocError>
-    ensures { OnOk result (map string_bytes into.new.items ≡ map string_bytes into.old.items ++ map string_bytes lines.items) }
-{
-    into.append(&mut lines)
 }
 
 // A line that belongs to the one above it.
@@ -146,8 +139,8 @@ fn with_head(
 {
     let mut lines: Vec<String> = Vec::new(alloc);
     lines.push(head)?;
-    push_all(narrowing, &mut lines)?;
-    push_all(widening, &mut lines)?;
+    push_texts(narrowing, &mut lines)?;
+    push_texts(widening, &mut lines)?;
     Ok(lines)
 }
 
@@ -236,7 +229,7 @@ fn unusable_lines<'s>(
 {
     let mut lines = unusable_if(alloc, sources.old, url, in_old, "can't be used in OLD")?;
     let others = unusable_if(alloc, sources.new, url, in_new, "can't be used in NEW")?;
-    push_all(others, &mut lines)?;
+    push_texts(others, &mut lines)?;
     Ok(lines)
 }
 

@@ -13,11 +13,11 @@ use crate::counting::Counts;
 use crate::failing::{Direction, Why, is_refuted, way_words, why_of};
 use crate::parts::Part;
 use crate::sources::{Side, Sources};
-use crate::texts::{change_word, push_all};
+use crate::texts::change_word;
 use crate::unusable::unusable_line;
 use fhir_compare::{Compared, Verdict, Way, Ways};
 use fhir_json::{Json, JsonFault, Member, NoMemory, read, write};
-use fhir_lines::Line;
+use fhir_lines::{Line, push_texts};
 use std::alloc::{AllocError, Global};
 use std::borrow::CowStr;
 
@@ -276,7 +276,7 @@ fn unusable_rows<'s>(
 {
     let mut rows = unusable_if(alloc, sources.old, url, in_old, "can't be used in OLD")?;
     let others = unusable_if(alloc, sources.new, url, in_new, "can't be used in NEW")?;
-    push_all(others, &mut rows)?;
+    push_texts(others, &mut rows)?;
     Ok(rows)
 }
 

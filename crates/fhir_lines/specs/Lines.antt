@@ -130,12 +130,24 @@ abbrev pub row_text : Format → LineValue → Text
 row_text AsText l = line_text l
 row_text AsJson l = compact (line_tree l)
 
+-- a text as a row, in which no text puts in a control character
+abbrev pub text_row : Text → Text
+text_row text = escaped text ++ codes "\n"
+
+-- one for each text
+abbrev pub text_rows : List Text → Text
+text_rows texts = flat_map text_row texts
+
 abbrev pub row : Format → LineValue → Text
-row format l = escaped (row_text format l) ++ codes "\n"
+row format l = text_row (row_text format l)
 
 -- one for each line
 abbrev pub rows : Format → List LineValue → Text
 rows format ls = flat_map (row format) ls
+
+-- a number behind a word
+abbrev pub counted : Text → ℕ → Text
+counted word n = word ++ decimal n
 
 -- ---- what contracts see
 

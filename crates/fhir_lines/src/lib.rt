@@ -19,4 +19,7 @@ mod writing;
 
 pub use laws::{escaped_texts, rows_are_lines};
 pub use line::{Details, FaultNumber, Line};
-pub use writing::{push_escaped, push_json, push_row, push_rows};
+pub use writing::{
+    push_counted, push_escaped, push_json, push_row, push_rows, push_text_row, push_texts,
+    text_rows,
+};

@@ -1,11 +1,11 @@
 //! How the lines of a report are written.
 
-ghost use Rattle.std.specs.Prelude.{◌≡◌, ◌<◌, ◌++◌, [], IfOk, OnOk, IsTrue, string_bytes};
+ghost use Rattle.std.specs.Prelude.{◌≡◌, ◌<◌, ◌++◌, [], map, IfOk, OnOk, IsTrue, string_bytes};
 ghost use Rattle.std.specs.Char.{is_control, digit_char};
 ghost use Rattle.fhir_json.specs.Compact.{compact};
 ghost use Rattle.fhir_json.specs.Memory.{Gives};
 ghost use Rattle.fhir_json.specs.Views.{tree_of};
-ghost use Rattle.fhir_lines.specs.Lines.{escaped_character, escaped, row_text, row, rows, line_seen, lines_seen};
+ghost use Rattle.fhir_lines.specs.Lines.{escaped_character, escaped, row_text, text_row, text_rows, row, rows, counted, line_seen, lines_seen};
 
 use crate::line::Line;
 use fhir_json::{Json, NoMemory, write};
@@ -71,7 +71,47 @@ pub fn push_json(alloc: Global, json: &Json<'_>, into: &mut String) -> Result<()
     Ok(push_escaped(text.as_str(), into)?)
 }
 
-/// Puts in a line: escaped, and with a line feed behind it. The one refusal is want of memory.
+/// Puts in a text as a row: escaped, and with a line feed behind it. The one refusal is want of memory.
+pub fn push_text_row(text: &str, into: &mut String) -> Result<(), AllocError>
+    ensures { OnOk result (string_bytes into.new ≡ string_bytes into.old ++ text_row text.now) }
+{
+    push_escaped(text, into)?;
+    into.push('\n')
+}
+
+/// The rows of texts. The one refusal is want of memory.
+pub fn text_rows(alloc: Global, texts: &[String]) -> Result<String, AllocError>
+    ensures { IfOk result (λ rows. string_bytes rows ≡ text_rows (map string_bytes texts.now)) }
+{
+    let mut rows = String::new(alloc);
+    for text in texts {
+        push_text_row(text.as_str(), &mut rows)?;
+    }
+    Ok(rows)
+}
+
+/// Puts in texts behind others. The one refusal is want of memory.
+pub fn push_texts(mut texts: Vec<String>, into: &mut Vec<String>) -> Result<(), AllocError>
+    ensures { OnOk result (map string_bytes into.new.items ≡ map string_bytes into.old.items ++ map string_bytes texts.items) }
+{
+    into.append(&mut texts)
+}
+
+/// Puts in a number behind a word. The one refusal is want of memory.
+pub fn push_counted(
+    alloc: Global,
+    word: &str,
+    count: usize,
+    into: &mut String,
+) -> Result<(), AllocError>
+    ensures { OnOk result (string_bytes into.new ≡ string_bytes into.old ++ counted word.now count) }
+{
+    let number = format!(in alloc; "{count}")?;
+    into.push_str(word)?;
+    into.push_str(number.as_str())
+}
+
+/// Puts in the row of a line. The one refusal is want of memory.
 pub fn push_row(
     alloc: Global,
     format: Format,
@@ -81,8 +121,7 @@ pub fn push_row(
     ensures { OnOk result (string_bytes into.new ≡ string_bytes into.old ++ row format (line_seen line.now)) }
 {
     let text = row_text(alloc, format, line)?;
-    push_escaped(text.as_str(), into)?;
-    Ok(into.push('\n')?)
+    Ok(push_text_row(text.as_str(), into)?)
 }
 
 /// Puts in a row for each line. The one refusal is want of memory.

@@ -40,13 +40,29 @@ fn main(rt: HostRuntime) -> ExitCode {
     match task {
         Ok(Task::Answer(asked)) => answer(&rt, Ok(asked), &mut meter, &mut out, &mut err),
         Ok(Task::Serve { folder, given }) => {
-            serve(&rt, folder, given, rt.stdin(), &mut meter, &mut out, &mut err)
+            serve(
+                &rt,
+                folder,
+                given,
+                rt.stdin(),
+                &mut meter,
+                &mut out,
+                &mut err,
+            )
         }
         Ok(Task::Gather(request)) => {
             ExitCode::from(gather_directories(&rt, &request, &mut meter, &mut out, &mut err))
         }
         Ok(Task::ValidateAll(request)) => {
-            validate_all(&rt, &request, rt.stdin(), rt.stderr(), &mut meter, &mut out, &mut err)
+            validate_all(
+                &rt,
+                &request,
+                rt.stdin(),
+                rt.stderr(),
+                &mut meter,
+                &mut out,
+                &mut err,
+            )
         }
         Ok(Task::Audit(request)) => {
             audit(&rt, &request, rt.stderr(), &mut meter, &mut out, &mut err)
@@ -96,9 +112,7 @@ fn validate_all<
     }
     let is_terminal = terminal.is_terminal();
     let mut watch = RateMeter::new(rt, &mut terminal, is_terminal);
-    ExitCode::from(validate_directory(
-        rt, request, input, progress, &mut watch, out, err,
-    ))
+    ExitCode::from(validate_directory(rt, request, input, progress, &mut watch, out, err))
 }
 
 // Audits a package.
@@ -118,9 +132,7 @@ fn audit<
 ) -> ExitCode {
     let is_terminal = terminal.is_terminal();
     let mut watch = ProfileMeter::new(rt, &mut terminal, is_terminal);
-    ExitCode::from(audit_directory(
-        rt, request, progress, &mut watch, out, err,
-    ))
+    ExitCode::from(audit_directory(rt, request, progress, &mut watch, out, err))
 }
 
 // Answers what is asked.

@@ -6,8 +6,8 @@ pub loop-one-preserved : goal.loop-one-preserved
 loop-one-preserved c =
     let one = c.one-item.result in
     told_more c.args.format c.args.sources.schema.now c.args.audited.now c.loop-one.one-index one (map string_bytes c.loop-one.lines.items)
-    (map string_bytes c.in_ok-own.own.items) (map string_bytes c.push_all.new.into.items) c.loop-one-test.true (sym c.one-item.is)
-    c.in_ok-own.ensures c.in_ok-push_all.ensures c.loop-one.invariant
+    (map string_bytes c.in_ok-own.own.items) (map string_bytes c.push_texts.new.into.items) c.loop-one-test.true (sym c.one-item.is)
+    c.in_ok-own.ensures c.in_ok-push_texts.ensures c.loop-one.invariant
 
 pub returns : goal.returns
 returns c =

@@ -7,7 +7,7 @@ loop-one-preserved c =
     let one = c.one-item.result in
     told_more c.args.format c.args.sources.old.survey.now.definitions c.args.sources.new.survey.now.definitions c.args.compared.now
     c.loop-one.one-index one (map string_bytes c.loop-one.lines.items) (map string_bytes c.in_ok-own.own.items)
-    (map string_bytes c.push_all.new.into.items) c.loop-one-test.true (sym c.one-item.is) c.in_ok-own.ensures c.in_ok-push_all.ensures
+    (map string_bytes c.push_texts.new.into.items) c.loop-one-test.true (sym c.one-item.is) c.in_ok-own.ensures c.in_ok-push_texts.ensures
     c.loop-one.invariant
 
 pub returns : goal.returns

@@ -7,5 +7,5 @@ returns c = (
   map string_bytes c.in_ok-others.others.items,
   c.in_ok-rows.ensures,
   c.in_ok-others.ensures,
-  c.in_ok-push_all.ensures,
+  c.in_ok-push_texts.ensures,
 )
