@@ -1,8 +1,7 @@
 //! What is answered where a resource is looked for that conforms to a profile and not to its base.
 
-ghost use Rattle.std.specs.Prelude.{◌≡◌, ◌++◌, [], None, Some, IfOk, IfSome, IsTrue, option_map, codes, string_bytes};
+ghost use Rattle.std.specs.Prelude.{◌≡◌, ◌++◌, [], None, Some, IfOk, option_map, codes, string_bytes};
 ghost use Rattle.fhir_cert_check.specs.Views.{rule_name};
-ghost use Rattle.fhir_counter.specs.Shows.{ShowsBy, is_on_line};
 ghost use Rattle.fhir_answers.specs.Answering.{IsReply, counter_given_answer};
 ghost use Rattle.fhir_answers.specs.Promising.{Derived};
 ghost use Rattle.fhir_answers.specs.Replying.{reply_seen, status_of, answer_noted, shown_reply};
@@ -17,7 +16,7 @@ use crate::session::Session;
 use crate::wrong_reply::wrong_text;
 use fhir_cert_check::Rule;
 use fhir_certificate::Pair;
-use fhir_counter::{counterexample, counterexample_given};
+use fhir_counter::counterexample_by;
 use fhir_derive_check::{DeriveFault, Outcome, derive};
 use fhir_json::NoMemory;
 use fhir_schema::Schema;
@@ -58,25 +57,6 @@ fn shown_reply(
             wrong_text(alloc, schema, pair, rule)?.into_bytes(),
             notes,
         )),
-    }
-}
-
-// A resource, also where a user vouches for unread rules.
-fn counterexample_by(
-    alloc: Global,
-    schema: &Schema,
-    derived: &str,
-    base: &str,
-    pair: Pair,
-    given: Option<&Vouching>,
-) -> Result<Option<Vec<u8>>, NoMemory>
-    ensures shown { IfOk result (λ found. IfSome found
-        (λ bytes. ShowsBy (option_map (λ texts. texts.now) given.entry) schema.now derived.now base.now bytes.items)) }
-    ensures line { IfOk result (λ found. IfSome found (λ bytes. IsTrue (is_on_line bytes.items))) }
-{
-    match given {
-        Some(given) => counterexample_given(alloc, schema, derived, base, pair, given),
-        None => counterexample(alloc, schema, derived, base, pair),
     }
 }
 

@@ -1,40 +1,20 @@
 //! What is said of a profile and its base.
 
-ghost use Rattle.std.specs.Prelude.{◌≡◌, IfOk, IfSome, IsTrue, option_map};
+ghost use Rattle.std.specs.Prelude.{◌≡◌, IfOk, option_map};
 ghost use Rattle.fhir_json.specs.Views.{text_seen};
 ghost use Rattle.fhir_cert_check.specs.Views.{rule_name};
-ghost use Rattle.fhir_counter.specs.Shows.{ShowsBy, is_on_line};
 ghost use Rattle.fhir_audit.specs.Verdicts.{verdict_by, IsShownVerdict, IsSaid, IsVerdict};
 ghost use Rattle.fhir_audit.specs.Views.{verdict_seen};
 
 use crate::verdict::Verdict;
 use fhir_cert_check::Rule;
 use fhir_certificate::Pair;
-use fhir_counter::{counterexample, counterexample_given};
+use fhir_counter::counterexample_by;
 use fhir_derive_check::{DeriveFault, Outcome, derive};
 use fhir_json::NoMemory;
 use fhir_schema::Schema;
 use fhir_vouching::Vouching;
 use std::alloc::Global;
-
-// A resource, also where a user vouches for unread rules.
-fn resource_by(
-    alloc: Global,
-    schema: &Schema,
-    url: &str,
-    base: &str,
-    pair: Pair,
-    given: Option<&Vouching>,
-) -> Result<Option<Vec<u8>>, NoMemory>
-    ensures shown { IfOk result (λ found. IfSome found
-        (λ bytes. ShowsBy (option_map (λ texts. texts.now) given.entry) schema.now url.now base.now bytes.items)) }
-    ensures line { IfOk result (λ found. IfSome found (λ bytes. IsTrue (is_on_line bytes.items))) }
-{
-    match given {
-        Some(given) => counterexample_given(alloc, schema, url, base, pair, given),
-        None => counterexample(alloc, schema, url, base, pair),
-    }
-}
 
 fn with_resource<'s>(pair: Pair, rule: Rule<'s>, found: Option<Vec<u8>>) -> Verdict<'s>
     ensures { verdict_seen result ≡ verdict_by pair (rule_name rule.entry) (option_map (λ bytes. bytes.items) found) }
@@ -62,7 +42,7 @@ fn refuted<'s>(
     ensures { IfOk result (λ v. IsShownVerdict (option_map (λ texts. texts.now) given.entry) schema.now url.now base.now pair (rule_name rule.entry)
         (verdict_seen v)) }
 {
-    let found = resource_by(alloc, schema, url, base, pair, given)?;
+    let found = counterexample_by(alloc, schema, url, base, pair, given)?;
     Ok(with_resource(pair, rule, found))
 }
 

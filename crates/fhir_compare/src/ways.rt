@@ -1,23 +1,19 @@
 //! What is shown of the profiles of a url, in one way.
 
 ghost use Rattle.std.specs.Prelude.{◌≡◌, IfOk, IfSome, IsTrue, option_map};
-ghost use Rattle.fhir_json.specs.Tree.{Tree};
-ghost use Rattle.fhir_json.specs.Grammar.{Reads};
 ghost use Rattle.fhir_cert_check.specs.Views.{rule_name};
 ghost use Rattle.fhir_derive_check.specs.Deriving.{IsFirstFailing};
 ghost use Rattle.fhir_derive_check.specs.Reaching.{HasCertificate};
-ghost use Rattle.fhir_counter.specs.Shows.{AlwaysConforms, NeverConforms};
 ghost use Rattle.fhir_compare.specs.Comparing.{IsShownBy, IsShown, ShowsBy, ShowsBetween, sides_by};
 ghost use Rattle.fhir_compare.specs.Views.{direction_seen, shown_seen};
 
 use crate::verdict::Shown;
 use fhir_cert_check::Rule;
 use fhir_certificate::Pair;
-use fhir_counter::counterexample;
+use fhir_counter::{always_conforms, counterexample, never_conforms};
 use fhir_derive_check::{DeriveFault, Outcome, derive};
 use fhir_json::NoMemory;
 use fhir_schema::Schema;
-use fhir_validator::{Fault, validate};
 use std::alloc::Global;
 
 /// One of the two ways.
@@ -38,29 +34,6 @@ pub(crate) struct Two<'s, 'u> {
     pub(crate) own: &'u str,
 }
 
-// Whether a resource conforms to a profile, whatever unread rules mean, and its constraints are true. What can't be judged doesn't.
-fn conforms(alloc: Global, schema: &Schema, profile: &str, bytes: &[u8]) -> Result<bool, NoMemory>
-    ensures always { (t : Tree) → Reads bytes.now t → IfOk result (λ yes. IsTrue yes → AlwaysConforms schema.now profile.now t) }
-    ensures read { IfOk result (λ yes. IsTrue yes → (t : Tree) × Reads bytes.now t) }
-{
-    match validate(alloc, schema, profile, bytes) {
-        Ok(verdict) => Ok(verdict.is_conforming()),
-        Err(Fault::NoMemory) => Err(NoMemory),
-        Err(_) => Ok(false),
-    }
-}
-
-// Whether a resource violates a profile, whatever unread rules mean. What can't be judged doesn't.
-fn violates(alloc: Global, schema: &Schema, profile: &str, bytes: &[u8]) -> Result<bool, NoMemory>
-    ensures { (t : Tree) → Reads bytes.now t → IfOk result (λ yes. IsTrue yes → NeverConforms schema.now profile.now t) }
-{
-    match validate(alloc, schema, profile, bytes) {
-        Ok(verdict) => Ok(verdict.is_violating()),
-        Err(Fault::NoMemory) => Err(NoMemory),
-        Err(_) => Ok(false),
-    }
-}
-
 // Whether a resource conforms to the one profile and violates the other, each by its own schema.
 fn shows_by(
     alloc: Global,
@@ -71,10 +44,10 @@ fn shows_by(
 ) -> Result<bool, NoMemory>
     ensures { IfOk result (λ yes. IsTrue yes → ShowsBy one.now other.now url.now resource.now) }
 {
-    if !conforms(alloc, one, url, resource)? {
+    if !always_conforms(alloc, one, url, resource)? {
         return Ok(false);
     }
-    violates(alloc, other, url, resource)
+    never_conforms(alloc, other, url, resource)
 }
 
 // Whether a resource conforms to the profile of the one side, and not to that of the other.

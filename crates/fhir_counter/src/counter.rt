@@ -4,36 +4,16 @@ ghost use Rattle.std.specs.Prelude.{◌≡◌, IfOk, IfSome, IsTrue, option_map}
 ghost use Rattle.fhir_counter.specs.Shows.{Shows, ShowsAsGiven, ShowsBy, AlwaysConforms, NeverConforms, ConformsAsGiven, is_text_byte, is_on_line};
 ghost use Rattle.fhir_json.specs.Tree.{Tree};
 ghost use Rattle.fhir_json.specs.Grammar.{Reads};
-ghost use Rattle.fhir_validator.specs.Verdicts.{is_conforming, is_violating, conforms_as_given};
+ghost use Rattle.fhir_validator.specs.Verdicts.{conforms_as_given};
 
 use fhir_candidates::{candidate, plain_code};
 use fhir_certificate::{NodePair, Pair};
 use fhir_differences::{Difference, differences};
 use fhir_json::NoMemory;
 use fhir_schema::Schema;
-use fhir_validator::{Fault, Verdict, Vouched, validate, validate_given};
+use fhir_validator::{Fault, Vouched, validate, validate_given};
 use fhir_vouching::Vouching;
 use std::alloc::Global;
-
-fn is_conforming(verdict: &Verdict<'_>) -> bool
-    ensures { result ≡ is_conforming verdict.now }
-{
-    match verdict {
-        Verdict::Conforms => true,
-        Verdict::Violates(_) => false,
-        Verdict::Open(_) => false,
-    }
-}
-
-fn is_violating(verdict: &Verdict<'_>) -> bool
-    ensures { result ≡ is_violating verdict.now }
-{
-    match verdict {
-        Verdict::Conforms => false,
-        Verdict::Violates(_) => true,
-        Verdict::Open(_sites) => false,
-    }
-}
 
 fn conforms_as_given(verdict: &Vouched<'_>) -> bool
     ensures { result ≡ conforms_as_given verdict.now }
@@ -45,13 +25,19 @@ fn conforms_as_given(verdict: &Vouched<'_>) -> bool
     }
 }
 
-// Whether a resource conforms to a profile, and its constraints are true. What can't be judged doesn't.
-fn conforms(alloc: Global, schema: &Schema, profile: &str, bytes: &[u8]) -> Result<bool, NoMemory>
+/// Whether a resource conforms to a profile, whatever unread rules mean, and its constraints are true. What can't be judged doesn't. The one refusal is
+/// want of memory.
+pub fn always_conforms(
+    alloc: Global,
+    schema: &Schema,
+    profile: &str,
+    bytes: &[u8],
+) -> Result<bool, NoMemory>
     ensures always { (t : Tree) → Reads bytes.now t → IfOk result (λ yes. IsTrue yes → AlwaysConforms schema.now profile.now t) }
     ensures read { IfOk result (λ yes. IsTrue yes → (t : Tree) × Reads bytes.now t) }
 {
     match validate(alloc, schema, profile, bytes) {
-        Ok(verdict) => Ok(is_conforming(&verdict)),
+        Ok(verdict) => Ok(verdict.is_conforming()),
         Err(Fault::NoMemory) => Err(NoMemory),
         Err(_) => Ok(false),
     }
@@ -75,12 +61,17 @@ fn conforms_given(
     }
 }
 
-// Whether a resource violates a profile.
-fn violates(alloc: Global, schema: &Schema, profile: &str, bytes: &[u8]) -> Result<bool, NoMemory>
+/// Whether a resource violates a profile, whatever unread rules mean. What can't be judged doesn't. The one refusal is want of memory.
+pub fn never_conforms(
+    alloc: Global,
+    schema: &Schema,
+    profile: &str,
+    bytes: &[u8],
+) -> Result<bool, NoMemory>
     ensures { (t : Tree) → Reads bytes.now t → IfOk result (λ yes. IsTrue yes → NeverConforms schema.now profile.now t) }
 {
     match validate(alloc, schema, profile, bytes) {
-        Ok(verdict) => Ok(is_violating(&verdict)),
+        Ok(verdict) => Ok(verdict.is_violating()),
         Err(Fault::NoMemory) => Err(NoMemory),
         Err(_) => Ok(false),
     }
@@ -95,10 +86,10 @@ fn shows(
 ) -> Result<bool, NoMemory>
     ensures { IfOk result (λ yes. IsTrue yes → Shows schema.now derived.now base.now bytes.now) }
 {
-    if !conforms(alloc, schema, derived, bytes)? {
+    if !always_conforms(alloc, schema, derived, bytes)? {
         return Ok(false);
     }
-    violates(alloc, schema, base, bytes)
+    never_conforms(alloc, schema, base, bytes)
 }
 
 fn shows_given(
@@ -114,7 +105,7 @@ fn shows_given(
     if !conforms_given(alloc, schema, derived, bytes, given)? {
         return Ok(false);
     }
-    violates(alloc, schema, base, bytes)
+    never_conforms(alloc, schema, base, bytes)
 }
 
 // The same where a user may vouch for unread rules.
@@ -256,4 +247,20 @@ pub fn counterexample_given(
     ensures line { IfOk result (λ found. IfSome found (λ bytes. IsTrue (is_on_line bytes.items))) }
 {
     first_shown(alloc, schema, derived, base, pair, Some(given))
+}
+
+/// One of the two: `counterexample_given` where a user vouches for unread rules, and `counterexample` else.
+pub fn counterexample_by(
+    alloc: Global,
+    schema: &Schema,
+    derived: &str,
+    base: &str,
+    pair: Pair,
+    given: Option<&Vouching>,
+) -> Result<Option<Vec<u8>>, NoMemory>
+    ensures shown { IfOk result (λ found. IfSome found
+        (λ bytes. ShowsBy (option_map (λ texts. texts.now) given.entry) schema.now derived.now base.now bytes.items)) }
+    ensures line { IfOk result (λ found. IfSome found (λ bytes. IsTrue (is_on_line bytes.items))) }
+{
+    first_shown(alloc, schema, derived, base, pair, given)
 }

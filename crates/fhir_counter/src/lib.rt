@@ -24,4 +24,6 @@
 
 mod counter;
 
-pub use counter::{counterexample, counterexample_given};
+pub use counter::{
+    always_conforms, counterexample, counterexample_by, counterexample_given, never_conforms,
+};

@@ -26,4 +26,4 @@ mod outcomes;
 
 pub use certifying::derive_answer;
 pub use judging::{judge, judge_given};
-pub use outcomes::{outcome, outcome_given};
+pub use outcomes::{OutcomeIssue, outcome, outcome_given, outcome_of};

@@ -16,13 +16,17 @@ use std::alloc::{AllocError, Global};
 use std::borrow::CowStr;
 use std::collections::BTreeSet;
 
-/// What an issue says: one of `OperationOutcome.issue`.
+/// What an issue says: one of `OperationOutcome.issue` (FHIR R4, OperationOutcome).
 #[derive(Drop)]
-struct OutcomeIssue {
-    severity: &'static str,
-    code: &'static str,
-    diagnostics: String,
-    expression: Option<String>,
+pub struct OutcomeIssue {
+    /// How severe it is, by its code.
+    pub severity: &'static str,
+    /// Its kind, by its code.
+    pub code: &'static str,
+    /// What is said.
+    pub diagnostics: String,
+    /// Where, as a path, if that is said.
+    pub expression: Option<String>,
 }
 
 fn member(name: &'static str, value: Json<'static>) -> Member<'static>
@@ -72,7 +76,8 @@ fn push_expression(
 }
 
 impl OutcomeIssue {
-    fn into_json(self, alloc: Global) -> Result<Json<'static>, AllocError>
+    /// The issue as a tree. The one refusal is want of memory.
+    pub fn into_json(self, alloc: Global) -> Result<Json<'static>, AllocError>
         ensures { IfOk result (λ json. HasSeverity self.severity.now (tree_of json)) }
     {
         let OutcomeIssue {
@@ -315,7 +320,8 @@ fn issues_of(
     }
 }
 
-fn resource(alloc: Global, issues: Vec<Json<'static>>) -> Result<Json<'static>, AllocError>
+/// The OperationOutcome of these issues. The one refusal is want of memory.
+pub fn outcome_of(alloc: Global, issues: Vec<Json<'static>>) -> Result<Json<'static>, AllocError>
     ensures resource { IfOk result (λ json. text_in (codes "resourceType") (tree_of json) ≡ Some (codes "OperationOutcome")) }
     ensures issues { IfOk result (λ json. items_in (codes "issue") (tree_of json) ≡ trees_of issues.entry.items) }
 {
@@ -336,7 +342,7 @@ pub fn outcome(
     ensures memory { IfOk result (λ json. validated.now ≡ Err faults.NoMemory → ⊥) }
 {
     let issues = issues_of(alloc, profile, validated)?;
-    Ok(resource(alloc, issues)?)
+    Ok(outcome_of(alloc, issues)?)
 }
 
 fn issues_given(
@@ -367,5 +373,5 @@ pub fn outcome_given(
     ensures memory { IfOk result (λ json. validated.now ≡ Err faults.NoMemory → ⊥) }
 {
     let issues = issues_given(alloc, profile, validated)?;
-    Ok(resource(alloc, issues)?)
+    Ok(outcome_of(alloc, issues)?)
 }

@@ -1,4 +1,3 @@
-pub mod Issues
 pub mod Owned
 pub mod Parts
 pub mod Pushed

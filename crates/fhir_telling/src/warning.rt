@@ -1,48 +1,15 @@
 //! Warnings of profiles that a resource claims to conform to, and that are passed over.
 
 ghost use Rattle.std.specs.Prelude.{◌≡◌, ◌++◌, length, map, codes, All, IfOk, OnOk};
-ghost use Rattle.fhir_json.specs.Fields.{text_in, items_in};
-ghost use Rattle.fhir_json.specs.Tree.{Text, string, array, object, items_of, members_of};
-ghost use Rattle.fhir_json.specs.Views.{tree_of, trees_of, property_of};
+ghost use Rattle.fhir_json.specs.Views.{tree_of, trees_of};
 ghost use Rattle.fhir_replies.specs.Outcomes.{HasSeverity};
 ghost use Rattle.fhir_telling.specs.Judgements.{issues_of};
 ghost use Rattle.fhir_telling.specs.Telling.{IsWarned};
 
-use fhir_json::{Json, Member, NoMemory};
+use fhir_json::{Json, NoMemory};
+use fhir_replies::{OutcomeIssue, outcome_of};
 use fhir_schema::Schema;
 use std::alloc::{AllocError, Global};
-use std::borrow::CowStr;
-
-fn member(name: &'static str, value: Json<'static>) -> Member<'static>
-    ensures { property_of result ≡ (name.now, tree_of value.entry) }
-{
-    Member {
-        name: CowStr::Borrowed(name),
-        value,
-    }
-}
-
-fn word(text: &'static str) -> Json<'static>
-    ensures { tree_of result ≡ string text.now }
-{
-    Json::Str(CowStr::Borrowed(text))
-}
-
-fn text(text: String) -> Json<'static> {
-    Json::Str(CowStr::Owned(text))
-}
-
-fn array(items: Vec<Json<'static>>) -> Json<'static>
-    ensures { tree_of result ≡ array (items_of (trees_of items.entry.items)) }
-{
-    Json::Arr(items)
-}
-
-fn object(members: Vec<Member<'static>>) -> Json<'static>
-    ensures { tree_of result ≡ object (members_of (map property_of members.entry.items)) }
-{
-    Json::Obj(members)
-}
 
 // The code (FHIR R4, OperationOutcome, issue.code) and the text of what is wrong with a profile at a url.
 fn fault_at(
@@ -66,14 +33,13 @@ fn warning_of(
     ensures { IfOk result (λ json. HasSeverity (codes "warning") (tree_of json)) }
 {
     let (code, diagnostics) = fault_at(alloc, schema, url)?;
-    let place = String::from_str(alloc, place)?;
-    let places = vec![in alloc; text(place)]?;
-    let mut members: Vec<Member<'static>> = Vec::with_capacity(alloc, 4)?;
-    members.push(member("severity", word("warning")))?;
-    members.push(member("code", word(code)))?;
-    members.push(member("diagnostics", text(diagnostics)))?;
-    members.push(member("expression", array(places)))?;
-    Ok(object(members))
+    let issue = OutcomeIssue {
+        severity: "warning",
+        code,
+        diagnostics,
+        expression: Some(String::from_str(alloc, place)?),
+    };
+    issue.into_json(alloc)
 }
 
 // The warnings of several, whose place is where the resource claims to conform to them.
@@ -104,14 +70,6 @@ fn push_copies(
         into.push(issue.detach(alloc)?)?;
     }
     Ok(())
-}
-
-fn outcome_of(alloc: Global, issues: Vec<Json<'static>>) -> Result<Json<'static>, AllocError>
-    ensures { IfOk result (λ json. issues_of (tree_of json) ≡ trees_of issues.entry.items) }
-{
-    let kind = member("resourceType", word("OperationOutcome"));
-    let issues = member("issue", array(issues));
-    Ok(object(vec![in alloc; kind, issues]?))
 }
 
 // The issues of an outcome, and warnings behind them.

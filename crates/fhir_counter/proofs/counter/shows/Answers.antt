@@ -4,8 +4,8 @@ use Rattle.fhir_counter.proofs.counter.shows.Goals as goal
 
 pub returns : goal.returns
 returns c =
-    let yes : IsTrue c.in_ok-conforms.field-0 = grind arith in
-    let it = c.in_ok-conforms.ensures.read yes in
-    IfOk-weaker c.violates.result _ _
-    (λ v never violates. (it.0, it.1, c.in_ok-conforms.ensures.always it.0 it.1 yes, never violates))
-    (c.violates.ensures it.0 it.1)
+    let yes : IsTrue c.in_ok-always_conforms.field-0 = grind arith in
+    let it = c.in_ok-always_conforms.ensures.read yes in
+    IfOk-weaker c.never_conforms.result _ _
+    (λ v never violates. (it.0, it.1, c.in_ok-always_conforms.ensures.always it.0 it.1 yes, never violates))
+    (c.never_conforms.ensures it.0 it.1)

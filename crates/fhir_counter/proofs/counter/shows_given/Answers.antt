@@ -6,6 +6,6 @@ pub returns : goal.returns
 returns c =
     let yes : IsTrue c.in_ok-conforms_given.field-0 = grind arith in
     let it = c.in_ok-conforms_given.ensures.read yes in
-    IfOk-weaker c.violates.result _ _
+    IfOk-weaker c.never_conforms.result _ _
     (λ v never violates. (it.0, it.1, c.in_ok-conforms_given.ensures.conforms it.0 it.1 yes, never violates))
-    (c.violates.ensures it.0 it.1)
+    (c.never_conforms.ensures it.0 it.1)

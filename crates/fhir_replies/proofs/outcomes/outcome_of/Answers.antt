@@ -1,7 +1,7 @@
 use Rattle.fhir_json.specs.Views.{tree_of, trees_of}
 use Rattle.std.proofs.Common.{codes, ap, ◌∙◌}
 use Rattle.fhir_replies.proofs.Items.{issues_in}
-use Rattle.fhir_replies.proofs.outcomes.resource.Goals as goal
+use Rattle.fhir_replies.proofs.outcomes.outcome_of.Goals as goal
 
 pub returns-clause-issues : goal.returns-clause-issues
 returns-clause-issues c =

@@ -1,4 +1,4 @@
-use Rattle.fhir_counter.proofs.counter.conforms.Goals as goal
+use Rattle.fhir_counter.proofs.counter.always_conforms.Goals as goal
 
 pub returns-in-Ok-clause-always : goal.returns-in-Ok-clause-always
 returns-in-Ok-clause-always c = λ t reads yes. (

@@ -1,7 +1,0 @@
-use Rattle.fhir_compare.proofs.ways.conforms.Goals as goal
-
-pub returns-in-Ok-clause-always : goal.returns-in-Ok-clause-always
-returns-in-Ok-clause-always c = λ t reads yes. (
-  c.in-Ok.ensures.always t reads (rw (← c.is_conforming.ensures) yes),
-  c.in-Ok.ensures.constraints t reads (rw (← c.is_conforming.ensures) yes),
-)

@@ -1,9 +1,0 @@
-use Rattle.std.proofs.Common.{codes, ap, ◌∙◌}
-use Rattle.fhir_json.specs.Views.{tree_of, trees_of}
-use Rattle.fhir_telling.proofs.Issues.{issues_in}
-use Rattle.fhir_telling.proofs.warning.outcome_of.Goals as goal
-
-pub returns : goal.returns
-returns c =
-    issues_in (tree_of c.object.result) c.in_ok-vec.field-0.items c.member-kind.result c.member-issues.result _ (trees_of c.args.issues.items)
-    c.object.ensures c.in_ok-vec.ensures.items c.member-kind.ensures (c.member-issues.ensures ∙ ap (λ t. (codes "issue", t)) c.array.ensures)
