@@ -250,10 +250,14 @@ fn word<'a>(matches: &ArgMatches<'a>, id: &str) -> Result<&'a str, WordsFault> {
 
 /// What words ask for, as `clap` reads them.
 pub(crate) fn other_task<'w>(alloc: Global, words: &'w [String]) -> Result<Task<'w>, WordsFault> {
-    let matches = match program(alloc)?.try_get_matches_from(words) {
-        Ok(matches) => matches,
-        Err(error) => return Ok(Task::Answer(of_error_kind(error.kind())?)),
-    };
+    match program(alloc)?.try_get_matches_from(words) {
+        Ok(matches) => task_matched(alloc, &matches),
+        Err(error) => Ok(Task::Answer(of_error_kind(error.kind())?)),
+    }
+}
+
+// The task of the command that stands there.
+fn task_matched<'w>(alloc: Global, matches: &ArgMatches<'w>) -> Result<Task<'w>, WordsFault> {
     let Some((name, matches)) = matches.subcommand() else {
         return Err(WordsFault::Usage);
     };
