@@ -1,5 +1,5 @@
 -- The issues of an outcome.
-use Rattle.std.proofs.Common.{◌≡◌, ◌<◌, ℕ, arith, List, [], ◌∷◌, ◌++◌, map, codes, All, refl, sym, ap, subst, ◌∙◌}
+use Rattle.std.proofs.Common.{◌≡◌, ◌<◌, ℕ, arith, List, [], ◌∷◌, ◌++◌, map, codes, Option, Some, All, refl, sym, ap, subst, ◌∙◌}
 use Rattle.std.proofs.lemmas.List.{map-append}
 use Rattle.std.proofs.lemmas.List.Elements.{All-push}
 use Rattle.fhir_json.specs.declared.json.Json.{Json}
@@ -7,7 +7,7 @@ use Rattle.fhir_json.specs.declared.json.Member.{Member}
 use Rattle.fhir_json.specs.Tree.{Text, Tree, string, object, array, items_of, list_of, members_of}
 use Rattle.fhir_json.specs.Views.{tree_of, trees_of, property_of}
 use Rattle.fhir_json.specs.Fields.{items_in}
-use Rattle.fhir_replies.specs.Outcomes.{HasSeverity}
+use Rattle.fhir_replies.specs.Outcomes.{HasSeverity, expression_members}
 
 listed : (ts : List Tree) → list_of (items_of ts) ≡ ts
 listed [] = refl
@@ -24,6 +24,17 @@ issues_in t members kind issues name ts whole two first second =
     ∙ ap (λ p. object (members_of (p ∷ property_of issues ∷ []))) first
     ∙ ap (λ p. object (members_of ((codes "resourceType", name) ∷ p ∷ []))) second in
     ap (items_in (codes "issue")) parts ∙ listed ts
+
+-- where an issue is, behind its other members
+pub placed : (old new : List Member) (one : Member) (places : List Json) (text : Json) (t : Tree) (place : Text) (expression : Option Text)
+    → expression ≡ Some place → new ≡ old ++ one ∷ [] → property_of one ≡ (codes "expression", t) → t ≡ array (items_of (trees_of places))
+    → places ≡ text ∷ [] → tree_of text ≡ string place → map property_of new ≡ map property_of old ++ expression_members expression
+placed old new one places text t place expression some more named listed single written =
+    let whole : t ≡ array (items_of (string place ∷ [])) =
+    listed ∙ ap (λ js. array (items_of (trees_of js))) single ∙ ap (λ u. array (items_of (u ∷ []))) written in
+    ap (map property_of) more ∙ map-append property_of old (one ∷ [])
+    ∙ ap (λ p. map property_of old ++ p ∷ []) (named ∙ ap (λ u. (codes "expression", u)) whole)
+    ∙ ap (λ e. map property_of old ++ expression_members e) (sym some)
 
 -- the severity of an object whose first property is that
 pub severity_in : (t : Tree) (members rest : List Member) (first : Member) (severity : Text) → t ≡ object (members_of (map property_of members))

@@ -1,6 +1,6 @@
 -- The outcome of a validation (FHIR R4, OperationOutcome).
-use Rattle.std.specs.Prelude.{◌≡◌, ◌<◌, length, Bool, true, nat_lt, All, Some, Result, Ok, Err, codes}
-use Rattle.fhir_json.specs.Tree.{Text, Tree}
+use Rattle.std.specs.Prelude.{◌≡◌, ◌<◌, List, [], ◌∷◌, length, Bool, true, nat_lt, All, Option, None, Some, Result, Ok, Err, codes}
+use Rattle.fhir_json.specs.Tree.{Text, Tree, Property, string, array, object, items_of, members_of}
 use Rattle.fhir_json.specs.Fields.{text_in, items_in}
 use Rattle.fhir_validator.specs.declared.fault.Fault.{Fault}
 use Rattle.fhir_validator.specs.declared.verdict.Verdict.{Verdict}
@@ -14,6 +14,19 @@ severity_of (Ok Conforms) = codes "information"
 severity_of (Ok (Violates issues)) = codes "error"
 severity_of (Ok (Open sites)) = codes "warning"
 severity_of (Err fault) = codes "fatal"
+
+-- the place of what an issue is about, if that is said (OperationOutcome, issue.expression)
+abbrev pub expression_members : Option Text → List Property
+expression_members None = []
+expression_members (Some place) = (codes "expression", array (items_of (string place ∷ []))) ∷ []
+
+-- an issue, of those four (OperationOutcome, issue)
+abbrev pub issue_tree : Text → Text → Text → Option Text → Tree
+issue_tree severity code diagnostics expression = object (members_of (
+    (codes "severity", string severity)
+    ∷ (codes "code", string code)
+    ∷ (codes "diagnostics", string diagnostics)
+    ∷ expression_members expression))
 
 -- an issue has that severity
 abbrev pub HasSeverity : Text → Tree → Type 0

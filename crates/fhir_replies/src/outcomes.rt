@@ -1,13 +1,12 @@
 //! What is said of a validation, as an OperationOutcome.
 
-ghost use Rattle.std.specs.Prelude.{◌≡◌, ◌<◌, ◌+◌, ◌++◌, [], List, Some, Err, length, map, codes, All, IfOk, OnOk, IsTrue, if◌then◌else◌};
+ghost use Rattle.std.specs.Prelude.{◌≡◌, ◌<◌, ◌+◌, ◌++◌, [], Some, Err, length, map, codes, All, IfOk, OnOk, IsTrue, if◌then◌else◌, option_map, string_bytes};
 ghost use Rattle.std.specs.BTreeSet.{btree_set_len};
-ghost use Rattle.fhir_json.specs.declared.json.Member.{Member};
 ghost use Rattle.fhir_json.specs.Tree.{Text, string, array, object, items_of, members_of};
 ghost use Rattle.fhir_json.specs.Fields.{text_in, items_in};
 ghost use Rattle.fhir_json.specs.Views.{tree_of, property_of, trees_of};
 ghost use Rattle.fhir_validator.specs.declared.fault.Fault.TheVariants as faults;
-ghost use Rattle.fhir_replies.specs.Outcomes.{severity_of, HasSeverity, IsOutcome, is_explained, severity_given, is_explained_as_given};
+ghost use Rattle.fhir_replies.specs.Outcomes.{expression_members, issue_tree, severity_of, HasSeverity, IsOutcome, is_explained, severity_given, is_explained_as_given};
 
 use fhir_instance::{Misfit, MisfitKind};
 use fhir_json::{Json, Member, NoMemory, write};
@@ -44,7 +43,9 @@ fn word(text: &'static str) -> Json<'static>
     Json::Str(CowStr::Borrowed(text))
 }
 
-fn text(text: String) -> Json<'static> {
+fn text(text: String) -> Json<'static>
+    ensures { tree_of result ≡ string (string_bytes text) }
+{
     Json::Str(CowStr::Owned(text))
 }
 
@@ -66,7 +67,8 @@ fn push_expression(
     expression: Option<String>,
     members: &mut Vec<Member<'static>>,
 ) -> Result<(), AllocError>
-    ensures { OnOk result ((more : List Member) × (members.new.items ≡ members.old.items ++ more)) }
+    ensures { OnOk result (map property_of members.new.items
+        ≡ map property_of members.old.items ++ expression_members (option_map string_bytes expression)) }
 {
     if let Some(place) = expression {
         let places = vec![in alloc; text(place)]?;
@@ -78,7 +80,9 @@ fn push_expression(
 impl OutcomeIssue {
     /// The issue as a tree. The one refusal is want of memory.
     pub fn into_json(self, alloc: Global) -> Result<Json<'static>, AllocError>
-        ensures { IfOk result (λ json. HasSeverity self.severity.now (tree_of json)) }
+        ensures tree { IfOk result (λ json. tree_of json
+            ≡ issue_tree self.severity.now self.code.now (string_bytes self.diagnostics) (option_map string_bytes self.expression)) }
+        ensures severity { IfOk result (λ json. HasSeverity self.severity.now (tree_of json)) }
     {
         let OutcomeIssue {
             severity,
