@@ -1,10 +1,13 @@
 //! Candidates are judged, and one that shows what is wanted is given.
 
-ghost use Rattle.std.specs.Prelude.{◌≡◌, IfOk, IfSome, IsTrue, option_map};
+ghost use Rattle.std.specs.Prelude.{◌≡◌, ◌↔◌, true, false, IfOk, IfSome, IsSome, IsTrue, option_map};
 ghost use Rattle.fhir_counter.specs.Shows.{Shows, ShowsAsGiven, ShowsBy, AlwaysConforms, NeverConforms, ConformsAsGiven, is_text_byte, is_on_line};
 ghost use Rattle.fhir_json.specs.Tree.{Tree};
 ghost use Rattle.fhir_json.specs.Grammar.{Reads};
+ghost use Rattle.fhir_schema.specs.Schemas.{root};
+ghost use Rattle.fhir_conformance.specs.Conformance.{Conforms, constant};
 ghost use Rattle.fhir_validator.specs.Verdicts.{conforms_as_given};
+ghost use Rattle.fhir_validator.specs.declared.fault.Fault.TheVariants as faults;
 
 use fhir_candidates::{candidate, plain_code};
 use fhir_certificate::{NodePair, Pair};
@@ -25,6 +28,16 @@ fn conforms_as_given(verdict: &Vouched<'_>) -> bool
     }
 }
 
+// What a fault says: want of memory, or that a resource neither conforms nor violates.
+fn refused(fault: Fault) -> Result<bool, NoMemory>
+    ensures { IfOk result (λ yes. (yes ≡ false) × (fault ≡ faults.NoMemory → ⊥)) }
+{
+    match fault {
+        Fault::Missing | Fault::Unusable(_) | Fault::NotJson(_) => Ok(false),
+        Fault::NoMemory => Err(NoMemory),
+    }
+}
+
 /// Whether a resource conforms to a profile, whatever unread rules mean, and its constraints are true. What can't be judged doesn't. The one refusal is
 /// want of memory.
 pub fn always_conforms(
@@ -33,13 +46,14 @@ pub fn always_conforms(
     profile: &str,
     bytes: &[u8],
 ) -> Result<bool, NoMemory>
+    // It does exactly where it conforms though each unread rule fails.
+    ensures judged { (t : Tree) → Reads bytes.now t → IfOk result (λ yes. IsTrue yes ↔ Conforms schema.now (constant false) profile.now t) }
     ensures always { (t : Tree) → Reads bytes.now t → IfOk result (λ yes. IsTrue yes → AlwaysConforms schema.now profile.now t) }
     ensures read { IfOk result (λ yes. IsTrue yes → (t : Tree) × Reads bytes.now t) }
 {
     match validate(alloc, schema, profile, bytes) {
         Ok(verdict) => Ok(verdict.is_conforming()),
-        Err(Fault::NoMemory) => Err(NoMemory),
-        Err(_) => Ok(false),
+        Err(fault) => refused(fault),
     }
 }
 
@@ -56,24 +70,28 @@ fn conforms_given(
 {
     match validate_given(alloc, schema, profile, bytes, given) {
         Ok(verdict) => Ok(conforms_as_given(&verdict)),
-        Err(Fault::NoMemory) => Err(NoMemory),
-        Err(_) => Ok(false),
+        Err(fault) => refused(fault),
     }
 }
 
-/// Whether a resource violates a profile, whatever unread rules mean. What can't be judged doesn't. The one refusal is want of memory.
+/// Whether a resource violates a profile, whatever unread rules mean. What can't be judged doesn't: bytes that aren't JSON, and a profile that isn't there
+/// or can't be used. The one refusal is want of memory.
 pub fn never_conforms(
     alloc: Global,
     schema: &Schema,
     profile: &str,
     bytes: &[u8],
 ) -> Result<bool, NoMemory>
-    ensures { (t : Tree) → Reads bytes.now t → IfOk result (λ yes. IsTrue yes → NeverConforms schema.now profile.now t) }
+    // It does exactly where it doesn't conform though each unread rule holds.
+    ensures judged { (t : Tree) → Reads bytes.now t → IsSome (root schema.now profile.now)
+        → IfOk result (λ yes. IsTrue yes ↔ ¬ Conforms schema.now (constant true) profile.now t) }
+    ensures never { (t : Tree) → Reads bytes.now t → IfOk result (λ yes. IsTrue yes → NeverConforms schema.now profile.now t) }
+    ensures there { IfOk result (λ yes. IsTrue yes → IsSome (root schema.now profile.now)) }
+    ensures read { IfOk result (λ yes. IsTrue yes → (t : Tree) × Reads bytes.now t) }
 {
     match validate(alloc, schema, profile, bytes) {
         Ok(verdict) => Ok(verdict.is_violating()),
-        Err(Fault::NoMemory) => Err(NoMemory),
-        Err(_) => Ok(false),
+        Err(fault) => refused(fault),
     }
 }
 

@@ -37,40 +37,48 @@ fn main(rt: HostRuntime) -> ExitCode {
         Ok(words) => task_of(rt.alloc(), words),
         Err(fault) => Err(*fault),
     };
+    perform(
+        &rt,
+        task,
+        rt.stdin(),
+        rt.stderr(),
+        &mut meter,
+        &mut out,
+        &mut err,
+    )
+}
+
+// Does what the words ask for.
+fn perform<
+    R: Files + Clock + AllocGlobal + Clone + Drop,
+    S: Read + Copy,
+    T: Write + IsTerminal + Drop,
+    P: Progress,
+    W: Write,
+    E: Write,
+>(
+    rt: &R,
+    task: Result<Task<'_>, WordsFault>,
+    input: S,
+    terminal: T,
+    progress: &mut P,
+    out: &mut W,
+    err: &mut E,
+) -> ExitCode {
     match task {
-        Ok(Task::Answer(asked)) => answer(&rt, Ok(asked), &mut meter, &mut out, &mut err),
-        Ok(Task::Serve { folder, given }) => {
-            serve(
-                &rt,
-                folder,
-                given,
-                rt.stdin(),
-                &mut meter,
-                &mut out,
-                &mut err,
-            )
-        }
+        Ok(Task::Answer(asked)) => answer(rt, Ok(asked), progress, out, err),
+        Ok(Task::Serve { folder, given }) => serve(rt, folder, given, input, progress, out, err),
         Ok(Task::Gather(request)) => {
-            ExitCode::from(gather_directories(&rt, &request, &mut meter, &mut out, &mut err))
+            ExitCode::from(gather_directories(rt, &request, progress, out, err))
         }
         Ok(Task::ValidateAll(request)) => {
-            validate_all(
-                &rt,
-                &request,
-                rt.stdin(),
-                rt.stderr(),
-                &mut meter,
-                &mut out,
-                &mut err,
-            )
+            validate_all(rt, &request, input, terminal, progress, out, err)
         }
-        Ok(Task::Audit(request)) => {
-            audit(&rt, &request, rt.stderr(), &mut meter, &mut out, &mut err)
-        }
+        Ok(Task::Audit(request)) => audit(rt, &request, terminal, progress, out, err),
         Ok(Task::Compare(request)) => {
-            ExitCode::from(compare_directories(&rt, &request, &mut meter, &mut out, &mut err))
+            ExitCode::from(compare_directories(rt, &request, progress, out, err))
         }
-        Err(fault) => answer(&rt, Err(fault), &mut meter, &mut out, &mut err),
+        Err(fault) => answer(rt, Err(fault), progress, out, err),
     }
 }
 

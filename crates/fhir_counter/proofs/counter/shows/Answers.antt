@@ -8,4 +8,4 @@ returns c =
     let it = c.in_ok-always_conforms.ensures.read yes in
     IfOk-weaker c.never_conforms.result _ _
     (λ v never violates. (it.0, it.1, c.in_ok-always_conforms.ensures.always it.0 it.1 yes, never violates))
-    (c.never_conforms.ensures it.0 it.1)
+    (c.never_conforms.ensures.never it.0 it.1)
