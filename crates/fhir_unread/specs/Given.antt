@@ -5,6 +5,7 @@ use Rattle.std.specs.List.{flat_map, list_any}
 use Rattle.std.specs.Str.{bytes_eq}
 use Rattle.fhir_json.specs.Tree.{Text}
 use Rattle.fhir_vouching.specs.Given.{given_lines}
+use Rattle.fhir_lines.specs.Lines.{escaped}
 
 -- the text of a line, if it has one
 abbrev pub text_given : Option Text → List Text
@@ -28,10 +29,11 @@ is_known texts (Some text) = list_any (bytes_eq text) texts
 abbrev pub unknown_lines : List Text → List (ℕ × Option Text) → List ℕ
 unknown_lines texts ls = map (λ l. l.0) (filter (λ l. not (is_known texts l.1)) ls)
 
--- what is told of such a line of the file of that name
+-- what is told of such a line of the file that is shown by that name
 abbrev pub note : Text → ℕ → Text
 note name number = name ++ codes ":" ++ decimal number ++ codes ": unread lists no such text\n"
 
--- the same of each, in order; the bytes are the file's, and the texts those that the definitions carry
+-- the same of each, in order, with the control characters of the file's name escaped; the bytes are the file's, and the texts those that the
+-- definitions carry
 abbrev pub notes : Text → List Text → Text → Text
-notes name texts bytes = flat_map (note name) (unknown_lines texts (given_lines bytes))
+notes name texts bytes = flat_map (note (escaped name)) (unknown_lines texts (given_lines bytes))

@@ -19,6 +19,7 @@ ghost use Rattle.fhir_findings.specs.Carrying.{Carrier, rule, carried_text, text
 ghost use Rattle.fhir_findings.specs.Firsts.{have_one_text};
 ghost use Rattle.fhir_findings.specs.Selecting.{SelectionValue};
 ghost use Rattle.fhir_findings.specs.Sentences.{elements_in, sentence_for};
+ghost use Rattle.fhir_lines.specs.Lines.{escaped};
 ghost use Rattle.fhir_unread.specs.Given.{texts_given, AreSame, unknown_lines, notes};
 ghost use Rattle.fhir_unread.specs.Listing.{heading, inside, listing, saying_text, sayings_for, sentence_shown};
 ghost use Rattle.fhir_unread.specs.Sayings.{Saying};
@@ -74,14 +75,14 @@ pub fn lines_give()
         → meaning_of some reading u ≡ meaning_of others reading u }
 {}
 
-/// A line of a file is told of exactly where it is no comment and gives none of the texts (`unknown`), by the name of the file and its number
-/// (`noted`).
+/// A line of a file is told of exactly where it is no comment and gives none of the texts (`unknown`), by the name of the file, with its control
+/// characters escaped, and its number (`noted`).
 pub fn lines_told()
     ensures unknown { (texts : List Text) (bytes : Text) (number : ℕ) → Contains (unknown_lines texts (given_lines bytes)) (number + 1)
         ↔ ((line : Text) × (slice_get (lines (text_behind_mark bytes)) number ≡ Some line) × (is_comment line ≡ false)
         × ((text : Text) → IsText line text → list_any (bytes_eq text) texts ≡ false)) }
     ensures noted { (name bytes : Text) (texts : List Text) (number : ℕ) → Contains (unknown_lines texts (given_lines bytes)) number
-        → (before rest : Text) × (notes name texts bytes ≡ before ++ (name ++ codes ":" ++ decimal number ++ codes ":" ++ rest)) }
+        → (before rest : Text) × (notes name texts bytes ≡ before ++ (escaped name ++ codes ":" ++ decimal number ++ codes ":" ++ rest)) }
 {}
 
 /// What is said of a rule begins with the key of its constraint (`key`), has its sentence (`sentence`), and says where the package lacks the

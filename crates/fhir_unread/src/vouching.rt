@@ -4,12 +4,14 @@ ghost use Rattle.std.specs.Prelude.{◌≡◌, ◌↔◌, ◌∷◌, ◌++◌, [
 ghost use Rattle.std.specs.List.{flat_map};
 ghost use Rattle.fhir_vouching.specs.declared.given.GivenFault.TheVariants as GivenFault;
 ghost use Rattle.fhir_vouching.specs.Given.{line_seen};
+ghost use Rattle.fhir_lines.specs.Lines.{escaped};
 ghost use Rattle.fhir_unread.specs.Given.{text_given, texts_given, AreSame, is_known, unknown_lines, note, notes};
 ghost use Rattle.fhir_unread.specs.Unread.{unread_texts};
 
 use crate::telling::unread_texts;
 use fhir_findings::Selection;
 use fhir_json::NoMemory;
+use fhir_lines::push_escaped;
 use fhir_package::Survey;
 use fhir_schema::Schema;
 use fhir_vouching::{GivenFault, GivenLine, Progress, Spelled, Vouching, read_given};
@@ -153,6 +155,30 @@ fn given_in(
     given_by(alloc, &known, name, lines)
 }
 
+fn shown_name(alloc: Global, name: &str) -> Result<String, AllocError>
+    ensures { IfOk result (λ shown. string_bytes shown ≡ escaped name.now) }
+{
+    let mut shown = String::new(alloc);
+    push_escaped(name, &mut shown)?;
+    Ok(shown)
+}
+
+// The same of a file of that name, of which the control characters are escaped.
+fn given_of(
+    alloc: Global,
+    survey: &Survey<'_>,
+    schema: &Schema,
+    name: &str,
+    lines: Vec<GivenLine>,
+) -> Result<Given, NoMemory>
+    ensures given { IfOk result (λ g. AreSame g.vouching (flat_map (λ l. text_given l.1) (map line_seen lines.items))) }
+    ensures told { IfOk result (λ g. string_bytes g.notes
+        ≡ flat_map (note (escaped name.now)) (unknown_lines (unread_texts None schema.now survey.now) (map line_seen lines.items))) }
+{
+    let shown = shown_name(alloc, name)?;
+    given_in(alloc, survey, schema, shown.as_str(), lines)
+}
+
 /// What a user vouches for by the bytes of a file of that name: its texts, and what is told of the lines that give none which the definitions of a
 /// survey's package carry, by the schema of the package. Such lines change nothing. The refusals are those of `fhir_vouching::read_given`.
 pub fn vouch(
@@ -167,7 +193,7 @@ pub fn vouch(
     ensures not_utf8 { (result ≡ Err GivenFault.NotUtf8) ↔ (¬ IsUtf8 bytes.now) }
 {
     let lines = read_given(alloc, bytes)?;
-    match given_in(alloc, survey, schema, name, lines) {
+    match given_of(alloc, survey, schema, name, lines) {
         Ok(given) => Ok(given),
         Err(NoMemory) => Err(GivenFault::NoMemory),
     }

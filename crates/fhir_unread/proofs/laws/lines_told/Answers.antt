@@ -3,6 +3,7 @@ use Rattle.std.specs.List.{slice_get, Contains}
 use Rattle.std.specs.Str.Lines.{lines}
 use Rattle.fhir_json.specs.Reading.{text_behind_mark}
 use Rattle.fhir_vouching.specs.Given.{given_lines}
+use Rattle.fhir_lines.specs.Lines.{escaped}
 use Rattle.fhir_unread.specs.Given.{unknown_lines}
 use Rattle.fhir_unread.proofs.ReadLines.{line_told, told_of, noted}
 use Rattle.fhir_unread.proofs.laws.lines_told.Goals as goal
@@ -18,4 +19,4 @@ returns-clause-unknown c = λ texts bytes number.
     )
 
 pub returns-clause-noted : goal.returns-clause-noted
-returns-clause-noted c = λ name bytes texts number there. noted name (unknown_lines texts (given_lines bytes)) number there
+returns-clause-noted c = λ name bytes texts number there. noted (escaped name) (unknown_lines texts (given_lines bytes)) number there

@@ -5,6 +5,7 @@ use Rattle.fhir_json.specs.Tree.{Text}
 use Rattle.fhir_facets.specs.Unread.{unread_text}
 use Rattle.fhir_findings.specs.Carrying.{text_of, all_carriers}
 use Rattle.fhir_findings.specs.Once.{told_once}
+use Rattle.fhir_lines.specs.Lines.{escaped}
 use Rattle.fhir_unread.specs.Unread.{unread_texts}
 use Rattle.fhir_unread.proofs.Vouches.{given_where_carried, list_given, none_told}
 use Rattle.fhir_unread.proofs.laws.list_vouches.Goals as goal
@@ -17,4 +18,4 @@ returns-clause-given c = λ selection s survey u utf8.
 
 pub returns-clause-told : goal.returns-clause-told
 returns-clause-told c = λ name s survey utf8.
-    none_told name survey.definitions (told_once text_of (all_carriers None s survey)) (unread_texts None s survey) utf8 (λ t there. there)
+    none_told (escaped name) survey.definitions (told_once text_of (all_carriers None s survey)) (unread_texts None s survey) utf8 (λ t there. there)
