@@ -40,12 +40,27 @@ fn answer_line(registry: &mut Registry, alloc: Global, line: &[u8]) -> Result<Li
     }
 }
 
+// The same, and once more without what is kept, where memory runs out.
+fn answer_at_last(registry: &mut Registry, alloc: Global, line: &[u8]) -> Result<Line, NoMemory>
+    ensures told { IfOk result (λ written. AnswersCommand registry.old (line_command line.now) registry.new (line_seen written)) }
+    ensures unchanged { OnErr result (registry.new.definitions ≡ registry.old.definitions) }
+    ensures texts { registry.new.texts ≡ registry.old.texts }
+{
+    match answer_line(registry, alloc, line) {
+        Ok(line) => Ok(line),
+        Err(NoMemory) => {
+            registry.forget_kept();
+            answer_line(registry, alloc, line)
+        }
+    }
+}
+
 // The same, which is told where memory runs out.
 fn answered(registry: &mut Registry, alloc: Global, line: &[u8]) -> Line
     ensures { AnswersLine registry.old line.now registry.new (line_seen result) }
 {
     fixed_lines();
-    match answer_line(registry, alloc, line) {
+    match answer_at_last(registry, alloc, line) {
         Ok(line) => line,
         Err(NoMemory) => Line::Fixed(MEMORY_FAULT),
     }
@@ -63,6 +78,7 @@ impl Service for Registry {
 
     fn unheld<W: Write>(&mut self, out: &mut W) -> io::Result<()> {
         fixed_lines();
+        self.forget_kept();
         out.write_all(MEMORY_FAULT.as_bytes())
     }
 }

@@ -1,6 +1,7 @@
 //! How a registry forgets what a change may make wrong.
 
-ghost use Rattle.std.specs.Prelude.{◌≡◌, IfOk, OnOk, OnErr, Option, List};
+ghost use Rattle.std.specs.Prelude.{◌≡◌, [], IfOk, OnOk, OnErr, Option, List};
+ghost use Rattle.lru.specs.LruCache.{lru_cache};
 ghost use Rattle.fhir_json.specs.Tree.{Text};
 ghost use Rattle.fhir_package.specs.Changing.{put_each, without};
 ghost use Rattle.fhir_reach.specs.Keys.{keys_seen};
@@ -43,6 +44,15 @@ pub(crate) fn forget_put(
     Ok(())
 }
 
+/// Forgets all.
+pub(crate) fn forget_all(schemas: &mut Schemas, replies: &mut Replies)
+    ensures schemas { schemas.new ≡ lru_cache [] schemas.old.cap }
+    ensures replies { replies.new ≡ lru_cache [] replies.old.cap }
+{
+    schemas.clear();
+    replies.clear();
+}
+
 /// Forgets what reaches a definition of a url, of each kind. Where memory is refused, it forgets all.
 pub(crate) fn forget_removed(
     alloc: Global,
@@ -56,9 +66,6 @@ pub(crate) fn forget_removed(
 {
     match keys_removed(alloc, package, url) {
         Ok(changed) => forget(schemas, replies, &changed),
-        Err(NoMemory) => {
-            schemas.clear();
-            replies.clear();
-        }
+        Err(NoMemory) => forget_all(schemas, replies),
     }
 }

@@ -13,7 +13,7 @@ ghost use Rattle.fhir_registry.specs.Keeping.{reply_kept, ForgetsAll, Forgets, K
 ghost use Rattle.fhir_registry.specs.Lines.{WritesReply};
 
 use crate::asking::compute;
-use crate::forgetting::{forget_put, forget_removed};
+use crate::forgetting::{forget_all, forget_put, forget_removed};
 use crate::replies::{Replies, recall, recall_line};
 use crate::schemas::Schemas;
 use fhir_commands::{Command, Line, PutAnswer, Question, RemoveAnswer, Reply, equal_questions};
@@ -127,6 +127,13 @@ impl Registry {
     {
         self.replies.clear();
         self.given = Some(given);
+    }
+
+    /// No reply and no schema is kept any more: what is asked again is answered anew.
+    pub(crate) fn forget_kept(&mut self)
+        ensures { self.new ≡ record { definitions = self.old.definitions; texts = self.old.texts; replies = [] } }
+    {
+        forget_all(&mut self.schemas, &mut self.replies);
     }
 
     /// The definitions as they stand.
