@@ -7,7 +7,9 @@ use crate::source::Source;
 use fhir_inputs::{Inputs, Kind, OpenFault};
 use std::alloc::Global;
 use std::fs;
+use std::fs::Metadata;
 use std::io::{BufReader, Read};
+use std::os::unix::fs::MetadataExt;
 use std::rt::Files;
 
 // How many bytes of a file are read at once, at most.
@@ -32,16 +34,33 @@ impl<'r, R, S> FileInputs<'r, R, S> {
     }
 }
 
+// Whether a file is the one that standard output is written to, as far as the system tells.
+fn is_output<R: Files>(rt: &R, file: &Metadata) -> bool {
+    match fs::metadata(rt, "/dev/stdout") {
+        Ok(output) => file.is_file() && file.dev() == output.dev() && file.ino() == output.ino(),
+        Err(_) => false,
+    }
+}
+
+// Opens a file, unless it is the output: then its rows would be read in their turn, without end.
+fn open_file<R: Files>(rt: &R, path: &str) -> Result<R::File, OpenFault> {
+    match fs::metadata(rt, path) {
+        Ok(file) if !is_output(rt, &file) => {}
+        _ => return Err(OpenFault::Device),
+    }
+    match fs::open(rt, path) {
+        Ok(file) => Ok(file),
+        Err(_) => Err(OpenFault::Device),
+    }
+}
+
 fn opened<R: Files, S: Copy>(
     rt: &R,
     file: &InputFile,
     standard: S,
 ) -> Result<Source<R::File, S>, OpenFault> {
     match file.origin {
-        Origin::Path => match fs::open(rt, file.name.as_str()) {
-            Ok(file) => Ok(Source::File(file)),
-            Err(_) => Err(OpenFault::Device),
-        },
+        Origin::Path => Ok(Source::File(open_file(rt, file.name.as_str())?)),
         Origin::Standard => Ok(Source::Standard(standard)),
         Origin::Unnamed => Err(OpenFault::Device),
     }

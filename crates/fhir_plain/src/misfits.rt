@@ -256,7 +256,7 @@ fn type_words(alloc: Global, spot: Spot<'_, '_>) -> Result<String, AllocError> {
         None => String::from_str(alloc, "none")?,
     };
     format!(in alloc;
-        "`resourceType` has to name a type of resources that the package has, found {found}"
+        "`resourceType` has to name a type of resources that the package has and that can be used, found {found}"
     )
 }
 
