@@ -138,22 +138,45 @@ fn is_taken<R: Files>(rt: &R, path: &str) -> bool {
     path.is_empty() || fs::symlink_metadata(rt, path).is_ok()
 }
 
-// What is told where a new folder of that name isn't begun, as far as it is seen before anything is read.
-fn standing<R: Files + AllocGlobal>(
+// What is told where something stands at a path under which a new file or folder is to be made.
+fn standing_at<R: Files + AllocGlobal>(rt: &R, path: &str) -> Result<Option<String>, AllocError> {
+    if is_taken(rt, path) {
+        Ok(Some(fault_text(rt.alloc(), "exists", path)?))
+    } else {
+        Ok(None)
+    }
+}
+
+fn standing_folder<R: Files + AllocGlobal>(
     rt: &R,
-    certificates: Option<&str>,
+    name: &str,
 ) -> Result<Option<String>, AllocError> {
-    let Some(name) = certificates else {
-        return Ok(None);
-    };
     if is_taken(rt, name.trim_end_matches('/')) {
         return Ok(Some(fault_text(rt.alloc(), "exists", name)?));
     }
     let part = part_of(rt.alloc(), name)?;
-    if is_taken(rt, part.as_str()) {
-        return Ok(Some(fault_text(rt.alloc(), "exists", part.as_str())?));
+    standing_at(rt, part.as_str())
+}
+
+fn standing_page<R: Files + AllocGlobal>(rt: &R, name: &str) -> Result<Option<String>, AllocError> {
+    let part = format!(in rt.alloc(); "{name}.part")?;
+    standing_at(rt, part.as_str())
+}
+
+// What is told where the new folder or the page isn't begun, as far as it is seen before anything is read.
+fn standing<R: Files + AllocGlobal>(
+    rt: &R,
+    request: &AuditRequest<'_>,
+) -> Result<Option<String>, AllocError> {
+    if let Some(name) = request.certificates {
+        if let Some(text) = standing_folder(rt, name)? {
+            return Ok(Some(text));
+        }
     }
-    Ok(None)
+    match request.page {
+        Some(name) => standing_page(rt, name),
+        None => Ok(None),
+    }
 }
 
 fn outputs_of<'r, 'w, R: Files + AllocGlobal>(
@@ -247,7 +270,8 @@ fn run_free<R: Files + AllocGlobal + Clone + Drop, P: Progress, V: Watch, W: Wri
     }
 }
 
-/// Does what `audit` asks, of the directory that the request names. A folder for certificates is refused first where something stands at its path.
+/// Does what `audit` asks, of the directory that the request names. A folder for certificates is refused first where something stands at its path, and
+/// then a page beside which its part stands.
 /// How far the work is, is told to `progress` and to `watch`.
 pub fn audit_directory<
     R: Files + AllocGlobal + Clone + Drop,
@@ -263,7 +287,7 @@ pub fn audit_directory<
     out: &mut W,
     err: &mut E,
 ) -> Status {
-    match standing(rt, request.certificates) {
+    match standing(rt, request) {
         Ok(None) => run_free(rt, request, progress, watch, out, err),
         Ok(Some(text)) => end_with(err, text.as_str(), Status::Fault),
         Err(_) => end_with(err, "no memory\n", Status::NoMemory),
