@@ -16,6 +16,7 @@ use Rattle.fhir_certificate.specs.Certificate.{CertificateValue, are_nodes, fits
 use Rattle.fhir_cert_check.specs.Rule.{RuleName}
 use Rattle.fhir_cert_check.specs.Rules.{failing_rule}
 use Rattle.fhir_cert_check.specs.declared.rule.Rule.{Rule}
+use Rattle.fhir_cert_check.specs.Views.{rule_name}
 use Rattle.fhir_cert_check.specs.Checking.{same_nodes, is_among, IsRight, IsCertificate, pairs_of, first_in}
 use Rattle.fhir_cert_check.specs.Asked.{asked_for, is_of_nodes}
 use Rattle.fhir_cert_check.specs.PairSet.{PairLists, same_pair, has_pair}
@@ -24,8 +25,12 @@ use Rattle.fhir_derive_check.specs.Finding.{is_in, IsDiscovery}
 use Rattle.fhir_derive_check.specs.Reaching.{IsTenable, roots_between, HasCertificate}
 use Rattle.fhir_derive_check.specs.Deriving.{items_in, kids_in, none_twice, IsDerived, IsFirstFailing}
 use Rattle.fhir_derive_check.specs.Views.{certificate_of, failing_of}
-use Rattle.fhir_derive_check.specs.Discovering.{asked_within, HasAll}
-use Rattle.fhir_derive_check.specs.Outcomes.{MorePairs, IsSettled, IsMet, IsListed, IsDerivation, IsRefusal, IsOutcome, item_of, kids_of}
+use Rattle.fhir_derive_check.specs.Discovering.{followed, HasAll}
+use Rattle.fhir_derive_check.specs.declared.discovery.Follow.TheVariants.{All}
+use Rattle.fhir_derive_check.specs.Blaming.{IsToBlame}
+use Rattle.fhir_derive_check.specs.Outcomes.{MorePairs, IsSettled, IsMet, IsListed, IsDerivation, IsNamed, IsRefusal, IsOutcome, item_of, kids_of}
+use Rattle.fhir_derive_check.specs.declared.blaming.Named.{Named}
+use Rattle.fhir_derive_check.specs.declared.blaming.Named.TheVariants.{First, ToBlame}
 use Rattle.fhir_derive_check.specs.Pruning.{wrong_seen, all_failing}
 use Rattle.fhir_derive_check.specs.declared.outcome.Outcome.{Outcome}
 use Rattle.fhir_derive_check.specs.declared.outcome.Outcome.TheVariants.{Derives, NoCertificate}
@@ -128,8 +133,8 @@ none_twice-split (Kids p ∷ ps) once =
 
 -- ---- what was found between two roots
 
-pub all-asked : (s : SchemaValue) (root : Pair) (found : List Pair) → IsDiscovery (asked_within None s) root found → IsDiscovery (asked_for s) root found
-all-asked s root found discovery = subst (λ asks. IsDiscovery asks root found) (λ j p. filter-all (asked_for s p) j) discovery
+pub all-asked : (s : SchemaValue) (root : Pair) (found : List Pair) → IsDiscovery (followed All s) root found → IsDiscovery (asked_for s) root found
+all-asked s root found discovery = subst (λ asks. IsDiscovery asks root found) (λ j p. filter-all s p (asked_for s p) j) discovery
 
 pub derivation : (s : SchemaValue) (derived base : Text) (roots : NodePair) (found : List Pair) (live met : Pair → Bool) (c : CertificateValue) → MorePairs
     → IsDiscovery (asked_for s) (Item roots) found → IsSettled s found live → IsTrue (live (Item roots)) → IsMet s live (Item roots) met
@@ -158,12 +163,20 @@ first-wrong failing found wrongs d some is =
     let first = no_wrong wrongs 0 d refl some in
     first-fails failing found (wrong_seen (get_or wrongs 0 d)) first.0 (sym is ∙ first.1)
 
-pub refusal : (s : SchemaValue) (roots : NodePair) (found : List Pair) (all live : Pair → Bool) (p : Pair) (rule : RuleName) → IsDiscovery (asked_for s) (Item roots) found
-    → ((q : Pair) → all q ≡ is_in found q) → first_in (failing_rule all s) found ≡ Some (p, rule) → IsSettled s found live → live (Item roots) ≡ false → IsRefusal s roots p rule
-refusal s roots found all live p rule discovery counts first settled gone = record {
+pub first-named : (named : Named) (s : SchemaValue) (root : Pair) (found : List Pair) (wrongs : List (Pair × Rule)) (d : Pair × Rule) → named ≡ First
+    → 0 < length wrongs → map wrong_seen wrongs ≡ all_failing (failing_rule (is_in found) s) found
+    → IsNamed named s root found (get_or wrongs 0 d).0 (rule_name (get_or wrongs 0 d).1)
+first-named named s root found wrongs d is some are =
+    subst (λ (n : Named). IsNamed n s root found (get_or wrongs 0 d).0 (rule_name (get_or wrongs 0 d).1)) (sym is)
+    (first-wrong (failing_rule (is_in found) s) found wrongs d some are)
+
+pub refusal : (named : Named) (s : SchemaValue) (roots : NodePair) (found : List Pair) (live : Pair → Bool) (p : Pair) (rule : RuleName)
+    → IsDiscovery (asked_for s) (Item roots) found → IsNamed named s (Item roots) found p rule → IsSettled s found live → live (Item roots) ≡ false
+    → IsRefusal named s roots p rule
+refusal named s roots found live p rule discovery is_named settled gone = record {
   found = found;
   discovery = discovery;
-  first = subst (λ f. first_in (failing_rule f s) found ≡ Some (p, rule)) (λ j q. counts q j) first;
+  is_named = is_named;
   none = λ tenable. false≢true (sym gone ∙ settled.keeps (Item roots) (root-found (asked_for s) (Item roots) found discovery) tenable);
 }
 
@@ -231,18 +244,18 @@ module _ (s : SchemaValue) (derived base : Text) (roots : NodePair) (are_roots :
         right = subst (IsRight s) (λ j p. sym (same p) j) d.right;
       }
 
-  pub derives : (o : Outcome) → IsOutcome s derived base roots o → (is_some (certificate_of o) ≡ true) ↔ HasCertificate s derived base
-  derives (Derives c) d = (
+  pub derives : (named : Named) (o : Outcome) → IsOutcome named s derived base roots o → (is_some (certificate_of o) ≡ true) ↔ HasCertificate s derived base
+  derives named (Derives c) d = (
     (λ h. record { roots = roots; are_roots = are_roots; tenable = record { set = is_in (filter d.reached d.found); has = d.rooted; right = d.right } }),
     (λ h. refl),
   )
-  derives (NoCertificate p rule) r = (
+  derives named (NoCertificate p rule) r = (
     (λ h. absurd (false≢true h)),
     (λ h. absurd (r.none (subst (λ n. IsTenable s (Item n)) (same_Some h.roots roots (sym h.are_roots ∙ are_roots)) h.tenable))),
   )
 
-  pub reached : (o : Outcome) → IsOutcome s derived base roots o → IfSome (certificate_of o) (IsDerived s derived base)
-  reached (Derives c) d = record {
+  pub reached : (named : Named) (o : Outcome) → IsOutcome named s derived base roots o → IfSome (certificate_of o) (IsDerived s derived base)
+  reached named (Derives c) d = record {
     roots = roots;
     are_roots = are_roots;
     found = d.found;
@@ -254,29 +267,41 @@ module _ (s : SchemaValue) (derived base : Text) (roots : NodePair) (are_roots :
     items = d.items;
     kids = d.kids;
   }
-  reached (NoCertificate p rule) r = tt
+  reached named (NoCertificate p rule) r = tt
 
-  pub once : (o : Outcome) → IsOutcome s derived base roots o → IfSome (certificate_of o) (λ c. none_twice (pairs_of c) ≡ true)
-  once (Derives c) d =
+  pub once : (named : Named) (o : Outcome) → IsOutcome named s derived base roots o → IfSome (certificate_of o) (λ c. none_twice (pairs_of c) ≡ true)
+  once named (Derives c) d =
       (λ j. none_twice (map Item (d.items j) ++ map Kids (d.kids j)))
       ∙ none_twice-split (filter d.reached d.found) (none_twice-filter d.reached d.found (found-once (asked_for s) (Item roots) d.found d.discovery))
-  once (NoCertificate p rule) r = tt
+  once named (NoCertificate p rule) r = tt
 
-  pub right : (o : Outcome) → IsOutcome s derived base roots o → IfSome (certificate_of o) (IsCertificate s)
-  right (Derives c) d = certificate c d
-  right (NoCertificate p rule) r = tt
+  pub right : (named : Named) (o : Outcome) → IsOutcome named s derived base roots o → IfSome (certificate_of o) (IsCertificate s)
+  right named (Derives c) d = certificate c d
+  right named (NoCertificate p rule) r = tt
 
-  pub includes : (o : Outcome) → IsOutcome s derived base roots o → ((c : CertificateValue) → IsCertificate s c → Includes s c.derived c.base) → IsTrue (is_some (certificate_of o)) → Includes s derived base
-  includes (Derives c) d law h = subst (λ b. Includes s derived b) d.base_is (subst (λ n. Includes s n c.base) d.derived_is (law c (certificate c d)))
-  includes (NoCertificate p rule) r law h = absurd (false≢true h)
+  pub includes : (named : Named) (o : Outcome) → IsOutcome named s derived base roots o → ((c : CertificateValue) → IsCertificate s c → Includes s c.derived c.base) → IsTrue (is_some (certificate_of o)) → Includes s derived base
+  includes named (Derives c) d law h = subst (λ b. Includes s derived b) d.base_is (subst (λ n. Includes s n c.base) d.derived_is (law c (certificate c d)))
+  includes named (NoCertificate p rule) r law h = absurd (false≢true h)
 
-  pub refused : (o : Outcome) → IsOutcome s derived base roots o → IfSome (failing_of o) (λ f. IsFirstFailing s derived base f.0 f.1)
+  pub refused : (o : Outcome) → IsOutcome First s derived base roots o → IfSome (failing_of o) (λ f. IsFirstFailing s derived base f.0 f.1)
   refused (Derives c) d = tt
-  refused (NoCertificate p rule) r = record { roots = roots; are_roots = are_roots; found = r.found; discovery = r.discovery; first = r.first }
+  refused (NoCertificate p rule) r = record { roots = roots; are_roots = are_roots; found = r.found; discovery = r.discovery; first = r.is_named }
 
-  pub fit : (o : Outcome) → IsOutcome s derived base roots o → AskedAreNodes → (d : Definitions) → s ≡ schema_of d → IfSome (certificate_of o) (λ c. fits s c ≡ true)
-  fit (NoCertificate p rule) r law d is = tt
-  fit (Derives c) o law d is =
+  pub blamed : (o : Outcome) → IsOutcome ToBlame s derived base roots o → IfSome (failing_of o) (λ f. IsToBlame s derived base f.0 f.1)
+  blamed (Derives c) d = tt
+  blamed (NoCertificate p rule) r = record {
+    roots = roots;
+    are_roots = are_roots;
+    found = r.found;
+    discovery = r.discovery;
+    way = r.is_named.way;
+    exactly = r.is_named.exactly;
+    first = r.is_named.first;
+  }
+
+  pub fit : (named : Named) (o : Outcome) → IsOutcome named s derived base roots o → AskedAreNodes → (d : Definitions) → s ≡ schema_of d → IfSome (certificate_of o) (λ c. fits s c ≡ true)
+  fit named (NoCertificate p rule) r law d is = tt
+  fit named (Derives c) o law d is =
       let asked = subst (λ t. (p q : Pair) → IsTrue (is_of_nodes t p) → Contains (asked_for t p) q → IsTrue (is_of_nodes t q)) (sym is) (law d) in
       let known = both-roots (root s derived) (root s base) roots are_roots in
       let reached = filter o.reached o.found in

@@ -1,17 +1,19 @@
 -- What a discovery finds: with each pair all that it asks for, each pair once.
 use Rattle.std.proofs.Common.{◌≡◌, ◌<◌, ◌≤◌, ◌+◌, ℕ, arith, Bool, true, false, List, [], ◌∷◌, ◌++◌, refl, sym, ap, subst, ◌∙◌, ◌⊎◌, inl, inr, IsTrue, ◌||◌, not, cond, filter, length, take, append_assoc, length-append, add-one, get_or}
-use Rattle.std.specs.Prelude.{if◌then◌else◌, None, Some, slice_get}
+use Rattle.std.specs.Prelude.{if◌then◌else◌, Some, slice_get}
 use Rattle.std.proofs.Math.Seq.{take-suc}
 use Rattle.std.proofs.lemmas.Grind.{flat_map-append}
 use Rattle.std.proofs.lemmas.List.{take_all, take-append-le}
 use Rattle.std.proofs.lemmas.Option.{same_Some, slice_get_within, slice_get-get_or}
 use Rattle.std.specs.List.{flat_map}
 use Rattle.std.proofs.lemmas.Bool.{and_parts, and_from, or_cases, or_left, or_right, false≢true, cases_Bool}
+use Rattle.fhir_schema.specs.Schemas.{SchemaValue}
 use Rattle.fhir_certificate.specs.declared.pair.Pair.{Pair}
 use Rattle.fhir_cert_check.specs.PairSet.{same_pair}
 use Rattle.fhir_derive_check.specs.Finding.{is_in, added, all_added, firsts, IsFound, IsDiscovery}
 use Rattle.fhir_derive_check.specs.Deriving.{none_twice}
-use Rattle.fhir_derive_check.specs.Discovering.{counts}
+use Rattle.fhir_derive_check.specs.Discovering.{follows}
+use Rattle.fhir_derive_check.specs.declared.discovery.Follow.TheVariants.{All}
 use Rattle.fhir_derive_check.proofs.Same.{kept-in, in-place, same-true, same-of, in-append, in-left, in-right, in-cases, in-one, in-here, contained, in-contained, in-flat}
 
 pub append_nil : {A : Type 0} (xs : List A) → xs ++ [] ≡ xs
@@ -213,9 +215,9 @@ module _ (asks : Pair → List Pair) (root : Pair) where
 
 -- ---- the steps of loops
 
-pub filter-all : (ps : List Pair) → filter (counts None) ps ≡ ps
-filter-all [] = refl
-filter-all (p ∷ ps) = ap (λ l. p ∷ l) (filter-all ps)
+pub filter-all : (s : SchemaValue) (asker : Pair) (ps : List Pair) → filter (follows All s asker) ps ≡ ps
+filter-all s asker [] = refl
+filter-all s asker (p ∷ ps) = ap (λ l. p ∷ l) (filter-all s asker ps)
 
 pub all_added-next : (ps seen : List Pair) (i : ℕ) (d : Pair) → i < length ps → all_added seen (take (i + 1) ps) ≡ added (all_added seen (take i ps)) (get_or ps i d)
 all_added-next ps seen i d below =

@@ -4,5 +4,7 @@ mod One
 mod Greatest
 mod Asking
 mod Pruned
+mod Spare
+mod Blamed
 mod Rooted
 mod Certified

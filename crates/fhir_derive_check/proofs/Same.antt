@@ -28,7 +28,7 @@ same_nodes-true p q h =
     let b = same_node-true p.base q.base k.1 in
     λ i. record { derived = d i; base = b i }
 
-same_node-refl : (n : NodeRef) → IsTrue (same_node n n)
+pub same_node-refl : (n : NodeRef) → IsTrue (same_node n n)
 same_node-refl n =
     and_from (nat_eq n.definition n.definition) (nat_eq n.element n.element)
     (eq-eqb n.definition n.definition refl) (eq-eqb n.element n.element refl)

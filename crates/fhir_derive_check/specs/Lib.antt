@@ -1,6 +1,7 @@
 pub mod Finding
 pub mod Reaching
 pub mod Deriving
+pub mod Blaming
 pub mod Faults
 pub mod Views
 pub mod Outcomes

@@ -15,6 +15,9 @@ use Rattle.fhir_cert_check.specs.Views.{rule_name}
 use Rattle.fhir_derive_check.specs.Finding.{is_in, IsDiscovery}
 use Rattle.fhir_derive_check.specs.Reaching.{IsTenable, IsReached}
 use Rattle.fhir_derive_check.specs.Deriving.{items_in, kids_in}
+use Rattle.fhir_derive_check.specs.Blaming.{IsOnTheWay}
+use Rattle.fhir_derive_check.specs.declared.blaming.Named.{Named}
+use Rattle.fhir_derive_check.specs.declared.blaming.Named.TheVariants.{First, ToBlame}
 use Rattle.fhir_derive_check.specs.declared.outcome.Outcome.{Outcome}
 use Rattle.fhir_derive_check.specs.declared.outcome.Outcome.TheVariants.{Derives, NoCertificate}
 
@@ -68,13 +71,27 @@ pub record IsDerivation (s : SchemaValue) (derived base : Text) (roots : NodePai
   pub rooted : IsTrue (is_in (filter reached found) (Item roots))
   pub right : IsRight s (is_in (filter reached found))
 
--- the first pair that fails, where the pair of the roots is in no right set
-pub record IsRefusal (s : SchemaValue) (roots : NodePair) (p : Pair) (rule : RuleName) : Type 0 where
+-- the first pair that fails
+abbrev pub IsFirstWrong : SchemaValue → List Pair → Pair → RuleName → Type 0
+IsFirstWrong s found p rule = first_in (failing_rule (is_in found) s) found ≡ Some (p, rule)
+
+-- the first pair that fails on a way down from the root
+pub record IsBlamed (s : SchemaValue) (root : Pair) (found : List Pair) (p : Pair) (rule : RuleName) : Type 0 where
+  pub way : Pair → Bool
+  pub exactly : (q : Pair) → IsTrue (way q) ↔ IsOnTheWay s root q
+  pub first : first_in (failing_rule (is_in found) s) (filter way found) ≡ Some (p, rule)
+
+abbrev pub IsNamed : Named → SchemaValue → Pair → List Pair → Pair → RuleName → Type 0
+IsNamed First s root found p rule = IsFirstWrong s found p rule
+IsNamed ToBlame s root found p rule = IsBlamed s root found p rule
+
+-- the pair that is named, where the pair of the roots is in no right set
+pub record IsRefusal (named : Named) (s : SchemaValue) (roots : NodePair) (p : Pair) (rule : RuleName) : Type 0 where
   pub found : List Pair
   pub discovery : IsDiscovery (asked_for s) (Item roots) found
-  pub first : first_in (failing_rule (is_in found) s) found ≡ Some (p, rule)
+  pub is_named : IsNamed named s (Item roots) found p rule
   pub none : IsTenable s (Item roots) → ⊥
 
-abbrev pub IsOutcome : SchemaValue → Text → Text → NodePair → Outcome → Type 0
-IsOutcome s derived base roots (Derives c) = IsDerivation s derived base roots c
-IsOutcome s derived base roots (NoCertificate p rule) = IsRefusal s roots p (rule_name rule)
+abbrev pub IsOutcome : Named → SchemaValue → Text → Text → NodePair → Outcome → Type 0
+IsOutcome named s derived base roots (Derives c) = IsDerivation s derived base roots c
+IsOutcome named s derived base roots (NoCertificate p rule) = IsRefusal named s roots p (rule_name rule)

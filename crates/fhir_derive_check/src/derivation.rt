@@ -9,12 +9,14 @@ ghost use Rattle.fhir_cert_check.specs.Checking.{IsCertificate, pairs_of};
 ghost use Rattle.fhir_cert_check.specs.Inclusion.{Includes};
 ghost use Rattle.fhir_cert_check.specs.PairSet.{has_pair};
 ghost use Rattle.fhir_derive_check.specs.Reaching.{HasCertificate, roots_between};
+ghost use Rattle.fhir_derive_check.specs.Blaming.{IsToBlame};
 ghost use Rattle.fhir_derive_check.specs.Deriving.{IsDerived, IsFirstFailing, none_twice};
 ghost use Rattle.fhir_derive_check.specs.Faults.{derive_refusal, is_no_memory};
 ghost use Rattle.fhir_derive_check.specs.Views.{certificate_of, failing_of};
 ghost use Rattle.fhir_derive_check.specs.Outcomes.{item_of, kids_of, IsListed, IsOutcome};
 
-use crate::discovery::discover;
+use crate::blaming::{Named, named_wrong};
+use crate::discovery::{Follow, discover};
 use crate::fault::DeriveFault;
 use crate::outcome::Outcome;
 use crate::pruning::{failing_pairs, prune};
@@ -108,23 +110,24 @@ fn outcome<'s>(
     derived: &str,
     base: &str,
     roots: NodePair,
+    named: Named,
 ) -> Result<Outcome<'s>, NoMemory>
-    ensures { IfOk result (IsOutcome schema.now derived.now base.now roots) }
+    ensures { IfOk result (IsOutcome named schema.now derived.now base.now roots) }
 {
     more_pairs();
     let root = Pair::Item(roots);
-    let mut found = discover(alloc, schema, None, root)?;
+    let mut found = discover(alloc, schema, Follow::All, root)?;
     let wrongs = failing_pairs(alloc, schema, &found)?;
     if wrongs.is_empty() {
         let certificate = certificate(alloc, derived, base, &found.order, &found.live)?;
         return Ok(Outcome::Derives(certificate));
     }
-    let (pair, rule) = wrongs[0];
     prune(alloc, schema, &mut found, &wrongs)?;
     if !found.live.has(root) {
+        let (pair, rule) = named_wrong(alloc, schema, root, &found, &wrongs, named)?;
         return Ok(Outcome::NoCertificate(pair, rule));
     }
-    let met = discover(alloc, schema, Some(&found.live), root)?;
+    let met = discover(alloc, schema, Follow::Within(&found.live), root)?;
     let certificate = certificate(alloc, derived, base, &found.order, &met.live)?;
     Ok(Outcome::Derives(certificate))
 }
@@ -157,5 +160,32 @@ pub fn derive<'s>(
     let Some(roots) = roots_between(schema, derived, base) else {
         unreachable!()
     };
-    Ok(outcome(alloc, schema, derived, base, roots)?)
+    Ok(outcome(alloc, schema, derived, base, roots, Named::First)?)
+}
+
+/// The same certificate; or, where there is none, the pair that is to blame, with the rule that it fails. It is the first of those that are found on
+/// a way down from the roots: from a pair to one that it asks for and that is in no certificate. Of an element that has children of its own, the pairs
+/// with the definitions of its types aren't gone to. The refusals are those of `derive`, and the time is near linear too.
+pub fn diagnose<'s>(
+    alloc: Global,
+    schema: &'s Schema,
+    derived: &str,
+    base: &str,
+) -> Result<Outcome<'s>, DeriveFault>
+    ensures derives { IfOk result (λ o. (is_some (certificate_of o) ≡ true) ↔ HasCertificate schema.now derived.now base.now) }
+    ensures reached { IfOk result (λ o. IfSome (certificate_of o) (IsDerived schema.now derived.now base.now)) }
+    ensures right { IfOk result (λ o. IfSome (certificate_of o) (IsCertificate schema.now)) }
+    ensures includes { IfOk result (λ o. IsTrue (is_some (certificate_of o)) → Includes schema.now derived.now base.now) }
+    ensures blamed { IfOk result (λ o. IfSome (failing_of o) (λ f. IsToBlame schema.now derived.now base.now f.0 f.1)) }
+    ensures usable { IfOk result (λ o. derive_refusal schema.now derived.now base.now ≡ None) }
+    ensures fault { IfErr result (λ f. is_no_memory f ≡ false → derive_refusal schema.now derived.now base.now ≡ Some f) }
+{
+    certificates_include();
+    if let Some(fault) = refusal(schema, derived, base) {
+        return Err(fault);
+    }
+    let Some(roots) = roots_between(schema, derived, base) else {
+        unreachable!()
+    };
+    Ok(outcome(alloc, schema, derived, base, roots, Named::ToBlame)?)
 }

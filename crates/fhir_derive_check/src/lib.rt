@@ -18,9 +18,10 @@
 //! ```
 //!
 //! Read the contract of [`derive`] first. How pairs are found stands in `specs/Finding.antt`, which of them make the certificate in
-//! `specs/Reaching.antt`, and what is answered in `specs/Deriving.antt`.
+//! `specs/Reaching.antt`, what is answered in `specs/Deriving.antt`, and which pair [`diagnose`] blames in `specs/Blaming.antt`.
 #![tactic(auto)]
 
+mod blaming;
 mod derivation;
 mod discovery;
 mod fault;
@@ -29,7 +30,7 @@ mod outcome;
 mod pruning;
 mod refusing;
 
-pub use derivation::derive;
+pub use derivation::{derive, diagnose};
 pub use fault::{DeriveFault, Side};
 pub use laws::one_discovery;
 pub use outcome::Outcome;
