@@ -16,7 +16,8 @@ use Rattle.fhir_derive_check.specs.declared.fault.DeriveFault.TheVariants.{Missi
 use Rattle.fhir_derive_check.specs.declared.fault.Side.{Side}
 use Rattle.fhir_derive_check.specs.declared.outcome.Outcome.{Outcome}
 use Rattle.fhir_derive_check.specs.declared.outcome.Outcome.TheVariants.{Derives, NoCertificate}
-use Rattle.fhir_derive_check.specs.Deriving.{IsDerived, IsFirstFailing}
+use Rattle.fhir_derive_check.specs.Deriving.{IsDerived}
+use Rattle.fhir_derive_check.specs.Blaming.{IsToBlame}
 use Rattle.fhir_derive_check.specs.Faults.{derive_refusal, is_no_memory}
 use Rattle.fhir_derive_check.specs.Reaching.{HasCertificate}
 use Rattle.fhir_derive_check.specs.Views.{certificate_of, failing_of}
@@ -44,9 +45,9 @@ module _ (texts : Option (List Text)) (s : SchemaValue) (url base : Text) where
 
   refuted_so : (o : Outcome) (pair : Pair) (rule : Rule) → o ≡ NoCertificate pair rule
       → ((is_some (certificate_of o) ≡ true) ↔ HasCertificate s url base)
-      → IfSome (failing_of o) (λ f. IsFirstFailing s url base f.0 f.1) → IsRefuted s url base pair (rule_name rule)
+      → IfSome (failing_of o) (λ f. IsToBlame s url base f.0 f.1) → IsRefuted s url base pair (rule_name rule)
   refuted_so o pair rule is only failing = record {
-    first = subst (λ (x : Outcome). IfSome (failing_of x) (λ f. IsFirstFailing s url base f.0 f.1)) is failing;
+    to_blame = subst (λ (x : Outcome). IfSome (failing_of x) (λ f. IsToBlame s url base f.0 f.1)) is failing;
     none = λ has. false≢true (sym (ap (λ (x : Outcome). is_some (certificate_of x)) is) ∙ only.1 has);
   }
 
@@ -57,7 +58,7 @@ module _ (texts : Option (List Text)) (s : SchemaValue) (url base : Text) where
 
   pub fails_so : (o : Outcome) (pair : Pair) (rule : Rule) (verdict : VerdictValue) → o ≡ NoCertificate pair rule
       → ((is_some (certificate_of o) ≡ true) ↔ HasCertificate s url base)
-      → IfSome (failing_of o) (λ f. IsFirstFailing s url base f.0 f.1)
+      → IfSome (failing_of o) (λ f. IsToBlame s url base f.0 f.1)
       → IsShownVerdict texts s url base pair (rule_name rule) verdict → IsSaid texts s url base verdict
   fails_so o pair rule verdict is only failing shown =
       by_found pair (rule_name rule) shown.0 verdict (refuted_so o pair rule is only failing) shown.1 shown.2

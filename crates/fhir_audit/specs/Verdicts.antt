@@ -9,12 +9,13 @@ use Rattle.fhir_cert_check.specs.Inclusion.{Includes}
 use Rattle.fhir_cert_check.specs.Rule.{RuleName}
 use Rattle.fhir_derive_check.specs.declared.fault.DeriveFault.TheVariants.{Missing, Unusable}
 use Rattle.fhir_derive_check.specs.declared.fault.Side.{Side}
-use Rattle.fhir_derive_check.specs.Deriving.{IsDerived, IsFirstFailing}
+use Rattle.fhir_derive_check.specs.Deriving.{IsDerived}
+use Rattle.fhir_derive_check.specs.Blaming.{IsToBlame}
 use Rattle.fhir_derive_check.specs.Faults.{derive_refusal}
 use Rattle.fhir_derive_check.specs.Reaching.{HasCertificate}
 use Rattle.fhir_counter.specs.Shows.{ShowsBy, is_on_line}
 
--- a certificate; or a pair that fails a rule, with a resource that shows that the profile doesn't narrow its base, or without one; or that one of
+-- a certificate; or the pair that is to blame with the rule that it fails, with a resource that shows that the profile doesn't narrow its base, or without one; or that one of
 -- the two can't be used; or that the base isn't there
 pub data VerdictValue : Type 0 where
   narrows : CertificateValue → VerdictValue
@@ -38,9 +39,9 @@ pub record Narrows (s : SchemaValue) (url base : Text) (c : CertificateValue) : 
   pub is_right : IsCertificate s c
   pub includes : Includes s url base
 
--- There is no certificate, and the pair is the first that fails a rule.
+-- There is no certificate, and the pair is to blame, by that rule.
 pub record IsRefuted (s : SchemaValue) (url base : Text) (pair : Pair) (rule : RuleName) : Type 0 where
-  pub first : IsFirstFailing s url base pair rule
+  pub to_blame : IsToBlame s url base pair rule
   pub none : HasCertificate s url base → ⊥
 
 -- The bytes are a resource that conforms to the profile and not to its base, where a user may vouch for unread rules; and they stand on one line.

@@ -10,7 +10,7 @@ use crate::verdict::Verdict;
 use fhir_cert_check::Rule;
 use fhir_certificate::Pair;
 use fhir_counter::counterexample_by;
-use fhir_derive_check::{DeriveFault, Outcome, derive};
+use fhir_derive_check::{DeriveFault, Outcome, diagnose};
 use fhir_json::NoMemory;
 use fhir_schema::Schema;
 use fhir_vouching::Vouching;
@@ -55,7 +55,7 @@ fn said_of<'s>(
 ) -> Result<Verdict<'s>, NoMemory>
     ensures { IfOk result (λ v. IsSaid (option_map (λ texts. texts.now) given.entry) schema.now url.now base.now (verdict_seen v)) }
 {
-    match derive(alloc, schema, url, base) {
+    match diagnose(alloc, schema, url, base) {
         Ok(Outcome::Derives(certificate)) => Ok(Verdict::Narrows(certificate)),
         Ok(Outcome::NoCertificate(pair, rule)) => {
             refuted(alloc, schema, url, base, pair, rule, given)

@@ -1,4 +1,4 @@
--- What is shown of two profiles, by what `derive` answers.
+-- What is shown of two profiles, by what `diagnose` answers.
 use Rattle.std.proofs.Common.{◌≡◌, ◌↔◌, true, false, Option, None, Some, is_some, IsSome, IfSome, IsTrue, sym, ap, ◌∙◌, subst}
 use Rattle.std.proofs.lemmas.Bool.{false≢true}
 use Rattle.std.specs.Option.{option_map}
@@ -13,7 +13,7 @@ use Rattle.fhir_derive_check.specs.declared.outcome.Outcome.{Outcome}
 use Rattle.fhir_derive_check.specs.declared.outcome.Outcome.TheVariants.{Derives, NoCertificate}
 use Rattle.fhir_derive_check.specs.declared.fault.DeriveFault.{DeriveFault}
 use Rattle.fhir_derive_check.specs.Views.{certificate_of, failing_of}
-use Rattle.fhir_derive_check.specs.Deriving.{IsFirstFailing}
+use Rattle.fhir_derive_check.specs.Blaming.{IsToBlame}
 use Rattle.fhir_derive_check.specs.Faults.{derive_refusal, is_no_memory}
 use Rattle.fhir_derive_check.specs.Reaching.{HasCertificate}
 
@@ -30,9 +30,9 @@ module _ (s : SchemaValue) (derived base : Text) where
       → ((is_some (certificate_of o) ≡ true) ↔ HasCertificate s derived base) → HasCertificate s derived base → ⊥
   none_so o pair rule is exactly has = false≢true (sym (ap (λ (x : Outcome). is_some (certificate_of x)) is) ∙ exactly.1 has)
 
-  pub first_so : (o : Outcome) (pair : Pair) (rule : Rule) → o ≡ NoCertificate pair rule
-      → IfSome (failing_of o) (λ f. IsFirstFailing s derived base f.0 f.1) → IsFirstFailing s derived base pair (rule_name rule)
-  first_so o pair rule is first = subst (λ (x : Outcome). IfSome (failing_of x) (λ f. IsFirstFailing s derived base f.0 f.1)) is first
+  pub blamed_so : (o : Outcome) (pair : Pair) (rule : Rule) → o ≡ NoCertificate pair rule
+      → IfSome (failing_of o) (λ f. IsToBlame s derived base f.0 f.1) → IsToBlame s derived base pair (rule_name rule)
+  blamed_so o pair rule is first = subst (λ (x : Outcome). IfSome (failing_of x) (λ f. IsToBlame s derived base f.0 f.1)) is first
 
   pub refused_so : (fault : DeriveFault) → is_no_memory fault ≡ false
       → (is_no_memory fault ≡ false → derive_refusal s derived base ≡ Some fault) → IsSome (derive_refusal s derived base)

@@ -9,7 +9,7 @@ use Rattle.fhir_schema.specs.Schemas.{SchemaValue, schema_of, is_usable, unusabl
 use Rattle.fhir_certificate.specs.declared.pair.Pair.{Pair}
 use Rattle.fhir_cert_check.specs.Rule.{RuleName}
 use Rattle.fhir_cert_check.specs.Inclusion.{Includes}
-use Rattle.fhir_derive_check.specs.Deriving.{IsFirstFailing}
+use Rattle.fhir_derive_check.specs.Blaming.{IsToBlame}
 use Rattle.fhir_derive_check.specs.Faults.{derive_refusal}
 use Rattle.fhir_derive_check.specs.Reaching.{HasCertificate}
 use Rattle.fhir_counter.specs.Shows.{AlwaysConforms, NeverConforms}
@@ -57,11 +57,11 @@ sides_by old_in_new url own = (own, url)
 abbrev pub NarrowsBy : SchemaValue → Text × Text → Type 0
 NarrowsBy made sides = HasCertificate made sides.0 sides.1 × Includes made sides.0 sides.1
 
--- It is what `derive` says of two profiles, in the package that is made, and a resource shows it.
+-- It is what `diagnose` says of two profiles, in the package that is made, and a resource shows it.
 abbrev pub IsShownBy : SchemaValue → Text × Text → (Text → Type 0) → ShownValue → Type 0
 IsShownBy made sides shows narrows = NarrowsBy made sides
 IsShownBy made sides shows (fails pair rule resource) =
-    (HasCertificate made sides.0 sides.1 → ⊥) × IsFirstFailing made sides.0 sides.1 pair rule × IfSome resource shows
+    (HasCertificate made sides.0 sides.1 → ⊥) × IsToBlame made sides.0 sides.1 pair rule × IfSome resource shows
 IsShownBy made sides shows cannot_be_used = IsSome (derive_refusal made sides.0 sides.1)
 
 abbrev pub IsShown : Direction → (old made : SchemaValue) → (url own : Text) → ShownValue → Type 0

@@ -2,7 +2,7 @@
 
 ghost use Rattle.std.specs.Prelude.{◌≡◌, IfOk, IfSome, IsTrue, option_map};
 ghost use Rattle.fhir_cert_check.specs.Views.{rule_name};
-ghost use Rattle.fhir_derive_check.specs.Deriving.{IsFirstFailing};
+ghost use Rattle.fhir_derive_check.specs.Blaming.{IsToBlame};
 ghost use Rattle.fhir_derive_check.specs.Reaching.{HasCertificate};
 ghost use Rattle.fhir_compare.specs.Comparing.{IsShownBy, IsShown, ShowsBy, ShowsBetween, sides_by};
 ghost use Rattle.fhir_compare.specs.Views.{direction_seen, shown_seen};
@@ -11,7 +11,7 @@ use crate::verdict::Shown;
 use fhir_cert_check::Rule;
 use fhir_certificate::Pair;
 use fhir_counter::{always_conforms, counterexample, never_conforms};
-use fhir_derive_check::{DeriveFault, Outcome, derive};
+use fhir_derive_check::{DeriveFault, Outcome, diagnose};
 use fhir_json::NoMemory;
 use fhir_schema::Schema;
 use std::alloc::Global;
@@ -106,7 +106,7 @@ fn fails<'s>(
     rule: Rule<'s>,
 ) -> Result<Shown<'s>, NoMemory>
     requires none { HasCertificate two.schema.now derived.now base.now → ⊥ }
-    requires first { IsFirstFailing two.schema.now derived.now base.now pair (rule_name rule) }
+    requires blamed { IsToBlame two.schema.now derived.now base.now pair (rule_name rule) }
     ensures { IfOk result (λ w. IsShownBy two.entry.schema.now (derived.now, base.now)
         (ShowsBetween (direction_seen direction) two.entry.old_schema.now two.entry.schema.now two.entry.url.now) (shown_seen w)) }
 {
@@ -129,7 +129,7 @@ fn shown_between<'s>(
     ensures { IfOk result (λ w. IsShownBy two.entry.schema.now (derived.now, base.now)
         (ShowsBetween (direction_seen direction) two.entry.old_schema.now two.entry.schema.now two.entry.url.now) (shown_seen w)) }
 {
-    match derive(alloc, two.schema, derived, base) {
+    match diagnose(alloc, two.schema, derived, base) {
         Ok(Outcome::Derives(_certificate)) => Ok(Shown::Narrows),
         Ok(Outcome::NoCertificate(pair, rule)) => {
             fails(alloc, direction, two, derived, base, pair, rule)

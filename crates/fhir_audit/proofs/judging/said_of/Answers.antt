@@ -21,7 +21,7 @@ returns-in-Ok-NoCertificate c =
     IfOk-weaker c.refuted.result _ _
     (λ v shown.
     fails_so (option_map (λ x. x.now) c.args.given) c.args.schema.now c.args.url.now c.args.base.now found.field-0 found.pair found.rule
-    (verdict_seen v) is found.ensures.derives found.ensures.refused shown)
+    (verdict_seen v) is found.ensures.derives found.ensures.blamed shown)
     c.refuted.ensures
 
 pub returns-in-Err-Missing : goal.returns-in-Err-Missing

@@ -8,7 +8,7 @@ pub returns : goal.returns
 returns c =
     let two = c.args.two in (
       c.requires.none,
-      c.requires.first,
+      c.requires.blamed,
       some_map (λ (bytes : Vec ℕ Global). bytes.items) c.in_ok-resource.resource
           (ShowsBetween (direction_seen c.args.direction) two.old_schema.now two.schema.now two.url.now) c.in_ok-resource.ensures,
     )

@@ -2,7 +2,7 @@ use Rattle.std.proofs.Common.{rules, ◌≡◌, false}
 use Rattle.fhir_derive_check.specs.declared.fault.DeriveFault.TheVariants.{Missing, Unusable}
 use Rattle.fhir_derive_check.specs.declared.outcome.Outcome.TheVariants.{Derives, NoCertificate}
 use Rattle.fhir_derive_check.specs.Faults.{is_no_memory}
-use Rattle.fhir_compare.proofs.Outcomes.{narrows_so, includes_so, none_so, first_so, refused_so}
+use Rattle.fhir_compare.proofs.Outcomes.{narrows_so, includes_so, none_so, blamed_so, refused_so}
 use Rattle.fhir_compare.proofs.ways.shown_between.Goals as goal
 
 pub returns-in-Ok-Derives : goal.returns-in-Ok-Derives
@@ -20,11 +20,11 @@ fails-requires-clause-none c =
     let is : found.field-0 ≡ NoCertificate found.pair found.rule = search rules in
     none_so c.args.two.schema.now c.args.derived.now c.args.base.now found.field-0 found.pair found.rule is found.ensures.derives
 
-pub fails-requires-clause-first : goal.fails-requires-clause-first
-fails-requires-clause-first c =
+pub fails-requires-clause-blamed : goal.fails-requires-clause-blamed
+fails-requires-clause-blamed c =
     let found = c.in-Ok-NoCertificate in
     let is : found.field-0 ≡ NoCertificate found.pair found.rule = search rules in
-    first_so c.args.two.schema.now c.args.derived.now c.args.base.now found.field-0 found.pair found.rule is found.ensures.refused
+    blamed_so c.args.two.schema.now c.args.derived.now c.args.base.now found.field-0 found.pair found.rule is found.ensures.blamed
 
 pub returns-in-Err-Missing : goal.returns-in-Err-Missing
 returns-in-Err-Missing c =
