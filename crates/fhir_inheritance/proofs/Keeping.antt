@@ -10,7 +10,7 @@ use Rattle.fhir_names.specs.Places.{Places, Finds, place_of}
 use Rattle.fhir_definition.specs.Snapshot.{id_place, id_place_from}
 use Rattle.fhir_elements.specs.Element.{Element}
 use Rattle.fhir_inheritance.specs.Named.{Groups, texts_under}
-use Rattle.fhir_inheritance.specs.Elements.{find, is_this, parent_of, IsKept}
+use Rattle.fhir_inheritance.specs.Elements.{find, is_this, parent_of, slice_parent_of, IsKept}
 use Rattle.fhir_inheritance.proofs.Listed.{position-shift, picked-snoc}
 
 at_next : (e : Element) (es : List Element) (o : Option ℕ) → option_and_then (slice_get es) o ≡ option_and_then (slice_get (e ∷ es)) (option_map suc o)
@@ -30,12 +30,13 @@ find-at (e ∷ es) id =
     ∙ ap (λ (o : Option ℕ). option_and_then (slice_get (e ∷ es)) (cond (bytes_eq id e.id) (Some 0) o)) (sym (position-shift (bytes_eq id) 0 (map (λ e. e.id) es)))
 
 -- one more element
-pub kept-snoc : (es : List Element) (e : Element) (places more : Places) (children slices others parts : Groups) → IsKept es places children slices
+kept-snoc : (es : List Element) (e : Element) (places more : Places) (children slices sliced others parts names : Groups) → IsKept es places children slices sliced
     → Finds more (map (λ e. e.id) es ++ e.id ∷ [])
     → ((id : Text) → texts_under others id ≡ texts_under children id ++ cond (is_this id (parent_of e.id)) (name_of e.id ∷ []) [])
     → ((id : Text) → texts_under parts id ≡ texts_under slices id ++ cond (is_this id (sliced_of e.id)) (e.id ∷ []) [])
-    → IsKept (es ++ e ∷ []) more others parts
-kept-snoc es e places more children slices others parts h found children_are slices_are = record {
+    → ((id : Text) → texts_under names id ≡ texts_under sliced id ++ cond (is_this id (slice_parent_of e.id)) (name_of e.id ∷ []) [])
+    → IsKept (es ++ e ∷ []) more others parts names
+kept-snoc es e places more children slices sliced others parts names h found children_are slices_are sliced_are = record {
   ids = subst (Finds more) (sym (map-append (λ (x : Element). x.id) es (e ∷ []))) found;
   children_are = λ id.
       children_are id ∙ ap (λ (l : List Text). l ++ cond (is_this id (parent_of e.id)) (name_of e.id ∷ []) []) (h.children_are id)
@@ -43,19 +44,25 @@ kept-snoc es e places more children slices others parts h found children_are sli
   slices_are = λ id.
       slices_are id ∙ ap (λ (l : List Text). l ++ cond (is_this id (sliced_of e.id)) (e.id ∷ []) []) (h.slices_are id)
       ∙ sym (picked-snoc (λ (x : Element). x.id) (λ x. is_this id (sliced_of x.id)) es e);
+  sliced_are = λ id.
+      sliced_are id ∙ ap (λ (l : List Text). l ++ cond (is_this id (slice_parent_of e.id)) (name_of e.id ∷ []) []) (h.sliced_are id)
+      ∙ sym (picked-snoc (λ (x : Element). name_of x.id) (λ x. is_this id (slice_parent_of x.id)) es e);
 }
 
 -- the same, of an element whose id is this one
-pub kept-by : (es : List Element) (e : Element) (own : Text) (places more : Places) (children slices others parts : Groups) → own ≡ e.id → IsKept es places children slices
+pub kept-by : (es : List Element) (e : Element) (own : Text) (places more : Places) (children slices sliced others parts names : Groups) → own ≡ e.id
+    → IsKept es places children slices sliced
     → Finds more (map (λ e. e.id) es ++ own ∷ [])
     → ((id : Text) → texts_under others id ≡ texts_under children id ++ cond (is_this id (parent_of own)) (name_of own ∷ []) [])
     → ((id : Text) → texts_under parts id ≡ texts_under slices id ++ cond (is_this id (sliced_of own)) (own ∷ []) [])
-    → IsKept (es ++ e ∷ []) more others parts
-kept-by es e own places more children slices others parts is h found children_are slices_are =
-    kept-snoc es e places more children slices others parts h
+    → ((id : Text) → texts_under names id ≡ texts_under sliced id ++ cond (is_this id (slice_parent_of own)) (name_of own ∷ []) [])
+    → IsKept (es ++ e ∷ []) more others parts names
+kept-by es e own places more children slices sliced others parts names is h found children_are slices_are sliced_are =
+    kept-snoc es e places more children slices sliced others parts names h
     (subst (λ x. Finds more (map (λ (e : Element). e.id) es ++ x ∷ [])) is found)
     (λ id. children_are id ∙ ap (λ (x : Text). texts_under children id ++ cond (is_this id (parent_of x)) (name_of x ∷ []) []) is)
     (λ id. slices_are id ∙ ap (λ (x : Text). texts_under slices id ++ cond (is_this id (sliced_of x)) (x ∷ []) []) is)
+    (λ id. sliced_are id ∙ ap (λ (x : Text). texts_under sliced id ++ cond (is_this id (slice_parent_of x)) (name_of x ∷ []) []) is)
 
 -- ---- the first of an id
 

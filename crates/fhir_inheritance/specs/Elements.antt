@@ -20,9 +20,17 @@ is_this id other = option_map_or (bytes_eq id) other false
 abbrev pub parent_of : Text → Option Text
 parent_of id = if is_some (slice_of id) then None else front_of id
 
+-- the id under which an id is that of a slice
+abbrev pub slice_parent_of : Text → Option Text
+slice_parent_of id = if is_some (slice_of id) then front_of id else None
+
 -- the names of the children of an id, in order
 abbrev pub names_under : List Element → Text → List Text
 names_under es id = map (λ e. name_of e.id) (filter (λ e. is_this id (parent_of e.id)) es)
+
+-- the names of the slices under an id, without what names the slice, in order
+abbrev pub sliced_names_under : List Element → Text → List Text
+sliced_names_under es id = map (λ e. name_of e.id) (filter (λ e. is_this id (slice_parent_of e.id)) es)
 
 -- the ids of the slices of an id, in order
 abbrev pub slices_under : List Element → Text → List Text
@@ -30,8 +38,9 @@ slices_under es id = map (λ e. e.id) (filter (λ e. is_this id (sliced_of e.id)
 
 -- ---- as they are kept
 
--- the elements have these places, and these children and slices
-pub record IsKept (es : List Element) (places : Places) (children slices : Groups) : Type 0 where
+-- the elements have these places, and these children and slices, and these names of slices
+pub record IsKept (es : List Element) (places : Places) (children slices sliced : Groups) : Type 0 where
   pub ids : Finds places (map (λ e. e.id) es)
   pub children_are : (id : Text) → texts_under children id ≡ names_under es id
   pub slices_are : (id : Text) → texts_under slices id ≡ slices_under es id
+  pub sliced_are : (id : Text) → texts_under sliced id ≡ sliced_names_under es id

@@ -44,7 +44,7 @@ abbrev pub touched_node : Definitions → Text → Element → List Text → Lis
 touched_node p url e names slices =
     asks_names (key_at url (twin_of e.id)) (λ twins. asks_kinds p url e slices (with_others names twins))
 
--- an element has the base's children, and where one is touched that the base doesn't have, others too
+-- an element has the base's children, and where the differential has one that the base doesn't have, others too
 abbrev pub node_of : Definitions → Text → List Element → Element → List Text → List Text → Asking Node
 node_of p url differential e names slices =
     if is_touched differential e.id names then touched_node p url e names slices

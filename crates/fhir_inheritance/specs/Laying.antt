@@ -12,7 +12,7 @@ use Rattle.fhir_elements.specs.Slicing.{Slicing}
 use Rattle.fhir_elements.specs.Element.{Element}
 use Rattle.fhir_overlay.specs.Overlay.{laid_over}
 use Rattle.fhir_inheritance.specs.Keys.{path_of}
-use Rattle.fhir_inheritance.specs.Elements.{find, names_under, slices_under}
+use Rattle.fhir_inheritance.specs.Elements.{find, names_under, sliced_names_under, slices_under}
 use Rattle.fhir_inheritance.specs.Lists.{has_any, is_among, with_others}
 
 -- ---- the slicing that is implied where an element has slices and doesn't say how they are told apart
@@ -58,6 +58,11 @@ laid differential slices inherited =
 abbrev pub all_slices : List Element → Text → List Text → List Text
 all_slices differential id slices = with_others slices (slices_under differential id)
 
--- the differential has a child that the base doesn't have
+-- one of the others isn't among the names
+abbrev pub has_new : List Text → List Text → Bool
+has_new names others = list_any (λ name. not (is_among names name)) others
+
+-- the differential has a child that the base doesn't have, or a slice of one
 abbrev pub is_touched : List Element → Text → List Text → Bool
-is_touched differential id names = list_any (λ name. not (is_among names name)) (names_under differential id)
+is_touched differential id names =
+    has_new names (names_under differential id) || has_new names (sliced_names_under differential id)

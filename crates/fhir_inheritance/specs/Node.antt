@@ -9,5 +9,5 @@ pub record Node : Type 0 where
   pub names : List Text
   -- the ids of its slices, in order
   pub slices : List Text
-  -- the differential has a child of it that the base doesn't have
+  -- the differential has a child of it that the base doesn't have, or a slice of one
   pub touched : Bool

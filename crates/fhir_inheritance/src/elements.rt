@@ -8,7 +8,7 @@ ghost use Rattle.fhir_names.specs.Parents.{name_of, sliced_of};
 ghost use Rattle.fhir_elements.specs.Element.{Element};
 ghost use Rattle.fhir_definition.specs.Snapshot.{id_place, is_at, ids_differ};
 ghost use Rattle.fhir_inheritance.specs.Named.{texts_under};
-ghost use Rattle.fhir_inheritance.specs.Elements.{find, is_this, parent_of, names_under, slices_under, IsKept};
+ghost use Rattle.fhir_inheritance.specs.Elements.{find, is_this, parent_of, slice_parent_of, names_under, sliced_names_under, slices_under, IsKept};
 
 use crate::groups::GroupTable;
 use fhir_elements::ElementDef;
@@ -24,6 +24,7 @@ pub struct Elements {
     ids: Index,
     children: GroupTable,
     slices: GroupTable,
+    sliced: GroupTable,
 }
 
 impl Model for Elements {
@@ -40,7 +41,7 @@ impl Model for Elements {
 
     ghost view = { λ x. x.all.items };
 
-    ghost invariant = { λ x. IsKept x.all.items x.ids x.children x.slices };
+    ghost invariant = { λ x. IsKept x.all.items x.ids x.children x.slices x.sliced };
 }
 
 // The id of which an id is that of a child, and no slice.
@@ -51,6 +52,17 @@ fn parent_of(id: &str) -> Option<&str>
         None
     } else {
         front_of(id)
+    }
+}
+
+// The id under which an id is that of a slice.
+fn slice_parent_of(id: &str) -> Option<&str>
+    ensures { option_map (λ r. r.now) result ≡ slice_parent_of id.now }
+{
+    if slice_of(id).is_some() {
+        front_of(id)
+    } else {
+        None
     }
 }
 
@@ -74,22 +86,34 @@ fn put_slice(alloc: Global, slices: &mut GroupTable, id: &str) -> Result<(), NoM
     }
 }
 
+fn put_sliced(alloc: Global, sliced: &mut GroupTable, id: &str) -> Result<(), NoMemory>
+    ensures { OnOk result ((other : Text) → texts_under sliced.new other
+        ≡ texts_under sliced.old other ++ (if is_this other (slice_parent_of id.now) then name_of id.now ∷ [] else [])) }
+{
+    match slice_parent_of(id) {
+        Some(parent) => sliced.add(alloc, parent, name_of(id)),
+        None => Ok(()),
+    }
+}
+
 // Puts an element behind others that are kept so.
 fn put(
     alloc: Global,
     ids: &mut Index,
     children: &mut GroupTable,
     slices: &mut GroupTable,
+    sliced: &mut GroupTable,
     element: &ElementDef,
     place: usize,
 ) -> Result<(), NoMemory>
-    ensures { OnOk result ((es : List Element) → length es ≡ place → IsKept es ids.old children.old slices.old
-        → IsKept (es ++ element.now ∷ []) ids.new children.new slices.new) }
+    ensures { OnOk result ((es : List Element) → length es ≡ place → IsKept es ids.old children.old slices.old sliced.old
+        → IsKept (es ++ element.now ∷ []) ids.new children.new slices.new sliced.new) }
 {
     let id = element.id();
     ids.add(alloc, id, place)?;
     put_child(alloc, children, id)?;
     put_slice(alloc, slices, id)?;
+    put_sliced(alloc, sliced, id)?;
     Ok(())
 }
 
@@ -122,6 +146,13 @@ impl Elements {
         ensures { map string_bytes result.now ≡ names_under self.now id.now }
     {
         self.children.get(id)
+    }
+
+    /// The names of the slices under an id, without what names the slice, in order.
+    pub(crate) fn sliced_names_under(&self, id: &str) -> &[String]
+        ensures { map string_bytes result.now ≡ sliced_names_under self.now id.now }
+    {
+        self.sliced.get(id)
     }
 
     /// The ids of the slices of an id, in order.
@@ -160,14 +191,24 @@ impl Elements {
         let mut ids = Index::new(alloc);
         let mut children = GroupTable::new(alloc);
         let mut slices = GroupTable::new(alloc);
+        let mut sliced = GroupTable::new(alloc);
         for (place, element) in elements.iter().enumerate() {
-            put(alloc, &mut ids, &mut children, &mut slices, element, place)?;
+            put(
+                alloc,
+                &mut ids,
+                &mut children,
+                &mut slices,
+                &mut sliced,
+                element,
+                place,
+            )?;
         }
         Ok(Elements {
             all: elements,
             ids,
             children,
             slices,
+            sliced,
         })
     }
 }

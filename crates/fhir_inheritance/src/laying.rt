@@ -133,7 +133,7 @@ pub(crate) fn all_slices(
     with_others(alloc, slices, differential.slices_under(id))
 }
 
-/// Whether the differential has a child that the base doesn't have.
+/// Whether the differential has a child that the base doesn't have, or a slice of one.
 pub(crate) fn is_touched(
     alloc: Global,
     differential: &Elements,
@@ -142,5 +142,8 @@ pub(crate) fn is_touched(
 ) -> Result<bool, NoMemory>
     ensures { IfOk result (λ touched. touched ≡ is_touched differential.now id.now (map string_bytes names.now)) }
 {
-    has_other(alloc, differential.names_under(id), names)
+    if has_other(alloc, differential.names_under(id), names)? {
+        return Ok(true);
+    }
+    has_other(alloc, differential.sliced_names_under(id), names)
 }

@@ -58,7 +58,7 @@ impl NodeDef {
         &self.slices
     }
 
-    /// Whether the differential has a child of it that the base doesn't have.
+    /// Whether the differential has a child of it that the base doesn't have, or a slice of one.
     pub fn is_touched(&self) -> bool
         ensures { result ≡ self.now.touched }
     {
