@@ -13,7 +13,7 @@ use Rattle.fhir_names.specs.Parents.{name_of, front_of, slice_of, sliced_of}
 use Rattle.fhir_elements.specs.Element.{Element}
 use Rattle.fhir_definition.specs.Snapshot.{up_of}
 use Rattle.fhir_inheritance.specs.Keys.{child_id}
-use Rattle.fhir_inheritance.specs.Elements.{find, is_this, parent_of, names_under, slices_under}
+use Rattle.fhir_inheritance.specs.Elements.{find, is_this, parent_of, slice_parent_of, names_under, sliced_names_under, slices_under}
 use Rattle.snapshot_laws.proofs.Among.{In, Each, Differ, in_left, in_right}
 use Rattle.snapshot_laws.proofs.Ups.{IsName, name_read, child_again, up_sliced, up_unsliced, sliced_none}
 
@@ -72,7 +72,7 @@ parent_parts id up e = by (slice_of id) refl e
     by None is e = (refl, e)
     by (Some s) is e = absurd (none-some up e)
 
-parent_from : (id up : Text) → slice_of id ≡ None → front_of id ≡ Some up → parent_of id ≡ Some up
+pub parent_from : (id up : Text) → slice_of id ≡ None → front_of id ≡ Some up → parent_of id ≡ Some up
 parent_from id up none e = ap (λ (o : Option Text). cond (is_some o) None (front_of id)) none ∙ e
 
 pub Child : List Element → Text → Text → Type 0
@@ -104,6 +104,18 @@ in_child (e ∷ es) id x h is = by (is_this id (parent_of e.id)) refl h (λ h. i
     by true this (inl same) rest = inl (ap name_of same)
     by true this (inr h) rest = inr (rest h)
     by false this (inl same) rest = absurd (false≢true (sym this ∙ is_one id (parent_of e.id) (ap parent_of (sym same) ∙ is)))
+    by false this (inr h) rest = rest h
+
+pub in_sliced : (es : List Element) (id x : Text) → In x (ids es) → slice_parent_of x ≡ Some id → In (name_of x) (sliced_names_under es id)
+in_sliced [] id x h is = absurd h
+in_sliced (e ∷ es) id x h is = by (is_this id (slice_parent_of e.id)) refl h (λ h. in_sliced es id x h is)
+  where
+    by : (b : Bool) → is_this id (slice_parent_of e.id) ≡ b → (x ≡ e.id) ⊎ In x (ids es) → (In x (ids es) → In (name_of x) (sliced_names_under es id))
+        → In (name_of x) (map (λ e. name_of e.id)
+        (cond b (e ∷ filter (λ e. is_this id (slice_parent_of e.id)) es) (filter (λ e. is_this id (slice_parent_of e.id)) es)))
+    by true this (inl same) rest = inl (ap name_of same)
+    by true this (inr h) rest = inr (rest h)
+    by false this (inl same) rest = absurd (false≢true (sym this ∙ is_one id (slice_parent_of e.id) (ap slice_parent_of (sym same) ∙ is)))
     by false this (inr h) rest = rest h
 
 pub slice_in : (es : List Element) (id x : Text) → In x (slices_under es id) → In x (ids es) × (sliced_of x ≡ Some id)

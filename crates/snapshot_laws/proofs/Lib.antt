@@ -9,6 +9,7 @@ mod Origins
 mod Parents
 mod Placed
 mod Rising
+mod Siblings
 mod There
 mod Ups
 mod Whole

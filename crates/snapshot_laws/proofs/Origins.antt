@@ -65,14 +65,15 @@ module _ (p : Definitions) (Q : Text → Option Node → Type 0) where
     pub of_kind : NamesOf (only_type_key p n.element.types) kinds
     pub of_target : NamesOf (target_key p url n.element) targets
 
-  pub record HasSame (names : List Text) (n : Node) : Type 0 where
+  pub record HasSame (es : List Element) (names : List Text) (n : Node) : Type 0 where
     pub names_are : n.names ≡ names
     pub untouched : n.touched ≡ false
+    pub none_new : is_touched es n.element.id names ≡ false
 
   pub record IsMadeOf (url : Text) (es : List Element) (inherited : Element) (names slices : List Text) (n : Node) : Type 0 where
     pub element_is : n.element ≡ laid es (all_slices es inherited.id slices) inherited
     pub slices_are : n.slices ≡ all_slices es inherited.id slices
-    pub names_are : HasMore url names n ⊎ HasSame names n
+    pub names_are : HasMore url names n ⊎ HasSame es names n
 
   after_names : (o : Option Text) (next : List Text → Asking Node) (thing : Option Node) → ComesWith Q (asks_names o next) thing
       → (names : List Text) × NamesOf o names × ComesWith Q (next names) thing
@@ -99,19 +100,20 @@ module _ (p : Definitions) (Q : Text → Option Node → Type 0) where
       (n, sym three.2, refl, refl, more)
 
   node_made : (url : Text) (es : List Element) (inherited : Element) (names slices : List Text) (o : Option Node) (b : Bool)
+      → is_touched es (laid es (all_slices es inherited.id slices) inherited).id names ≡ b
       → ComesWith Q (cond b (touched_node p url (laid es (all_slices es inherited.id slices) inherited) names (all_slices es inherited.id slices))
       (it_is (node_with (laid es (all_slices es inherited.id slices) inherited) names (all_slices es inherited.id slices) false))) o
       → (n : Node) × (o ≡ Some n) × IsMadeOf url es inherited names slices n
-  node_made url es inherited names slices o true h =
+  node_made url es inherited names slices o true is h =
       let t = touched_made url (laid es (all_slices es inherited.id slices) inherited) names (all_slices es inherited.id slices) o h in
       (t.0, t.1, record { element_is = t.2; slices_are = t.3; names_are = inl t.4 })
-  node_made url es inherited names slices o false h =
-      (_, sym h, record { element_is = refl; slices_are = refl; names_are = inr (record { names_are = refl; untouched = refl }) })
+  node_made url es inherited names slices o false is h =
+      (_, sym h, record { element_is = refl; slices_are = refl; names_are = inr (record { names_are = refl; untouched = refl; none_new = is }) })
 
   pub made_is : (url : Text) (es : List Element) (inherited : Element) (names slices : List Text) (o : Option Node)
       → ComesWith Q (made p url es inherited names slices) o → (n : Node) × (o ≡ Some n) × IsMadeOf url es inherited names slices n
   made_is url es inherited names slices o h =
-      node_made url es inherited names slices o (is_touched es (laid es (all_slices es inherited.id slices) inherited).id names) h
+      node_made url es inherited names slices o (is_touched es (laid es (all_slices es inherited.id slices) inherited).id names) refl h
 
   made_some : (url : Text) (es : List Element) (inherited : Element) (names slices : List Text) (n : Node)
       → ComesWith Q (made p url es inherited names slices) (Some n) → IsMadeOf url es inherited names slices n

@@ -1,12 +1,15 @@
 -- Which elements a snapshot has (FHIR R4, Profiling, snapshots; ElementDefinition, id).
-use Rattle.std.specs.Prelude.{◌≡◌, List, map, true, Some, codes}
+use Rattle.std.specs.Prelude.{◌≡◌, List, map, true, false, Some, codes}
 use Rattle.fhir_json.specs.Tree.{Text, Tree}
+use Rattle.fhir_names.specs.Parents.{front_of, name_of}
 use Rattle.fhir_elements.specs.Element.{Element}
 use Rattle.fhir_package.specs.declared.kind.Kind.TheVariants.{StructureDefinition}
 use Rattle.fhir_package.specs.Definitions.{Definitions, at_url}
 use Rattle.fhir_definition.specs.Snapshot.{ids_differ, is_tree}
 use Rattle.fhir_inheritance.specs.Lists.{is_among}
-use Rattle.fhir_inheritance.specs.Sources.{brings_snapshot, elements_in}
+use Rattle.fhir_inheritance.specs.Node.{Node}
+use Rattle.fhir_inheritance.specs.Sources.{Source, source_at, brings_snapshot, elements_in}
+use Rattle.fhir_snapshot.specs.Order.{IsAt}
 use Rattle.fhir_snapshot.specs.Snapshots.{brings_elements}
 
 -- one of the elements has that id
@@ -22,3 +25,15 @@ pub record IsWhole (t : Tree) : Type 0 where
 -- each snapshot that is brought is whole
 abbrev pub AreWhole : Definitions → Type 0
 AreWhole p = (url : Text) (t : Tree) → at_url StructureDefinition url p ≡ Some t → brings_snapshot t ≡ true → IsWhole t
+
+-- The differential of a definition has a child of an id, or a slice of one, whose name no child of that id has in the base.
+pub record BringsChild (p : Definitions) (url up : Text) : Type 0 where
+  pub source : Source
+  pub base : Text
+  pub at : source_at p url ≡ Some source
+  pub unwritten : source.written ≡ false
+  pub rests : source.base ≡ Some base
+  pub id : Text
+  pub stands : Stands id source.elements
+  pub under : front_of id ≡ Some up
+  pub new : (m : Node) → IsAt p base up m → is_among m.names (name_of id) ≡ false

@@ -6,4 +6,4 @@ mod ids;
 mod snapshots;
 
 pub use ids::each_id_once;
-pub use snapshots::{base_elements_stay, children_then_slices, new_slices};
+pub use snapshots::{base_elements_stay, children_then_slices, new_slices, siblings_come};

@@ -8,11 +8,15 @@ ghost use Rattle.fhir_names.specs.Parents.{sliced_of};
 ghost use Rattle.fhir_elements.specs.Constraint.{Constraint};
 ghost use Rattle.fhir_elements.specs.Element.{Element};
 ghost use Rattle.fhir_package.specs.Definitions.{Definitions};
+ghost use Rattle.fhir_asking.specs.Asking.{Has};
 ghost use Rattle.fhir_inheritance.specs.Node.{Node};
 ghost use Rattle.fhir_inheritance.specs.Elements.{find};
-ghost use Rattle.fhir_inheritance.specs.Sources.{Source, source_at};
+ghost use Rattle.fhir_inheritance.specs.Lists.{is_among};
+ghost use Rattle.fhir_inheritance.specs.Inheriting.{asking};
+ghost use Rattle.fhir_inheritance.specs.Sources.{Source, source_at, only_type_key, target_key};
 ghost use Rattle.fhir_inheritance.specs.Keys.{child_id};
 ghost use Rattle.fhir_snapshot.specs.Order.{IsAt, Lists};
+ghost use Rattle.snapshot_laws.specs.Snapshots.{AreWhole, BringsChild};
 
 use fhir_asking::{answers_come_of_answers, one_answer};
 use fhir_inheritance::NodeDef;
@@ -41,6 +45,19 @@ pub fn new_slices()
 {
     one_answer::<NodeDef>();
     answers_come_of_answers::<NodeDef>();
+}
+
+/// Where a differential has a child of an element, or a slice of one, that the base doesn't have, all children of the element's only type are
+/// there (`of_type`), and all of the element to which it refers for its content (`of_content`), where the snapshots that are brought are whole.
+pub fn siblings_come()
+    ensures of_type { (p : Definitions) (id url kind name : Text) (n r : Node) → AreWhole p → lacks line_feed id ≡ true → BringsChild p url id
+        → IsAt p url id n → only_type_key p n.element.types ≡ Some kind → Has (asking p) kind (Some r)
+        → is_among r.names name ≡ true → is_among n.names name ≡ true }
+    ensures of_content { (p : Definitions) (id url target name : Text) (n r : Node) → AreWhole p → lacks line_feed id ≡ true → BringsChild p url id
+        → IsAt p url id n → target_key p url n.element ≡ Some target → Has (asking p) target (Some r)
+        → is_among r.names name ≡ true → is_among n.names name ≡ true }
+{
+    one_answer::<NodeDef>();
 }
 
 /// In a snapshot an element is followed by its children, each with what stands under it. Then come its slices, each with what stands

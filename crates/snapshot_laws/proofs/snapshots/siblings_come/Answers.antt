@@ -1,0 +1,10 @@
+use Rattle.snapshot_laws.proofs.Siblings.{of_type, of_content}
+use Rattle.snapshot_laws.proofs.snapshots.siblings_come.Goals as goal
+
+pub returns-clause-of_type : goal.returns-clause-of_type
+returns-clause-of_type c = λ p id url kind name n r whole plain brings at is has h.
+    of_type p c.one_answer.ensures.one id url kind name n r whole plain brings at is has h
+
+pub returns-clause-of_content : goal.returns-clause-of_content
+returns-clause-of_content c = λ p id url target name n r whole plain brings at is has h.
+    of_content p c.one_answer.ensures.one id url target name n r whole plain brings at is has h
