@@ -14,9 +14,9 @@ use Rattle.fhir_cert_check.specs.Asked.{asked_for}
 use Rattle.fhir_cert_check.specs.PairSet.{PairLists, same_pair, has_pair}
 use Rattle.fhir_cert_check.specs.Views.{rule_name}
 use Rattle.fhir_derive_check.specs.Finding.{is_in, IsDiscovery}
-use Rattle.fhir_derive_check.specs.Blaming.{is_spare, IsOnTheWay}
+use Rattle.fhir_derive_check.specs.Blaming.{is_spare, IsOnTheWay, IsBlamed}
 use Rattle.fhir_derive_check.specs.Discovering.{HasAll}
-use Rattle.fhir_derive_check.specs.Outcomes.{MorePairs, IsSettled, IsBlamed}
+use Rattle.fhir_derive_check.specs.Outcomes.{MorePairs, IsSettled}
 use Rattle.fhir_derive_check.specs.Pruning.{wrong_seen, all_failing}
 use Rattle.fhir_derive_check.proofs.Same.{same-true, in-kept, kept-in, contained, in-contained}
 use Rattle.fhir_derive_check.proofs.Found.{root-found, closed, is-found}
@@ -136,7 +136,7 @@ module _ (s : SchemaValue) (root : Pair) (found : List Pair) (discovery : IsDisc
     is-blamed wrong is = record {
       way = has_pair way;
       exactly = λ q. ((λ h. way-on q (sym (counts q) ∙ h)), (λ reached. counts q ∙ on-way q reached));
-      first = first-found (failing_rule (is_in found) s) (has_pair way) found wrongs are ∙ ap (option_map wrong_seen) is;
+      fails = first-found (failing_rule (is_in found) s) (has_pair way) found wrongs are ∙ ap (option_map wrong_seen) is;
     }
 
     pub none-blamed : MorePairs → live root ≡ false → find (λ wrong. has_pair way wrong.0) wrongs ≡ None → ⊥

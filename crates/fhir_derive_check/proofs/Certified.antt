@@ -28,7 +28,7 @@ use Rattle.fhir_derive_check.specs.Views.{certificate_of, failing_of}
 use Rattle.fhir_derive_check.specs.Discovering.{followed, HasAll}
 use Rattle.fhir_derive_check.specs.declared.discovery.Follow.TheVariants.{All}
 use Rattle.fhir_derive_check.specs.Blaming.{IsToBlame}
-use Rattle.fhir_derive_check.specs.Outcomes.{MorePairs, IsSettled, IsMet, IsListed, IsDerivation, IsNamed, IsRefusal, IsOutcome, item_of, kids_of}
+use Rattle.fhir_derive_check.specs.Outcomes.{MorePairs, IsSettled, IsMet, IsListed, IsDerivation, IsNamed, IsRefusal, IsOutcomeBetween, item_of, kids_of}
 use Rattle.fhir_derive_check.specs.declared.blaming.Named.{Named}
 use Rattle.fhir_derive_check.specs.declared.blaming.Named.TheVariants.{First, ToBlame}
 use Rattle.fhir_derive_check.specs.Pruning.{wrong_seen, all_failing}
@@ -233,9 +233,9 @@ AskedAreNodes =
 
 -- ---- what is answered
 
-module _ (s : SchemaValue) (derived base : Text) (roots : NodePair) (are_roots : roots_between s derived base ≡ Some roots) where
-  pub certificate : (c : CertificateValue) → IsDerivation s derived base roots c → IsCertificate s c
-  certificate c d =
+module _ (s : SchemaValue) (derived base : Text) where
+  certificate : (roots : NodePair) → roots_between s derived base ≡ Some roots → (c : CertificateValue) → IsDerivation s derived base roots c → IsCertificate s c
+  certificate roots are_roots c d =
       let same : (p : Pair) → is_among c p ≡ is_in (filter d.reached d.found) p = among c (filter d.reached d.found) d.items d.kids in
       record {
         roots = roots;
@@ -244,66 +244,71 @@ module _ (s : SchemaValue) (derived base : Text) (roots : NodePair) (are_roots :
         right = subst (IsRight s) (λ j p. sym (same p) j) d.right;
       }
 
-  pub derives : (named : Named) (o : Outcome) → IsOutcome named s derived base roots o → (is_some (certificate_of o) ≡ true) ↔ HasCertificate s derived base
-  derives named (Derives c) d = (
-    (λ h. record { roots = roots; are_roots = are_roots; tenable = record { set = is_in (filter d.reached d.found); has = d.rooted; right = d.right } }),
-    (λ h. refl),
-  )
-  derives named (NoCertificate p rule) r = (
+  pub derives : (named : Named) (o : Outcome) → IsOutcomeBetween named s derived base o → (is_some (certificate_of o) ≡ true) ↔ HasCertificate s derived base
+  derives named (Derives c) out =
+      let d = out.outcome in (
+        (λ h. record { roots = out.roots; are_roots = out.are_roots; tenable = record { set = is_in (filter d.reached d.found); has = d.rooted; right = d.right } }),
+        (λ h. refl),
+      )
+  derives named (NoCertificate p rule) out = (
     (λ h. absurd (false≢true h)),
-    (λ h. absurd (r.none (subst (λ n. IsTenable s (Item n)) (same_Some h.roots roots (sym h.are_roots ∙ are_roots)) h.tenable))),
+    (λ h. absurd (out.outcome.none (subst (λ n. IsTenable s (Item n)) (same_Some h.roots out.roots (sym h.are_roots ∙ out.are_roots)) h.tenable))),
   )
 
-  pub reached : (named : Named) (o : Outcome) → IsOutcome named s derived base roots o → IfSome (certificate_of o) (IsDerived s derived base)
-  reached named (Derives c) d = record {
-    roots = roots;
-    are_roots = are_roots;
-    found = d.found;
-    discovery = d.discovery;
-    reached = d.reached;
-    exactly = d.exactly;
-    derived_is = d.derived_is;
-    base_is = d.base_is;
-    items = d.items;
-    kids = d.kids;
-  }
-  reached named (NoCertificate p rule) r = tt
+  pub reached : (named : Named) (o : Outcome) → IsOutcomeBetween named s derived base o → IfSome (certificate_of o) (IsDerived s derived base)
+  reached named (Derives c) out =
+      let d = out.outcome in
+      record {
+        roots = out.roots;
+        are_roots = out.are_roots;
+        found = d.found;
+        discovery = d.discovery;
+        reached = d.reached;
+        exactly = d.exactly;
+        derived_is = d.derived_is;
+        base_is = d.base_is;
+        items = d.items;
+        kids = d.kids;
+      }
+  reached named (NoCertificate p rule) out = tt
 
-  pub once : (named : Named) (o : Outcome) → IsOutcome named s derived base roots o → IfSome (certificate_of o) (λ c. none_twice (pairs_of c) ≡ true)
-  once named (Derives c) d =
+  pub once : (named : Named) (o : Outcome) → IsOutcomeBetween named s derived base o → IfSome (certificate_of o) (λ c. none_twice (pairs_of c) ≡ true)
+  once named (Derives c) out =
+      let d = out.outcome in
       (λ j. none_twice (map Item (d.items j) ++ map Kids (d.kids j)))
-      ∙ none_twice-split (filter d.reached d.found) (none_twice-filter d.reached d.found (found-once (asked_for s) (Item roots) d.found d.discovery))
-  once named (NoCertificate p rule) r = tt
+      ∙ none_twice-split (filter d.reached d.found) (none_twice-filter d.reached d.found (found-once (asked_for s) (Item out.roots) d.found d.discovery))
+  once named (NoCertificate p rule) out = tt
 
-  pub right : (named : Named) (o : Outcome) → IsOutcome named s derived base roots o → IfSome (certificate_of o) (IsCertificate s)
-  right named (Derives c) d = certificate c d
-  right named (NoCertificate p rule) r = tt
+  pub right : (named : Named) (o : Outcome) → IsOutcomeBetween named s derived base o → IfSome (certificate_of o) (IsCertificate s)
+  right named (Derives c) out = certificate out.roots out.are_roots c out.outcome
+  right named (NoCertificate p rule) out = tt
 
-  pub includes : (named : Named) (o : Outcome) → IsOutcome named s derived base roots o → ((c : CertificateValue) → IsCertificate s c → Includes s c.derived c.base) → IsTrue (is_some (certificate_of o)) → Includes s derived base
-  includes named (Derives c) d law h = subst (λ b. Includes s derived b) d.base_is (subst (λ n. Includes s n c.base) d.derived_is (law c (certificate c d)))
-  includes named (NoCertificate p rule) r law h = absurd (false≢true h)
+  pub includes : (named : Named) (o : Outcome) → IsOutcomeBetween named s derived base o → ((c : CertificateValue) → IsCertificate s c → Includes s c.derived c.base)
+      → IsTrue (is_some (certificate_of o)) → Includes s derived base
+  includes named (Derives c) out law h =
+      let d = out.outcome in
+      subst (λ b. Includes s derived b) d.base_is (subst (λ n. Includes s n c.base) d.derived_is (law c (certificate out.roots out.are_roots c d)))
+  includes named (NoCertificate p rule) out law h = absurd (false≢true h)
 
-  pub refused : (o : Outcome) → IsOutcome First s derived base roots o → IfSome (failing_of o) (λ f. IsFirstFailing s derived base f.0 f.1)
-  refused (Derives c) d = tt
-  refused (NoCertificate p rule) r = record { roots = roots; are_roots = are_roots; found = r.found; discovery = r.discovery; first = r.is_named }
+  pub refused : (o : Outcome) → IsOutcomeBetween First s derived base o → IfSome (failing_of o) (λ f. IsFirstFailing s derived base f.0 f.1)
+  refused (Derives c) out = tt
+  refused (NoCertificate p rule) out =
+      let r = out.outcome in
+      record { roots = out.roots; are_roots = out.are_roots; found = r.found; discovery = r.discovery; first = r.is_named }
 
-  pub blamed : (o : Outcome) → IsOutcome ToBlame s derived base roots o → IfSome (failing_of o) (λ f. IsToBlame s derived base f.0 f.1)
-  blamed (Derives c) d = tt
-  blamed (NoCertificate p rule) r = record {
-    roots = roots;
-    are_roots = are_roots;
-    found = r.found;
-    discovery = r.discovery;
-    way = r.is_named.way;
-    exactly = r.is_named.exactly;
-    first = r.is_named.first;
-  }
+  pub blamed : (o : Outcome) → IsOutcomeBetween ToBlame s derived base o → IfSome (failing_of o) (λ f. IsToBlame s derived base f.0 f.1)
+  blamed (Derives c) out = tt
+  blamed (NoCertificate p rule) out =
+      let r = out.outcome in
+      record { roots = out.roots; are_roots = out.are_roots; found = r.found; discovery = r.discovery; blamed = r.is_named }
 
-  pub fit : (named : Named) (o : Outcome) → IsOutcome named s derived base roots o → AskedAreNodes → (d : Definitions) → s ≡ schema_of d → IfSome (certificate_of o) (λ c. fits s c ≡ true)
-  fit named (NoCertificate p rule) r law d is = tt
-  fit named (Derives c) o law d is =
+  pub fit : (named : Named) (o : Outcome) → IsOutcomeBetween named s derived base o → AskedAreNodes → (d : Definitions) → s ≡ schema_of d → IfSome (certificate_of o) (λ c. fits s c ≡ true)
+  fit named (NoCertificate p rule) out law d is = tt
+  fit named (Derives c) out law d is =
+      let o = out.outcome in
+      let roots = out.roots in
       let asked = subst (λ t. (p q : Pair) → IsTrue (is_of_nodes t p) → Contains (asked_for t p) q → IsTrue (is_of_nodes t q)) (sym is) (law d) in
-      let known = both-roots (root s derived) (root s base) roots are_roots in
+      let known = both-roots (root s derived) (root s base) roots out.are_roots in
       let reached = filter o.reached o.found in
       let first : IsTrue (is_of_nodes s (Item roots)) = and_from (has s roots.derived) (has s roots.base) (root-known s derived roots.derived known.0) (root-known s base roots.base known.1) in
       let each : (p : Pair) → IsTrue (is_in reached p) → IsTrue (is_of_nodes s p) = λ p h.

@@ -6,5 +6,6 @@ mod Asking
 mod Pruned
 mod Spare
 mod Blamed
+mod Ways
 mod Rooted
 mod Certified

@@ -17,7 +17,7 @@ use Rattle.fhir_cert_check.specs.Checking.{same_node}
 use Rattle.fhir_derive_check.specs.Finding.{is_in}
 use Rattle.fhir_derive_check.specs.Blaming.{is_spare}
 use Rattle.fhir_derive_check.specs.Outcomes.{MorePairs}
-use Rattle.fhir_derive_check.proofs.Same.{same_node-refl, contained, in-left, in-right, in-here}
+use Rattle.fhir_derive_check.proofs.Same.{same_node-refl, contained, in-right, in-here}
 
 pub no : (b : Bool) → not b ≡ true → b ≡ false
 no true e = absurd (false≢true e)

@@ -13,9 +13,9 @@ use Rattle.fhir_cert_check.specs.Checking.{IsRight, first_in}
 use Rattle.fhir_cert_check.specs.Asked.{asked_for}
 use Rattle.fhir_cert_check.specs.Views.{rule_name}
 use Rattle.fhir_derive_check.specs.Finding.{is_in, IsDiscovery}
-use Rattle.fhir_derive_check.specs.Reaching.{IsTenable, IsReached}
+use Rattle.fhir_derive_check.specs.Reaching.{IsTenable, IsReached, roots_between}
 use Rattle.fhir_derive_check.specs.Deriving.{items_in, kids_in}
-use Rattle.fhir_derive_check.specs.Blaming.{IsOnTheWay}
+use Rattle.fhir_derive_check.specs.Blaming.{IsBlamed}
 use Rattle.fhir_derive_check.specs.declared.blaming.Named.{Named}
 use Rattle.fhir_derive_check.specs.declared.blaming.Named.TheVariants.{First, ToBlame}
 use Rattle.fhir_derive_check.specs.declared.outcome.Outcome.{Outcome}
@@ -75,12 +75,6 @@ pub record IsDerivation (s : SchemaValue) (derived base : Text) (roots : NodePai
 abbrev pub IsFirstWrong : SchemaValue → List Pair → Pair → RuleName → Type 0
 IsFirstWrong s found p rule = first_in (failing_rule (is_in found) s) found ≡ Some (p, rule)
 
--- the first pair that fails on a way down from the root
-pub record IsBlamed (s : SchemaValue) (root : Pair) (found : List Pair) (p : Pair) (rule : RuleName) : Type 0 where
-  pub way : Pair → Bool
-  pub exactly : (q : Pair) → IsTrue (way q) ↔ IsOnTheWay s root q
-  pub first : first_in (failing_rule (is_in found) s) (filter way found) ≡ Some (p, rule)
-
 abbrev pub IsNamed : Named → SchemaValue → Pair → List Pair → Pair → RuleName → Type 0
 IsNamed First s root found p rule = IsFirstWrong s found p rule
 IsNamed ToBlame s root found p rule = IsBlamed s root found p rule
@@ -95,3 +89,9 @@ pub record IsRefusal (named : Named) (s : SchemaValue) (roots : NodePair) (p : P
 abbrev pub IsOutcome : Named → SchemaValue → Text → Text → NodePair → Outcome → Type 0
 IsOutcome named s derived base roots (Derives c) = IsDerivation s derived base roots c
 IsOutcome named s derived base roots (NoCertificate p rule) = IsRefusal named s roots p (rule_name rule)
+
+-- what is found out between the roots of two profiles
+pub record IsOutcomeBetween (named : Named) (s : SchemaValue) (derived base : Text) (o : Outcome) : Type 0 where
+  pub roots : NodePair
+  pub are_roots : roots_between s derived base ≡ Some roots
+  pub outcome : IsOutcome named s derived base roots o

@@ -6,8 +6,9 @@ ghost use Rattle.fhir_cert_check.specs.PairSet.{has_pair};
 ghost use Rattle.fhir_cert_check.specs.Rules.{failing_rule};
 ghost use Rattle.fhir_cert_check.specs.Asked.{asked_for};
 ghost use Rattle.fhir_cert_check.specs.Views.{rule_name};
+ghost use Rattle.fhir_derive_check.specs.Blaming.{IsBlamed};
 ghost use Rattle.fhir_derive_check.specs.Finding.{is_in, IsDiscovery};
-ghost use Rattle.fhir_derive_check.specs.Outcomes.{IsSettled, IsBlamed, IsNamed};
+ghost use Rattle.fhir_derive_check.specs.Outcomes.{IsSettled, IsNamed};
 ghost use Rattle.fhir_derive_check.specs.Pruning.{wrong_seen, all_failing};
 
 use crate::discovery::{Follow, Found, discover};

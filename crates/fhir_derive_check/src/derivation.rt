@@ -13,7 +13,7 @@ ghost use Rattle.fhir_derive_check.specs.Blaming.{IsToBlame};
 ghost use Rattle.fhir_derive_check.specs.Deriving.{IsDerived, IsFirstFailing, none_twice};
 ghost use Rattle.fhir_derive_check.specs.Faults.{derive_refusal, is_no_memory};
 ghost use Rattle.fhir_derive_check.specs.Views.{certificate_of, failing_of};
-ghost use Rattle.fhir_derive_check.specs.Outcomes.{item_of, kids_of, IsListed, IsOutcome};
+ghost use Rattle.fhir_derive_check.specs.Outcomes.{item_of, kids_of, IsListed, IsOutcome, IsOutcomeBetween};
 
 use crate::blaming::{Named, named_wrong};
 use crate::discovery::{Follow, discover};
@@ -132,6 +132,27 @@ fn outcome<'s>(
     Ok(Outcome::Derives(certificate))
 }
 
+// What is derived of two profiles, unless one of them isn't there or can't be used.
+fn outcome_between<'s>(
+    alloc: Global,
+    schema: &'s Schema,
+    derived: &str,
+    base: &str,
+    named: Named,
+) -> Result<Outcome<'s>, DeriveFault>
+    ensures outcome { IfOk result (IsOutcomeBetween named schema.now derived.now base.now) }
+    ensures usable { IfOk result (λ o. derive_refusal schema.now derived.now base.now ≡ None) }
+    ensures fault { IfErr result (λ f. is_no_memory f ≡ false → derive_refusal schema.now derived.now base.now ≡ Some f) }
+{
+    if let Some(fault) = refusal(schema, derived, base) {
+        return Err(fault);
+    }
+    let Some(roots) = roots_between(schema, derived, base) else {
+        unreachable!()
+    };
+    Ok(outcome(alloc, schema, derived, base, roots, named)?)
+}
+
 /// The certificate of two profiles, which has the pairs that are reached from their roots, each once, in the order in which they are found;
 /// or, where there is no certificate, the first of the pairs that are found that fails a rule, with that rule. The refusals are those of
 /// `DeriveFault`. Each pair is found once, and judged again only where it fails or one that it asks for falls, so that the time is near linear
@@ -154,13 +175,7 @@ pub fn derive<'s>(
 {
     certificates_include();
     asked_are_nodes();
-    if let Some(fault) = refusal(schema, derived, base) {
-        return Err(fault);
-    }
-    let Some(roots) = roots_between(schema, derived, base) else {
-        unreachable!()
-    };
-    Ok(outcome(alloc, schema, derived, base, roots, Named::First)?)
+    outcome_between(alloc, schema, derived, base, Named::First)
 }
 
 /// The same certificate; or, where there is none, the pair that is to blame, with the rule that it fails. It is the first of those that are found on
@@ -181,11 +196,5 @@ pub fn diagnose<'s>(
     ensures fault { IfErr result (λ f. is_no_memory f ≡ false → derive_refusal schema.now derived.now base.now ≡ Some f) }
 {
     certificates_include();
-    if let Some(fault) = refusal(schema, derived, base) {
-        return Err(fault);
-    }
-    let Some(roots) = roots_between(schema, derived, base) else {
-        unreachable!()
-    };
-    Ok(outcome(alloc, schema, derived, base, roots, Named::ToBlame)?)
+    outcome_between(alloc, schema, derived, base, Named::ToBlame)
 }

@@ -32,5 +32,5 @@ mod refusing;
 
 pub use derivation::{derive, diagnose};
 pub use fault::{DeriveFault, Side};
-pub use laws::one_discovery;
+pub use laws::{no_way_past_own_children, no_way_to_tenable_pairs, one_discovery};
 pub use outcome::Outcome;

@@ -1,15 +1,12 @@
-use Rattle.std.proofs.Common.{◌≡◌, ◌<◌, false, true, List, sym, ap, subst, ◌∙◌, length, map, arith}
-use Rattle.std.specs.Prelude.{Some}
-use Rattle.fhir_certificate.specs.declared.pair.Pair.{Pair}
+use Rattle.std.proofs.Common.{◌≡◌, false, true, sym, ap, subst, ◌∙◌, length, map, arith}
 use Rattle.fhir_certificate.specs.declared.pair.Pair.TheVariants.{Item}
 use Rattle.fhir_cert_check.specs.PairSet.{has_pair}
-use Rattle.fhir_cert_check.specs.Checking.{first_in}
 use Rattle.fhir_cert_check.specs.Rules.{failing_rule}
 use Rattle.fhir_cert_check.specs.Asked.{asked_for}
 use Rattle.fhir_derive_check.specs.Finding.{is_in, IsDiscovery}
 use Rattle.fhir_derive_check.specs.Outcomes.{IsSettled}
 use Rattle.fhir_derive_check.specs.Pruning.{wrong_seen, all_failing}
-use Rattle.fhir_derive_check.proofs.Certified.{all-asked, all-derived, none-wrong, first-wrong, refusal, met-derived}
+use Rattle.fhir_derive_check.proofs.Certified.{all-asked, all-derived, none-wrong, refusal, met-derived}
 use Rattle.fhir_derive_check.proofs.derivation.outcome.Goals as goal
 
 pub returns-then-is_empty : goal.returns-then-is_empty
