@@ -39,7 +39,7 @@ pub(crate) fn lacking_words(fault: &SnapFault) -> &'static str {
             "the element, here or in a base, has a field of a wrong kind or value, an `id` that can't be read, `min` over `max`, or a type twice"
         }
         SnapFault::NoElement(_) => {
-            "no element of this id in the base, and none that it could inherit from"
+            "no element of this id in the base, and none that it could inherit from; it may be misspelt, or one above it left out"
         }
         SnapFault::MinOverMax(_) =>
             "`min` is over `max` as the differential is laid over what it inherits",
