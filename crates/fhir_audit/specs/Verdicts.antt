@@ -15,8 +15,8 @@ use Rattle.fhir_derive_check.specs.Faults.{derive_refusal}
 use Rattle.fhir_derive_check.specs.Reaching.{HasCertificate}
 use Rattle.fhir_counter.specs.Shows.{ShowsBy, is_on_line}
 
--- a certificate; or the pair that is to blame with the rule that it fails, with a resource that shows that the profile doesn't narrow its base, or without one; or that one of
--- the two can't be used; or that the base isn't there
+-- a certificate; or the pair that is to blame with the rule that it fails, with a resource that shows that the profile doesn't narrow its base,
+-- or without one; or that one of the two can't be used; or that the base isn't there
 pub data VerdictValue : Type 0 where
   narrows : CertificateValue → VerdictValue
   does_not_narrow : Pair → RuleName → (resource : List ℕ) → VerdictValue
