@@ -8,13 +8,13 @@ use Rattle.fhir_elements.specs.Element.{Element}
 use Rattle.fhir_package.specs.Definitions.{Definitions}
 use Rattle.fhir_asking.specs.Asking.{Has}
 use Rattle.fhir_overlay.specs.Overlay.{as_slice}
-use Rattle.fhir_inheritance.specs.Keys.{key}
+use Rattle.fhir_inheritance.specs.Keys.{key, twin_of}
 use Rattle.fhir_inheritance.specs.Node.{Node}
 use Rattle.fhir_inheritance.specs.Elements.{slice_parent_of, names_under, sliced_names_under}
 use Rattle.fhir_inheritance.specs.Sources.{Source, only_type_key, target_key}
 use Rattle.fhir_inheritance.specs.Laying.{moved, has_new, is_touched}
 use Rattle.fhir_inheritance.specs.Lists.{is_among, with_others}
-use Rattle.fhir_inheritance.specs.Inheriting.{names_in, asking}
+use Rattle.fhir_inheritance.specs.Inheriting.{names_in, key_at, asking}
 use Rattle.fhir_snapshot.specs.Order.{IsAt}
 use Rattle.snapshot_laws.specs.Snapshots.{AreWhole, BringsChild}
 use Rattle.snapshot_laws.proofs.Coming.{OneAnswer}
@@ -104,6 +104,21 @@ module _ (p : Definitions) where
   names_of one o name names r is has of =
       let known = subst (λ (k : Option Text). NamesOf p (Q p) k names) is of in
       known.2 ∙ ap names_in (one (asking p) name known.0 (Some r) known.1.0 has)
+
+  pub of_sliced : OneAnswer → (up url sliced x : Text) (n r : Node) → AreWhole p → IsPlain up → BringsChild p url up → IsAt p url up n
+      → twin_of up ≡ Some sliced → IsAt p url sliced r → is_among r.names x ≡ true → is_among n.names x ≡ true
+  of_sliced one up url sliced x n r whole plain b at is has h =
+      let sound = whole_sources p whole in
+      let s = siblings sound up url n plain b at in
+      let all = s.1 in
+      let same : key_at url (twin_of n.element.id) ≡ Some (key sliced url) =
+      ap (λ (y : Text). key_at url (twin_of y)) (node_right p sound up url n plain at).itself ∙ ap (key_at url) is
+      in
+      let twins = names_of one (key_at url (twin_of n.element.id)) (key sliced url) all.twins r same has all.of_twin in
+      in_among n.names x
+      (subst (In x) (sym all.names_are)
+      (others_stay (with_others (with_others s.0 all.twins) all.kinds) all.targets x
+      (others_stay (with_others s.0 all.twins) all.kinds x (others_there s.0 all.twins x (subst (In x) (sym twins) (among_in r.names x h))))))
 
   pub of_type : OneAnswer → (up url kind x : Text) (n r : Node) → AreWhole p → IsPlain up → BringsChild p url up → IsAt p url up n
       → only_type_key p n.element.types ≡ Some kind → Has (asking p) kind (Some r) → is_among r.names x ≡ true → is_among n.names x ≡ true

@@ -14,7 +14,7 @@ ghost use Rattle.fhir_inheritance.specs.Elements.{find};
 ghost use Rattle.fhir_inheritance.specs.Lists.{is_among};
 ghost use Rattle.fhir_inheritance.specs.Inheriting.{asking};
 ghost use Rattle.fhir_inheritance.specs.Sources.{Source, source_at, only_type_key, target_key};
-ghost use Rattle.fhir_inheritance.specs.Keys.{child_id};
+ghost use Rattle.fhir_inheritance.specs.Keys.{child_id, twin_of};
 ghost use Rattle.fhir_snapshot.specs.Order.{IsAt, Lists};
 ghost use Rattle.snapshot_laws.specs.Snapshots.{AreWhole, BringsChild};
 
@@ -47,9 +47,12 @@ pub fn new_slices()
     answers_come_of_answers::<NodeDef>();
 }
 
-/// Where a differential has a child of an element, or a slice of one, that the base doesn't have, all children of the element's only type are
-/// there (`of_type`), and all of the element to which it refers for its content (`of_content`), where the snapshots that are brought are whole.
+/// Where a differential has a child of an element, or a slice of one, that the base doesn't have, all children are there of the same element
+/// without its last slice (`of_sliced`), of the element's only type (`of_type`), and of the element to which it refers for its content
+/// (`of_content`), where the snapshots that are brought are whole.
 pub fn siblings_come()
+    ensures of_sliced { (p : Definitions) (id url sliced name : Text) (n r : Node) → AreWhole p → lacks line_feed id ≡ true → BringsChild p url id
+        → IsAt p url id n → twin_of id ≡ Some sliced → IsAt p url sliced r → is_among r.names name ≡ true → is_among n.names name ≡ true }
     ensures of_type { (p : Definitions) (id url kind name : Text) (n r : Node) → AreWhole p → lacks line_feed id ≡ true → BringsChild p url id
         → IsAt p url id n → only_type_key p n.element.types ≡ Some kind → Has (asking p) kind (Some r)
         → is_among r.names name ≡ true → is_among n.names name ≡ true }
