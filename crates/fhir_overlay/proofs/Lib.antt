@@ -3,6 +3,7 @@ pub mod Numbers
 pub mod Joining
 pub mod Truths
 pub mod Staying
+pub mod Noting
 pub mod Laying
 pub mod Reading
 pub mod Fields

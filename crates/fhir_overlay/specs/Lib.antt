@@ -1,4 +1,5 @@
 pub mod Overlay
+pub mod Noted
 pub mod Stages
 pub mod Json
 pub mod Completed
