@@ -96,7 +96,6 @@ noted_behind old new one c is updates cs h i =
     ∙ behind (same_constraint (identified i) c) (list_any (same_constraint (identified i)) cs)
     ∙ sym (list_any-append (same_constraint (identified i)) cs (c ∷ []))
 
-
 -- a copy of it is put behind those that were added
 pub put_behind : (noted : BTreeSet Identity) (cs added new : List Constraint) (c d : Constraint) → d ≡ c → new ≡ added ++ d ∷ []
     → AreNoted noted ((cs ++ added) ++ c ∷ []) → AreNoted noted (cs ++ new)
