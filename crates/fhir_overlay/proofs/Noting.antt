@@ -76,7 +76,7 @@ severities_back None (Some t) = refl
 severities_back (Some s) None = refl
 severities_back (Some s) (Some t) = severity_back s t
 
-same_back : (c d : Constraint) → same_constraint c d ≡ same_constraint d c
+pub same_back : (c d : Constraint) → same_constraint c d ≡ same_constraint d c
 same_back c d = λ i. text_back c.key d.key i && severities_back c.severity d.severity i && text_of_both c.expression d.expression i
 
 -- ---- a constraint is noted

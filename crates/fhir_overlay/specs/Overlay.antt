@@ -1,6 +1,6 @@
 -- One element of a definition laid over another, as a profile's differential is laid over what it inherits (FHIR R4,
 -- Profiling, snapshots): what the upper one says holds, and where it says nothing, what the lower one says.
-use Rattle.std.specs.Prelude.{List, [], ◌∷◌, ◌++◌, Bool, true, false, ◌&&◌, None, Some, if◌then◌else◌}
+use Rattle.std.specs.Prelude.{List, [], ◌∷◌, ◌++◌, Bool, true, false, not, ◌&&◌, None, Some, if◌then◌else◌}
 use Rattle.std.specs.Option.{option_or, option_eq, option_map_or}
 use Rattle.std.specs.List.{list_any}
 use Rattle.std.specs.Str.{bytes_eq}
@@ -30,6 +30,11 @@ with_constraint cs c = if list_any (same_constraint c) cs then cs else cs ++ c �
 abbrev pub with_constraints : List Constraint → List Constraint → List Constraint
 with_constraints old [] = old
 with_constraints old (c ∷ cs) = with_constraints (with_constraint old c) cs
+
+-- none is the same as another
+abbrev pub all_differ : List Constraint → Bool
+all_differ [] = true
+all_differ (c ∷ cs) = not (list_any (same_constraint c) cs) && all_differ cs
 
 -- ---- elements
 

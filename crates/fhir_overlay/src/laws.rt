@@ -1,12 +1,12 @@
 //! Laws: which elements are read of what is written, and what laying one over another keeps.
 
-ghost use Rattle.std.specs.Prelude.{◌≡◌, ◌++◌, List, Ok, IsTrue};
+ghost use Rattle.std.specs.Prelude.{◌≡◌, ◌++◌, ◌||◌, List, Bool, Ok, IsTrue};
 ghost use Rattle.std.specs.List.{list_all, list_any};
 ghost use Rattle.fhir_json.specs.Tree.{Tree};
 ghost use Rattle.fhir_json.specs.Sound.{IsSound};
 ghost use Rattle.fhir_elements.specs.Constraint.{Constraint};
 ghost use Rattle.fhir_elements.specs.Element.{Element, element_of};
-ghost use Rattle.fhir_overlay.specs.Overlay.{same_constraint, with_constraints, laid_over, as_slice, bounds_fit};
+ghost use Rattle.fhir_overlay.specs.Overlay.{same_constraint, with_constraints, all_differ, laid_over, as_slice, bounds_fit};
 ghost use Rattle.fhir_overlay.specs.Json.{element_tree};
 ghost use Rattle.fhir_overlay.specs.Writable.{is_writable, is_sound};
 
@@ -29,11 +29,14 @@ pub fn laid_elements()
 {}
 
 /// The constraints that lie under others stay, in their order and before those that are added; and of each that lies over
-/// them the same is there.
+/// them the same is there. No other comes, and where none of those under them is the same as another, none of all is.
 pub fn constraints_stay()
     ensures stay { (old more : List Constraint) → (added : List Constraint) × (with_constraints old more ≡ old ++ added) }
     ensures there { (old more : List Constraint)
         → IsTrue (list_all (λ c. list_any (same_constraint c) (with_constraints old more)) more) }
+    ensures only { (p : Constraint → Bool) (old more : List Constraint) → IsTrue (list_any p (with_constraints old more))
+        → IsTrue (list_any p old || list_any p more) }
+    ensures once { (old more : List Constraint) → IsTrue (all_differ old) → IsTrue (all_differ (with_constraints old more)) }
 {}
 
 /// An element of a sound tree is sound; laying one over another keeps that, and so does inheriting it as a slice; and a
