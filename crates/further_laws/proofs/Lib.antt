@@ -19,3 +19,5 @@ mod Holding
 mod SoundItems
 mod SoundParts
 mod AsGiven
+mod Sets
+mod RuleTexts
