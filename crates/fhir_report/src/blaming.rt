@@ -30,6 +30,12 @@ fn fixed_text(cause: Cause) -> &'static str {
 }
 
 fn field_text(alloc: Global, name: &str) -> Result<String, AllocError> {
+    if name == "kind" {
+        return String::from_str(
+            alloc,
+            "`kind` is none of `primitive-type`, `complex-type` and `resource`",
+        );
+    }
     format!(in alloc; "`{name}` is of a wrong kind, or none of the values that it may have")
 }
 
