@@ -70,8 +70,27 @@ fn is_stepped(task: &Task<'_, '_>, demands: &[Demand<'_>], name: &str, slice: No
     }
 }
 
-// How many items of a slice there have to be besides the one that the way leads to.
+// Whether it is that an item conforms to a node of a definition.
+fn is_of(demand: Demand<'_>, definition: usize) -> bool {
+    match demand {
+        Demand::Node(node) => node.definition == definition,
+        _ => false,
+    }
+}
+
+// Whether the change is how many items of the slice there are.
+fn is_changed(task: &Task<'_, '_>, demands: &[Demand<'_>], name: &str, slice: NodeRef) -> bool {
+    match task.change_at(demands) {
+        Change::InSlice(changed, of, _) => changed == name && of == slice,
+        _ => false,
+    }
+}
+
+// How many items of a slice there have to be besides the one that the way leads to, and those that the change gives.
 fn missing_of(task: &Task<'_, '_>, demands: &[Demand<'_>], name: &str, slice: NodeRef) -> usize {
+    if is_changed(task, demands, name, slice) {
+        return 0;
+    }
     let least = least_at(task.schema, slice).min(MOST_CHILDREN);
     if is_stepped(task, demands, name, slice) {
         least.saturating_sub(1)
@@ -137,11 +156,30 @@ impl<'s> Gathering<'_, '_, '_, '_, 's> {
         Ok(())
     }
 
+    // Whether a slice is one of an element that each of them is.
+    fn is_own(&self, slice: NodeRef) -> bool {
+        for demand in self.common {
+            if is_of(*demand, slice.definition) {
+                return true;
+            }
+        }
+        false
+    }
+
+    // What an item is asked for besides that is told to be in a slice, of the profile or of its base.
+    fn in_slice(&self, slice: NodeRef) -> Result<Vec<Demand<'s>>, NoMemory> {
+        if self.is_own(slice) {
+            return of_slice(self.alloc, self.task.schema, slice);
+        }
+        let mut special: Vec<Demand<'s>> = Vec::new(self.alloc);
+        push_criteria(self.task.schema, slice, &mut special)?;
+        Ok(special)
+    }
+
     fn push_changed(&self, into: &mut Items<'s>) -> Done {
         match self.task.change_at(self.demands) {
             Change::InSlice(name, slice, count) if name == self.name => {
-                let mut special: Vec<Demand<'s>> = Vec::new(self.alloc);
-                push_criteria(self.task.schema, slice, &mut special)?;
+                let special = self.in_slice(slice)?;
                 push_items(self.alloc, self.common, &special, count, into)
             }
             _ => Ok(()),

@@ -371,11 +371,12 @@ impl<'s> Finder<'s> {
             least_at(self.schema(), slice),
             most_at(self.schema(), slice),
         );
+        let told = own.unwrap_or(slice);
         if least > own_least {
-            self.push(extra, Change::InSlice(name, slice, least.saturating_sub(1)))?;
+            self.push(extra, Change::InSlice(name, told, least.saturating_sub(1)))?;
         }
         if most < own_most && most < MOST_CHILDREN {
-            self.push(extra, Change::InSlice(name, slice, most + 1))?;
+            self.push(extra, Change::InSlice(name, told, most + 1))?;
         }
         Ok(())
     }

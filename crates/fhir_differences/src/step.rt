@@ -37,7 +37,7 @@ pub enum Change<'s> {
     Count(&'s str, usize),
     /// There is one child of a name more than there has to be.
     OneMore(&'s str),
-    /// So many children of a name belong to a slice.
+    /// So many children of a name belong to a slice: the profile's of its name, or the base's where the profile has none.
     InSlice(&'s str, NodeRef, usize),
     /// The item is of that type.
     OfType(&'s str),
