@@ -1,4 +1,4 @@
-use Rattle.std.proofs.Common.{[], ◌∷◌, refl}
+use Rattle.std.proofs.Common.{refl}
 use Rattle.fhir_fp_eval.specs.Meaning.{den}
 use Rattle.further_laws.proofs.collections.first_values.Goals as goal
 
