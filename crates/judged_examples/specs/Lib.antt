@@ -1,0 +1,5 @@
+pub mod Bindings
+pub mod Ranges
+pub mod Targets
+pub mod Typing
+pub mod Usable

@@ -1,0 +1,17 @@
+//! What the definitions of judging say of small inputs, beside the examples in the crates themselves: so a definition that is changed
+//! together with its code is refused. They stand apart, since nothing stands on them: so they cost no other crate's proof.
+#![tactic(auto)]
+
+mod bindings;
+mod ranges;
+mod targets;
+mod typing;
+mod usable;
+mod values;
+
+pub use bindings::values_of_no_concept;
+pub use ranges::{positive_bounds, unsigned_bounds};
+pub use targets::{named_targets, narrower_targets};
+pub use typing::{companions_in_number, empty_objects};
+pub use usable::{whole_elements, whole_roots};
+pub use values::items_without_values;
