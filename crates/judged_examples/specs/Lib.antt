@@ -1,3 +1,4 @@
+pub mod Belonging
 pub mod Bindings
 pub mod Ranges
 pub mod Targets

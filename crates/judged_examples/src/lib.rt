@@ -2,6 +2,7 @@
 //! together with its code is refused. They stand apart, since nothing stands on them: so they cost no other crate's proof.
 #![tactic(auto)]
 
+mod belonging;
 mod bindings;
 mod ranges;
 mod targets;
@@ -9,6 +10,7 @@ mod typing;
 mod usable;
 mod values;
 
+pub use belonging::{values_of_choices, values_of_several};
 pub use bindings::values_of_no_concept;
 pub use ranges::{positive_bounds, unsigned_bounds};
 pub use targets::{named_targets, narrower_targets};
