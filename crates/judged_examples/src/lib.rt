@@ -4,6 +4,8 @@
 
 mod belonging;
 mod bindings;
+mod contained;
+mod order;
 mod ranges;
 mod targets;
 mod typing;
@@ -12,6 +14,8 @@ mod values;
 
 pub use belonging::{values_of_choices, values_of_several};
 pub use bindings::values_of_no_concept;
+pub use contained::{contained_resources, nearest_resources};
+pub use order::{names_in_order, ordered_steps, steps_at_the_end, unordered_steps};
 pub use ranges::{positive_bounds, unsigned_bounds};
 pub use targets::{named_targets, narrower_targets};
 pub use typing::{companions_in_number, empty_objects};
