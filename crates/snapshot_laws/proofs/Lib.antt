@@ -1,4 +1,7 @@
 mod Coming
+mod Itself
+mod Said
+mod Named
 mod Standing
 mod Among
 mod Asked

@@ -98,7 +98,7 @@ module _ (p : Definitions) where
       (parted id url plain ∙ of_source id url s based.at ∙ in_differential id url base s based) (comes (key id url) o h)
 
   -- what is made of the base's
-  base_answer : OneAnswer → (id url base : Text) (s : Source) (m : Node) (o : Option Node) → IsPlain id → ByBase p url s base
+  pub base_answer : OneAnswer → (id url base : Text) (s : Source) (m : Node) (o : Option Node) → IsPlain id → ByBase p url s base
       → Has (asking p) (key id base) (Some m) → Has (asking p) (key id url) o
       → (n : Node) × (o ≡ Some n) × IsMadeOf p Q url s.elements m.element m.names m.slices n
   base_answer one id url base s m o plain based below h =

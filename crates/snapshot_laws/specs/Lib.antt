@@ -1,1 +1,2 @@
+pub mod Differentials
 pub mod Snapshots
