@@ -1,5 +1,5 @@
 -- Where the differential has a child of an id, or a slice of one, that the base doesn't have, its siblings come.
-use Rattle.std.proofs.Common.{◌≡◌, Bool, cond, true, false, List, [], ◌∷◌, Option, Some, None, is_some, refl, ap, sym, ◌∙◌, subst, inl, inr, not}
+use Rattle.std.proofs.Common.{◌≡◌, cond, true, false, List, [], ◌∷◌, Option, Some, None, is_some, refl, ap, sym, ◌∙◌, subst, inl, inr, not}
 use Rattle.std.proofs.lemmas.Bool.{or_left, or_right, false≢true}
 use Rattle.std.proofs.lemmas.Option.{same_Some}
 use Rattle.fhir_json.specs.Tree.{Text}
@@ -16,14 +16,13 @@ use Rattle.fhir_inheritance.specs.Laying.{moved, has_new, is_touched}
 use Rattle.fhir_inheritance.specs.Lists.{is_among, with_others}
 use Rattle.fhir_inheritance.specs.Inheriting.{names_in, key_at, asking}
 use Rattle.fhir_snapshot.specs.Order.{IsAt}
-use Rattle.snapshot_laws.specs.Snapshots.{AreWhole, BringsChild}
+use Rattle.snapshot_laws.specs.Snapshots.{BringsChild}
 use Rattle.snapshot_laws.proofs.Coming.{OneAnswer}
 use Rattle.snapshot_laws.proofs.Among.{In, among_in, in_among, others_stay, others_there}
 use Rattle.snapshot_laws.proofs.Finding.{ids, IsPlain, parent_from, in_child, in_sliced}
 use Rattle.snapshot_laws.proofs.Origins.{ByBase, same_source, not_both, NamesOf, HasMore, IsMadeOf, Origin, from_written, from_base, from_whole, from_front}
-use Rattle.snapshot_laws.proofs.Nodes.{AreSound, node_right}
+use Rattle.snapshot_laws.proofs.Itself.{own_id}
 use Rattle.snapshot_laws.proofs.Parents.{Q, origin_at}
-use Rattle.snapshot_laws.proofs.Whole.{whole_sources}
 
 -- ---- a name that is new
 
@@ -85,15 +84,15 @@ module _ (p : Definitions) where
   without up url base x s n based none (from_front r) =
       made_without url base r.base x s r.source n (moved up r.like.element) [] [] based r.by_base r.is_made refl
 
-  siblings : AreSound p → (up url : Text) (n : Node) → IsPlain up → BringsChild p url up → IsAt p url up n → (names : List Text) × HasMore p (Q p) url names n
-  siblings sound up url n plain b at =
+  siblings : (up url : Text) (n : Node) → IsPlain up → BringsChild p url up → IsAt p url up n → (names : List Text) × HasMore p (Q p) url names n
+  siblings up url n plain b at =
       let based : ByBase p url b.source b.base = record { at = b.at; unwritten = b.unwritten; rests = b.rests } in
       let made = without up url b.base (name_of b.id) b.source n based b.new (origin_at p up url n plain at) in
       let there : In b.id (ids b.source.elements) = among_in (ids b.source.elements) b.id b.stands in
       elim made.is_made.names_are [
         | inl more ↦ (made.names, more)
         | inr same ↦ absurd (false≢true (sym same.none_new
-            ∙ subst (λ (x : Text). is_touched b.source.elements x made.names ≡ true) (sym (node_right p sound up url n plain at).itself)
+            ∙ subst (λ (x : Text). is_touched b.source.elements x made.names ≡ true) (sym (own_id p up url n plain at))
             (touched b.source.elements b.id up made.names there b.under made.lacks)))
       ]
 
@@ -105,14 +104,13 @@ module _ (p : Definitions) where
       let known = subst (λ (k : Option Text). NamesOf p (Q p) k names) is of in
       known.2 ∙ ap names_in (one (asking p) name known.0 (Some r) known.1.0 has)
 
-  pub of_sliced : OneAnswer → (up url sliced x : Text) (n r : Node) → AreWhole p → IsPlain up → BringsChild p url up → IsAt p url up n
+  pub of_sliced : OneAnswer → (up url sliced x : Text) (n r : Node) → IsPlain up → BringsChild p url up → IsAt p url up n
       → twin_of up ≡ Some sliced → IsAt p url sliced r → is_among r.names x ≡ true → is_among n.names x ≡ true
-  of_sliced one up url sliced x n r whole plain b at is has h =
-      let sound = whole_sources p whole in
-      let s = siblings sound up url n plain b at in
+  of_sliced one up url sliced x n r plain b at is has h =
+      let s = siblings up url n plain b at in
       let all = s.1 in
       let same : key_at url (twin_of n.element.id) ≡ Some (key sliced url) =
-      ap (λ (y : Text). key_at url (twin_of y)) (node_right p sound up url n plain at).itself ∙ ap (key_at url) is
+      ap (λ (y : Text). key_at url (twin_of y)) (own_id p up url n plain at) ∙ ap (key_at url) is
       in
       let twins = names_of one (key_at url (twin_of n.element.id)) (key sliced url) all.twins r same has all.of_twin in
       in_among n.names x
@@ -120,10 +118,10 @@ module _ (p : Definitions) where
       (others_stay (with_others (with_others s.0 all.twins) all.kinds) all.targets x
       (others_stay (with_others s.0 all.twins) all.kinds x (others_there s.0 all.twins x (subst (In x) (sym twins) (among_in r.names x h))))))
 
-  pub of_type : OneAnswer → (up url kind x : Text) (n r : Node) → AreWhole p → IsPlain up → BringsChild p url up → IsAt p url up n
+  pub of_type : OneAnswer → (up url kind x : Text) (n r : Node) → IsPlain up → BringsChild p url up → IsAt p url up n
       → only_type_key p n.element.types ≡ Some kind → Has (asking p) kind (Some r) → is_among r.names x ≡ true → is_among n.names x ≡ true
-  of_type one up url kind x n r whole plain b at is has h =
-      let s = siblings (whole_sources p whole) up url n plain b at in
+  of_type one up url kind x n r plain b at is has h =
+      let s = siblings up url n plain b at in
       let all = s.1 in
       let kinds = names_of one (only_type_key p n.element.types) kind all.kinds r is has all.of_kind in
       in_among n.names x
@@ -131,10 +129,10 @@ module _ (p : Definitions) where
       (others_stay (with_others (with_others s.0 all.twins) all.kinds) all.targets x
       (others_there (with_others s.0 all.twins) all.kinds x (subst (In x) (sym kinds) (among_in r.names x h)))))
 
-  pub of_content : OneAnswer → (up url target x : Text) (n r : Node) → AreWhole p → IsPlain up → BringsChild p url up → IsAt p url up n
+  pub of_content : OneAnswer → (up url target x : Text) (n r : Node) → IsPlain up → BringsChild p url up → IsAt p url up n
       → target_key p url n.element ≡ Some target → Has (asking p) target (Some r) → is_among r.names x ≡ true → is_among n.names x ≡ true
-  of_content one up url target x n r whole plain b at is has h =
-      let s = siblings (whole_sources p whole) up url n plain b at in
+  of_content one up url target x n r plain b at is has h =
+      let s = siblings up url n plain b at in
       let all = s.1 in
       let targets = names_of one (target_key p url n.element) target all.targets r is has all.of_target in
       in_among n.names x

@@ -16,7 +16,7 @@ ghost use Rattle.fhir_inheritance.specs.Inheriting.{asking};
 ghost use Rattle.fhir_inheritance.specs.Sources.{Source, source_at, only_type_key, target_key};
 ghost use Rattle.fhir_inheritance.specs.Keys.{child_id, twin_of};
 ghost use Rattle.fhir_snapshot.specs.Order.{IsAt, Lists};
-ghost use Rattle.snapshot_laws.specs.Snapshots.{AreWhole, BringsChild};
+ghost use Rattle.snapshot_laws.specs.Snapshots.{BringsChild};
 
 use fhir_asking::{answers_come_of_answers, one_answer};
 use fhir_inheritance::NodeDef;
@@ -26,10 +26,10 @@ use fhir_overlay::constraints_stay;
 /// (`constraints`). Where the differential has no element of its id, it is the base's element, but for a slicing (`untouched`).
 pub fn base_elements_stay()
     ensures constraints { (p : Definitions) (id url base : Text) (s : Source) (n m : Node) → lacks line_feed id ≡ true
-        → source_at p url ≡ Some s → s.written ≡ false → s.base ≡ Some base → IsAt p base id m → IsAt p url id n → m.element.id ≡ id
+        → source_at p url ≡ Some s → s.written ≡ false → s.base ≡ Some base → IsAt p base id m → IsAt p url id n
         → (added : List Constraint) × (n.element.constraints ≡ m.element.constraints ++ added) }
     ensures untouched { (p : Definitions) (id url base : Text) (s : Source) (n m : Node) → lacks line_feed id ≡ true
-        → source_at p url ≡ Some s → s.written ≡ false → s.base ≡ Some base → IsAt p base id m → IsAt p url id n → m.element.id ≡ id
+        → source_at p url ≡ Some s → s.written ≡ false → s.base ≡ Some base → IsAt p base id m → IsAt p url id n
         → find s.elements id ≡ None → n.element ≡ record (m.element) { slicing = n.element.slicing } }
 {
     one_answer::<NodeDef>();
@@ -49,14 +49,14 @@ pub fn new_slices()
 
 /// Where a differential has a child of an element, or a slice of one, that the base doesn't have, all children are there of the same element
 /// without its last slice (`of_sliced`), of the element's only type (`of_type`), and of the element to which it refers for its content
-/// (`of_content`), where the snapshots that are brought are whole.
+/// (`of_content`).
 pub fn siblings_come()
-    ensures of_sliced { (p : Definitions) (id url sliced name : Text) (n r : Node) → AreWhole p → lacks line_feed id ≡ true → BringsChild p url id
+    ensures of_sliced { (p : Definitions) (id url sliced name : Text) (n r : Node) → lacks line_feed id ≡ true → BringsChild p url id
         → IsAt p url id n → twin_of id ≡ Some sliced → IsAt p url sliced r → is_among r.names name ≡ true → is_among n.names name ≡ true }
-    ensures of_type { (p : Definitions) (id url kind name : Text) (n r : Node) → AreWhole p → lacks line_feed id ≡ true → BringsChild p url id
+    ensures of_type { (p : Definitions) (id url kind name : Text) (n r : Node) → lacks line_feed id ≡ true → BringsChild p url id
         → IsAt p url id n → only_type_key p n.element.types ≡ Some kind → Has (asking p) kind (Some r)
         → is_among r.names name ≡ true → is_among n.names name ≡ true }
-    ensures of_content { (p : Definitions) (id url target name : Text) (n r : Node) → AreWhole p → lacks line_feed id ≡ true → BringsChild p url id
+    ensures of_content { (p : Definitions) (id url target name : Text) (n r : Node) → lacks line_feed id ≡ true → BringsChild p url id
         → IsAt p url id n → target_key p url n.element ≡ Some target → Has (asking p) target (Some r)
         → is_among r.names name ≡ true → is_among n.names name ≡ true }
 {
