@@ -8,6 +8,7 @@ mod Asked
 mod Finding
 mod Listed
 mod Nodes
+mod Once
 mod Origins
 mod Parents
 mod Placed

@@ -3,7 +3,7 @@ use Rattle.std.proofs.Common.{◌≡◌, List, [], ◌∷◌, ◌++◌, map, Boo
 use Rattle.std.proofs.Common.{inr, ◌⊎◌}
 use Rattle.std.specs.List.{filter}
 use Rattle.std.proofs.lemmas.Bool.{false≢true}
-use Rattle.std.proofs.lemmas.Option.{same_Some}
+use Rattle.std.proofs.lemmas.Option.{none-some, same_Some}
 use Rattle.fhir_json.specs.Tree.{Text}
 use Rattle.fhir_json.specs.Bytes.{line_feed, dot}
 use Rattle.fhir_names.specs.Parents.{sliced_of}
@@ -98,6 +98,53 @@ module _ (p : Definitions) (url : Text) (right : (id : Text) (n : Node) → IsPl
             ],
         listed_differ es (under id n ++ waiting) l.4 more (free_under id (under id n) waiting (under_differs id n r) (under_up id n r) free),
       )
+
+  -- an id stands under one that is listed
+  pub record IsUnder (es : List Element) (x : Text) : Type 0 where
+    pub up : Text
+    pub node : Node
+    pub listed : In up (ids es)
+    pub at : IsAt p url up node
+    pub plain : IsPlain up
+    pub here : In x (under up node)
+
+  -- each id that is listed waits, or stands under one that is listed
+  pub listed_from : (es : List Element) (waiting : List Text) → Lists p url es waiting → Each IsPlain waiting → (x : Text) → In x (ids es)
+      → In x waiting ⊎ IsUnder es x
+  listed_from [] waiting l plain x h = absurd h
+  listed_from (e ∷ es) [] l plain x h = absurd l
+  listed_from (e ∷ es) (id ∷ waiting) l plain x (inl is) = inl (inl (is ∙ own_id id e l.0 (plain id (inl refl)) l.1 l.3))
+  listed_from (e ∷ es) (id ∷ waiting) l plain x (inr h) =
+      elim (listed_from es (under id l.0 ++ waiting) l.4 (next_plain id waiting l.0 l.1 plain) x h) [
+        | inl waits ↦ elim (in_cases x (under id l.0) waiting waits) [
+          | inl here ↦
+              inr (record {
+                up = id;
+                node = l.0;
+                listed = inl (sym (own_id id e l.0 (plain id (inl refl)) l.1 l.3));
+                at = l.1;
+                plain = plain id (inl refl);
+                here = here;
+              })
+          | inr later ↦ inl (inr later)
+        ]
+        | inr u ↦ inr (record { up = u.up; node = u.node; listed = inr u.listed; at = u.at; plain = u.plain; here = u.here })
+      ]
+
+  -- each id that is listed waits, or stands under the one that its id says
+  pub listed_uppers : (es : List Element) (waiting : List Text) → Lists p url es waiting → Each IsPlain waiting → Each (λ x. up_of x ≡ None) waiting
+      → (x up : Text) → In x (ids es) → up_of x ≡ Some up → (m : Node) × In up (ids es) × IsAt p url up m × In x (under up m)
+  listed_uppers es waiting l plain none x up h is =
+      elim (listed_from es waiting l plain x h) [
+        | inl waits ↦ absurd (none-some up (sym (none x waits) ∙ is))
+        | inr u ↦
+            let same : u.up ≡ up = same_Some u.up up (sym (under_up u.up u.node (right u.up u.node u.plain u.at).0 x u.here) ∙ is) in (
+              u.node,
+              subst (λ (y : Text). In y (ids es)) same u.listed,
+              subst (λ (y : Text). IsAt p url y u.node) same u.at,
+              subst (λ (y : Text). In x (under y u.node)) same u.here,
+            )
+      ]
 
   -- each id that waits is listed
   pub listed_all : (es : List Element) (waiting : List Text) → Lists p url es waiting → Each IsPlain waiting → (x : Text) → In x waiting

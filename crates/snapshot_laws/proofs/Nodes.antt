@@ -1,5 +1,5 @@
 -- What holds of each node, where the snapshots that are brought are right.
-use Rattle.std.proofs.Common.{◌≡◌, true, List, [], Option, Some, None, refl, ap, sym, ◌∙◌, subst, inl, inr}
+use Rattle.std.proofs.Common.{◌≡◌, true, List, [], ◌∷◌, Option, Some, None, refl, ap, sym, ◌∙◌, subst, inl, inr}
 use Rattle.std.proofs.lemmas.Option.{none-some, same_Some}
 use Rattle.fhir_json.specs.Tree.{Text}
 use Rattle.fhir_json.specs.Bytes.{line_feed}
@@ -17,11 +17,13 @@ use Rattle.fhir_inheritance.specs.Sources.{Source, source_at, only_type_key, tar
 use Rattle.fhir_inheritance.specs.Laying.{laid, moved, all_slices, over}
 use Rattle.fhir_inheritance.specs.Lists.{with_others}
 use Rattle.fhir_inheritance.specs.Inheriting.{written_node, names_in, key_at, asking}
+use Rattle.fhir_snapshot.specs.Chains.{IsChain}
+use Rattle.snapshot_laws.specs.Snapshots.{last_of}
 use Rattle.snapshot_laws.proofs.Among.{In, Each, Differ, others_cases, others_differ}
 use Rattle.snapshot_laws.proofs.Ups.{IsName}
 use Rattle.snapshot_laws.proofs.Asked.{ComesWith, Known, by_answers}
 use Rattle.snapshot_laws.proofs.Finding.{ids, IsPlain, found_id, slice_in, names_differ, slices_differ, names_read}
-use Rattle.snapshot_laws.proofs.Origins.{NamesOf, HasMore, IsMadeOf, Origin, from_written, from_base, from_whole, from_front, origin}
+use Rattle.snapshot_laws.proofs.Origins.{ByBase, NamesOf, HasMore, IsMadeOf, Origin, from_written, from_base, from_whole, from_front, origin}
 
 -- ---- names of elements
 
@@ -49,6 +51,24 @@ pub record IsSound (es : List Element) : Type 0 where
 abbrev pub AreSound : Definitions → Type 0
 AreSound p = (url : Text) (s : Source) → source_at p url ≡ Some s → s.written ≡ true → IsSound s.elements
 
+-- the ids of each snapshot that is brought are read
+abbrev pub AreNamed : Definitions → Type 0
+AreNamed p = (url : Text) (s : Source) → source_at p url ≡ Some s → s.written ≡ true → Each IsPlain (ids s.elements)
+
+-- the snapshot at which a chain of bases ends is right
+abbrev pub EndsSound : Definitions → Text → Type 0
+EndsSound p url = (bases : List Text) (s : Source) → IsChain p (url ∷ bases) → source_at p (last_of url bases) ≡ Some s → s.written ≡ true
+    → IsSound s.elements
+
+pub sound_named : (p : Definitions) → AreSound p → AreNamed p
+sound_named p sound url s at is = (sound url s at is).plain
+
+pub sound_ends : (p : Definitions) → AreSound p → (url : Text) → EndsSound p url
+sound_ends p sound url bases s chain at is = sound (last_of url bases) s at is
+
+pub ends_below : (p : Definitions) (url base : Text) (s : Source) → ByBase p url s base → EndsSound p url → EndsSound p base
+ends_below p url base s by ends bases t chain at is = ends (base ∷ bases) t ((s, by.at, by.unwritten, by.rests), chain) at is
+
 -- ---- right nodes
 
 -- a node is that of its id; its children have names of which no two are alike, and its slices are that id's, and no two alike
@@ -58,10 +78,6 @@ pub record IsRight (id : Text) (n : Node) : Type 0 where
   pub names_differ : Differ n.names
   pub slices : Each (λ s. sliced_of s ≡ Some id) n.slices
   pub slices_differ : Differ n.slices
-
-abbrev pub Right : Text → Option Node → Type 0
-Right name None = Unit {0}
-Right name (Some n) = (id : Text) × (url : Text) × (key_parts name ≡ Some (id, url)) × IsRight id n
 
 over_id : (e : Element) (es : List Element) (o : Option Element) → find es e.id ≡ o → (over o e).id ≡ e.id
 over_id e es None is = refl
@@ -74,13 +90,19 @@ pub each_other : (P : Text → Type 0) (xs ys : List Text) → Each P xs → Eac
 each_other P xs ys one other x h = elim (others_cases xs ys x h) [ inl first ↦ one x first | inr second ↦ other x second ]
 
 module _ (p : Definitions) where
+  -- the names of a node's children are read; and where its definition's chain of bases ends well, it is right
+  abbrev pub Right : Text → Option Node → Type 0
+  Right name None = Unit {0}
+  Right name (Some n) =
+      (id : Text) × (url : Text) × (key_parts name ≡ Some (id, url)) × Each IsName n.names × (EndsSound p url → IsRight id n)
+
   names_named : (o : Option Text) (names : List Text) → NamesOf p (Known (asking p) Right) o names → Each IsName names
   names_named None names h = subst (Each IsName) (sym h) (λ x none. absurd none)
   names_named (Some name) names h = subst (Each IsName) (sym h.2) (by h.0 h.1.1)
     where
       by : (o : Option Node) → Right name o → Each IsName (names_in o)
       by None r = λ x none. absurd none
-      by (Some n) r = r.3.names
+      by (Some n) r = r.3
 
   more_named : (url : Text) (names : List Text) (n : Node) → HasMore p (Known (asking p) Right) url names n → Each IsName names → Each IsName n.names
   more_named url names n h each =
@@ -98,13 +120,21 @@ module _ (p : Definitions) where
       (others_differ (with_others (with_others names h.twins) h.kinds) h.targets
       (others_differ (with_others names h.twins) h.kinds (others_differ names h.twins d)))
 
+  made_named : (url : Text) (es : List Element) (inherited : Element) (names slices : List Text) (n : Node)
+      → IsMadeOf p (Known (asking p) Right) url es inherited names slices n → Each IsName names → Each IsName n.names
+  made_named url es inherited names slices n m named =
+      elim m.names_are [
+        | inl more ↦ more_named url names n more named
+        | inr same ↦ subst (Each IsName) (sym same.names_are) named
+      ]
+
   made_right : (url id : Text) (es : List Element) (inherited : Element) (names slices : List Text) (n : Node)
       → IsMadeOf p (Known (asking p) Right) url es inherited names slices n → inherited.id ≡ id → Each IsName names → Differ names
       → Each (λ s. sliced_of s ≡ Some id) slices → Differ slices → IsRight id n
   made_right url id es inherited names slices n m is named differ sliced apart =
       record {
         itself = ap (λ (e : Element). e.id) m.element_is ∙ laid_id es (all_slices es inherited.id slices) inherited ∙ is;
-        names = elim m.names_are [ inl more ↦ more_named url names n more named | inr same ↦ subst (Each IsName) (sym same.names_are) named ];
+        names = made_named url es inherited names slices n m named;
         names_differ = elim m.names_are [
           | inl more ↦ more_differ (Known (asking p) Right) url names n more differ
           | inr same ↦ subst Differ (sym same.names_are) differ
@@ -115,45 +145,58 @@ module _ (p : Definitions) where
         slices_differ = subst Differ (sym m.slices_are) (others_differ slices (slices_under es inherited.id) apart);
       }
 
-  written_right : (id : Text) (es : List Element) (e : Element) → IsSound es → find es id ≡ Some e → IsRight id (written_node es id e)
-  written_right id es e sound found =
+  written_right : (id : Text) (es : List Element) (e : Element) → Each IsPlain (ids es) → Differ (ids es) → find es id ≡ Some e
+      → IsRight id (written_node es id e)
+  written_right id es e plain differ found =
       record {
         itself = (found_id es id e found).0;
-        names = names_read es id sound.plain;
-        names_differ = names_differ es id sound.differ;
+        names = names_read es id plain;
+        names_differ = names_differ es id differ;
         slices = λ s h. (slice_in es id s h).1;
-        slices_differ = slices_differ es id sound.differ;
+        slices_differ = slices_differ es id differ;
       }
 
-  of_name : (name id other : Text) (url more : Text) (n : Node) → key_parts name ≡ Some (id, url) → Right name (Some n)
-      → key_parts name ≡ Some (other, more) → IsRight other n
-  of_name name id other url more n is r e =
-      subst (λ (x : Text). IsRight x n) (ap (λ (q : Text × Text). q.0) (same_Some (r.0, r.1) (other, more) (sym r.2 ∙ e))) r.3
+  right_at : (id url : Text) (n : Node) → IsPlain id → Right (key id url) (Some n) → Each IsName n.names × (EndsSound p url → IsRight id n)
+  right_at id url n plain r = (
+    r.3,
+    subst (λ (q : Text × Text). EndsSound p q.1 → IsRight q.0 n) (same_Some (r.0, r.1) (id, url) (sym r.2 ∙ parts_of id url plain)) r.4,
+  )
 
-  pub right_at : (id url : Text) (n : Node) → IsPlain id → Right (key id url) (Some n) → IsRight id n
-  right_at id url n plain r = of_name (key id url) id id url url n (parts_of id url plain) r (parts_of id url plain)
+  from_origin : AreNamed p → (id url : Text) (n : Node) → IsPlain id → Origin p (Known (asking p) Right) id url n
+      → Each IsName n.names × (EndsSound p url → IsRight id n)
+  from_origin named id url n plain (from_written r) =
+      let read = named url r.source r.at r.is_written in (
+        subst (λ (m : Node). Each IsName m.names) (sym r.node_is) (names_read r.source.elements id read),
+        λ ends. subst (IsRight id) (sym r.node_is)
+            (written_right id r.source.elements r.own read (ends [] r.source tt r.at r.is_written).differ r.finds),
+      )
+  from_origin named id url n plain (from_base r) =
+      let below = right_at id r.base r.below plain r.has_base.1 in (
+        made_named url r.source.elements r.below.element r.below.names r.below.slices n r.is_made below.0,
+        λ ends. let m = below.1 (ends_below p url r.base r.source r.by_base ends) in
+            made_right url id r.source.elements r.below.element r.below.names r.below.slices n r.is_made
+            m.itself m.names m.names_differ m.slices m.slices_differ,
+      )
+  from_origin named id url n plain (from_whole r) = (
+    made_named url r.source.elements (moved id (as_slice r.sliced.element)) [] [] n r.is_made (λ x h. absurd h),
+    λ ends. made_right url id r.source.elements (moved id (as_slice r.sliced.element)) [] [] n r.is_made refl (λ x h. absurd h) tt (λ x h. absurd h) tt,
+  )
+  from_origin named id url n plain (from_front r) = (
+    made_named url r.source.elements (moved id r.like.element) [] [] n r.is_made (λ x h. absurd h),
+    λ ends. made_right url id r.source.elements (moved id r.like.element) [] [] n r.is_made refl (λ x h. absurd h) tt (λ x h. absurd h) tt,
+  )
 
-  from_origin : AreSound p → (id url : Text) (n : Node) → IsPlain id → Origin p (Known (asking p) Right) id url n → IsRight id n
-  from_origin sound id url n plain (from_written r) =
-      subst (IsRight id) (sym r.node_is) (written_right id r.source.elements r.own (sound url r.source r.at r.is_written) r.finds)
-  from_origin sound id url n plain (from_base r) =
-      let m = right_at id r.base r.below plain r.has_base.1 in
-      made_right url id r.source.elements r.below.element r.below.names r.below.slices n r.is_made
-      m.itself m.names m.names_differ m.slices m.slices_differ
-  from_origin sound id url n plain (from_whole r) =
-      made_right url id r.source.elements (moved id (as_slice r.sliced.element)) [] [] n r.is_made refl (λ x h. absurd h) tt (λ x h. absurd h) tt
-  from_origin sound id url n plain (from_front r) =
-      made_right url id r.source.elements (moved id r.like.element) [] [] n r.is_made refl (λ x h. absurd h) tt (λ x h. absurd h) tt
-
-  right_step : AreSound p → (name : Text) (thing : Option Node) → ComesWith (Known (asking p) Right) (asking p name) thing → Right name thing
-  right_step sound name None h = tt
-  right_step sound name (Some n) h =
+  right_step : AreNamed p → (name : Text) (thing : Option Node) → ComesWith (Known (asking p) Right) (asking p name) thing → Right name thing
+  right_step named name None h = tt
+  right_step named name (Some n) h =
       let o = origin p (Known (asking p) Right) name n h in
-      (o.0, o.1, o.2, from_origin sound o.0 o.1 n (key_is name o.0 o.1 o.2).1 o.3)
+      let r = from_origin named o.0 o.1 n (key_is name o.0 o.1 o.2).1 o.3 in
+      (o.0, o.1, o.2, r.0, r.1)
 
-  -- each node is right
-  pub right : AreSound p → (name : Text) (thing : Option Node) → Has (asking p) name thing → Right name thing
-  right sound = by_answers (asking p) Right (right_step sound)
+  -- each node is right, where the chain of bases of its definition ends well
+  pub right_where : AreNamed p → (id url : Text) (n : Node) → IsPlain id → EndsSound p url → Has (asking p) (key id url) (Some n) → IsRight id n
+  right_where named id url n plain ends h =
+      (right_at id url n plain (by_answers (asking p) Right (right_step named) (key id url) (Some n) h)).1 ends
 
   pub node_right : AreSound p → (id url : Text) (n : Node) → IsPlain id → Has (asking p) (key id url) (Some n) → IsRight id n
-  node_right sound id url n plain h = right_at id url n plain (right sound (key id url) (Some n) h)
+  node_right sound id url n plain h = right_where (sound_named p sound) id url n plain (sound_ends p sound url) h

@@ -1,5 +1,5 @@
 -- Each node stands under one: under that of the id that its id stands under.
-use Rattle.std.proofs.Common.{◌≡◌, Bool, cond, true, List, [], ◌∷◌, map, Option, Some, None, option_map, refl, ap, sym, ◌∙◌, subst, inl, inr}
+use Rattle.std.proofs.Common.{◌≡◌, zero, suc, Bool, cond, true, List, [], ◌∷◌, map, Option, Some, None, option_map, refl, ap, sym, ◌∙◌, subst, inl, inr}
 use Rattle.std.specs.Option.{option_map_or}
 use Rattle.std.proofs.lemmas.Bool.{false≢true}
 use Rattle.std.proofs.lemmas.Option.{none-some, same_Some}
@@ -9,7 +9,7 @@ use Rattle.fhir_names.specs.Parents.{name_of}
 use Rattle.fhir_elements.specs.Element.{Element}
 use Rattle.fhir_package.specs.Definitions.{Definitions}
 use Rattle.fhir_definition.specs.Snapshot.{up_of}
-use Rattle.fhir_asking.specs.Asking.{Asking, given, Has}
+use Rattle.fhir_asking.specs.Asking.{Asking, given, run, answer, Has}
 use Rattle.fhir_overlay.specs.Overlay.{as_slice}
 use Rattle.fhir_inheritance.specs.Keys.{key, key_parts, child_id, twin_of}
 use Rattle.fhir_inheritance.specs.Node.{Node}
@@ -90,6 +90,12 @@ module _ (p : Definitions) where
       subst (λ (a : Asking Node). ComesWith Q a o) same (comes (key id url) o h) in
       sym whole ∙ ap (option_map (written_node s.elements id)) found
 
+  pub written_there : (id url : Text) (s : Source) (e : Element) → IsPlain id → source_at p url ≡ Some s → s.written ≡ true → find s.elements id ≡ Some e
+      → Has (asking p) (key id url) (Some (written_node s.elements id e))
+  written_there id url s e plain at_url is found =
+      let same : asking p (key id url) ≡ written s.elements id = parted id url plain ∙ of_source id url s at_url ∙ in_written id url s is in
+      (suc zero, ap (run (answer (asking p) zero)) (same ∙ ap (λ (o : Option Element). given (option_map (written_node s.elements id) o)) found))
+
   -- what the base's is asked for
   base_asked : (id url base : Text) (s : Source) (o : Option Node) → IsPlain id → ByBase p url s base → Has (asking p) (key id url) o
       → ComesWith Q (inherits p url s.elements id (Some base)) o
@@ -125,7 +131,7 @@ module _ (p : Definitions) where
       → (x : Text) → In x slices → In x n.slices
   slices_stay url es e names slices n m x h = subst (In x) (sym m.slices_are) (others_stay slices (slices_under es e.id) x h)
 
-  under_stays : (up url : Text) (es : List Element) (m n : Node) → IsMadeOf p Q url es m.element m.names m.slices n → (x : Text) → In x (under up m)
+  pub under_stays : (up url : Text) (es : List Element) (m n : Node) → IsMadeOf p Q url es m.element m.names m.slices n → (x : Text) → In x (under up m)
       → In x (under up n)
   under_stays up url es m n made x h =
       elim (in_cases x (map (child_id up) m.names) m.slices h) [

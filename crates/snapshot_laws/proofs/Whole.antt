@@ -13,14 +13,15 @@ use Rattle.fhir_inheritance.specs.Sources.{Source, source_of, source_at, brings_
 use Rattle.fhir_snapshot.specs.Order.{IsLaid}
 use Rattle.fhir_snapshot.specs.Chains.{Rests}
 use Rattle.fhir_snapshot.specs.Snapshots.{brings_elements, IsMade, SnapshotIn, IsSnapshot}
-use Rattle.snapshot_laws.specs.Snapshots.{Stands, IsWhole, AreWhole}
+use Rattle.snapshot_laws.specs.Snapshots.{Stands, IsWhole, AreWhole, AreOfElements, EndsWhole, last_of}
 use Rattle.snapshot_laws.proofs.Among.{In, Each, among_in, in_among}
 use Rattle.snapshot_laws.proofs.Finding.{ids, IsPlain}
 use Rattle.snapshot_laws.proofs.Origins.{ByBase, same_source}
-use Rattle.snapshot_laws.proofs.Nodes.{IsSound, AreSound}
+use Rattle.snapshot_laws.proofs.Nodes.{IsSound, AreSound, AreNamed, EndsSound, ends_below}
 use Rattle.snapshot_laws.proofs.Coming.{OneAnswer}
 use Rattle.snapshot_laws.proofs.Placed.{differ_if, if_differ, tree_parents, brought_plain}
-use Rattle.snapshot_laws.proofs.There.{IsGood, there_in, good_written, good_laid}
+use Rattle.snapshot_laws.proofs.Once.{IsOnce, there_in, once_written, once_laid, below_listed}
+use Rattle.snapshot_laws.proofs.There.{IsGood, good_written, good_laid}
 
 -- ---- the sources
 
@@ -41,15 +42,27 @@ whole_sound t w =
       parents = tree_parents (elements_in (codes "snapshot") t) w.tree;
     }
 
-pub whole_sources : (p : Definitions) → AreWhole p → AreSound p
-whole_sources p whole url s at is = by (at_url StructureDefinition url p) refl at
+-- what holds of the elements of each snapshot that is brought
+brought : (P : List Element → Type 0) (p : Definitions) (url : Text) (s : Source) → source_at p url ≡ Some s → s.written ≡ true
+    → ((t : Tree) → at_url StructureDefinition url p ≡ Some t → brings_snapshot t ≡ true → P (elements_in (codes "snapshot") t)) → P s.elements
+brought P p url s at is holds = by (at_url StructureDefinition url p) refl at
   where
-    by : (o : Option Tree) → at_url StructureDefinition url p ≡ o → option_map (source_of p) o ≡ Some s → IsSound s.elements
+    by : (o : Option Tree) → at_url StructureDefinition url p ≡ o → option_map (source_of p) o ≡ Some s → P s.elements
     by None found e = absurd (none-some s e)
     by (Some t) found e =
         let same : source_of p t ≡ s = same_Some (source_of p t) s e in
         let brings : brings_snapshot t ≡ true = ap (λ (u : Source). u.written) same ∙ is in
-        subst IsSound (sym (written_elements p t brings) ∙ ap (λ (u : Source). u.elements) same) (whole_sound t (whole url t found brings))
+        subst P (sym (written_elements p t brings) ∙ ap (λ (u : Source). u.elements) same) (holds t found brings)
+
+pub whole_sources : (p : Definitions) → AreWhole p → AreSound p
+whole_sources p whole url s at is = brought IsSound p url s at is (λ t found brings. whole_sound t (whole url t found brings))
+
+named_sources : (p : Definitions) → AreOfElements p → AreNamed p
+named_sources p of url s at is =
+    brought (λ es. Each IsPlain (ids es)) p url s at is (λ t found brings. brought_plain (codes "snapshot") t (of url t found brings))
+
+ends_whole : (p : Definitions) (url : Text) → EndsWhole p url → EndsSound p url
+ends_whole p url ends bases s chain at is = brought IsSound p (last_of url bases) s at is (λ t found brings. whole_sound t (ends bases t chain found brings))
 
 -- ---- the two kinds of snapshots
 
@@ -96,23 +109,21 @@ kinds bound p url es h = by (brings_snapshot h.0) refl h.2 h.3
 abbrev pub OneSnapshot : Type 0
 OneSnapshot = (p : Definitions) (url : Text) (one other : List Element) → IsSnapshot p url one → IsSnapshot p url other → one ≡ other
 
-module _ (one : OneAnswer) (p : Definitions) (whole : AreWhole p) where
-  good_in : (bound : ℕ) (url : Text) (es : List Element) → SnapshotIn bound p url es → IsGood p url es
-  good_in zero url es h = absurd h
-  good_in (suc bound) url es h = by (kinds bound p url es h) (good_in bound)
-    where
-      by : IsBrought p url es ⊎ IsLaidOver bound p url es
-          → ((base : Text) (below : List Element) → SnapshotIn bound p base below → IsGood p base below) → IsGood p url es
-      by (inl b) rest = subst (IsGood p url) (sym b.elements_are) (good_written p (whole_sources p whole) url b.source b.at b.is_written)
-      by (inr l) rest =
-          good_laid p (whole_sources p whole) url l.base l.source l.below l.by_base (rest l.base l.below l.below_is) l.plain one es l.is_laid
+once_in : (p : Definitions) → AreNamed p → (bound : ℕ) (url : Text) (es : List Element) → EndsSound p url → SnapshotIn bound p url es → IsOnce p url es
+once_in p named zero url es ends h = absurd h
+once_in p named (suc bound) url es ends h = by (kinds bound p url es h) (once_in p named bound)
+  where
+    by : IsBrought p url es ⊎ IsLaidOver bound p url es
+        → ((base : Text) (below : List Element) → EndsSound p base → SnapshotIn bound p base below → IsOnce p base below) → IsOnce p url es
+    by (inl b) rest = subst (IsOnce p url) (sym b.elements_are) (once_written p named url b.source b.at b.is_written ends)
+    by (inr l) rest =
+        once_laid p named url l.base l.source l.below l.by_base
+        (rest l.base l.below (ends_below p url l.base l.source l.by_base ends) l.below_is) l.plain ends es l.is_laid.2
 
-  good : (url : Text) (es : List Element) → IsSnapshot p url es → IsGood p url es
-  good url es h = good_in h.0 url es h.1
+pub each_once : (p : Definitions) (url : Text) (es : List Element) → AreOfElements p → EndsWhole p url → IsSnapshot p url es → ids_differ es ≡ true
+each_once p url es of ends h = if_differ es (once_in p (named_sources p of) h.0 url es (ends_whole p url ends) h.1).differ
 
-  pub each_once : (url : Text) (es : List Element) → IsSnapshot p url es → ids_differ es ≡ true
-  each_once url es h = if_differ es (good url es h).differ
-
+module _ (one : OneAnswer) (p : Definitions) where
   -- the differential of a definition that brings no snapshot
   laid_over : (bound : ℕ) (url : Text) (s : Source) (es : List Element) → source_at p url ≡ Some s → s.written ≡ false
       → SnapshotIn (suc bound) p url es
@@ -123,35 +134,52 @@ module _ (one : OneAnswer) (p : Definitions) (whole : AreWhole p) where
         | inr l ↦ (l, same_source p url l.source s l.by_base.at at)
       ]
 
-  from_differential : (bound : ℕ) (url id : Text) (s : Source) (es : List Element) → source_at p url ≡ Some s → s.written ≡ false
-      → SnapshotIn bound p url es
-      → IsGood p url es → In id (ids s.elements) → In id (ids es)
-  from_differential zero url id s es at isnt h g i = absurd h
-  from_differential (suc bound) url id s es at isnt h g i =
-      let l = laid_over bound url s es at isnt h in
-      let own : In id (ids l.0.source.elements) = subst (λ (u : Source). In id (ids u.elements)) (sym l.1) i in
-      let there = (there_in p url l.0.source.elements id l.0.is_laid.1 own).0 in
-      g.listed id there.0 (l.0.plain id own) there.1
+  from_base : OneSnapshot → AreNamed p → (bound : ℕ) (url base id : Text) (below es : List Element) → EndsSound p url → Rests p url base
+      → IsSnapshot p base below → SnapshotIn bound p url es → In id (ids below) → In id (ids es)
+  from_base same named zero url base id below es ends rests under h i = absurd h
+  from_base same named (suc bound) url base id below es ends rests under h i =
+      let l = (laid_over bound url rests.0 es rests.1 rests.2 h).0 in
+      let is = (laid_over bound url rests.0 es rests.1 rests.2 h).1 in
+      let own : l.base ≡ base = same_Some l.base base (sym l.by_base.rests ∙ ap (λ (u : Source). u.base) is ∙ rests.3) in
+      let based : SnapshotIn bound p base l.below = subst (λ (b : Text). SnapshotIn bound p b l.below) own l.below_is in
+      let elements : below ≡ l.below = same p base below l.below under (bound, based) in
+      let once = once_in p named bound l.base l.below (ends_below p url l.base l.source l.by_base ends) l.below_is in
+      below_listed p named url l.base l.source l.below l.by_base once l.plain ends one es l.is_laid.2 l.is_laid.0 id
+      (subst (λ (b : List Element). In id (ids b)) elements i)
 
-  pub of_differential : (url id : Text) (s : Source) (es : List Element) → source_at p url ≡ Some s → s.written ≡ false → IsSnapshot p url es
-      → Stands id s.elements → Stands id es
-  of_differential url id s es at isnt h i =
-      in_among (ids es) id (from_differential h.0 url id s es at isnt h.1 (good url es h) (among_in (ids s.elements) id i))
+  pub of_base : OneSnapshot → (url base id : Text) (below es : List Element) → AreOfElements p → EndsWhole p url → Rests p url base
+      → IsSnapshot p base below → IsSnapshot p url es → Stands id below → Stands id es
+  of_base same url base id below es of ends rests under h i =
+      in_among (ids es) id
+      (from_base same (named_sources p of) h.0 url base id below es (ends_whole p url ends) rests under h.1 (among_in (ids below) id i))
 
-  from_base : OneSnapshot → (bound : ℕ) (url base id : Text) (below es : List Element) → Rests p url base → IsSnapshot p base below
-      → SnapshotIn bound p url es
-      → IsGood p url es → In id (ids below) → In id (ids es)
-  from_base same zero url base id below es rests under h g i = absurd h
-  from_base same (suc bound) url base id below es rests under h g i =
-      let l = laid_over bound url rests.0 es rests.1 rests.2 h in
-      let own : l.0.base ≡ base = same_Some l.0.base base (sym l.0.by_base.rests ∙ ap (λ (u : Source). u.base) l.1 ∙ rests.3) in
-      let based : SnapshotIn bound p base l.0.below = subst (λ (b : Text). SnapshotIn bound p b l.0.below) own l.0.below_is in
-      let elements : below ≡ l.0.below = same p base below l.0.below under (bound, based) in
-      let listed : In id (ids l.0.below) = subst (λ (b : List Element). In id (ids b)) elements i in
-      let there = (there_in p url l.0.below id l.0.is_laid.0 listed).0 in
-      g.listed id there.0 ((good base below under).plain id i) there.1
+  -- ---- where all snapshots that are brought are whole
 
-  pub of_base : OneSnapshot → (url base id : Text) (below es : List Element) → Rests p url base → IsSnapshot p base below → IsSnapshot p url es
-      → Stands id below → Stands id es
-  of_base same url base id below es rests under h i =
-      in_among (ids es) id (from_base same h.0 url base id below es rests under h.1 (good url es h) (among_in (ids below) id i))
+  module _ (whole : AreWhole p) where
+    good_in : (bound : ℕ) (url : Text) (es : List Element) → SnapshotIn bound p url es → IsGood p url es
+    good_in zero url es h = absurd h
+    good_in (suc bound) url es h = by (kinds bound p url es h) (good_in bound)
+      where
+        by : IsBrought p url es ⊎ IsLaidOver bound p url es
+            → ((base : Text) (below : List Element) → SnapshotIn bound p base below → IsGood p base below) → IsGood p url es
+        by (inl b) rest = subst (IsGood p url) (sym b.elements_are) (good_written p (whole_sources p whole) url b.source b.at b.is_written)
+        by (inr l) rest =
+            good_laid p (whole_sources p whole) url l.base l.source l.below l.by_base (rest l.base l.below l.below_is) l.plain one es l.is_laid
+
+    good : (url : Text) (es : List Element) → IsSnapshot p url es → IsGood p url es
+    good url es h = good_in h.0 url es h.1
+
+    from_differential : (bound : ℕ) (url id : Text) (s : Source) (es : List Element) → source_at p url ≡ Some s → s.written ≡ false
+        → SnapshotIn bound p url es
+        → IsGood p url es → In id (ids s.elements) → In id (ids es)
+    from_differential zero url id s es at isnt h g i = absurd h
+    from_differential (suc bound) url id s es at isnt h g i =
+        let l = laid_over bound url s es at isnt h in
+        let own : In id (ids l.0.source.elements) = subst (λ (u : Source). In id (ids u.elements)) (sym l.1) i in
+        let there = (there_in p url l.0.source.elements id l.0.is_laid.1 own).0 in
+        g.listed id there.0 (l.0.plain id own) there.1
+
+    pub of_differential : (url id : Text) (s : Source) (es : List Element) → source_at p url ≡ Some s → s.written ≡ false → IsSnapshot p url es
+        → Stands id s.elements → Stands id es
+    of_differential url id s es at isnt h i =
+        in_among (ids es) id (from_differential h.0 url id s es at isnt h.1 (good url es h) (among_in (ids s.elements) id i))

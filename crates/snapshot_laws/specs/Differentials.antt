@@ -1,6 +1,6 @@
 -- What the snapshot has of an element where a differential says something of it, and where it says nothing (FHIR R4, Profiling,
 -- snapshots; ElementDefinition).
-use Rattle.std.specs.Prelude.{◌≡◌, List, [], Option, Some, None}
+use Rattle.std.specs.Prelude.{◌≡◌, [], Option, Some, None}
 use Rattle.std.specs.List.{Contains}
 use Rattle.fhir_elements.specs.Constraint.{Constraint}
 use Rattle.fhir_elements.specs.Slicing.{Slicing}

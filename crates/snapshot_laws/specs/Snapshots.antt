@@ -1,5 +1,5 @@
 -- Which elements a snapshot has (FHIR R4, Profiling, snapshots; ElementDefinition, id).
-use Rattle.std.specs.Prelude.{◌≡◌, List, map, true, false, Some, codes}
+use Rattle.std.specs.Prelude.{◌≡◌, List, [], ◌∷◌, map, true, false, Some, codes}
 use Rattle.fhir_json.specs.Tree.{Text, Tree}
 use Rattle.fhir_names.specs.Parents.{front_of, name_of}
 use Rattle.fhir_elements.specs.Element.{Element}
@@ -9,6 +9,7 @@ use Rattle.fhir_definition.specs.Snapshot.{ids_differ, is_tree}
 use Rattle.fhir_inheritance.specs.Lists.{is_among}
 use Rattle.fhir_inheritance.specs.Node.{Node}
 use Rattle.fhir_inheritance.specs.Sources.{Source, source_at, brings_snapshot, elements_in}
+use Rattle.fhir_snapshot.specs.Chains.{IsChain}
 use Rattle.fhir_snapshot.specs.Order.{IsAt}
 use Rattle.fhir_snapshot.specs.Snapshots.{brings_elements}
 
@@ -25,6 +26,21 @@ pub record IsWhole (t : Tree) : Type 0 where
 -- each snapshot that is brought is whole
 abbrev pub AreWhole : Definitions → Type 0
 AreWhole p = (url : Text) (t : Tree) → at_url StructureDefinition url p ≡ Some t → brings_snapshot t ≡ true → IsWhole t
+
+-- each snapshot that is brought is one of elements
+abbrev pub AreOfElements : Definitions → Type 0
+AreOfElements p = (url : Text) (t : Tree) → at_url StructureDefinition url p ≡ Some t → brings_snapshot t ≡ true
+    → brings_elements (codes "snapshot") t ≡ true
+
+-- the last of texts of which this is the first
+abbrev pub last_of : Text → List Text → Text
+last_of first [] = first
+last_of first (next ∷ others) = last_of next others
+
+-- the snapshot at which a definition's chain of bases ends is whole
+abbrev pub EndsWhole : Definitions → Text → Type 0
+EndsWhole p url = (bases : List Text) (t : Tree) → IsChain p (url ∷ bases) → at_url StructureDefinition (last_of url bases) p ≡ Some t
+    → brings_snapshot t ≡ true → IsWhole t
 
 -- The differential of a definition has a child of an id, or a slice of one, whose name no child of that id has in the base.
 pub record BringsChild (p : Definitions) (url up : Text) : Type 0 where
