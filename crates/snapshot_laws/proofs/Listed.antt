@@ -13,7 +13,7 @@ use Rattle.fhir_definition.specs.Snapshot.{up_of, is_root}
 use Rattle.fhir_inheritance.specs.Keys.{key, child_id}
 use Rattle.fhir_inheritance.specs.Node.{Node}
 use Rattle.fhir_inheritance.specs.Inheriting.{asking}
-use Rattle.fhir_snapshot.specs.Order.{IsAt, Lists, under, roots}
+use Rattle.fhir_snapshot.specs.Order.{IsAt, Lists, under, roots, IsThere}
 use Rattle.snapshot_laws.proofs.Among.{In, Each, Differ, in_left, in_right, in_cases, differ_both}
 use Rattle.snapshot_laws.proofs.Ups.{IsName, lacks_both, up_child, up_sliced, same_child, unsliced_child, none_sliced}
 use Rattle.snapshot_laws.proofs.Finding.{ids, IsPlain, map_in}
@@ -44,26 +44,40 @@ under_up id n r x h =
       | inr slice ↦ up_sliced x id (r.slices x slice)
     ]
 
-under_plain : (id : Text) (n : Node) → IsPlain id → IsRight id n → Each IsPlain n.slices → Each IsPlain (under id n)
-under_plain id n plain r slices x h =
+pub under_plain : (id : Text) (n : Node) → IsPlain id → Each IsPlain n.names → Each IsPlain n.slices → Each IsPlain (under id n)
+under_plain id n plain names slices x h =
     elim (in_cases x (map (child_id id) n.names) n.slices h) [
       | inl child ↦
           let m = map_in (child_id id) n.names x child in
-          subst IsPlain (sym m.2) (lacks_both line_feed id (dot ∷ m.0) plain (r.names m.0 m.1).plain)
+          subst IsPlain (sym m.2) (lacks_both line_feed id (dot ∷ m.0) plain (names m.0 m.1))
       | inr slice ↦ slices x slice
     ]
 
 -- ---- what is listed
 
-module _ (p : Definitions) (url : Text) (right : (id : Text) (n : Node) → IsPlain id → IsAt p url id n → IsRight id n × Each IsPlain n.slices) where
-  own_id : (id : Text) (e : Element) (n : Node) → IsPlain id → IsAt p url id n → n.element ≡ e → e.id ≡ id
-  own_id id e n plain at is = ap (λ (x : Element). x.id) (sym is) ∙ (right id n plain at).0.itself
+-- each id that waits is there
+pub waits_there : (p : Definitions) (url : Text) (es : List Element) (waiting : List Text) → Lists p url es waiting → (x : Text) → In x waiting
+    → IsThere p url x
+waits_there p url es [] l x h = absurd h
+waits_there p url [] (id ∷ waiting) l x h = absurd l
+waits_there p url (e ∷ es) (id ∷ waiting) l x (inl is) = (l.0, subst (λ (y : Text). IsAt p url y l.0) (sym is) l.1)
+waits_there p url (e ∷ es) (id ∷ waiting) l x (inr h) =
+    waits_there p url es (under id l.0 ++ waiting) l.4 x (in_right x (under id l.0) waiting h)
 
-  next_plain : (id : Text) (waiting : List Text) (n : Node) → IsAt p url id n → Each IsPlain (id ∷ waiting) → Each IsPlain (under id n ++ waiting)
-  next_plain id waiting n at plain x h =
-      let r = right id n (plain id (inl refl)) at in
+-- a node is right, and where what stands under it is listed, that has ids without line feeds
+pub record IsFit (p : Definitions) (url id : Text) (n : Node) : Type 0 where
+  pub right : IsRight id n
+  pub next : (es : List Element) (waiting : List Text) → Lists p url es (under id n ++ waiting) → Each IsPlain (under id n)
+
+module _ (p : Definitions) (url : Text) (fit : (id : Text) (n : Node) → IsPlain id → IsAt p url id n → IsFit p url id n) where
+  own_id : (id : Text) (e : Element) (n : Node) → IsPlain id → IsAt p url id n → n.element ≡ e → e.id ≡ id
+  own_id id e n plain at is = ap (λ (x : Element). x.id) (sym is) ∙ (fit id n plain at).right.itself
+
+  next_plain : (es : List Element) (id : Text) (waiting : List Text) (n : Node) → IsAt p url id n → Each IsPlain (id ∷ waiting)
+      → Lists p url es (under id n ++ waiting) → Each IsPlain (under id n ++ waiting)
+  next_plain es id waiting n at plain l x h =
       elim (in_cases x (under id n) waiting h) [
-        | inl here ↦ under_plain id n (plain id (inl refl)) r.0 r.1 x here
+        | inl here ↦ (fit id n (plain id (inl refl)) at).next es waiting l x here
         | inr later ↦ plain x (inr later)
       ]
 
@@ -75,9 +89,9 @@ module _ (p : Definitions) (url : Text) (right : (id : Text) (n : Node) → IsPl
   listed_below (e ∷ es) (id ∷ waiting) l plain x (inl is) = (id, inl refl, (0, is ∙ own_id id e l.0 (plain id (inl refl)) l.1 l.3))
   listed_below (e ∷ es) (id ∷ waiting) l plain x (inr h) =
       let n = l.0 in
-      let b = listed_below es (under id n ++ waiting) l.4 (next_plain id waiting n l.1 plain) x h in
+      let b = listed_below es (under id n ++ waiting) l.4 (next_plain es id waiting n l.1 plain l.4) x h in
       elim (in_cases b.0 (under id n) waiting b.1) [
-        | inl here ↦ (id, inl refl, below_up x b.0 id b.2 (under_up id n (right id n (plain id (inl refl)) l.1).0 b.0 here))
+        | inl here ↦ (id, inl refl, below_up x b.0 id b.2 (under_up id n (fit id n (plain id (inl refl)) l.1).right b.0 here))
         | inr later ↦ (b.0, inr later, b.2)
       ]
 
@@ -87,8 +101,8 @@ module _ (p : Definitions) (url : Text) (right : (id : Text) (n : Node) → IsPl
   listed_differ (e ∷ es) [] l plain free = absurd l
   listed_differ (e ∷ es) (id ∷ waiting) l plain free =
       let n = l.0 in
-      let more = next_plain id waiting n l.1 plain in
-      let r = (right id n (plain id (inl refl)) l.1).0 in
+      let more = next_plain es id waiting n l.1 plain l.4 in
+      let r = (fit id n (plain id (inl refl)) l.1).right in
       let own = own_id id e n (plain id (inl refl)) l.1 l.3 in (
         λ h. let b = listed_below es (under id n ++ waiting) l.4 more e.id h in
             let below : Below id b.0 = subst (λ (x : Text). Below x b.0) own b.2 in
@@ -115,7 +129,7 @@ module _ (p : Definitions) (url : Text) (right : (id : Text) (n : Node) → IsPl
   listed_from (e ∷ es) [] l plain x h = absurd l
   listed_from (e ∷ es) (id ∷ waiting) l plain x (inl is) = inl (inl (is ∙ own_id id e l.0 (plain id (inl refl)) l.1 l.3))
   listed_from (e ∷ es) (id ∷ waiting) l plain x (inr h) =
-      elim (listed_from es (under id l.0 ++ waiting) l.4 (next_plain id waiting l.0 l.1 plain) x h) [
+      elim (listed_from es (under id l.0 ++ waiting) l.4 (next_plain es id waiting l.0 l.1 plain l.4) x h) [
         | inl waits ↦ elim (in_cases x (under id l.0) waiting waits) [
           | inl here ↦
               inr (record {
@@ -138,7 +152,7 @@ module _ (p : Definitions) (url : Text) (right : (id : Text) (n : Node) → IsPl
       elim (listed_from es waiting l plain x h) [
         | inl waits ↦ absurd (none-some up (sym (none x waits) ∙ is))
         | inr u ↦
-            let same : u.up ≡ up = same_Some u.up up (sym (under_up u.up u.node (right u.up u.node u.plain u.at).0 x u.here) ∙ is) in (
+            let same : u.up ≡ up = same_Some u.up up (sym (under_up u.up u.node (fit u.up u.node u.plain u.at).right x u.here) ∙ is) in (
               u.node,
               subst (λ (y : Text). In y (ids es)) same u.listed,
               subst (λ (y : Text). IsAt p url y u.node) same u.at,
@@ -153,7 +167,7 @@ module _ (p : Definitions) (url : Text) (right : (id : Text) (n : Node) → IsPl
   listed_all [] (id ∷ waiting) l plain x h = absurd l
   listed_all (e ∷ es) (id ∷ waiting) l plain x (inl is) = inl (is ∙ sym (own_id id e l.0 (plain id (inl refl)) l.1 l.3))
   listed_all (e ∷ es) (id ∷ waiting) l plain x (inr h) =
-      inr (listed_all es (under id l.0 ++ waiting) l.4 (next_plain id waiting l.0 l.1 plain) x (in_right x (under id l.0) waiting h))
+      inr (listed_all es (under id l.0 ++ waiting) l.4 (next_plain es id waiting l.0 l.1 plain l.4) x (in_right x (under id l.0) waiting h))
 
   pub listed_plain : (es : List Element) (waiting : List Text) → Lists p url es waiting → Each IsPlain waiting → Each IsPlain (ids es)
   listed_plain [] waiting l plain x h = absurd h
@@ -161,7 +175,7 @@ module _ (p : Definitions) (url : Text) (right : (id : Text) (n : Node) → IsPl
   listed_plain (e ∷ es) (id ∷ waiting) l plain x (inl is) =
       subst IsPlain (sym (is ∙ own_id id e l.0 (plain id (inl refl)) l.1 l.3)) (plain id (inl refl))
   listed_plain (e ∷ es) (id ∷ waiting) l plain x (inr h) =
-      listed_plain es (under id l.0 ++ waiting) l.4 (next_plain id waiting l.0 l.1 plain) x h
+      listed_plain es (under id l.0 ++ waiting) l.4 (next_plain es id waiting l.0 l.1 plain l.4) x h
 
   -- what stands under an element that is listed is listed
   pub listed_under : OneAnswer → (es : List Element) (waiting : List Text) → Lists p url es waiting → Each IsPlain waiting
@@ -173,9 +187,9 @@ module _ (p : Definitions) (url : Text) (right : (id : Text) (n : Node) → IsPl
       let there : IsAt p url id n = subst (λ (z : Text). IsAt p url z n) same at in
       let node : n ≡ l.0 = same_Some n l.0 (one (asking p) (key id url) (Some n) (Some l.0) there l.1) in
       let here : In y (under id l.0) = subst (λ (m : Node). In y (under id m)) node (subst (λ (z : Text). In y (under z n)) same u) in
-      inr (listed_all es (under id l.0 ++ waiting) l.4 (next_plain id waiting l.0 l.1 plain) y (in_left y (under id l.0) waiting here))
+      inr (listed_all es (under id l.0 ++ waiting) l.4 (next_plain es id waiting l.0 l.1 plain l.4) y (in_left y (under id l.0) waiting here))
   listed_under one (e ∷ es) (id ∷ waiting) l plain x y n (inr h) at u =
-      inr (listed_under one es (under id l.0 ++ waiting) l.4 (next_plain id waiting l.0 l.1 plain) x y n h at u)
+      inr (listed_under one es (under id l.0 ++ waiting) l.4 (next_plain es id waiting l.0 l.1 plain l.4) x y n h at u)
 
 -- ---- roots
 

@@ -21,7 +21,7 @@ use Rattle.fhir_inheritance.specs.Inheriting.{written_node, written, names_in, k
 use Rattle.fhir_snapshot.specs.Order.{under}
 use Rattle.snapshot_laws.proofs.Coming.{OneAnswer}
 use Rattle.snapshot_laws.proofs.Among.{In, in_left, in_right, in_cases, others_stay, others_there}
-use Rattle.snapshot_laws.proofs.Ups.{IsName, name_read, up_child, same_child, child_again, up_sliced, up_unsliced, sliced_none, none_sliced}
+use Rattle.snapshot_laws.proofs.Ups.{IsName, name_read, name_lacks, up_child, same_child, child_again, up_sliced, up_unsliced, sliced_none, none_sliced}
 use Rattle.snapshot_laws.proofs.Ups.{unsliced_child, up_lacks, lacks_both}
 use Rattle.snapshot_laws.proofs.Asked.{ComesWith, Known, by_answers, comes_of}
 use Rattle.snapshot_laws.proofs.Finding.{IsPlain, found_id, found_in, finds, in_slice, in_map, map_in, stands_under}
@@ -77,7 +77,7 @@ module _ (p : Definitions) where
       ap (λ (b : Bool). cond b (written s.elements id) (inherits p url s.elements id s.base)) by.unwritten
       ∙ ap (λ (o : Option Text). inherits p url s.elements id o) by.rests
 
-  comes : (name : Text) (thing : Option Node) → Has (asking p) name thing → ComesWith Q (asking p name) thing
+  pub comes : (name : Text) (thing : Option Node) → Has (asking p) name thing → ComesWith Q (asking p name) thing
   comes = comes_of (asking p) Any any
 
   -- what is in a snapshot that is brought
@@ -244,16 +244,16 @@ module _ (p : Definitions) where
       )
 
   -- the child of that name is there, where it is among the children of such an element
-  name_there : AreSound p → (name other from : Text) (like : Node) (names : List Text) → IsName name → child_key name other ≡ Some from
+  name_there : AreSound p → (name other from : Text) (like : Node) (names : List Text) → IsName name → IsPlain name → child_key name other ≡ Some from
       → S from (Some like)
       → NamesOf p Q (Some other) names → In name names
-  name_there sound name other from like names named child stands h = by (key_parts other) refl child
+  name_there sound name other from like names named unbroken child stands h = by (key_parts other) refl child
     where
       by : (o : Option (Text × Text)) → key_parts other ≡ o → option_map (λ at. key (child_id at.0 name) at.1) o ≡ Some from → In name names
       by None is e = absurd (none-some from e)
       by (Some q) is e =
           let k = key_is other q.0 q.1 is in
-          let plain : IsPlain (child_id q.0 name) = lacks_both line_feed q.0 (dot ∷ name) k.1 named.plain in
+          let plain : IsPlain (child_id q.0 name) = lacks_both line_feed q.0 (dot ∷ name) k.1 unbroken in
           let parts : key_parts from ≡ Some (child_id q.0 name, q.1) =
           ap key_parts (sym (same_Some (key (child_id q.0 name) q.1) from e)) ∙ parts_of (child_id q.0 name) q.1 plain in
           let answer : Has (asking p) (key q.0 q.1) h.0 = subst (λ (x : Text). Has (asking p) x h.0) k.0 h.1.0 in
@@ -268,13 +268,13 @@ module _ (p : Definitions) where
       let none = sliced_none id r.unsliced in
       let same : r.front ≡ up = same_Some r.front up (sym r.front_is ∙ sym (up_unsliced id none) ∙ up_is) in
       let plain_front : IsPlain r.front = up_lacks line_feed id r.front (up_is ∙ ap Some (sym same)) plain in
-      let named = name_read id plain in
+      let named = name_read id in
       let made = made_at sound r.front url r.base r.source r.parent plain_front r.by_base r.has_front.0 in
       let more = more_there r.front url r.source r.parent made r.is_touched in
       let own : r.parent.element.id ≡ r.front = (node_right p sound r.front url r.parent plain_front r.has_front.0).itself in
       let all = more.1 in
       let inside : (names : List Text) → NamesOf p Q (Some r.other) names → In (name_of id) names =
-      λ names. name_there sound (name_of id) r.other r.from r.like names named r.child_is r.has_from in
+      λ names. name_there sound (name_of id) r.other r.from r.like names named (name_lacks line_feed id plain) r.child_is r.has_from in
       let there : In (name_of id) r.parent.names =
       subst (In (name_of id)) (sym all.names_are)
       (elim r.leads [

@@ -7,7 +7,7 @@ use Rattle.std.proofs.lemmas.Bool.{and_parts, and_from}
 use Rattle.std.proofs.lemmas.List.Folds.{list_all-append}
 use Rattle.std.proofs.lemmas.Option.{none-some, same_Some}
 use Rattle.fhir_json.specs.Tree.{Text}
-use Rattle.fhir_json.specs.Bytes.{dot, colon, line_feed}
+use Rattle.fhir_json.specs.Bytes.{dot, colon}
 use Rattle.fhir_names.specs.Texts.{lacks, cut_at_first, cut_at_last}
 use Rattle.fhir_names.specs.Segments.{SegmentParts, segment_parts}
 use Rattle.fhir_names.specs.Parents.{front_of, last_segment, name_of, slice_of, sliced_of}
@@ -29,7 +29,6 @@ lacks_both c xs ys one other = list_all-append _ xs ys ∙ and_from _ _ one othe
 pub record IsName (name : Text) : Type 0 where
   pub undotted : lacks dot name ≡ true
   pub whole : lacks colon name ≡ true
-  pub plain : lacks line_feed name ≡ true
 
 -- ---- the id of a child
 
@@ -96,15 +95,19 @@ last_undotted : (id : Text) (r : Option (Text × Text)) → IsLastCut dot id r �
 last_undotted id None h = h
 last_undotted id (Some p) h = h.1
 
-pub name_read : (id : Text) → lacks line_feed id ≡ true → IsName (name_of id)
-name_read id e =
+pub name_read : (id : Text) → IsName (name_of id)
+name_read id =
     let last = last_segment id in
     let cut = first_is colon last in
     record {
       undotted = part_lacks dot last (cut_at_first colon last) cut (last_undotted id (cut_at_last dot id) (last_is dot id));
       whole = lone last (cut_at_first colon last) cut;
-      plain = part_lacks line_feed last (cut_at_first colon last) cut (last_lacks line_feed id (cut_at_last dot id) (last_is dot id) e);
     }
+
+pub name_lacks : (c : ℕ) (id : Text) → lacks c id ≡ true → lacks c (name_of id) ≡ true
+name_lacks c id e =
+    let last = last_segment id in
+    part_lacks c last (cut_at_first colon last) (first_is colon last) (last_lacks c id (cut_at_last dot id) (last_is dot id) e)
 
 -- an id that is no slice's is that of a child
 name_whole : (s : Text) (r : Option (Text × Text)) → (segment_parts_by s r).1 ≡ None → (segment_parts_by s r).0 ≡ s

@@ -13,14 +13,14 @@ use Rattle.fhir_inheritance.specs.Sources.{Source, source_of, source_at, brings_
 use Rattle.fhir_snapshot.specs.Order.{IsLaid}
 use Rattle.fhir_snapshot.specs.Chains.{Rests}
 use Rattle.fhir_snapshot.specs.Snapshots.{brings_elements, IsMade, SnapshotIn, IsSnapshot}
-use Rattle.snapshot_laws.specs.Snapshots.{Stands, IsWhole, AreWhole, AreOfElements, EndsWhole, last_of}
+use Rattle.snapshot_laws.specs.Snapshots.{Stands, IsWhole, AreWhole, UrlsArePlain, EndsWhole, last_of}
 use Rattle.snapshot_laws.proofs.Among.{In, Each, among_in, in_among}
 use Rattle.snapshot_laws.proofs.Finding.{ids, IsPlain}
 use Rattle.snapshot_laws.proofs.Origins.{ByBase, same_source}
-use Rattle.snapshot_laws.proofs.Nodes.{IsSound, AreSound, AreNamed, EndsSound, ends_below}
+use Rattle.snapshot_laws.proofs.Nodes.{IsSound, AreSound, EndsSound, ends_below}
 use Rattle.snapshot_laws.proofs.Coming.{OneAnswer}
 use Rattle.snapshot_laws.proofs.Placed.{differ_if, if_differ, tree_parents, brought_plain}
-use Rattle.snapshot_laws.proofs.Once.{IsOnce, there_in, once_written, once_laid, below_listed}
+use Rattle.snapshot_laws.proofs.Once.{HavePlainUrls, IsOnce, there_in, once_written, once_laid, below_listed}
 use Rattle.snapshot_laws.proofs.There.{IsGood, good_written, good_laid}
 
 -- ---- the sources
@@ -57,9 +57,12 @@ brought P p url s at is holds = by (at_url StructureDefinition url p) refl at
 pub whole_sources : (p : Definitions) → AreWhole p → AreSound p
 whole_sources p whole url s at is = brought IsSound p url s at is (λ t found brings. whole_sound t (whole url t found brings))
 
-named_sources : (p : Definitions) → AreOfElements p → AreNamed p
-named_sources p of url s at is =
-    brought (λ es. Each IsPlain (ids es)) p url s at is (λ t found brings. brought_plain (codes "snapshot") t (of url t found brings))
+plain_urls : (p : Definitions) → UrlsArePlain p → HavePlainUrls p
+plain_urls p urls url s at = by (at_url StructureDefinition url p) refl at
+  where
+    by : (o : Option Tree) → at_url StructureDefinition url p ≡ o → option_map (source_of p) o ≡ Some s → IsPlain url
+    by None found e = absurd (none-some s e)
+    by (Some t) found e = urls url t found
 
 ends_whole : (p : Definitions) (url : Text) → EndsWhole p url → EndsSound p url
 ends_whole p url ends bases s chain at is = brought IsSound p (last_of url bases) s at is (λ t found brings. whole_sound t (ends bases t chain found brings))
@@ -109,19 +112,19 @@ kinds bound p url es h = by (brings_snapshot h.0) refl h.2 h.3
 abbrev pub OneSnapshot : Type 0
 OneSnapshot = (p : Definitions) (url : Text) (one other : List Element) → IsSnapshot p url one → IsSnapshot p url other → one ≡ other
 
-once_in : (p : Definitions) → AreNamed p → (bound : ℕ) (url : Text) (es : List Element) → EndsSound p url → SnapshotIn bound p url es → IsOnce p url es
-once_in p named zero url es ends h = absurd h
-once_in p named (suc bound) url es ends h = by (kinds bound p url es h) (once_in p named bound)
+once_in : (p : Definitions) → HavePlainUrls p → (bound : ℕ) (url : Text) (es : List Element) → EndsSound p url → SnapshotIn bound p url es → IsOnce p url es
+once_in p urls zero url es ends h = absurd h
+once_in p urls (suc bound) url es ends h = by (kinds bound p url es h) (once_in p urls bound)
   where
     by : IsBrought p url es ⊎ IsLaidOver bound p url es
         → ((base : Text) (below : List Element) → EndsSound p base → SnapshotIn bound p base below → IsOnce p base below) → IsOnce p url es
-    by (inl b) rest = subst (IsOnce p url) (sym b.elements_are) (once_written p named url b.source b.at b.is_written ends)
+    by (inl b) rest = subst (IsOnce p url) (sym b.elements_are) (once_written p urls url b.source b.at b.is_written ends)
     by (inr l) rest =
-        once_laid p named url l.base l.source l.below l.by_base
-        (rest l.base l.below (ends_below p url l.base l.source l.by_base ends) l.below_is) l.plain ends es l.is_laid.2
+        once_laid p urls url l.base l.source l.below l.by_base
+        (rest l.base l.below (ends_below p url l.base l.source l.by_base ends) l.below_is) ends es l.is_laid.2
 
-pub each_once : (p : Definitions) (url : Text) (es : List Element) → AreOfElements p → EndsWhole p url → IsSnapshot p url es → ids_differ es ≡ true
-each_once p url es of ends h = if_differ es (once_in p (named_sources p of) h.0 url es (ends_whole p url ends) h.1).differ
+pub each_once : (p : Definitions) (url : Text) (es : List Element) → UrlsArePlain p → EndsWhole p url → IsSnapshot p url es → ids_differ es ≡ true
+each_once p url es plain ends h = if_differ es (once_in p (plain_urls p plain) h.0 url es (ends_whole p url ends) h.1).differ
 
 module _ (one : OneAnswer) (p : Definitions) where
   -- the differential of a definition that brings no snapshot
@@ -134,24 +137,24 @@ module _ (one : OneAnswer) (p : Definitions) where
         | inr l ↦ (l, same_source p url l.source s l.by_base.at at)
       ]
 
-  from_base : OneSnapshot → AreNamed p → (bound : ℕ) (url base id : Text) (below es : List Element) → EndsSound p url → Rests p url base
+  from_base : OneSnapshot → HavePlainUrls p → (bound : ℕ) (url base id : Text) (below es : List Element) → EndsSound p url → Rests p url base
       → IsSnapshot p base below → SnapshotIn bound p url es → In id (ids below) → In id (ids es)
-  from_base same named zero url base id below es ends rests under h i = absurd h
-  from_base same named (suc bound) url base id below es ends rests under h i =
+  from_base same urls zero url base id below es ends rests under h i = absurd h
+  from_base same urls (suc bound) url base id below es ends rests under h i =
       let l = (laid_over bound url rests.0 es rests.1 rests.2 h).0 in
       let is = (laid_over bound url rests.0 es rests.1 rests.2 h).1 in
       let own : l.base ≡ base = same_Some l.base base (sym l.by_base.rests ∙ ap (λ (u : Source). u.base) is ∙ rests.3) in
       let based : SnapshotIn bound p base l.below = subst (λ (b : Text). SnapshotIn bound p b l.below) own l.below_is in
       let elements : below ≡ l.below = same p base below l.below under (bound, based) in
-      let once = once_in p named bound l.base l.below (ends_below p url l.base l.source l.by_base ends) l.below_is in
-      below_listed p named url l.base l.source l.below l.by_base once l.plain ends one es l.is_laid.2 l.is_laid.0 id
+      let once = once_in p urls bound l.base l.below (ends_below p url l.base l.source l.by_base ends) l.below_is in
+      below_listed p urls url l.base l.source l.below l.by_base once ends one es l.is_laid.2 l.is_laid.0 id
       (subst (λ (b : List Element). In id (ids b)) elements i)
 
-  pub of_base : OneSnapshot → (url base id : Text) (below es : List Element) → AreOfElements p → EndsWhole p url → Rests p url base
+  pub of_base : OneSnapshot → (url base id : Text) (below es : List Element) → UrlsArePlain p → EndsWhole p url → Rests p url base
       → IsSnapshot p base below → IsSnapshot p url es → Stands id below → Stands id es
-  of_base same url base id below es of ends rests under h i =
+  of_base same url base id below es plain ends rests under h i =
       in_among (ids es) id
-      (from_base same (named_sources p of) h.0 url base id below es (ends_whole p url ends) rests under h.1 (among_in (ids below) id i))
+      (from_base same (plain_urls p plain) h.0 url base id below es (ends_whole p url ends) rests under h.1 (among_in (ids below) id i))
 
   -- ---- where all snapshots that are brought are whole
 

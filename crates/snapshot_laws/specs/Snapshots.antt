@@ -1,6 +1,8 @@
 -- Which elements a snapshot has (FHIR R4, Profiling, snapshots; ElementDefinition, id).
 use Rattle.std.specs.Prelude.{◌≡◌, List, [], ◌∷◌, map, true, false, Some, codes}
 use Rattle.fhir_json.specs.Tree.{Text, Tree}
+use Rattle.fhir_json.specs.Bytes.{line_feed}
+use Rattle.fhir_names.specs.Texts.{lacks}
 use Rattle.fhir_names.specs.Parents.{front_of, name_of}
 use Rattle.fhir_elements.specs.Element.{Element}
 use Rattle.fhir_package.specs.declared.kind.Kind.TheVariants.{StructureDefinition}
@@ -27,10 +29,9 @@ pub record IsWhole (t : Tree) : Type 0 where
 abbrev pub AreWhole : Definitions → Type 0
 AreWhole p = (url : Text) (t : Tree) → at_url StructureDefinition url p ≡ Some t → brings_snapshot t ≡ true → IsWhole t
 
--- each snapshot that is brought is one of elements
-abbrev pub AreOfElements : Definitions → Type 0
-AreOfElements p = (url : Text) (t : Tree) → at_url StructureDefinition url p ≡ Some t → brings_snapshot t ≡ true
-    → brings_elements (codes "snapshot") t ≡ true
+-- the url of each definition has no line feed
+abbrev pub UrlsArePlain : Definitions → Type 0
+UrlsArePlain p = (url : Text) (t : Tree) → at_url StructureDefinition url p ≡ Some t → lacks line_feed url ≡ true
 
 -- the last of texts of which this is the first
 abbrev pub last_of : Text → List Text → Text
