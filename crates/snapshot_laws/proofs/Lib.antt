@@ -1,5 +1,6 @@
 mod Coming
 mod Itself
+mod Own
 mod Said
 mod Named
 mod Standing

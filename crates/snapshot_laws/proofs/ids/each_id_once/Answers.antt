@@ -9,5 +9,5 @@ returns-clause-of_base c = λ p url base id below es of ends rests under made st
     of_base c.one_answer.ensures.one p c.one_completion.ensures.snapshots url base id below es of ends rests under made stands
 
 pub returns-clause-of_differential : goal.returns-clause-of_differential
-returns-clause-of_differential c = λ p url id s es whole at unwritten made stands.
-    of_differential c.one_answer.ensures.one p whole url id s es at unwritten made stands
+returns-clause-of_differential c = λ p url id s es plain leads ends at unwritten made stands.
+    of_differential c.one_answer.ensures.one p url id s es plain leads ends at unwritten made stands
