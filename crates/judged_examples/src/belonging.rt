@@ -3,8 +3,8 @@
 ghost use Rattle.std.specs.Prelude.{◌≡◌, [], ◌∷◌, true, false, codes};
 ghost use Rattle.judged_examples.specs.Belonging.{is_of, finding, tag};
 
-/// A discriminator's path names a choice without its `[x]` (FHIR R4, FHIRPath, polymorphic elements): by `value` the value in `value[x]` is found
-/// (`choice`), and another value isn't it (`other`).
+/// A discriminator's path names a choice without its `[x]` (FHIR R4, FHIRPath, polymorphic elements): by `value` an item is found whose
+/// `value[x]` is the slice's (`choice`), and one with another value isn't (`other`).
 pub fn values_of_choices()
     ensures choice { is_of (codes "Case.finding:red") (finding (codes "red")) ≡ true }
     ensures other { is_of (codes "Case.finding:red") (finding (codes "blue")) ≡ false }

@@ -1,6 +1,8 @@
 //! The order of the items of slices.
 
-ghost use Rattle.std.specs.Prelude.{◌≡◌, [], ◌∷◌, true, false, Some, codes};
+ghost use Rattle.std.specs.Prelude.{◌≡◌, [], ◌∷◌, map, true, false, Some, codes};
+ghost use Rattle.fhir_elements.specs.declared.slicing.SlicingRules.TheVariants as slicings;
+ghost use Rattle.fhir_facets.specs.Order.{ends_openly};
 ghost use Rattle.fhir_conformance.specs.Conformance.{Interpretation};
 ghost use Rattle.judged_examples.specs.Ordering.{judged_steps, may_stand};
 
@@ -26,17 +28,20 @@ pub fn unordered_steps()
 {}
 
 /// Where a slicing is open at its end, an item in no slice stands behind all that are in one (FHIR R4, ElementDefinition, slicing.rules,
-/// openAtEnd): behind them it conforms (`behind`), and before one it doesn't (`before`, `between`). Where it is open anywhere, it may stand before one (`open`).
+/// openAtEnd): behind them it conforms (`behind`), and before one it doesn't (`before`, `between`). Where it is open anywhere, it may
+/// stand before one (`open`). Of the three rules `openAtEnd` alone says so (`table`).
 pub fn steps_at_the_end()
     ensures behind { (meaning : Interpretation) → judged_steps meaning (codes "openAtEnd") false (codes "boil" ∷ codes "bake" ∷ []) ≡ Some true }
     ensures before { (meaning : Interpretation) → judged_steps meaning (codes "openAtEnd") false (codes "bake" ∷ codes "boil" ∷ []) ≡ Some false }
     ensures between { (meaning : Interpretation)
         → judged_steps meaning (codes "openAtEnd") false (codes "boil" ∷ codes "bake" ∷ codes "fry" ∷ []) ≡ Some false }
     ensures open { (meaning : Interpretation) → judged_steps meaning (codes "open") false (codes "bake" ∷ codes "boil" ∷ []) ≡ Some true }
+    ensures table { map ends_openly (slicings.Closed ∷ slicings.Open ∷ slicings.OpenAtEnd ∷ []) ≡ false ∷ false ∷ true ∷ [] }
 {}
 
-/// The same is said by the names of the slices that the items are in, where a name that no slice has is that of an item in none: of ordered slices
-/// (`right`, `turned`, `of_one_slice`), of those in any order (`unordered`), and of a slicing that is open at its end (`behind`, `before`).
+/// The same is said by the names of the slices that the items are in, where a name that no slice has is that of an item in none: of
+/// ordered slices (`right`, `turned`, `of_one_slice`), of those in any order (`unordered`), and of a slicing that is open at its end
+/// (`behind`, `before`).
 pub fn names_in_order()
     ensures right { may_stand (codes "open") true (codes "boil" ∷ codes "fry" ∷ []) ≡ true }
     ensures turned { may_stand (codes "open") true (codes "fry" ∷ codes "boil" ∷ []) ≡ false }

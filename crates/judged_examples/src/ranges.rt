@@ -7,9 +7,10 @@ ghost use Rattle.fhir_facets.specs.Unread.{Meaning};
 ghost use Rattle.fhir_facets.specs.Example.{from, to, plain};
 ghost use Rattle.judged_examples.specs.Ranges.{positive, unsigned};
 
-/// The values of a positiveInt are whole numbers, which have an order (FHIR R4, ElementDefinition, minValue[x] and maxValue[x]). Of a greatest
-/// value the greater don't meet it (`above`), and it itself does (`at_most`); of a least value the smaller don't (`below`), and it
-/// itself does (`at_least`). The same holds of bounds of the item's own type (`above_own`, `at_most_own`, `below_own`, `at_least_own`).
+/// The values of a positiveInt are whole numbers, which have an order (FHIR R4, ElementDefinition, minValue[x] and maxValue[x]). One
+/// above a greatest value doesn't meet it (`above`), and one at it does (`at_most`); one below a least value doesn't meet it (`below`),
+/// and one at it does (`at_least`). The same holds of bounds of the item's own type (`above_own`, `at_most_own`, `below_own`,
+/// `at_least_own`).
 pub fn positive_bounds()
     ensures above { (m : Meaning) → range_holds m (to (codes "maxValueInteger") (number (codes "3"))) (positive (codes "4")) ≡ false }
     ensures at_most { (m : Meaning) → range_holds m (to (codes "maxValueInteger") (number (codes "3"))) (positive (codes "3")) ≡ true }

@@ -4,9 +4,10 @@ ghost use Rattle.std.specs.Prelude.{◌≡◌, true, false, codes};
 ghost use Rattle.fhir_facets.specs.Unread.{Meaning};
 ghost use Rattle.judged_examples.specs.Targets.{may_refer, narrows};
 
-/// A reference may name the type of its target profile, or one that derives from it (FHIR R4, ElementDefinition, type.targetProfile; Resource,
-/// resources derive from DomainResource): that type (`itself`), one that rests on it (`derived`), also by more bases (`farther`), and the type that a
-/// profile constrains (`profiled`). It may not name one on which that rests (`turned`, `turned_farther`, `turned_profile`), nor another beside it (`beside`).
+/// A reference may name the type of its target profile, or one that derives from it (FHIR R4, ElementDefinition, type.targetProfile;
+/// StructureDefinition, baseDefinition): that type (`itself`), one that rests on it (`derived`), also by more bases (`farther`), and the
+/// type that a profile constrains (`profiled`). It may not name one on which that rests (`turned`, `turned_farther`, `turned_profile`),
+/// nor another beside it (`beside`).
 pub fn named_targets()
     ensures itself { (m : Meaning) → may_refer m (codes "urn:Patient") (codes "Patient/1") ≡ true }
     ensures derived { (m : Meaning) → may_refer m (codes "urn:DomainResource") (codes "Patient/1") ≡ true }

@@ -5,9 +5,10 @@ ghost use Rattle.fhir_json.specs.Tree.{no_members};
 ghost use Rattle.fhir_elements.specs.declared.reason.Reason.TheVariants.{WrongField};
 ghost use Rattle.judged_examples.specs.Usable.{many, without_max, without_min, coded, of_none, as_b, root_alone, with_element};
 
-/// An element of a snapshot says how many items there may be, and below the root of which types they are, or as which element's (FHIR R4,
-/// StructureDefinition, sdf-3; ElementDefinition, type and contentReference). A definition can't be used that has one without `max`
-/// (`no_max`), without `min` (`no_min`), or without types (`no_types`, `empty_types`), unless that refers to another for its content (`content`).
+/// An element of a snapshot says how many items there may be, and below the root of which types they are, or whose content they have
+/// (FHIR R4, StructureDefinition, sdf-3; ElementDefinition, type and contentReference). One that says so can be used (`whole`, `content`). A
+/// definition can't that has an element without `max` (`no_max`), without `min` (`no_min`), or without types and a reference to another's
+/// content (`no_types`, `empty_types`).
 pub fn whole_elements()
     ensures whole { with_element (many (codes "A.c") coded) ≡ None }
     ensures content { with_element (many (codes "A.c") as_b) ≡ None }
@@ -17,7 +18,7 @@ pub fn whole_elements()
     ensures empty_types { with_element (many (codes "A.c") of_none) ≡ Some WrongField }
 {}
 
-/// The root needs no types (`untyped`), and says how many there may be all the same (`no_max`, `no_min`).
+/// The root needs no types (`untyped`), and says how many items there may be all the same (`no_max`, `no_min`).
 pub fn whole_roots()
     ensures untyped { root_alone (many (codes "A") no_members) ≡ None }
     ensures no_max { root_alone (without_max (codes "A") no_members) ≡ Some WrongField }
