@@ -4,7 +4,7 @@ ghost use Rattle.std.specs.Prelude.{◌≡◌, true, false, codes};
 ghost use Rattle.fhir_json.specs.Tree.{number};
 ghost use Rattle.fhir_facets.specs.Ranges.{range_holds};
 ghost use Rattle.fhir_facets.specs.Unread.{Meaning};
-ghost use Rattle.fhir_facets.specs.Example.{from, to, plain};
+ghost use Rattle.fhir_facets.specs.Example.{from, to};
 ghost use Rattle.judged_examples.specs.Ranges.{positive, unsigned};
 
 /// The values of a positiveInt are whole numbers, which have an order (FHIR R4, ElementDefinition, minValue[x] and maxValue[x]). One
