@@ -15,7 +15,7 @@ use Rattle.fhir_definition.specs.Snapshot.{up_of}
 use Rattle.fhir_inheritance.specs.Keys.{child_id}
 use Rattle.fhir_inheritance.specs.Elements.{find, is_this, parent_of, slice_parent_of, names_under, sliced_names_under, slices_under}
 use Rattle.snapshot_laws.proofs.Among.{In, Each, Differ, in_left, in_right}
-use Rattle.snapshot_laws.proofs.Ups.{IsName, name_read, child_again, up_sliced, up_unsliced, sliced_none}
+use Rattle.snapshot_laws.proofs.Ups.{IsName, name_read, name_lacks, child_again, up_sliced, up_unsliced, sliced_none}
 
 abbrev pub ids : List Element → List Text
 ids es = map (λ e. e.id) es
@@ -174,6 +174,10 @@ slices_differ (x ∷ es) id d = by (is_this id (sliced_of x.id)) refl (slices_di
 pub names_read : (es : List Element) (id : Text) → Each IsName (names_under es id)
 unfolding Child
 names_read es id name h = let c = child_in es id name h in subst IsName c.3 (name_read c.0.id)
+
+pub names_plain : (es : List Element) (id : Text) → Each IsPlain (ids es) → Each IsPlain (names_under es id)
+unfolding Child
+names_plain es id plain name h = let c = child_in es id name h in subst IsPlain c.3 (name_lacks line_feed c.0.id (plain c.0.id c.1))
 
 -- ---- what stands under an id
 

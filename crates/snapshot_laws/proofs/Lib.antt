@@ -1,6 +1,5 @@
 mod Coming
 mod Itself
-mod Own
 mod Said
 mod Named
 mod Standing

@@ -5,6 +5,7 @@ use Rattle.std.specs.List.{filter}
 use Rattle.std.proofs.lemmas.Bool.{false≢true}
 use Rattle.std.proofs.lemmas.Option.{none-some, same_Some}
 use Rattle.fhir_json.specs.Tree.{Text}
+use Rattle.fhir_json.specs.Bytes.{line_feed, dot}
 use Rattle.fhir_names.specs.Parents.{sliced_of}
 use Rattle.fhir_elements.specs.Element.{Element}
 use Rattle.fhir_package.specs.Definitions.{Definitions}
@@ -14,7 +15,7 @@ use Rattle.fhir_inheritance.specs.Node.{Node}
 use Rattle.fhir_inheritance.specs.Inheriting.{asking}
 use Rattle.fhir_snapshot.specs.Order.{IsAt, Lists, under, roots, IsThere}
 use Rattle.snapshot_laws.proofs.Among.{In, Each, Differ, in_left, in_right, in_cases, differ_both}
-use Rattle.snapshot_laws.proofs.Ups.{IsName, up_child, up_sliced, same_child, unsliced_child, none_sliced}
+use Rattle.snapshot_laws.proofs.Ups.{IsName, lacks_both, up_child, up_sliced, same_child, unsliced_child, none_sliced}
 use Rattle.snapshot_laws.proofs.Finding.{ids, IsPlain, map_in}
 use Rattle.snapshot_laws.proofs.Nodes.{IsRight}
 use Rattle.snapshot_laws.proofs.Coming.{OneAnswer}
@@ -41,6 +42,15 @@ under_up id n r x h =
     elim (in_cases x (map (child_id id) n.names) n.slices h) [
       | inl child ↦ let m = map_in (child_id id) n.names x child in ap up_of m.2 ∙ up_child id m.0 (r.names m.0 m.1)
       | inr slice ↦ up_sliced x id (r.slices x slice)
+    ]
+
+pub under_plain : (id : Text) (n : Node) → IsPlain id → Each IsPlain n.names → Each IsPlain n.slices → Each IsPlain (under id n)
+under_plain id n plain names slices x h =
+    elim (in_cases x (map (child_id id) n.names) n.slices h) [
+      | inl child ↦
+          let m = map_in (child_id id) n.names x child in
+          subst IsPlain (sym m.2) (lacks_both line_feed id (dot ∷ m.0) plain (names m.0 m.1))
+      | inr slice ↦ slices x slice
     ]
 
 -- ---- what is listed

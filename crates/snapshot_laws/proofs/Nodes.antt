@@ -48,10 +48,16 @@ pub record IsSound (es : List Element) : Type 0 where
   pub differ : Differ (ids es)
   pub parents : (id up : Text) → In id (ids es) → up_of id ≡ Some up → In up (ids es)
 
+abbrev pub AreSound : Definitions → Type 0
+AreSound p = (url : Text) (s : Source) → source_at p url ≡ Some s → s.written ≡ true → IsSound s.elements
+
 -- the snapshot at which a chain of bases ends is right
 abbrev pub EndsSound : Definitions → Text → Type 0
 EndsSound p url = (bases : List Text) (s : Source) → IsChain p (url ∷ bases) → source_at p (last_of url bases) ≡ Some s → s.written ≡ true
     → IsSound s.elements
+
+pub sound_ends : (p : Definitions) → AreSound p → (url : Text) → EndsSound p url
+sound_ends p sound url bases s chain at is = sound (last_of url bases) s at is
 
 pub ends_below : (p : Definitions) (url base : Text) (s : Source) → ByBase p url s base → EndsSound p url → EndsSound p base
 ends_below p url base s by ends bases t chain at is = ends (base ∷ bases) t ((s, by.at, by.unwritten, by.rests), chain) at is
@@ -206,3 +212,6 @@ module _ (p : Definitions) where
         slices = r.slices;
         slices_differ = r.slices_differ;
       }
+
+  pub node_right : AreSound p → (id url : Text) (n : Node) → IsPlain id → Has (asking p) (key id url) (Some n) → IsRight id n
+  node_right sound id url n plain h = right_where id url n plain (sound_ends p sound url) h

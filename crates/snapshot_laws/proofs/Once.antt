@@ -1,6 +1,10 @@
 -- Which ids stand in a snapshot once, where the snapshot at which the chain of bases ends is right.
-use Rattle.std.proofs.Common.{◌≡◌, ◌<◌, ℕ, zero, suc, List, [], ◌∷◌, ◌++◌, length, true, Option, None, Some, refl, ap, sym, subst, inl, inr, arith}
+use Rattle.std.proofs.Common.{◌≡◌, ◌<◌, ℕ, zero, suc, List, [], ◌∷◌, ◌++◌, length, true, Option, None, Some, refl, ap, sym, ◌∙◌, subst, inl, inr, arith}
+use Rattle.std.proofs.lemmas.Option.{same_Some}
 use Rattle.fhir_json.specs.Tree.{Text}
+use Rattle.fhir_json.specs.Bytes.{line_feed}
+use Rattle.fhir_names.specs.Texts.{cut_at_last}
+use Rattle.fhir_names.proofs.Cuts.{last_found}
 use Rattle.fhir_elements.specs.Element.{Element}
 use Rattle.fhir_package.specs.Definitions.{Definitions}
 use Rattle.fhir_definition.specs.Snapshot.{up_of}
@@ -13,10 +17,10 @@ use Rattle.fhir_snapshot.specs.Order.{IsAt, Lists, under, roots, IsThere, IsUpTh
 use Rattle.snapshot_laws.proofs.Among.{In, Each, Differ, in_left}
 use Rattle.snapshot_laws.proofs.Ups.{shorter}
 use Rattle.snapshot_laws.proofs.Finding.{ids, IsPlain, finds, stands_under}
-use Rattle.snapshot_laws.proofs.Origins.{ByBase, origin}
+use Rattle.snapshot_laws.proofs.Origins.{ByBase, Origin, from_written, from_base, from_whole, from_front, origin}
 use Rattle.snapshot_laws.proofs.Nodes.{key_is, EndsSound, right_where}
 use Rattle.snapshot_laws.proofs.Coming.{OneAnswer}
-use Rattle.snapshot_laws.proofs.Parents.{HavePlainUrls, same_key, url_plain, Q, comes, written_there, base_answer, under_stays}
+use Rattle.snapshot_laws.proofs.Parents.{Q, comes, written_there, base_answer, under_stays}
 use Rattle.snapshot_laws.proofs.Rising.{free_roots}
 use Rattle.snapshot_laws.proofs.Listed.{IsFit, waits_there, listed_differ, listed_plain, listed_all, listed_under, listed_uppers, root_in, in_root, roots_differ}
 
@@ -33,14 +37,25 @@ there_in p url (e ∷ es) x h (inl is) =
     (subst (IsThere p url) (sym is) h.0.0, subst (λ (y : Text). IsUpThere p url (up_of y)) (sym is) h.0.1)
 there_in p url (e ∷ es) x h (inr i) = there_in p url es x h.1 i
 
+-- the url of each definition has no line feed
+abbrev pub HavePlainUrls : Definitions → Type 0
+HavePlainUrls p = (url : Text) (s : Source) → source_at p url ≡ Some s → IsPlain url
+
 module _ (p : Definitions) (urls : HavePlainUrls p) where
   -- ---- an id that is there has no line feed
+
+  url_plain : (id url : Text) (n : Node) → Origin p (Q p) id url n → IsPlain url
+  url_plain id url n (from_written r) = urls url r.source r.at
+  url_plain id url n (from_base r) = urls url r.source r.by_base.at
+  url_plain id url n (from_whole r) = urls url r.source r.by_base.at
+  url_plain id url n (from_front r) = urls url r.source r.by_base.at
 
   id_plain : (id url : Text) (n : Node) → IsPlain url → IsAt p url id n → IsPlain id
   id_plain id url n plain at =
       let o = origin p (Q p) (key id url) n (comes p (key id url) (Some n) at) in
       let k = key_is (key id url) o.0 o.1 o.2 in
-      let same = same_key id url o.0 o.1 plain (url_plain p urls o.0 o.1 n o.3) k.0 in
+      let same = same_Some (id, url) (o.0, o.1)
+      (sym (last_found line_feed id url plain) ∙ ap (cut_at_last line_feed) k.0 ∙ last_found line_feed o.0 o.1 (url_plain o.0 o.1 n o.3)) in
       subst IsPlain (sym (ap (λ (q : Text × Text). q.0) same)) k.1
 
   -- ---- a snapshot that is brought
@@ -68,7 +83,7 @@ module _ (p : Definitions) (urls : HavePlainUrls p) where
 
   module _ (url base : Text) (s : Source) (below : List Element) (based : ByBase p url s base) (below_once : IsOnce p base below)
       (ends : EndsSound p url) where
-    pub fit : (id : Text) (n : Node) → IsPlain id → IsAt p url id n → IsFit p url id n
+    fit : (id : Text) (n : Node) → IsPlain id → IsAt p url id n → IsFit p url id n
     fit id n plain at =
         record {
           right = right_where p id url n plain ends at;
@@ -77,7 +92,7 @@ module _ (p : Definitions) (urls : HavePlainUrls p) where
               id_plain x url there.0 (urls url s based.at) there.1;
         }
 
-    pub roots_plain : Each IsPlain (roots below)
+    roots_plain : Each IsPlain (roots below)
     roots_plain x h = below_once.plain x (root_in below x h).0
 
     laid_differ : (es : List Element) → Lists p url es (roots below) → Differ (ids es)

@@ -5,9 +5,7 @@ use Rattle.std.proofs.lemmas.Bool.{false≢true}
 use Rattle.std.proofs.lemmas.Option.{none-some, same_Some}
 use Rattle.fhir_json.specs.Tree.{Text}
 use Rattle.fhir_json.specs.Bytes.{line_feed, dot}
-use Rattle.fhir_names.specs.Texts.{cut_at_last}
 use Rattle.fhir_names.specs.Parents.{name_of}
-use Rattle.fhir_names.proofs.Cuts.{last_found}
 use Rattle.fhir_elements.specs.Element.{Element}
 use Rattle.fhir_package.specs.Definitions.{Definitions}
 use Rattle.fhir_definition.specs.Snapshot.{up_of}
@@ -16,11 +14,11 @@ use Rattle.fhir_overlay.specs.Overlay.{as_slice}
 use Rattle.fhir_inheritance.specs.Keys.{key, key_parts, child_id, twin_of}
 use Rattle.fhir_inheritance.specs.Node.{Node}
 use Rattle.fhir_inheritance.specs.Elements.{find, slices_under}
-use Rattle.fhir_inheritance.specs.Sources.{Source, source_at, only_type_key, target_key}
+use Rattle.fhir_inheritance.specs.Sources.{Source, source_at}
 use Rattle.fhir_inheritance.specs.Laying.{moved}
 use Rattle.fhir_inheritance.specs.Lists.{with_others}
 use Rattle.fhir_inheritance.specs.Inheriting.{written_node, written, names_in, key_at, child_key, made, new, inherits, in_source, at, asking}
-use Rattle.fhir_snapshot.specs.Order.{IsAt, under}
+use Rattle.fhir_snapshot.specs.Order.{under}
 use Rattle.snapshot_laws.proofs.Coming.{OneAnswer}
 use Rattle.snapshot_laws.proofs.Among.{In, in_left, in_right, in_cases, others_stay, others_there}
 use Rattle.snapshot_laws.proofs.Ups.{IsName, name_read, name_lacks, up_child, same_child, child_again, up_sliced, up_unsliced, sliced_none, none_sliced}
@@ -29,8 +27,7 @@ use Rattle.snapshot_laws.proofs.Asked.{ComesWith, Known, by_answers, comes_of}
 use Rattle.snapshot_laws.proofs.Finding.{IsPlain, found_id, found_in, finds, in_slice, in_map, map_in, stands_under}
 use Rattle.snapshot_laws.proofs.Origins.{ByBase, same_source, not_both, NamesOf, HasMore, IsMadeOf, made_is, FromWritten, FromBase, FromWhole}
 use Rattle.snapshot_laws.proofs.Origins.{FromFront, Origin, from_written, from_base, from_whole, from_front, origin}
-use Rattle.snapshot_laws.proofs.Nodes.{key_is, parts_of, IsRight, EndsSound, ends_below, right_where}
-use Rattle.snapshot_laws.proofs.Own.{own_id}
+use Rattle.snapshot_laws.proofs.Nodes.{key_is, parts_of, AreSound, IsRight, node_right}
 
 -- ---- what stands under a node
 
@@ -54,22 +51,6 @@ name_under up name n named r h =
       | inr slice ↦ absurd (none_sliced (child_id up name) up (unsliced_child up name named) (r.slices (child_id up name) slice))
     ]
 
--- ---- where a definition leads
-
--- the url of each definition has no line feed
-abbrev pub HavePlainUrls : Definitions → Type 0
-HavePlainUrls p = (url : Text) (s : Source) → source_at p url ≡ Some s → IsPlain url
-
--- the chain of bases of each definition to which a type or a content reference leads ends well
-pub record LeadsSound (p : Definitions) : Type 0 where
-  pub types : (url id at other : Text) (n : Node) → IsAt p url id n → only_type_key p n.element.types ≡ Some (key at other) → EndsSound p other
-  pub targets : (url id at other : Text) (n : Node) → IsAt p url id n → target_key p url n.element ≡ Some (key at other) → EndsSound p other
-
--- where urls have no line feeds, two names of elements are one only where ids and urls are
-pub same_key : (id url other more : Text) → IsPlain url → IsPlain more → key id url ≡ key other more → ◌≡◌ {A = Text × Text} (id, url) (other, more)
-same_key id url other more one two e =
-    same_Some (id, url) (other, more) (sym (last_found line_feed id url one) ∙ ap (cut_at_last line_feed) e ∙ last_found line_feed other more two)
-
 module _ (p : Definitions) where
   abbrev pub Any : Text → Option Node → Type 0
   Any name thing = Unit {0}
@@ -79,19 +60,6 @@ module _ (p : Definitions) where
 
   any : (name : Text) (thing : Option Node) → Has (asking p) name thing → Any name thing
   any name thing h = tt
-
-  pub url_plain : HavePlainUrls p → (id url : Text) (n : Node) → Origin p Q id url n → IsPlain url
-  url_plain urls id url n (from_written r) = urls url r.source r.at
-  url_plain urls id url n (from_base r) = urls url r.source r.by_base.at
-  url_plain urls id url n (from_whole r) = urls url r.source r.by_base.at
-  url_plain urls id url n (from_front r) = urls url r.source r.by_base.at
-
-  twin_ends : (url name : Text) → IsPlain url → EndsSound p url → (o : Option Text) → key_at url o ≡ Some name → (at other : Text) → name ≡ key at other
-      → IsPlain other → EndsSound p other
-  twin_ends url name plain ends None e at other is unbroken = absurd (none-some name e)
-  twin_ends url name plain ends (Some twin) e at other is unbroken =
-      subst (λ (q : Text × Text). EndsSound p q.1)
-      (same_key twin url at other plain unbroken (same_Some (key twin url) name e ∙ is)) ends
 
   -- ---- what an id asks for
 
@@ -111,11 +79,6 @@ module _ (p : Definitions) where
 
   pub comes : (name : Text) (thing : Option Node) → Has (asking p) name thing → ComesWith Q (asking p name) thing
   comes = comes_of (asking p) Any any
-
-  url_at : HavePlainUrls p → (name id url : Text) (n : Node) → key_parts name ≡ Some (id, url) → Has (asking p) name (Some n) → IsPlain url
-  url_at urls name id url n parts h =
-      let o = origin p Q name n (comes name (Some n) h) in
-      subst (λ (q : Text × Text). IsPlain q.1) (same_Some (o.0, o.1) (id, url) (sym o.2 ∙ parts)) (url_plain urls o.0 o.1 n o.3)
 
   -- what is in a snapshot that is brought
   written_answer : (id url : Text) (s : Source) (e : Element) (o : Option Node) → IsPlain id → source_at p url ≡ Some s → s.written ≡ true
@@ -199,15 +162,15 @@ module _ (p : Definitions) where
         is_made = subst (λ (u : Source). IsMadeOf p Q url u.elements e names slices n) (same_source p url t s is based.at) m;
       }
 
-  of_origin : (id url base : Text) (s : Source) (n : Node) → IsPlain id → ByBase p url s base → Origin p Q id url n → Made id url s n
-  of_origin id url base s n plain based (from_written r) =
+  of_origin : AreSound p → (id url base : Text) (s : Source) (n : Node) → IsPlain id → ByBase p url s base → Origin p Q id url n → Made id url s n
+  of_origin sound id url base s n plain based (from_written r) =
       absurd (not_both p url base r.source s r.at r.is_written based)
-  of_origin id url base s n plain based (from_base r) =
-      moved_made id url base s r.source r.below.element n based r.by_base.at (own_id p id r.base r.below plain r.has_base.0)
+  of_origin sound id url base s n plain based (from_base r) =
+      moved_made id url base s r.source r.below.element n based r.by_base.at (node_right p sound id r.base r.below plain r.has_base.0).itself
       r.below.names r.below.slices r.is_made
-  of_origin id url base s n plain based (from_whole r) =
+  of_origin sound id url base s n plain based (from_whole r) =
       moved_made id url base s r.source (moved id (as_slice r.sliced.element)) n based r.by_base.at refl [] [] r.is_made
-  of_origin id url base s n plain based (from_front r) =
+  of_origin sound id url base s n plain based (from_front r) =
       moved_made id url base s r.source (moved id r.like.element) n based r.by_base.at refl [] [] r.is_made
 
   pub origin_at : (id url : Text) (n : Node) → IsPlain id → Has (asking p) (key id url) (Some n) → Origin p Q id url n
@@ -216,9 +179,9 @@ module _ (p : Definitions) where
       let same = same_Some (o.0, o.1) (id, url) (sym o.2 ∙ parts_of id url plain) in
       subst (λ (q : Text × Text). Origin p Q q.0 q.1 n) same o.3
 
-  pub made_at : (id url base : Text) (s : Source) (n : Node) → IsPlain id → ByBase p url s base → Has (asking p) (key id url) (Some n)
+  pub made_at : AreSound p → (id url base : Text) (s : Source) (n : Node) → IsPlain id → ByBase p url s base → Has (asking p) (key id url) (Some n)
       → Made id url s n
-  made_at id url base s n plain based h = of_origin id url base s n plain based (origin_at id url n plain h)
+  made_at sound id url base s n plain based h = of_origin sound id url base s n plain based (origin_at id url n plain h)
 
   -- it has the differential's slices of it
   slices_there : (id url : Text) (s : Source) (n : Node) → Made id url s n → (x : Text) → In x (slices_under s.elements id) → In x n.slices
@@ -239,17 +202,17 @@ module _ (p : Definitions) where
   abbrev pub HasUpper : Text → Option Node → Type 0
   HasUpper name None = Unit {0}
   HasUpper name (Some n) =
-      (id url up : Text) → key_parts name ≡ Some (id, url) → EndsSound p url → up_of id ≡ Some up → (o : Option Node) → Has (asking p) (key up url) o
+      (id url up : Text) → key_parts name ≡ Some (id, url) → up_of id ≡ Some up → (o : Option Node) → Has (asking p) (key up url) o
       → IsListedUnder id up o
 
   abbrev S : Text → Option Node → Type 0
   S = Known (asking p) HasUpper
 
-  stands_written : (id url up : Text) (n : Node) (o : Option Node) → IsPlain id → EndsSound p url → FromWritten p S id url n → up_of id ≡ Some up
+  stands_written : AreSound p → (id url up : Text) (n : Node) (o : Option Node) → IsPlain id → FromWritten p S id url n → up_of id ≡ Some up
       → Has (asking p) (key up url) o
       → IsListedUnder id up o
-  stands_written id url up n o plain ends r up_is h =
-      let right = ends [] r.source tt r.at r.is_written in
+  stands_written sound id url up n o plain r up_is h =
+      let right = sound url r.source r.at r.is_written in
       let own = (found_id r.source.elements id r.own r.finds).1 in
       let there = finds r.source.elements up (right.parents id up own up_is) in (
         written_node r.source.elements up there.0,
@@ -257,23 +220,23 @@ module _ (p : Definitions) where
         stands_under r.source.elements id up own up_is,
       )
 
-  stands_base : OneAnswer → (id url up : Text) (n : Node) (o : Option Node) → IsPlain id → EndsSound p url → FromBase p S id url n → up_of id ≡ Some up
+  stands_base : OneAnswer → (id url up : Text) (n : Node) (o : Option Node) → IsPlain id → FromBase p S id url n → up_of id ≡ Some up
       → Has (asking p) (key up url) o
       → IsListedUnder id up o
-  stands_base one id url up n o plain ends r up_is h =
+  stands_base one id url up n o plain r up_is h =
       let plain_up = up_lacks line_feed id up up_is plain in
       let asked = base_asked up url r.base r.source o plain_up r.by_base h in
-      let below = r.has_base.1 id r.base up (parts_of id r.base plain) (ends_below p url r.base r.source r.by_base ends) up_is asked.0 asked.1.0 in
+      let below = r.has_base.1 id r.base up (parts_of id r.base plain) up_is asked.0 asked.1.0 in
       let there = base_answer one up url r.base r.source below.0 o plain_up r.by_base (subst (Has (asking p) (key up r.base)) below.1 asked.1.0) h in
       (there.0, there.1, under_stays up url r.source.elements below.0 there.0 there.2 id below.2)
 
-  stands_whole : OneAnswer → (id url up : Text) (n : Node) (o : Option Node) → IsPlain id → FromWhole p S id url n → up_of id ≡ Some up
+  stands_whole : AreSound p → OneAnswer → (id url up : Text) (n : Node) (o : Option Node) → IsPlain id → FromWhole p S id url n → up_of id ≡ Some up
       → Has (asking p) (key up url) o
       → IsListedUnder id up o
-  stands_whole one id url up n o plain r up_is h =
+  stands_whole sound one id url up n o plain r up_is h =
       let same : r.whole ≡ up = same_Some r.whole up (sym (up_sliced id r.whole r.sliced_is) ∙ up_is) in
       let whole : Has (asking p) (key up url) (Some r.sliced) = subst (λ (x : Text). Has (asking p) (key x url) (Some r.sliced)) same r.has_whole.0 in
-      let made = made_at up url r.base r.source r.sliced (up_lacks line_feed id up up_is plain) r.by_base whole in (
+      let made = made_at sound up url r.base r.source r.sliced (up_lacks line_feed id up up_is plain) r.by_base whole in (
         r.sliced,
         one (asking p) (key up url) o (Some r.sliced) h whole,
         slice_under up id r.sliced (slices_there up url r.source r.sliced made id
@@ -281,11 +244,10 @@ module _ (p : Definitions) where
       )
 
   -- the child of that name is there, where it is among the children of such an element
-  name_there : HavePlainUrls p → (name other from : Text) (like : Node) (names : List Text) → IsName name → IsPlain name → child_key name other ≡ Some from
-      → ((at url : Text) → other ≡ key at url → IsPlain url → EndsSound p url)
+  name_there : AreSound p → (name other from : Text) (like : Node) (names : List Text) → IsName name → IsPlain name → child_key name other ≡ Some from
       → S from (Some like)
       → NamesOf p Q (Some other) names → In name names
-  name_there urls name other from like names named unbroken child ends stands h = by (key_parts other) refl child
+  name_there sound name other from like names named unbroken child stands h = by (key_parts other) refl child
     where
       by : (o : Option (Text × Text)) → key_parts other ≡ o → option_map (λ at. key (child_id at.0 name) at.1) o ≡ Some from → In name names
       by None is e = absurd (none-some from e)
@@ -295,33 +257,24 @@ module _ (p : Definitions) where
           let parts : key_parts from ≡ Some (child_id q.0 name, q.1) =
           ap key_parts (sym (same_Some (key (child_id q.0 name) q.1) from e)) ∙ parts_of (child_id q.0 name) q.1 plain in
           let answer : Has (asking p) (key q.0 q.1) h.0 = subst (λ (x : Text). Has (asking p) x h.0) k.0 h.1.0 in
-          let sound = ends q.0 q.1 k.0 (url_at urls from (child_id q.0 name) q.1 like parts stands.0) in
-          let there = stands.1 (child_id q.0 name) q.1 q.0 parts sound (up_child q.0 name named) h.0 answer in
-          let right = right_where p q.0 q.1 there.0 k.1 sound (subst (Has (asking p) (key q.0 q.1)) there.1 answer) in
+          let there = stands.1 (child_id q.0 name) q.1 q.0 parts (up_child q.0 name named) h.0 answer in
+          let right = node_right p sound q.0 q.1 there.0 k.1 (subst (Has (asking p) (key q.0 q.1)) there.1 answer) in
           subst (In name) (sym (h.2 ∙ ap names_in there.1)) (name_under q.0 name there.0 named right there.2)
 
-  stands_front : HavePlainUrls p → LeadsSound p → OneAnswer → (id url up : Text) (n : Node) (o : Option Node) → IsPlain id → EndsSound p url → FromFront p S id url n → up_of id ≡ Some up
+  stands_front : AreSound p → OneAnswer → (id url up : Text) (n : Node) (o : Option Node) → IsPlain id → FromFront p S id url n → up_of id ≡ Some up
       → Has (asking p) (key up url) o
       → IsListedUnder id up o
-  stands_front urls leads one id url up n o plain ends r up_is h =
+  stands_front sound one id url up n o plain r up_is h =
       let none = sliced_none id r.unsliced in
       let same : r.front ≡ up = same_Some r.front up (sym r.front_is ∙ sym (up_unsliced id none) ∙ up_is) in
       let plain_front : IsPlain r.front = up_lacks line_feed id r.front (up_is ∙ ap Some (sym same)) plain in
       let named = name_read id in
-      let made = made_at r.front url r.base r.source r.parent plain_front r.by_base r.has_front.0 in
+      let made = made_at sound r.front url r.base r.source r.parent plain_front r.by_base r.has_front.0 in
       let more = more_there r.front url r.source r.parent made r.is_touched in
-      let own : r.parent.element.id ≡ r.front = own_id p r.front url r.parent plain_front r.has_front.0 in
+      let own : r.parent.element.id ≡ r.front = (node_right p sound r.front url r.parent plain_front r.has_front.0).itself in
       let all = more.1 in
-      let sound : (at other : Text) → r.other ≡ key at other → IsPlain other → EndsSound p other =
-      λ at other is unbroken. elim r.leads [
-        | inl twin ↦ twin_ends url r.other (urls url r.source r.by_base.at) ends (twin_of r.front) twin at other is unbroken
-        | inr rest ↦ elim rest [
-          | inl kind ↦ leads.types url r.front at other r.parent r.has_front.0 (kind ∙ ap Some is)
-          | inr target ↦ leads.targets url r.front at other r.parent r.has_front.0 (target ∙ ap Some is)
-        ]
-      ] in
       let inside : (names : List Text) → NamesOf p Q (Some r.other) names → In (name_of id) names =
-      λ names. name_there urls (name_of id) r.other r.from r.like names named (name_lacks line_feed id plain) r.child_is sound r.has_from in
+      λ names. name_there sound (name_of id) r.other r.from r.like names named (name_lacks line_feed id plain) r.child_is r.has_from in
       let there : In (name_of id) r.parent.names =
       subst (In (name_of id)) (sym all.names_are)
       (elim r.leads [
@@ -347,24 +300,24 @@ module _ (p : Definitions) where
             (sym (child_again id up none (r.front_is ∙ ap Some same))) (in_map (child_id up) r.parent.names (name_of id) there)),
       )
 
-  stands_by : HavePlainUrls p → LeadsSound p → OneAnswer → (id url up : Text) (n : Node) (o : Option Node) → IsPlain id → EndsSound p url → Origin p S id url n → up_of id ≡ Some up
+  stands_by : AreSound p → OneAnswer → (id url up : Text) (n : Node) (o : Option Node) → IsPlain id → Origin p S id url n → up_of id ≡ Some up
       → Has (asking p) (key up url) o
       → IsListedUnder id up o
-  stands_by urls leads one id url up n o plain ends (from_written r) = stands_written id url up n o plain ends r
-  stands_by urls leads one id url up n o plain ends (from_base r) = stands_base one id url up n o plain ends r
-  stands_by urls leads one id url up n o plain ends (from_whole r) = stands_whole one id url up n o plain r
-  stands_by urls leads one id url up n o plain ends (from_front r) = stands_front urls leads one id url up n o plain ends r
+  stands_by sound one id url up n o plain (from_written r) = stands_written sound id url up n o plain r
+  stands_by sound one id url up n o plain (from_base r) = stands_base one id url up n o plain r
+  stands_by sound one id url up n o plain (from_whole r) = stands_whole sound one id url up n o plain r
+  stands_by sound one id url up n o plain (from_front r) = stands_front sound one id url up n o plain r
 
-  stands_step : HavePlainUrls p → LeadsSound p → OneAnswer → (name : Text) (thing : Option Node) → ComesWith S (asking p name) thing → HasUpper name thing
-  stands_step urls leads one name None h = tt
-  stands_step urls leads one name (Some n) h = λ id url up parts ends up_is o answer.
+  stands_step : AreSound p → OneAnswer → (name : Text) (thing : Option Node) → ComesWith S (asking p name) thing → HasUpper name thing
+  stands_step sound one name None h = tt
+  stands_step sound one name (Some n) h = λ id url up parts up_is o answer.
       let from = origin p S name n h in
       let same = same_Some (from.0, from.1) (id, url) (sym from.2 ∙ parts) in
-      stands_by urls leads one id url up n o (key_is name id url parts).1 ends (subst (λ (q : Text × Text). Origin p S q.0 q.1 n) same from.3) up_is answer
+      stands_by sound one id url up n o (key_is name id url parts).1 (subst (λ (q : Text × Text). Origin p S q.0 q.1 n) same from.3) up_is answer
 
   -- where one stands under an id, that id's node is there, and it stands under it
-  pub stands : HavePlainUrls p → LeadsSound p → OneAnswer → (id url up : Text) (n : Node) (o : Option Node) → IsPlain id → EndsSound p url → Has (asking p) (key id url) (Some n)
+  pub stands : AreSound p → OneAnswer → (id url up : Text) (n : Node) (o : Option Node) → IsPlain id → Has (asking p) (key id url) (Some n)
       → up_of id ≡ Some up
       → Has (asking p) (key up url) o → IsListedUnder id up o
-  stands urls leads one id url up n o plain ends h up_is answer =
-      by_answers (asking p) HasUpper (stands_step urls leads one) (key id url) (Some n) h id url up (parts_of id url plain) ends up_is o answer
+  stands sound one id url up n o plain h up_is answer =
+      by_answers (asking p) HasUpper (stands_step sound one) (key id url) (Some n) h id url up (parts_of id url plain) up_is o answer

@@ -21,7 +21,7 @@ use Rattle.snapshot_laws.proofs.Coming.{OneAnswer}
 use Rattle.snapshot_laws.proofs.Among.{In, among_in, in_among, others_stay, others_there}
 use Rattle.snapshot_laws.proofs.Finding.{ids, IsPlain, parent_from, in_child, in_sliced}
 use Rattle.snapshot_laws.proofs.Origins.{ByBase, same_source, not_both, NamesOf, HasMore, IsMadeOf, Origin, from_written, from_base, from_whole, from_front}
-use Rattle.snapshot_laws.proofs.Own.{own_id}
+use Rattle.snapshot_laws.proofs.Itself.{own_id}
 use Rattle.snapshot_laws.proofs.Parents.{Q, origin_at}
 
 -- ---- a name that is new

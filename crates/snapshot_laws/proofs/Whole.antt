@@ -13,15 +13,14 @@ use Rattle.fhir_inheritance.specs.Sources.{Source, source_of, source_at, brings_
 use Rattle.fhir_snapshot.specs.Order.{IsLaid}
 use Rattle.fhir_snapshot.specs.Chains.{Rests}
 use Rattle.fhir_snapshot.specs.Snapshots.{brings_elements, IsMade, SnapshotIn, IsSnapshot}
-use Rattle.snapshot_laws.specs.Snapshots.{Stands, IsWhole, LeadsWhole, UrlsArePlain, EndsWhole, last_of}
+use Rattle.snapshot_laws.specs.Snapshots.{Stands, IsWhole, AreWhole, UrlsArePlain, EndsWhole, RestsWhole, last_of}
 use Rattle.snapshot_laws.proofs.Among.{In, Each, among_in, in_among}
 use Rattle.snapshot_laws.proofs.Finding.{ids, IsPlain}
 use Rattle.snapshot_laws.proofs.Origins.{ByBase, same_source}
-use Rattle.snapshot_laws.proofs.Nodes.{IsSound, EndsSound, ends_below}
+use Rattle.snapshot_laws.proofs.Nodes.{IsSound, AreSound, EndsSound, ends_below}
 use Rattle.snapshot_laws.proofs.Coming.{OneAnswer}
-use Rattle.snapshot_laws.proofs.Parents.{HavePlainUrls, LeadsSound}
 use Rattle.snapshot_laws.proofs.Placed.{differ_if, if_differ, tree_parents, brought_plain}
-use Rattle.snapshot_laws.proofs.Once.{IsOnce, there_in, once_written, once_laid, below_listed}
+use Rattle.snapshot_laws.proofs.Once.{HavePlainUrls, IsOnce, there_in, once_written, once_laid, below_listed}
 use Rattle.snapshot_laws.proofs.There.{IsGood, good_written, good_laid}
 
 -- ---- the sources
@@ -55,6 +54,9 @@ brought P p url s at is holds = by (at_url StructureDefinition url p) refl at
         let brings : brings_snapshot t ≡ true = ap (λ (u : Source). u.written) same ∙ is in
         subst P (sym (written_elements p t brings) ∙ ap (λ (u : Source). u.elements) same) (holds t found brings)
 
+pub whole_sources : (p : Definitions) → AreWhole p → AreSound p
+whole_sources p whole url s at is = brought IsSound p url s at is (λ t found brings. whole_sound t (whole url t found brings))
+
 plain_urls : (p : Definitions) → UrlsArePlain p → HavePlainUrls p
 plain_urls p urls url s at = by (at_url StructureDefinition url p) refl at
   where
@@ -64,13 +66,6 @@ plain_urls p urls url s at = by (at_url StructureDefinition url p) refl at
 
 ends_whole : (p : Definitions) (url : Text) → EndsWhole p url → EndsSound p url
 ends_whole p url ends bases s chain at is = brought IsSound p (last_of url bases) s at is (λ t found brings. whole_sound t (ends bases t chain found brings))
-
-leads_whole : (p : Definitions) → LeadsWhole p → LeadsSound p
-leads_whole p leads =
-    record {
-      types = λ url id at other n there is. ends_whole p other (leads.types url id at other n there is);
-      targets = λ url id at other n there is. ends_whole p other (leads.targets url id at other n there is);
-    }
 
 -- ---- the two kinds of snapshots
 
@@ -128,8 +123,8 @@ once_in p urls (suc bound) url es ends h = by (kinds bound p url es h) (once_in 
         once_laid p urls url l.base l.source l.below l.by_base
         (rest l.base l.below (ends_below p url l.base l.source l.by_base ends) l.below_is) ends es l.is_laid.2
 
-pub each_once : (p : Definitions) (url : Text) (es : List Element) → UrlsArePlain p → EndsWhole p url → IsSnapshot p url es → ids_differ es ≡ true
-each_once p url es plain ends h = if_differ es (once_in p (plain_urls p plain) h.0 url es (ends_whole p url ends) h.1).differ
+once_by_end : (p : Definitions) (url : Text) (es : List Element) → UrlsArePlain p → EndsWhole p url → IsSnapshot p url es → ids_differ es ≡ true
+once_by_end p url es plain ends h = if_differ es (once_in p (plain_urls p plain) h.0 url es (ends_whole p url ends) h.1).differ
 
 module _ (one : OneAnswer) (p : Definitions) where
   -- the differential of a definition that brings no snapshot
@@ -142,38 +137,65 @@ module _ (one : OneAnswer) (p : Definitions) where
         | inr l ↦ (l, same_source p url l.source s l.by_base.at at)
       ]
 
-  from_base : OneSnapshot → HavePlainUrls p → (bound : ℕ) (url base id : Text) (below es : List Element) → EndsSound p url → Rests p url base
-      → IsSnapshot p base below → SnapshotIn bound p url es → In id (ids below) → In id (ids es)
-  from_base same urls zero url base id below es ends rests under h i = absurd h
-  from_base same urls (suc bound) url base id below es ends rests under h i =
+  -- the base's snapshot is what it is laid over
+  over_base : OneSnapshot → (bound : ℕ) (url base : Text) (below es : List Element) → Rests p url base → IsSnapshot p base below
+      → SnapshotIn (suc bound) p url es → (l : IsLaidOver bound p url es) × (below ≡ l.below)
+  over_base same bound url base below es rests under h =
       let l = (laid_over bound url rests.0 es rests.1 rests.2 h).0 in
       let is = (laid_over bound url rests.0 es rests.1 rests.2 h).1 in
       let own : l.base ≡ base = same_Some l.base base (sym l.by_base.rests ∙ ap (λ (u : Source). u.base) is ∙ rests.3) in
       let based : SnapshotIn bound p base l.below = subst (λ (b : Text). SnapshotIn bound p b l.below) own l.below_is in
-      let elements : below ≡ l.below = same p base below l.below under (bound, based) in
+      (l, same p base below l.below under (bound, based))
+
+  from_base : OneSnapshot → HavePlainUrls p → (bound : ℕ) (url base id : Text) (below es : List Element) → EndsSound p url → Rests p url base
+      → IsSnapshot p base below → SnapshotIn bound p url es → In id (ids below) → In id (ids es)
+  from_base same urls zero url base id below es ends rests under h i = absurd h
+  from_base same urls (suc bound) url base id below es ends rests under h i =
+      let over = over_base same bound url base below es rests under h in
+      let l = over.0 in
       let once = once_in p urls bound l.base l.below (ends_below p url l.base l.source l.by_base ends) l.below_is in
       below_listed p urls url l.base l.source l.below l.by_base once ends one es l.is_laid.2 l.is_laid.0 id
-      (subst (λ (b : List Element). In id (ids b)) elements i)
+      (subst (λ (b : List Element). In id (ids b)) over.1 i)
 
-  pub of_base : OneSnapshot → (url base id : Text) (below es : List Element) → UrlsArePlain p → EndsWhole p url → Rests p url base
+  of_base_by_end : OneSnapshot → (url base id : Text) (below es : List Element) → UrlsArePlain p → EndsWhole p url → Rests p url base
       → IsSnapshot p base below → IsSnapshot p url es → Stands id below → Stands id es
-  of_base same url base id below es plain ends rests under h i =
+  of_base_by_end same url base id below es plain ends rests under h i =
       in_among (ids es) id
       (from_base same (plain_urls p plain) h.0 url base id below es (ends_whole p url ends) rests under h.1 (among_in (ids below) id i))
 
-  -- ---- where types and content references lead to what is whole
+  -- ---- where all snapshots that are brought are whole
 
-  module _ (urls : HavePlainUrls p) (leads : LeadsSound p) where
-    good_in : (bound : ℕ) (url : Text) (es : List Element) → EndsSound p url → SnapshotIn bound p url es → IsGood p url es
-    good_in zero url es ends h = absurd h
-    good_in (suc bound) url es ends h = by (kinds bound p url es h) (good_in bound)
+  module _ (whole : AreWhole p) where
+    good_in : (bound : ℕ) (url : Text) (es : List Element) → SnapshotIn bound p url es → IsGood p url es
+    good_in zero url es h = absurd h
+    good_in (suc bound) url es h = by (kinds bound p url es h) (good_in bound)
       where
         by : IsBrought p url es ⊎ IsLaidOver bound p url es
-            → ((base : Text) (below : List Element) → EndsSound p base → SnapshotIn bound p base below → IsGood p base below) → IsGood p url es
-        by (inl b) rest = subst (IsGood p url) (sym b.elements_are) (good_written p urls leads url b.source b.at b.is_written ends)
+            → ((base : Text) (below : List Element) → SnapshotIn bound p base below → IsGood p base below) → IsGood p url es
+        by (inl b) rest = subst (IsGood p url) (sym b.elements_are) (good_written p (whole_sources p whole) url b.source b.at b.is_written)
         by (inr l) rest =
-            good_laid p urls leads url l.base l.source l.below l.by_base
-            (rest l.base l.below (ends_below p url l.base l.source l.by_base ends) l.below_is) ends one es l.is_laid
+            good_laid p (whole_sources p whole) url l.base l.source l.below l.by_base (rest l.base l.below l.below_is) l.plain one es l.is_laid
+
+    good : (url : Text) (es : List Element) → IsSnapshot p url es → IsGood p url es
+    good url es h = good_in h.0 url es h.1
+
+    whole_once : (url : Text) (es : List Element) → IsSnapshot p url es → ids_differ es ≡ true
+    whole_once url es h = if_differ es (good url es h).differ
+
+    from_whole_base : OneSnapshot → (bound : ℕ) (url base id : Text) (below es : List Element) → Rests p url base → IsSnapshot p base below
+        → SnapshotIn bound p url es → IsGood p url es → In id (ids below) → In id (ids es)
+    from_whole_base same zero url base id below es rests under h g i = absurd h
+    from_whole_base same (suc bound) url base id below es rests under h g i =
+        let over = over_base same bound url base below es rests under h in
+        let l = over.0 in
+        let listed : In id (ids l.below) = subst (λ (b : List Element). In id (ids b)) over.1 i in
+        let there = (there_in p url l.below id l.is_laid.0 listed).0 in
+        g.listed id there.0 ((good_in bound l.base l.below l.below_is).plain id listed) there.1
+
+    of_whole_base : OneSnapshot → (url base id : Text) (below es : List Element) → Rests p url base → IsSnapshot p base below → IsSnapshot p url es
+        → Stands id below → Stands id es
+    of_whole_base same url base id below es rests under h i =
+        in_among (ids es) id (from_whole_base same h.0 url base id below es rests under h.1 (good url es h) (among_in (ids below) id i))
 
     from_differential : (bound : ℕ) (url id : Text) (s : Source) (es : List Element) → source_at p url ≡ Some s → s.written ≡ false
         → SnapshotIn bound p url es
@@ -185,11 +207,18 @@ module _ (one : OneAnswer) (p : Definitions) where
         let there = (there_in p url l.0.source.elements id l.0.is_laid.1 own).0 in
         g.listed id there.0 (l.0.plain id own) there.1
 
-  pub of_differential : (url id : Text) (s : Source) (es : List Element) → UrlsArePlain p → LeadsWhole p → EndsWhole p url
-      → source_at p url ≡ Some s → s.written ≡ false → IsSnapshot p url es → Stands id s.elements → Stands id es
-  of_differential url id s es plain leads ends at isnt h i =
-      let urls = plain_urls p plain in
-      let sound = leads_whole p leads in
-      in_among (ids es) id
-      (from_differential urls sound h.0 url id s es at isnt h.1 (good_in urls sound h.0 url es (ends_whole p url ends) h.1)
-      (among_in (ids s.elements) id i))
+    pub of_differential : (url id : Text) (s : Source) (es : List Element) → source_at p url ≡ Some s → s.written ≡ false → IsSnapshot p url es
+        → Stands id s.elements → Stands id es
+    of_differential url id s es at isnt h i =
+        in_among (ids es) id (from_differential h.0 url id s es at isnt h.1 (good url es h) (among_in (ids s.elements) id i))
+
+  -- ---- where those on which one rests are whole
+
+  pub each_once : (url : Text) (es : List Element) → RestsWhole p url → IsSnapshot p url es → ids_differ es ≡ true
+  each_once url es (inl whole) h = whole_once whole url es h
+  each_once url es (inr ends) h = once_by_end p url es ends.0 ends.1 h
+
+  pub of_base : OneSnapshot → (url base id : Text) (below es : List Element) → RestsWhole p url → Rests p url base → IsSnapshot p base below
+      → IsSnapshot p url es → Stands id below → Stands id es
+  of_base same url base id below es (inl whole) rests under h i = of_whole_base whole same url base id below es rests under h i
+  of_base same url base id below es (inr ends) rests under h i = of_base_by_end same url base id below es ends.0 ends.1 rests under h i

@@ -1,5 +1,5 @@
 -- Which elements a snapshot has (FHIR R4, Profiling, snapshots; ElementDefinition, id).
-use Rattle.std.specs.Prelude.{◌≡◌, List, [], ◌∷◌, map, true, false, Some, codes}
+use Rattle.std.specs.Prelude.{◌≡◌, ◌⊎◌, List, [], ◌∷◌, map, true, false, Some, codes}
 use Rattle.fhir_json.specs.Tree.{Text, Tree}
 use Rattle.fhir_json.specs.Bytes.{line_feed}
 use Rattle.fhir_names.specs.Texts.{lacks}
@@ -8,10 +8,9 @@ use Rattle.fhir_elements.specs.Element.{Element}
 use Rattle.fhir_package.specs.declared.kind.Kind.TheVariants.{StructureDefinition}
 use Rattle.fhir_package.specs.Definitions.{Definitions, at_url}
 use Rattle.fhir_definition.specs.Snapshot.{ids_differ, is_tree}
-use Rattle.fhir_inheritance.specs.Keys.{key}
 use Rattle.fhir_inheritance.specs.Lists.{is_among}
 use Rattle.fhir_inheritance.specs.Node.{Node}
-use Rattle.fhir_inheritance.specs.Sources.{Source, source_at, brings_snapshot, elements_in, only_type_key, target_key}
+use Rattle.fhir_inheritance.specs.Sources.{Source, source_at, brings_snapshot, elements_in}
 use Rattle.fhir_snapshot.specs.Chains.{IsChain}
 use Rattle.fhir_snapshot.specs.Order.{IsAt}
 use Rattle.fhir_snapshot.specs.Snapshots.{brings_elements}
@@ -25,6 +24,10 @@ pub record IsWhole (t : Tree) : Type 0 where
   pub elements : brings_elements (codes "snapshot") t ≡ true
   pub differ : ids_differ (elements_in (codes "snapshot") t) ≡ true
   pub tree : is_tree (elements_in (codes "snapshot") t) ≡ true
+
+-- each snapshot that is brought is whole
+abbrev pub AreWhole : Definitions → Type 0
+AreWhole p = (url : Text) (t : Tree) → at_url StructureDefinition url p ≡ Some t → brings_snapshot t ≡ true → IsWhole t
 
 -- the url of each definition has no line feed, as no uri has (FHIR R4, Data Types, uri)
 abbrev pub UrlsArePlain : Definitions → Type 0
@@ -40,10 +43,9 @@ abbrev pub EndsWhole : Definitions → Text → Type 0
 EndsWhole p url = (bases : List Text) (t : Tree) → IsChain p (url ∷ bases) → at_url StructureDefinition (last_of url bases) p ≡ Some t
     → brings_snapshot t ≡ true → IsWhole t
 
--- Each definition to which an element's only type or its content reference leads has a chain that ends at a whole snapshot.
-pub record LeadsWhole (p : Definitions) : Type 0 where
-  pub types : (url id at other : Text) (n : Node) → IsAt p url id n → only_type_key p n.element.types ≡ Some (key at other) → EndsWhole p other
-  pub targets : (url id at other : Text) (n : Node) → IsAt p url id n → target_key p url n.element ≡ Some (key at other) → EndsWhole p other
+-- the snapshots on which a definition's rests are whole: all that are brought; or that at the end of its chain, where no url has a line feed
+abbrev pub RestsWhole : Definitions → Text → Type 0
+RestsWhole p url = AreWhole p ⊎ (UrlsArePlain p × EndsWhole p url)
 
 -- The differential of a definition has a child of an id, or a slice of one, whose name no child of that id has in the base.
 pub record BringsChild (p : Definitions) (url up : Text) : Type 0 where

@@ -1,8 +1,7 @@
 use Rattle.std.proofs.Common.{ap, ◌∙◌}
 use Rattle.fhir_inheritance.specs.Elements.{find}
 use Rattle.fhir_inheritance.specs.Laying.{all_slices}
-use Rattle.snapshot_laws.proofs.Itself.{laid_at, made_of_base}
-use Rattle.snapshot_laws.proofs.Own.{own_id}
+use Rattle.snapshot_laws.proofs.Itself.{own_id, laid_at, made_of_base}
 use Rattle.snapshot_laws.proofs.Said.{holds, inherits_so}
 use Rattle.snapshot_laws.proofs.differentials.differentials_hold.Goals as goal
 

@@ -1,8 +1,7 @@
 use Rattle.std.proofs.Common.{ap, ◌∙◌}
 use Rattle.fhir_inheritance.specs.Elements.{find, slices_under}
 use Rattle.fhir_inheritance.specs.Laying.{all_slices}
-use Rattle.snapshot_laws.proofs.Itself.{made_of_base}
-use Rattle.snapshot_laws.proofs.Own.{own_id}
+use Rattle.snapshot_laws.proofs.Itself.{own_id, made_of_base}
 use Rattle.snapshot_laws.proofs.Said.{slicing_stays, others_added}
 use Rattle.snapshot_laws.proofs.differentials.slicings_stay.Goals as goal
 

@@ -2,7 +2,7 @@ use Rattle.std.proofs.Common.{ap, ◌∙◌}
 use Rattle.fhir_inheritance.specs.Elements.{find}
 use Rattle.fhir_inheritance.specs.Laying.{all_slices}
 use Rattle.fhir_inheritance.specs.Inheriting.{asking}
-use Rattle.snapshot_laws.proofs.Own.{own_id}
+use Rattle.snapshot_laws.proofs.Itself.{own_id}
 use Rattle.snapshot_laws.proofs.Coming.{base_element, laid_constraints, laid_untouched}
 use Rattle.snapshot_laws.proofs.snapshots.base_elements_stay.Goals as goal
 
