@@ -10,6 +10,7 @@ use Rattle.std.specs.FinSet as set
 use Rattle.std.specs.declared.cmp.Ordering.{Ordering}
 use Rattle.std.specs.declared.cmp.Ordering.TheVariants.{Less, Equal, Greater}
 use Rattle.std.proofs.lemmas.Cmp.{tied_itself, then_total, on_total, nat_list_cmp_total}
+use Rattle.std.proofs.lemmas.List.Folds.{list_all-map}
 use Rattle.std.proofs.lemmas.Map.Lookups.{exact_pairs, exact_bytes}
 use Rattle.std.proofs.lemmas.Bool.{or_cases, or_left, or_right, false≢true}
 use Rattle.std.proofs.lemmas.Slice.Eq.{bytes_eq-Decides}
@@ -81,10 +82,6 @@ any-map : {A B : Type 0} (test : B → Bool) (f : A → B) (xs : List A) → lis
 any-map test f [] = refl
 any-map test f (x ∷ xs) = λ i. test (f x) || any-map test f xs i
 
-all-map : {A B : Type 0} (test : B → Bool) (f : A → B) (xs : List A) → list_all test (map f xs) ≡ list_all (λ x. test (f x)) xs
-all-map test f [] = refl
-all-map test f (x ∷ xs) = λ i. test (f x) && all-map test f xs i
-
 abbrev pub OfUnion : Type 0
 OfUnion = (ss : List Concepts) (c : Concept) → set.contains (union_of ss) c ≡ list_any (λ s. set.contains s c) ss
 
@@ -109,4 +106,4 @@ module _ (p : Definitions) (known : Text → Option Concepts) (t : Tree) (c : Co
   of_one_system of_common of_all system is =
       ap (λ (o : Option Text). set.contains (common (option_map_or (λ system. of_system system (codes_taken p t system) ∷ []) o [] ++ map (of_set p known) (sets_named t))) c) is
       ∙ of_common (of_system system (codes_taken p t system)) (map (of_set p known) (sets_named t)) c
-      ∙ (λ j. of_all system (codes_taken p t system) c j && all-map (λ s. set.contains s c) (of_set p known) (sets_named t) j)
+      ∙ (λ j. of_all system (codes_taken p t system) c j && list_all-map (λ s. set.contains s c) (of_set p known) (sets_named t) j)
