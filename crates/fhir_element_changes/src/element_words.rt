@@ -4,8 +4,8 @@ ghost use Rattle.std.specs.Prelude.{◌≡◌};
 ghost use Rattle.fhir_element_changes.specs.Tables.{aspect_word};
 
 use crate::constraints::{are_alike, constraints_text};
-use crate::element_texts::{
-    cardinality_text, length_text, member_text, node_types_text, range_text,
+use fhir_element_texts::{
+    cardinality_text, length_text, member_text, members_text, node_types_text,
 };
 use fhir_elements::{
     BindingDef, ConstraintDef, DiscriminatorDef, DiscriminatorType, ElementDef, SlicingDef,
@@ -176,7 +176,7 @@ fn element_text(alloc: Global, aspect: Aspect, element: &ElementDef) -> Result<S
         Aspect::Fixed => member_text(alloc, element.fixed()),
         Aspect::Pattern => member_text(alloc, element.pattern()),
         Aspect::Binding => Ok(binding_text(alloc, element.binding())?),
-        Aspect::Bounds => range_text(alloc, element),
+        Aspect::Bounds => members_text(alloc, element.min_value(), element.max_value()),
         Aspect::Length => Ok(length_text(alloc, element)?),
         Aspect::Slicing => Ok(slicing_text(alloc, element.slicing())?),
         Aspect::Cardinality | Aspect::Types | Aspect::Constraints => {

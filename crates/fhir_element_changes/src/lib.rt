@@ -13,7 +13,6 @@
 
 mod changes;
 mod constraints;
-mod element_texts;
 mod element_words;
 mod tables;
 

@@ -7,9 +7,10 @@ ghost use Rattle.fhir_cert_check.specs.Texts.{pair_text};
 ghost use Rattle.fhir_report.specs.Report.{IsOfCertificate};
 
 use crate::failing::no_text;
-use crate::narrowing::{json_text, rule_words};
+use crate::narrowing::rule_words;
 use fhir_cert_check::Rule;
 use fhir_certificate::{Flaw, FlawKind, LinePart, Pair};
+use fhir_element_texts::json_text;
 use fhir_json::{Json, NoMemory};
 use fhir_lines::{FaultNumber, Line};
 use fhir_schema::Schema;

@@ -7,8 +7,11 @@ ghost use Rattle.fhir_cert_check.specs.Views.{rule_name};
 
 use fhir_cert_check::Rule;
 use fhir_certificate::{NodePair, Pair};
-use fhir_elements::{ElementDef, Max, TypeEntry};
-use fhir_json::{Json, Member, NoMemory, write};
+use fhir_element_texts::{
+    cardinality_text, length_text, member_text, members_text, node_types_text,
+};
+use fhir_elements::ElementDef;
+use fhir_json::NoMemory;
 use fhir_schema::{NodeRef, Schema, Slot};
 use std::alloc::{AllocError, Global};
 
@@ -39,114 +42,16 @@ fn element_at(schema: &Schema, node: Option<NodeRef>) -> Option<&ElementDef> {
     schema.element(node?)
 }
 
-// ---- what an element says
-
-fn most_text(alloc: Global, most: Option<Max>) -> Result<String, AllocError> {
-    match most {
-        Some(Max::UpTo(most)) => format!(in alloc; "{most}"),
-        Some(Max::Unbounded) | None => String::from_str(alloc, "*"),
-    }
-}
-
-fn cardinality_text(alloc: Global, element: Option<&ElementDef>) -> Result<String, AllocError> {
-    let Some(element) = element else {
-        return String::from_str(alloc, "nothing");
-    };
-    let least = element.min().unwrap_or(0);
-    let most = most_text(alloc, element.max())?;
-    format!(in alloc; "{least}..{most}")
-}
-
-/// The text of a value.
-pub(crate) fn json_text(alloc: Global, value: &Json<'_>) -> Result<String, NoMemory> {
-    let bytes = write(alloc, value)?;
-    Ok(String::from_utf8_lossy(alloc, &bytes)?)
-}
-
-// A value under its whole name.
-fn put_member(
-    alloc: Global,
-    text: &mut String,
-    member: Option<&Member<'static>>,
-) -> Result<(), NoMemory> {
-    let Some(member) = member else {
-        return Ok(());
-    };
-    if !text.is_empty() {
-        text.push_str(", ")?;
-    }
-    text.push_str(member.name.as_str())?;
-    text.push_str(" ")?;
-    Ok(text.push_str(json_text(alloc, &member.value)?.as_str())?)
-}
-
-fn or_nothing(mut text: String) -> Result<String, NoMemory> {
-    if text.is_empty() {
-        text.push_str("nothing")?;
-    }
-    Ok(text)
-}
-
-fn fixed_text(alloc: Global, element: &ElementDef) -> Result<String, NoMemory> {
-    let mut text = String::new(alloc);
-    put_member(alloc, &mut text, element.fixed())?;
-    or_nothing(text)
-}
-
-fn pattern_text(alloc: Global, element: &ElementDef) -> Result<String, NoMemory> {
-    let mut text = String::new(alloc);
-    put_member(alloc, &mut text, element.fixed())?;
-    put_member(alloc, &mut text, element.pattern())?;
-    or_nothing(text)
-}
-
-fn range_text(alloc: Global, element: &ElementDef) -> Result<String, NoMemory> {
-    let mut text = String::new(alloc);
-    put_member(alloc, &mut text, element.min_value())?;
-    put_member(alloc, &mut text, element.max_value())?;
-    or_nothing(text)
-}
-
-fn length_text(alloc: Global, element: &ElementDef) -> Result<String, AllocError> {
-    match element.max_length() {
-        Some(length) => format!(in alloc; "{length}"),
-        None => String::from_str(alloc, "any length"),
+// How many there may be of an element, if there is one.
+fn cardinality_if(alloc: Global, element: Option<&ElementDef>) -> Result<String, AllocError> {
+    match element {
+        Some(element) => cardinality_text(alloc, element),
+        None => String::from_str(alloc, "nothing"),
     }
 }
 
 fn binding_text(alloc: Global, element: &ElementDef) -> Result<String, AllocError> {
     String::from_str(alloc, element.required_value_set().unwrap_or("any codes"))
-}
-
-fn put_urls(text: &mut String, opening: &str, urls: &[String]) -> Result<(), AllocError> {
-    for (place, url) in urls.iter().enumerate() {
-        text.push_str(if place == 0 { opening } else { " or " })?;
-        text.push_str(url.as_str())?;
-    }
-    Ok(())
-}
-
-fn types_text(alloc: Global, entries: &[TypeEntry]) -> Result<String, AllocError> {
-    let mut text = String::new(alloc);
-    for entry in entries {
-        if !text.is_empty() {
-            text.push_str(", ")?;
-        }
-        text.push_str(entry.code())?;
-        put_urls(&mut text, " as ", entry.profiles())?;
-        put_urls(&mut text, " to ", entry.targets())?;
-    }
-    if text.is_empty() {
-        text.push_str("any type")?;
-    }
-    Ok(text)
-}
-
-fn node_types_text(alloc: Global, schema: &Schema, node: NodeRef) -> Result<String, AllocError> {
-    if schema.is_root(node) {
-        return String::from_str(alloc, schema.type_code(node));
-    }
-    types_text(alloc, schema.types(node))
 }
 
 // ---- what is said of a pair that fails a rule
@@ -213,7 +118,7 @@ fn slot_cardinality_text(
     node: NodeRef,
     slot: &str,
 ) -> Result<String, AllocError> {
-    cardinality_text(alloc, element_at(schema, slot_node(schema, node, slot)))
+    cardinality_if(alloc, element_at(schema, slot_node(schema, node, slot)))
 }
 
 fn slice_cardinality_text(
@@ -223,7 +128,7 @@ fn slice_cardinality_text(
     slot: &str,
     slice: &str,
 ) -> Result<String, AllocError> {
-    cardinality_text(
+    cardinality_if(
         alloc,
         element_at(schema, slice_node(schema, node, slot, slice)),
     )
@@ -241,9 +146,9 @@ fn field_text(
     };
     match field {
         Field::Types => Ok(node_types_text(alloc, schema, node)?),
-        Field::Fixed => fixed_text(alloc, element),
-        Field::Pattern => pattern_text(alloc, element),
-        Field::Range => range_text(alloc, element),
+        Field::Fixed => member_text(alloc, element.fixed()),
+        Field::Pattern => members_text(alloc, element.fixed(), element.pattern()),
+        Field::Range => members_text(alloc, element.min_value(), element.max_value()),
         Field::Length => Ok(length_text(alloc, element)?),
         Field::Binding => Ok(binding_text(alloc, element)?),
         Field::SlotCardinality(slot) => Ok(slot_cardinality_text(alloc, schema, node, slot)?),
