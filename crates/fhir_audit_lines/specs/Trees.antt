@@ -1,9 +1,8 @@
 -- What an audit tells in JSON: an object on each profile, and one with the counts.
-use Rattle.std.specs.Prelude.{◌≡◌, ℕ, List, [], ◌∷◌, ◌++◌, codes}
-use Rattle.std.specs.Fmt.{decimal}
-use Rattle.fhir_json.specs.Tree.{Text, Tree, string, number, object, members_of, Property}
+use Rattle.std.specs.Prelude.{◌≡◌, List, [], ◌∷◌, ◌++◌, codes}
+use Rattle.fhir_json.specs.Tree.{Text, Tree, string, object, members_of, Property}
 use Rattle.fhir_json.specs.Compact.{compact}
-use Rattle.fhir_lines.specs.Lines.{text_member}
+use Rattle.fhir_lines.specs.Lines.{text_member, count_property}
 use Rattle.fhir_audit.specs.Auditing.{AuditedValue}
 use Rattle.fhir_audit_words.specs.declared.counting.Counts.{Counts}
 use Rattle.fhir_audit_words.specs.Words.{verdict_word}
@@ -16,9 +15,6 @@ first_members a =
 -- one line, that spells an object with these members and others behind them
 abbrev pub IsToldTree : AuditedValue → List Text → Type 0
 IsToldTree a ls = (more : List Property) × (ls ≡ compact (object (members_of (first_members a ++ more))) ∷ [])
-
-abbrev pub count_property : Text → ℕ → Property
-count_property name n = (name, number (decimal n))
 
 abbrev pub counts_tree : Counts → Tree
 counts_tree c =

@@ -5,12 +5,13 @@ ghost use Rattle.std.specs.List.{list_all};
 ghost use Rattle.fhir_audit.specs.Standing.{standing_seen, is_holding};
 
 use crate::texts::{failing_line, words_line};
-use crate::trees::{Members, object_text, put_failing, put_text};
+use crate::trees::put_failing;
 use fhir_audit::{Audited, Held, Standing};
 use fhir_audit_words::Sources;
 use fhir_cert_check::Rule;
 use fhir_certificate::Pair;
 use fhir_json::NoMemory;
+use fhir_lines::{Members, object_text, put_text};
 use fhir_names::Index;
 use fhir_words::Format;
 use std::alloc::{AllocError, Global};

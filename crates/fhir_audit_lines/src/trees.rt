@@ -1,12 +1,11 @@
 //! What is said of a profile, as a JSON object.
 
-ghost use Rattle.std.specs.Prelude.{◌≡◌, ◌∷◌, ◌++◌, [], List, map, string_bytes, IfOk, OnOk};
-ghost use Rattle.fhir_json.specs.Tree.{Property, object, members_of, string};
+ghost use Rattle.std.specs.Prelude.{◌≡◌, ◌++◌, List, map, string_bytes, IfOk, OnOk};
+ghost use Rattle.fhir_json.specs.Tree.{Property};
 ghost use Rattle.fhir_json.specs.Compact.{compact};
-ghost use Rattle.fhir_json.specs.Views.{tree_of, property_of, text_seen};
-ghost use Rattle.fhir_lines.specs.Lines.{text_member};
+ghost use Rattle.fhir_json.specs.Views.{property_of};
 ghost use Rattle.fhir_audit.specs.Views.{audited_seen};
-ghost use Rattle.fhir_audit_lines.specs.Trees.{first_members, IsToldTree, count_property, counts_tree};
+ghost use Rattle.fhir_audit_lines.specs.Trees.{first_members, IsToldTree, counts_tree};
 
 use crate::texts::{is_of_resource, pair_count, url_on};
 use fhir_audit::{Audited, Verdict};
@@ -14,77 +13,13 @@ use fhir_audit_words::{Counts, Sources, unusable_line, verdict_word};
 use fhir_cert_check::{Rule, pair_text, rule_text};
 use fhir_certificate::Pair;
 use fhir_derive_check::Side;
-use fhir_json::{Json, JsonFault, Member, NoMemory, read, write};
-use fhir_lines::Line;
+use fhir_json::{Json, JsonFault, NoMemory, read};
+use fhir_lines::{
+    Line, Members, object_text, put_all, put_count, put_owned, put_text, put_text_if, put_value,
+};
 use fhir_report::rule_words;
 use std::alloc::{AllocError, Global};
 use std::borrow::CowStr;
-
-/// The members of an object in the making.
-pub(crate) type Members<'m> = Vec<Member<'m>>;
-
-fn member<'m>(name: &'static str, value: Json<'m>) -> Member<'m>
-    ensures { property_of result ≡ (name.now, tree_of value.entry) }
-{
-    Member {
-        name: CowStr::Borrowed(name),
-        value,
-    }
-}
-
-pub(crate) fn put<'m>(
-    name: &'static str,
-    value: Json<'m>,
-    into: &mut Members<'m>,
-) -> Result<(), AllocError>
-    ensures { OnOk result (map property_of into.new.items ≡ map property_of into.old.items ++ (name.now, tree_of value.entry) ∷ []) }
-{
-    into.push(member(name, value))?;
-    Ok(())
-}
-
-pub(crate) fn put_text<'m>(
-    name: &'static str,
-    text: &'m str,
-    into: &mut Members<'m>,
-) -> Result<(), AllocError>
-    ensures { OnOk result (map property_of into.new.items ≡ map property_of into.old.items ++ (name.now, string text.now) ∷ []) }
-{
-    put(name, Json::Str(CowStr::Borrowed(text)), into)
-}
-
-pub(crate) fn put_owned(
-    name: &'static str,
-    text: String,
-    into: &mut Members<'_>,
-) -> Result<(), AllocError> {
-    put(name, Json::Str(CowStr::Owned(text)), into)
-}
-
-pub(crate) fn put_count(
-    alloc: Global,
-    name: &'static str,
-    count: usize,
-    into: &mut Members<'_>,
-) -> Result<(), AllocError>
-    ensures { OnOk result (map property_of into.new.items ≡ map property_of into.old.items ++ count_property name.now count ∷ []) }
-{
-    let text = format!(in alloc; "{count}")?;
-    put(name, Json::Num(CowStr::Owned(text)), into)
-}
-
-fn put_if<'m>(
-    name: &'static str,
-    text: Option<&'m str>,
-    into: &mut Members<'m>,
-) -> Result<(), AllocError>
-    ensures { OnOk result (map property_of into.new.items ≡ map property_of into.old.items ++ text_member name.now (text_seen text.entry)) }
-{
-    match text {
-        Some(text) => put_text(name, text, into),
-        None => Ok(()),
-    }
-}
 
 /// Puts in that a pair fails a rule, with what both elements say.
 pub(crate) fn put_failing(
@@ -117,7 +52,7 @@ fn put_resource<'m>(
     bytes: &'m [u8],
     into: &mut Members<'m>,
 ) -> Result<(), NoMemory> {
-    Ok(put("counterexample", resource_in(alloc, bytes)?, into)?)
+    Ok(put_value("counterexample", resource_in(alloc, bytes)?, into)?)
 }
 
 fn put_reason<'m, 's: 'm>(
@@ -127,8 +62,8 @@ fn put_reason<'m, 's: 'm>(
     let Some(line) = line else {
         return Ok(());
     };
-    put_if("number", line.number.map(|number| number.text()), into)?;
-    put_if("id", line.id, into)?;
+    put_text_if("number", line.number.map(|number| number.text()), into)?;
+    put_text_if("id", line.id, into)?;
     put_owned("text", line.text, into)
 }
 
@@ -155,7 +90,7 @@ fn put_not_looked_for(
     if is_of_resource(sources.schema, url) {
         Ok(())
     } else {
-        put("of-resources", Json::Bool(false), into)
+        put_value("of-resources", Json::Bool(false), into)
     }
 }
 
@@ -182,7 +117,7 @@ fn put_verdict<'m, 's: 'm, 'f: 's>(
             Ok(put_not_looked_for(sources, audited.url, into)?)
         }
         Verdict::CannotBeUsed(side) => put_unusable(alloc, sources, audited, *side, into),
-        Verdict::HasNoBase => Ok(put_if("canonical", audited.canonical, into)?),
+        Verdict::HasNoBase => Ok(put_text_if("canonical", audited.canonical, into)?),
     }
 }
 
@@ -202,7 +137,7 @@ fn put_unread<'m>(
     if texts.is_empty() {
         Ok(())
     } else {
-        put("unread", texts_in(alloc, texts)?, into)
+        put_value("unread", texts_in(alloc, texts)?, into)
     }
 }
 
@@ -212,7 +147,7 @@ fn put_first<'m, 's: 'm>(audited: &'m Audited<'s>, into: &mut Members<'m>) -> Re
 {
     put_text("url", audited.url, into)?;
     put_text("verdict", verdict_word(&audited.verdict), into)?;
-    put_if("base", audited.base, into)
+    put_text_if("base", audited.base, into)
 }
 
 // What stands behind these.
@@ -225,12 +160,6 @@ fn further_members<'m, 's: 'm, 'f: 's>(
     put_verdict(alloc, sources, audited, &mut members)?;
     put_unread(alloc, &audited.unread, &mut members)?;
     Ok(members)
-}
-
-fn put_all<'m>(mut members: Members<'m>, into: &mut Members<'m>) -> Result<(), AllocError>
-    ensures { OnOk result (map property_of into.new.items ≡ map property_of into.old.items ++ map property_of members.entry.items) }
-{
-    into.append(&mut members)
 }
 
 // The members of the object on a profile.
@@ -246,15 +175,6 @@ fn object_members<'m, 's: 'm, 'f: 's>(
     put_first(audited, &mut members)?;
     put_all(further, &mut members)?;
     Ok(members)
-}
-
-/// The text of an object.
-pub(crate) fn object_text(alloc: Global, members: Members<'_>) -> Result<String, NoMemory>
-    ensures { IfOk result (λ text. string_bytes text ≡ compact (object (members_of (map property_of members.entry.items)))) }
-{
-    let object = Json::Obj(members);
-    let bytes = write(alloc, &object)?;
-    Ok(String::from_utf8_lossy(alloc, &bytes)?)
 }
 
 /// The line that spells the object on a profile.

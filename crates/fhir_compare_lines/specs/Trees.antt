@@ -1,8 +1,8 @@
 -- What a comparison tells in JSON: an object on each url, two where a profile can't be used in either, and one with the counts.
 use Rattle.std.specs.Prelude.{◌≡◌, ℕ, List, [], ◌∷◌, ◌++◌, Bool, true, false, codes}
-use Rattle.std.specs.Fmt.{decimal}
-use Rattle.fhir_json.specs.Tree.{Text, Tree, string, number, object, members_of, Property}
+use Rattle.fhir_json.specs.Tree.{Text, Tree, string, object, members_of, Property}
 use Rattle.fhir_json.specs.Compact.{compact}
+use Rattle.fhir_lines.specs.Lines.{count_property}
 use Rattle.fhir_compare.specs.Comparing.{VerdictValue, both, unusable_in, only_in_old, only_in_new, change_of}
 use Rattle.fhir_compare_lines.specs.declared.counting.Counts.{Counts}
 use Rattle.fhir_compare_lines.specs.declared.parts.Part.{Part}
@@ -29,9 +29,6 @@ IsToldTree url (both w) ls = IsObject url (change_word (change_of w)) ls
 IsToldTree url (unusable_in in_old in_new) ls = AreObjects in_old in_new url ls
 IsToldTree url only_in_old ls = IsObject url (codes "only in OLD") ls
 IsToldTree url only_in_new ls = IsObject url (codes "only in NEW") ls
-
-abbrev pub count_property : Text → ℕ → Property
-count_property name n = (name, number (decimal n))
 
 abbrev pub shown_counts : Counts → List Property
 shown_counts c =

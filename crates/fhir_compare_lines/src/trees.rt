@@ -1,13 +1,11 @@
 //! What is said of a url, as JSON objects.
 
-ghost use Rattle.std.specs.Prelude.{◌≡◌, ◌∷◌, ◌++◌, [], map, string_bytes, IfOk, OnOk};
-ghost use Rattle.fhir_json.specs.Tree.{object, members_of, string};
+ghost use Rattle.std.specs.Prelude.{◌≡◌, ◌++◌, map, string_bytes, IfOk, OnOk};
 ghost use Rattle.fhir_json.specs.Compact.{compact};
-ghost use Rattle.fhir_json.specs.Views.{tree_of, property_of, text_seen};
-ghost use Rattle.fhir_lines.specs.Lines.{text_member};
+ghost use Rattle.fhir_json.specs.Views.{property_of};
 ghost use Rattle.fhir_compare.specs.Comparing.{both};
 ghost use Rattle.fhir_compare.specs.Views.{ways_seen, verdict_seen};
-ghost use Rattle.fhir_compare_lines.specs.Trees.{IsObject, IsObjectIf, AreObjects, IsToldTree, count_property, shown_counts, alone_counts, other_counts, last_properties, counts_tree};
+ghost use Rattle.fhir_compare_lines.specs.Trees.{IsObject, IsObjectIf, AreObjects, IsToldTree, shown_counts, alone_counts, other_counts, last_properties, counts_tree};
 
 use crate::counting::Counts;
 use crate::failing::{Direction, Why, is_refuted, way_words, why_of};
@@ -16,143 +14,75 @@ use crate::sources::{Side, Sources};
 use crate::texts::change_word;
 use crate::unusable::unusable_line;
 use fhir_compare::{Compared, Verdict, Way, Ways};
-use fhir_json::{Json, JsonFault, Member, NoMemory, read, write};
-use fhir_lines::{Line, push_texts};
+use fhir_json::{Json, JsonFault, NoMemory, read};
+use fhir_lines::{
+    Line, Members, object_text, push_texts, put_all, put_count, put_owned, put_text, put_text_if,
+    put_value,
+};
 use std::alloc::{AllocError, Global};
 use std::borrow::CowStr;
 
-// The members of an object in the making.
-type Members = Vec<Member<'static>>;
-
-fn member(name: &'static str, value: Json<'static>) -> Member<'static>
-    ensures { property_of result ≡ (name.now, tree_of value.entry) }
-{
-    Member {
-        name: CowStr::Borrowed(name),
-        value,
-    }
-}
-
-fn put(members: &mut Members, name: &'static str, value: Json<'static>) -> Result<(), AllocError>
-    ensures { OnOk result (map property_of members.new.items ≡ map property_of members.old.items ++ (name.now, tree_of value.entry) ∷ []) }
-{
-    members.push(member(name, value))?;
-    Ok(())
-}
-
-fn put_text(
-    alloc: Global,
-    members: &mut Members,
-    name: &'static str,
-    text: &str,
-) -> Result<(), AllocError>
-    ensures { OnOk result (map property_of members.new.items ≡ map property_of members.old.items ++ (name.now, string text.now) ∷ []) }
-{
-    let text = String::from_str(alloc, text)?;
-    put(members, name, Json::Str(CowStr::Owned(text)))
-}
-
-fn put_part(
-    alloc: Global,
-    members: &mut Members,
-    name: &'static str,
-    text: Option<&str>,
-) -> Result<(), AllocError>
-    ensures { OnOk result (map property_of members.new.items ≡ map property_of members.old.items ++ text_member name.now (text_seen text.entry)) }
-{
-    match text {
-        Some(text) => put_text(alloc, members, name, text),
-        None => Ok(()),
-    }
-}
-
-fn put_count(
-    alloc: Global,
-    members: &mut Members,
-    name: &'static str,
-    count: usize,
-) -> Result<(), AllocError>
-    ensures { OnOk result (map property_of members.new.items ≡ map property_of members.old.items ++ count_property name.now count ∷ []) }
-{
-    let text = format!(in alloc; "{count}")?;
-    put(members, name, Json::Num(CowStr::Owned(text)))
-}
-
-fn put_all(mut further: Members, members: &mut Members) -> Result<(), AllocError>
-    ensures { OnOk result (map property_of members.new.items ≡ map property_of members.old.items ++ map property_of further.entry.items) }
-{
-    members.append(&mut further)
-}
-
-// The compact text of an object.
-fn row_of(alloc: Global, members: Members) -> Result<String, NoMemory>
-    ensures { IfOk result (λ text. string_bytes text ≡ compact (object (members_of (map property_of members.entry.items)))) }
-{
-    let bytes = write(alloc, &Json::Obj(members))?;
-    Ok(String::from_utf8_lossy(alloc, &bytes)?)
-}
-
 // The url and the words, and what stands behind them.
-fn object_row(
+fn object_row<'m>(
     alloc: Global,
-    url: &str,
-    words: &str,
-    further: Members,
+    url: &'m str,
+    words: &'m str,
+    further: Members<'m>,
 ) -> Result<Vec<String>, NoMemory>
     ensures { IfOk result (λ ls. IsObject url.now words.now (map string_bytes ls.items)) }
 {
-    let mut members: Members = Vec::new(alloc);
-    put_text(alloc, &mut members, "url", url)?;
-    put_text(alloc, &mut members, "verdict", words)?;
+    let mut members: Members<'m> = Vec::new(alloc);
+    put_text("url", url, &mut members)?;
+    put_text("verdict", words, &mut members)?;
     put_all(further, &mut members)?;
     let mut rows: Vec<String> = Vec::new(alloc);
-    rows.push(row_of(alloc, members)?)?;
+    rows.push(object_text(alloc, members)?)?;
     Ok(rows)
 }
 
 // ---- ways
 
-// The resource that a text is.
-fn put_resource(alloc: Global, members: &mut Members, resource: &str) -> Result<(), NoMemory> {
-    match read(alloc, resource.as_bytes()) {
-        Ok(json) => {
-            let json = json.detach(alloc)?;
-            Ok(put(members, "counterexample", json)?)
-        }
+// The resource that a text is, or where it is none the text.
+fn resource_in(alloc: Global, text: &str) -> Result<Json<'static>, NoMemory> {
+    match read(alloc, text.as_bytes()) {
+        Ok(resource) => Ok(resource.detach(alloc)?),
         Err(JsonFault::NoMemory) => Err(NoMemory),
-        Err(_) => Ok(put_text(alloc, members, "counterexample", resource)?),
+        Err(_) => Ok(Json::Str(CowStr::Owned(String::from_str(alloc, text)?))),
     }
 }
 
-fn put_why(alloc: Global, members: &mut Members, why: &Why) -> Result<(), NoMemory> {
+fn put_resource(
+    alloc: Global,
+    resource: Option<String>,
+    into: &mut Members<'static>,
+) -> Result<(), NoMemory> {
+    match resource {
+        Some(text) => Ok(put_value("counterexample", resource_in(alloc, text.as_str())?, into)?),
+        None => Ok(()),
+    }
+}
+
+fn put_why(alloc: Global, why: Why, into: &mut Members<'static>) -> Result<(), NoMemory> {
     match why {
-        Why::Says(text) => Ok(put_text(alloc, members, "text", text.as_str())?),
+        Why::Says(text) => Ok(put_owned("text", text, into)?),
         Why::Fails {
             pair,
             rule,
             words,
             resource,
         } => {
-            put_text(alloc, members, "pair", pair.as_str())?;
-            put_text(alloc, members, "rule", rule.as_str())?;
-            put_text(alloc, members, "text", words.as_str())?;
-            match resource {
-                Some(resource) => put_resource(alloc, members, resource.as_str()),
-                None => Ok(()),
-            }
+            put_owned("pair", pair, into)?;
+            put_owned("rule", rule, into)?;
+            put_owned("text", words, into)?;
+            put_resource(alloc, resource, into)
         }
     }
 }
 
-fn way_json(alloc: Global, direction: Direction, why: &Why) -> Result<Json<'static>, NoMemory> {
-    let mut members: Members = Vec::new(alloc);
-    put_text(
-        alloc,
-        &mut members,
-        "way",
-        way_words(direction, is_refuted(why)),
-    )?;
-    put_why(alloc, &mut members, why)?;
+fn way_json(alloc: Global, direction: Direction, why: Why) -> Result<Json<'static>, NoMemory> {
+    let mut members: Members<'static> = Vec::new(alloc);
+    put_text("way", way_words(direction, is_refuted(&why)), &mut members)?;
+    put_why(alloc, why, &mut members)?;
     Ok(Json::Obj(members))
 }
 
@@ -166,7 +96,7 @@ fn push_way(
     into: &mut Vec<Json<'static>>,
 ) -> Result<(), NoMemory> {
     match why_of(alloc, sources, url, way, lost)? {
-        Some(why) => Ok(into.push(way_json(alloc, direction, &why)?)?),
+        Some(why) => Ok(into.push(way_json(alloc, direction, why)?)?),
         None => Ok(()),
     }
 }
@@ -177,7 +107,7 @@ fn ways_members(
     sources: Sources<'_, '_, '_>,
     url: &str,
     ways: &Ways<'_>,
-) -> Result<Members, NoMemory> {
+) -> Result<Members<'static>, NoMemory> {
     let mut failing: Vec<Json<'static>> = Vec::new(alloc);
     push_way(
         alloc,
@@ -197,9 +127,9 @@ fn ways_members(
         ways.lost,
         &mut failing,
     )?;
-    let mut members: Members = Vec::new(alloc);
+    let mut members: Members<'static> = Vec::new(alloc);
     if !failing.is_empty() {
-        put(&mut members, "ways", Json::Arr(failing))?;
+        put_value("ways", Json::Arr(failing), &mut members)?;
     }
     Ok(members)
 }
@@ -218,34 +148,28 @@ fn ways_rows(
 
 // ---- profiles that can't be used
 
-fn put_reason(
-    alloc: Global,
-    line: Option<Line<'_>>,
-    members: &mut Members,
+fn put_reason<'m, 's: 'm>(
+    line: Option<Line<'s>>,
+    into: &mut Members<'m>,
 ) -> Result<(), AllocError> {
     let Some(line) = line else {
         return Ok(());
     };
-    put_part(
-        alloc,
-        members,
-        "number",
-        line.number.map(|number| number.text()),
-    )?;
-    put_part(alloc, members, "element", line.id)?;
-    put_text(alloc, members, "text", line.text.as_str())
+    put_text_if("number", line.number.map(|number| number.text()), into)?;
+    put_text_if("element", line.id, into)?;
+    put_owned("text", line.text, into)
 }
 
 fn unusable_row<'s, 'f: 's>(
     alloc: Global,
     side: Side<'s, 'f>,
     url: &'s str,
-    words: &str,
+    words: &'static str,
 ) -> Result<Vec<String>, NoMemory>
     ensures { IfOk result (λ ls. IsObject url.now words.now (map string_bytes ls.items)) }
 {
-    let mut members: Members = Vec::new(alloc);
-    put_reason(alloc, unusable_line(alloc, side, url)?, &mut members)?;
+    let mut members: Members<'s> = Vec::new(alloc);
+    put_reason(unusable_line(alloc, side, url)?, &mut members)?;
     object_row(alloc, url, words, members)
 }
 
@@ -254,7 +178,7 @@ fn unusable_if<'s, 'f: 's>(
     side: Side<'s, 'f>,
     url: &'s str,
     is_unusable: bool,
-    words: &str,
+    words: &'static str,
 ) -> Result<Vec<String>, NoMemory>
     ensures { IfOk result (λ ls. IsObjectIf is_unusable url.now words.now (map string_bytes ls.items)) }
 {
@@ -301,29 +225,29 @@ pub(crate) fn tree_lines<'s>(
     }
 }
 
-fn put_shown(alloc: Global, counts: Counts, members: &mut Members) -> Result<(), AllocError>
-    ensures { OnOk result (map property_of members.new.items ≡ map property_of members.old.items ++ shown_counts counts) }
+fn put_shown(alloc: Global, counts: Counts, into: &mut Members<'_>) -> Result<(), AllocError>
+    ensures { OnOk result (map property_of into.new.items ≡ map property_of into.old.items ++ shown_counts counts) }
 {
-    put_count(alloc, members, "profiles", counts.profiles)?;
-    put_count(alloc, members, "same", counts.same)?;
-    put_count(alloc, members, "narrow", counts.narrow)?;
-    put_count(alloc, members, "widen", counts.widen)
+    put_count(alloc, "profiles", counts.profiles, into)?;
+    put_count(alloc, "same", counts.same, into)?;
+    put_count(alloc, "narrow", counts.narrow, into)?;
+    put_count(alloc, "widen", counts.widen, into)
 }
 
-fn put_alone(alloc: Global, counts: Counts, members: &mut Members) -> Result<(), AllocError>
-    ensures { OnOk result (map property_of members.new.items ≡ map property_of members.old.items ++ alone_counts counts) }
+fn put_alone(alloc: Global, counts: Counts, into: &mut Members<'_>) -> Result<(), AllocError>
+    ensures { OnOk result (map property_of into.new.items ≡ map property_of into.old.items ++ alone_counts counts) }
 {
-    put_count(alloc, members, "onlyInOld", counts.only_in_old)?;
-    put_count(alloc, members, "onlyInNew", counts.only_in_new)?;
+    put_count(alloc, "onlyInOld", counts.only_in_old, into)?;
+    put_count(alloc, "onlyInNew", counts.only_in_new, into)?;
     Ok(())
 }
 
-fn put_others(alloc: Global, counts: Counts, members: &mut Members) -> Result<(), AllocError>
-    ensures { OnOk result (map property_of members.new.items ≡ map property_of members.old.items ++ other_counts counts) }
+fn put_others(alloc: Global, counts: Counts, into: &mut Members<'_>) -> Result<(), AllocError>
+    ensures { OnOk result (map property_of into.new.items ≡ map property_of into.old.items ++ other_counts counts) }
 {
-    put_count(alloc, members, "neither", counts.neither)?;
-    put_count(alloc, members, "unusable", counts.unusable)?;
-    put_alone(alloc, counts, members)?;
+    put_count(alloc, "neither", counts.neither, into)?;
+    put_count(alloc, "unusable", counts.unusable, into)?;
+    put_alone(alloc, counts, into)?;
     Ok(())
 }
 
@@ -332,14 +256,14 @@ fn last_members(
     counts: Counts,
     types: usize,
     part: Part,
-) -> Result<Members, AllocError>
+) -> Result<Members<'static>, AllocError>
     ensures { IfOk result (λ members. map property_of members.items ≡ last_properties counts types part) }
 {
-    let mut members: Members = Vec::new(alloc);
+    let mut members: Members<'static> = Vec::new(alloc);
     put_shown(alloc, counts, &mut members)?;
     put_others(alloc, counts, &mut members)?;
-    put_count(alloc, &mut members, "typesThatDiffer", types)?;
-    put_text(alloc, &mut members, "version", part.text())?;
+    put_count(alloc, "typesThatDiffer", types, &mut members)?;
+    put_text("version", part.text(), &mut members)?;
     Ok(members)
 }
 
@@ -353,5 +277,5 @@ pub(crate) fn last_row(
     ensures { IfOk result (λ text. string_bytes text ≡ compact (counts_tree counts types part)) }
 {
     let members = last_members(alloc, counts, types, part)?;
-    row_of(alloc, members)
+    object_text(alloc, members)
 }

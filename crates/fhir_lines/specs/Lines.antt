@@ -98,9 +98,12 @@ abbrev pub text_member : Text → Option Text → List Property
 text_member name None = []
 text_member name (Some text) = (name, string text) ∷ []
 
+abbrev pub count_property : Text → ℕ → Property
+count_property name n = (name, number (decimal n))
+
 abbrev pub count_member : Text → Option ℕ → List Property
 count_member name None = []
-count_member name (Some n) = (name, number (decimal n)) ∷ []
+count_member name (Some n) = count_property name n ∷ []
 
 abbrev pub flag_member : Text → Bool → List Property
 flag_member name is = if is then (name, boolean true) ∷ [] else []

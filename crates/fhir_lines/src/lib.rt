@@ -15,10 +15,14 @@
 
 mod laws;
 mod line;
+mod members;
 mod writing;
 
 pub use laws::{escaped_texts, rows_are_lines};
 pub use line::{Details, FaultNumber, Line};
+pub use members::{
+    Members, object_text, put_all, put_count, put_owned, put_text, put_text_if, put_value,
+};
 pub use writing::{
     push_counted, push_escaped, push_json, push_row, push_rows, push_text_row, push_texts,
     text_rows,

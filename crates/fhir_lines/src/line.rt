@@ -5,11 +5,12 @@ ghost use Rattle.std.specs.Fmt.{decimal};
 ghost use Rattle.fhir_json.specs.Tree.{string, number, object};
 ghost use Rattle.fhir_json.specs.Memory.{Gives};
 ghost use Rattle.fhir_json.specs.Views.{tree_of, property_of};
-ghost use Rattle.fhir_lines.specs.Lines.{text_line, file_line, number_text, parts_of, group, place_text, name_text, constraint_text, lacks_text, count_text, details_parts, details_text, line_text, text_member, count_member, flag_member, details_members, line_tree, no_details, details_seen, line_seen};
+ghost use Rattle.fhir_lines.specs.Lines.{text_line, file_line, number_text, parts_of, group, place_text, name_text, constraint_text, lacks_text, count_text, details_parts, details_text, line_text, details_members, line_tree, no_details, details_seen, line_seen};
 
+use crate::members::{Members, put_count_if, put_flag, put_text, put_text_if};
 use fhir_certificate::CertFault;
 use fhir_elements::Reason;
-use fhir_json::{Json, JsonFault, Member, NoMemory, Position};
+use fhir_json::{Json, JsonFault, NoMemory, Position};
 use fhir_snapshot::SnapNumber;
 use std::alloc::{AllocError, Global};
 use std::borrow::CowStr;
@@ -200,64 +201,6 @@ fn push_group(separator: &str, parts: &[&str], into: &mut String) -> Result<(), 
     }
 }
 
-fn member(name: &'static str, value: Json<'static>) -> Member<'static>
-    ensures { property_of result ≡ (name.now, tree_of value.entry) }
-{
-    Member {
-        name: CowStr::Borrowed(name),
-        value,
-    }
-}
-
-fn push_text(
-    alloc: Global,
-    name: &'static str,
-    text: Option<&str>,
-    members: &mut Vec<Member<'static>>,
-) -> Result<(), AllocError>
-    ensures { OnOk result (map property_of members.new.items
-        ≡ map property_of members.old.items ++ text_member name.now (option_map (λ t. t.now) text.entry)) }
-{
-    match text {
-        Some(text) => {
-            let text = String::from_str(alloc, text)?;
-            Ok(members.push(member(name, Json::Str(CowStr::Owned(text))))?)
-        }
-        None => Ok(()),
-    }
-}
-
-fn push_count(
-    alloc: Global,
-    name: &'static str,
-    count: Option<usize>,
-    members: &mut Vec<Member<'static>>,
-) -> Result<(), AllocError>
-    ensures { OnOk result (map property_of members.new.items
-        ≡ map property_of members.old.items ++ count_member name.now count) }
-{
-    match count {
-        Some(count) => {
-            let text = format!(in alloc; "{count}")?;
-            Ok(members.push(member(name, Json::Num(CowStr::Owned(text))))?)
-        }
-        None => Ok(()),
-    }
-}
-
-fn push_flag(
-    name: &'static str,
-    is: bool,
-    members: &mut Vec<Member<'static>>,
-) -> Result<(), AllocError>
-    ensures { OnOk result (map property_of members.new.items ≡ map property_of members.old.items ++ flag_member name.now is) }
-{
-    if is {
-        members.push(member(name, Json::Bool(true)))?;
-    }
-    Ok(())
-}
-
 fn number_text(number: Option<FaultNumber>) -> Option<&'static str>
     ensures { option_map (λ t. t.now) result ≡ option_map number_text number }
 {
@@ -356,34 +299,30 @@ impl<'r> Line<'r> {
         Ok(text)
     }
 
-    fn push_details_members(
-        &self,
-        alloc: Global,
-        members: &mut Vec<Member<'static>>,
-    ) -> Result<(), AllocError>
-        ensures { OnOk result (map property_of members.new.items
-            ≡ map property_of members.old.items ++ details_members (line_seen self.now).details) }
+    fn put_details<'l>(&'l self, alloc: Global, into: &mut Members<'l>) -> Result<(), AllocError>
+        ensures { OnOk result (map property_of into.new.items
+            ≡ map property_of into.old.items ++ details_members (line_seen self.now).details) }
     {
-        push_text(alloc, "key", self.details.key, members)?;
-        push_text(alloc, "human", self.details.sentence, members)?;
-        push_flag("lacks", self.details.lacks, members)?;
-        push_count(alloc, "count", self.details.count, members)
+        put_text_if("key", self.details.key, into)?;
+        put_text_if("human", self.details.sentence, into)?;
+        put_flag("lacks", self.details.lacks, into)?;
+        put_count_if(alloc, "count", self.details.count, into)
     }
 
     /// The line as a JSON object, with the members `file`, `line`, `column`, `number`, `url`, `id`, `text`, `key`, `human`, `lacks` and
     /// `count`, each where the line has it. The one refusal is want of memory.
-    pub fn to_json(&self, alloc: Global) -> Result<Json<'static>, NoMemory>
+    pub fn to_json<'l>(&'l self, alloc: Global) -> Result<Json<'l>, NoMemory>
         ensures { Gives tree_of result (line_tree (line_seen self.now)) }
     {
-        let mut members = Vec::with_capacity(alloc, 11)?;
-        push_text(alloc, "file", self.file, &mut members)?;
-        push_count(alloc, "line", self.line, &mut members)?;
-        push_count(alloc, "column", self.column, &mut members)?;
-        push_text(alloc, "number", number_text(self.number), &mut members)?;
-        push_text(alloc, "url", self.url, &mut members)?;
-        push_text(alloc, "id", self.id, &mut members)?;
-        push_text(alloc, "text", Some(self.text.as_str()), &mut members)?;
-        self.push_details_members(alloc, &mut members)?;
+        let mut members: Members<'l> = Vec::with_capacity(alloc, 11)?;
+        put_text_if("file", self.file, &mut members)?;
+        put_count_if(alloc, "line", self.line, &mut members)?;
+        put_count_if(alloc, "column", self.column, &mut members)?;
+        put_text_if("number", number_text(self.number), &mut members)?;
+        put_text_if("url", self.url, &mut members)?;
+        put_text_if("id", self.id, &mut members)?;
+        put_text("text", self.text.as_str(), &mut members)?;
+        self.put_details(alloc, &mut members)?;
         Ok(Json::Obj(members))
     }
 }
