@@ -7,51 +7,21 @@ use crate::outputs::{Named, Outputs};
 use crate::running::audit_folder;
 use fhir_answers::{NamedFile, Status, fault_text};
 use fhir_audit::Watch;
-use fhir_engine::{bytes_at, directory_at, end_with};
+use fhir_engine::{Wanted, bytes_at, bytes_if_named, directory_at, end_with, paths_at};
 use fhir_json::NoMemory;
 use fhir_new_folder::NewDirectory;
 use fhir_package::{MemoryFolder, Progress};
 use fhir_words::AuditRequest;
-use std::alloc::{AllocError, Global};
+use std::alloc::AllocError;
 use std::collections::BTreeMap;
-use std::fs::DirEntry;
+use std::fs;
 use std::io::{ErrorKind, Write};
 use std::rt::Files;
-use std::{fs, io};
 
 // ---- a folder of certificates
 
 /// The certificates of a folder, or what is told of why they can't be read.
 type Certificates = Result<Vec<NamedBytes>, String>;
-
-// Puts in the name and the path of an entry of a directory, if its name is UTF-8. An error is of the listing, or of memory.
-fn put_entry<R: Files + AllocGlobal + Clone + Drop>(
-    rt: &R,
-    entry: io::Result<DirEntry<R, Global>>,
-    paths: &mut BTreeMap<String, String>,
-) -> io::Result<()> {
-    let entry = match entry {
-        Ok(entry) => entry,
-        Err(error) if error.kind() == ErrorKind::InvalidFilename => return Ok(()),
-        Err(error) => return Err(error),
-    };
-    let name = String::from_str(rt.alloc(), entry.file_name())?;
-    let path = String::from_str(rt.alloc(), entry.path().as_str())?;
-    paths.insert(name, path)?;
-    Ok(())
-}
-
-// The paths of what a directory holds, by their names.
-fn paths_at<R: Files + AllocGlobal + Clone + Drop>(
-    rt: &R,
-    path: &str,
-) -> io::Result<BTreeMap<String, String>> {
-    let mut paths = BTreeMap::new(rt.alloc());
-    for entry in fs::read_dir(rt, path)? {
-        put_entry(rt, entry, &mut paths)?;
-    }
-    Ok(paths)
-}
 
 fn read_each<R: Files + AllocGlobal>(
     rt: &R,
@@ -73,7 +43,7 @@ fn certificates_at<R: Files + AllocGlobal + Clone + Drop>(
     rt: &R,
     folder: &str,
 ) -> Result<Certificates, NoMemory> {
-    match paths_at(rt, folder) {
+    match paths_at(rt, folder, Wanted::All) {
         Ok(paths) => read_each(rt, folder, paths),
         Err(error) if error.kind() == ErrorKind::OutOfMemory => Err(NoMemory),
         Err(_) => Ok(Err(fault_text(rt.alloc(), "P1", folder)?)),
@@ -94,16 +64,6 @@ pub struct Opened {
     pub held: Option<Vec<NamedBytes>>,
 }
 
-fn given_bytes<R: Files + AllocGlobal>(
-    rt: &R,
-    given: Option<&str>,
-) -> Result<Option<Vec<u8>>, NoMemory> {
-    match given {
-        Some(path) => bytes_at(rt, path),
-        None => Ok(None),
-    }
-}
-
 fn held_at<R: Files + AllocGlobal + Clone + Drop>(
     rt: &R,
     against: Option<&str>,
@@ -120,7 +80,7 @@ fn open_request<R: Files + AllocGlobal + Clone + Drop, P: Progress>(
     progress: &mut P,
 ) -> Result<Result<Opened, String>, NoMemory> {
     let folder = directory_at(rt, request.folder, progress)?;
-    let given = given_bytes(rt, request.given)?;
+    let given = bytes_if_named(rt, request.given)?;
     match held_at(rt, request.against)? {
         Ok(held) => Ok(Ok(Opened {
             folder,
@@ -209,10 +169,7 @@ fn asked_of<'a>(
 ) -> Asked<'a> {
     Asked {
         prefixes: &request.prefixes,
-        given: match request.given {
-            Some(name) => Some(NamedFile { name, bytes: given }),
-            None => None,
-        },
+        given: request.given.map(|name| NamedFile { name, bytes: given }),
         held,
         format: request.format,
     }

@@ -10,11 +10,11 @@ use crate::asked::{Asked, NamedBytes};
 use crate::certificate_files::{files_fault_text, write_certificates};
 use crate::new_file::NewFile;
 use crate::outputs::Outputs;
-use fhir_answers::{Reply, Session, Status, fault_text, refused_reply};
+use fhir_answers::{Session, Status, fault_text, refused_reply};
 use fhir_audit::{Audited, Watch, are_narrowing, audit, narrowing_profiles, recheck};
 use fhir_audit_lines::{HeldFile, are_holding, audit_text};
 use fhir_audit_words::Sources;
-use fhir_engine::{end_with, files_of, is_written, vouched};
+use fhir_engine::{Refusal, end_with, files_of, is_written, vouched};
 use fhir_findings::{SelectFault, Selection};
 use fhir_json::NoMemory;
 use fhir_new_folder::{NewFolder, WriteFault};
@@ -24,23 +24,6 @@ use fhir_unread::Given;
 use fhir_vouching::Vouching;
 use std::alloc::{AllocError, Global};
 use std::io::Write;
-
-/// Why nothing is told, or not all of it.
-#[derive(Drop)]
-pub(crate) enum Refusal {
-    /// A fault: what is told of it.
-    Fault(String),
-    /// The output failed.
-    Unwritten,
-}
-
-// What is told of a fault.
-fn text_of(alloc: Global, reply: Reply) -> String {
-    match reply {
-        Reply::Fault(text) => text,
-        Reply::Answer { .. } | Reply::Noted { .. } => String::new(alloc),
-    }
-}
 
 fn sources_of<'s, 'f: 's>(session: &'s Session<'f>) -> Sources<'s, 'f>
     ensures survey { result.survey.now ≡ session.now.survey }
@@ -341,7 +324,7 @@ fn run_given<N: NewFolder, G: NewFile, V: Watch, W: Write, E: Write>(
             out,
             err,
         ),
-        Err(reply) => Ok(Err(Refusal::Fault(text_of(alloc, reply)))),
+        Err(reply) => Ok(Err(Refusal::of_reply(alloc, reply))),
     }
 }
 
@@ -400,14 +383,9 @@ fn run_session<N: NewFolder, G: NewFile, V: Watch, W: Write, E: Write>(
         Ok(_schema) => run_package(alloc, session, asked, outputs, watch, out, err),
         Err(fault) => {
             let reply = refused_reply(alloc, fault)?;
-            Ok(Err(Refusal::Fault(text_of(alloc, reply))))
+            Ok(Err(Refusal::of_reply(alloc, reply)))
         }
     }
-}
-
-// That a folder can't be listed.
-fn unlisted(alloc: Global, name: &str) -> Result<Refusal, AllocError> {
-    Ok(Refusal::Fault(fault_text(alloc, "P1", name)?))
 }
 
 fn run_folder<
@@ -437,7 +415,7 @@ fn run_folder<
             progress.end();
             run_session(alloc, &session, asked, outputs, watch, out, err)
         }
-        Err(FolderFault::Device) => Ok(Err(unlisted(alloc, name)?)),
+        Err(FolderFault::Device) => Ok(Err(Refusal::unlisted(alloc, name)?)),
         Err(FolderFault::NoMemory) => Err(NoMemory),
     }
 }
@@ -474,8 +452,7 @@ pub fn audit_folder<
     watch.end();
     match ended {
         Ok(Ok(status)) => status,
-        Ok(Err(Refusal::Fault(text))) => end_with(err, text.as_str(), Status::Fault),
-        Ok(Err(Refusal::Unwritten)) => Status::Unwritten,
+        Ok(Err(refusal)) => refusal.tell(err),
         Err(NoMemory) => end_with(err, "no memory\n", Status::NoMemory),
     }
 }

@@ -1,9 +1,10 @@
 -- How a run has ended.
 use Rattle.std.proofs.Common.{◌≡◌, ◌⊎◌, Result, Ok, Err, IfOk, IsTrue, subst, refl, inl, inr}
 use Rattle.fhir_answers.specs.declared.reply.Status.TheVariants.{Unwritten}
-use Rattle.fhir_bulk_engine.specs.declared.asked.Refusal.{Refusal}
-use Rattle.fhir_bulk_engine.specs.declared.asked.Refusal.TheVariants as refusals
-use Rattle.fhir_bulk_engine.specs.Ending.{is_refused, refusal_status, IsUntouched}
+use Rattle.fhir_engine.specs.declared.refusal.Refusal.{Refusal}
+use Rattle.fhir_engine.specs.declared.refusal.Refusal.TheVariants as refusals
+use Rattle.fhir_engine.specs.Refusing.{refusal_status}
+use Rattle.fhir_bulk_engine.specs.Ending.{is_refused, IsUntouched}
 
 -- what is known of a result that is right
 pub of_ok : {T E : Type 0} (P : T → Type 0) (r : Result T E) (t : T) → r ≡ Ok t → IfOk r P → P t

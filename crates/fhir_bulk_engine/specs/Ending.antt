@@ -4,8 +4,8 @@ use Rattle.fhir_answers.specs.declared.reply.Status.{Status}
 use Rattle.fhir_answers.specs.declared.reply.Status.TheVariants.{Yes, No, Open, Fault, Unwritten, NoMemory}
 use Rattle.fhir_json.specs.declared.memory.NoMemory.{NoMemory as WantOfMemory}
 use Rattle.fhir_bulk.specs.declared.tally.Tally.{Tally}
-use Rattle.fhir_bulk_engine.specs.declared.asked.Refusal.{Refusal}
-use Rattle.fhir_bulk_engine.specs.declared.asked.Refusal.TheVariants as refusals
+use Rattle.fhir_engine.specs.declared.refusal.Refusal.{Refusal}
+use Rattle.fhir_engine.specs.declared.refusal.Refusal.TheVariants as refusals
 
 -- The worst of what was told: that a resource violates the profile, that memory was refused, that something is no resource or can't be read,
 -- and that it is open how a resource stands.
@@ -25,11 +25,6 @@ is_refused _ = false
 abbrev pub Ends : Status → Option Tally → Type 0
 Ends status None = IsTrue (is_refused status)
 Ends status (Some tally) = status ≡ tally_status tally
-
--- the status of each reason why nothing is asked, or not all
-abbrev pub refusal_status : Refusal → Status
-refusal_status (refusals.Fault text) = Fault
-refusal_status refusals.Unwritten = Unwritten
 
 -- Where nothing was asked the output is as it was: so it is unless the run was gone through, or the output failed.
 abbrev pub IsUntouched : {W : Type 0} → Result (Result Tally Refusal) WantOfMemory → W → W → Type 0

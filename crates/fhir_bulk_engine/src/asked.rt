@@ -8,9 +8,9 @@ ghost use Rattle.fhir_telling.specs.Questions.{question_seen, profile_asked};
 ghost use Rattle.fhir_bulk_engine.specs.Bulk.{AreTexts, asked_question, CanBeUsed, file_seen, IsToldOf, IsToldOfSession};
 ghost use Rattle.fhir_bulk_engine.specs.Ending.{IsUntouched};
 
-use fhir_answers::{NamedFile, Reply, Session, profile_refusal, refused_reply, unreadable_reply};
+use fhir_answers::{NamedFile, Session, profile_refusal, refused_reply, unreadable_reply};
 use fhir_bulk::{RunFault, Tally, Watch, validate_inputs};
-use fhir_engine::{is_written, vouched};
+use fhir_engine::{Refusal, fault_told, is_written, vouched};
 use fhir_inputs::Inputs;
 use fhir_json::NoMemory;
 use fhir_lines::push_escaped;
@@ -44,23 +44,6 @@ pub struct Planned<'p, I> {
     pub names: &'p [&'p str],
     /// How many files are passed over.
     pub passed_over: usize,
-}
-
-/// Why nothing is asked, or not all of it.
-#[derive(Drop)]
-pub(crate) enum Refusal {
-    /// A fault, before any input was opened: what is told of it.
-    Fault(String),
-    /// The output failed.
-    Unwritten,
-}
-
-// What is told of a fault.
-fn text_of(alloc: Global, reply: Reply) -> String {
-    match reply {
-        Reply::Fault(text) => text,
-        Reply::Answer { .. } | Reply::Noted { .. } => String::new(alloc),
-    }
 }
 
 // Asks a question of all resources of the inputs.
@@ -172,7 +155,7 @@ fn run_given<I: Inputs, V: Watch, W: Write, E: Write>(
             let _ = is_written(err, notes.as_bytes());
             run_vouched(alloc, session, asked, Some(&vouching), planned, watch, out)
         }
-        Err(reply) => Ok(Err(Refusal::Fault(text_of(alloc, reply)))),
+        Err(reply) => Ok(Err(Refusal::of_reply(alloc, reply))),
     }
 }
 
@@ -195,7 +178,7 @@ fn run_planned<I: Inputs, V: Watch, W: Write, E: Write>(
         Ok(planned) => run_given(alloc, session, asked, planned, watch, out, err),
         Err(name) => {
             let reply = unreadable_reply(alloc, name)?;
-            Ok(Err(Refusal::Fault(text_of(alloc, reply))))
+            Ok(Err(Refusal::of_reply(alloc, reply)))
         }
     }
 }
@@ -227,7 +210,7 @@ fn refusal_of(
         return Ok(None);
     };
     match profile_refusal(alloc, session.schema(), url)? {
-        Some(reply) => Ok(Some(told_in_words(alloc, session, text_of(alloc, reply))?)),
+        Some(reply) => Ok(Some(told_in_words(alloc, session, fault_told(alloc, reply))?)),
         None => Ok(None),
     }
 }
@@ -272,7 +255,7 @@ pub(crate) fn run_session<I: Inputs, V: Watch, W: Write, E: Write>(
         Ok(_schema) => run_package(alloc, session, asked, planned, watch, out, err),
         Err(fault) => {
             let reply = refused_reply(alloc, fault)?;
-            Ok(Err(Refusal::Fault(text_of(alloc, reply))))
+            Ok(Err(Refusal::of_reply(alloc, reply)))
         }
     }
 }

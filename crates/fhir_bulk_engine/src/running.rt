@@ -4,14 +4,14 @@ ghost use Rattle.std.specs.Prelude.{◌≡◌, ◌⊎◌, Option, IfOk, IfSome, 
 ghost use Rattle.fhir_engine.specs.Reading.{IsReadOf};
 ghost use Rattle.fhir_bulk.specs.declared.tally.Tally.{Tally};
 ghost use Rattle.fhir_bulk_engine.specs.Bulk.{IsBulk, IsSomeBulk};
-ghost use Rattle.fhir_bulk_engine.specs.Ending.{tally_status, refusal_status, Ends, IsUntouched};
+ghost use Rattle.fhir_bulk_engine.specs.Ending.{tally_status, Ends, IsUntouched};
 
-use crate::asked::{Asked, Planned, Refusal, run_session};
+use crate::asked::{Asked, Planned, run_session};
 use crate::file_inputs::FileInputs;
 use crate::plan::{InputFile, Plan, PlanFault, plan_inputs};
-use fhir_answers::{NamedFile, Session, Status, fault_text};
+use fhir_answers::{NamedFile, Session, Status};
 use fhir_bulk::{Tally, Watch};
-use fhir_engine::{bytes_at, directory_at, end_with, files_of};
+use fhir_engine::{Refusal, bytes_if_named, directory_at, end_with, files_of};
 use fhir_inputs::Inputs;
 use fhir_json::NoMemory;
 use fhir_package::{Folder, FolderFault, MemoryFolder, Progress};
@@ -37,11 +37,6 @@ fn tally_status(tally: Tally) -> Status
     }
 }
 
-// That a folder can't be listed, or a file in it not be read.
-fn unlisted(alloc: Global, name: &str) -> Result<Refusal, AllocError> {
-    Ok(Refusal::Fault(fault_text(alloc, "P1", name)?))
-}
-
 fn run_folder<F: Folder + Drop, I: Inputs, P: Progress, V: Watch, W: Write, E: Write>(
     alloc: Global,
     name: &str,
@@ -63,18 +58,8 @@ fn run_folder<F: Folder + Drop, I: Inputs, P: Progress, V: Watch, W: Write, E: W
             progress.end();
             run_session(alloc, &session, asked, planned, watch, out, err)
         }
-        Err(FolderFault::Device) => Ok(Err(unlisted(alloc, name)?)),
+        Err(FolderFault::Device) => Ok(Err(Refusal::unlisted(alloc, name)?)),
         Err(FolderFault::NoMemory) => Err(NoMemory),
-    }
-}
-
-// Tells why nothing is asked.
-fn refuse<E: Write>(refusal: &Refusal, err: &mut E) -> Status
-    ensures { result ≡ refusal_status refusal.now }
-{
-    match refusal {
-        Refusal::Fault(text) => end_with(err, text.as_str(), Status::Fault),
-        Refusal::Unwritten => Status::Unwritten,
     }
 }
 
@@ -105,7 +90,7 @@ pub fn validate_folder<F: Folder + Drop, I: Inputs, P: Progress, V: Watch, W: Wr
     match ended {
         Ok(run) => match run {
             Ok(tally) => tally_status(tally),
-            Err(refusal) => refuse(&refusal, err),
+            Err(refusal) => refusal.tell(err),
         },
         Err(NoMemory) => end_with(err, "no memory\n", Status::NoMemory),
     }
@@ -118,16 +103,6 @@ struct Opened {
     folder: MemoryFolder,
     given: Option<Vec<u8>>,
     plan: Result<Plan, String>,
-}
-
-fn given_bytes<R: Files + AllocGlobal>(
-    rt: &R,
-    given: Option<&str>,
-) -> Result<Option<Vec<u8>>, NoMemory> {
-    match given {
-        Some(path) => bytes_at(rt, path),
-        None => Ok(None),
-    }
 }
 
 fn make_plan<R: Files + AllocGlobal + Clone + Drop>(
@@ -147,7 +122,7 @@ fn open_request<R: Files + AllocGlobal + Clone + Drop, P: Progress>(
     progress: &mut P,
 ) -> Result<Opened, NoMemory> {
     let folder = directory_at(rt, request.folder, progress)?;
-    let given = given_bytes(rt, request.given)?;
+    let given = bytes_if_named(rt, request.given)?;
     let plan = make_plan(rt, &request.inputs)?;
     Ok(Opened {
         folder,
@@ -164,16 +139,9 @@ fn names_of(alloc: Global, files: &[InputFile]) -> Result<Vec<&str>, AllocError>
     Ok(names)
 }
 
-fn named_file<'a>(name: &'a str, bytes: Option<&'a [u8]>) -> NamedFile<'a> {
-    NamedFile { name, bytes }
-}
-
 // The file of the texts, if one is named.
 fn given_file<'a>(request: &'a BulkRequest<'_>, bytes: Option<&'a [u8]>) -> Option<NamedFile<'a>> {
-    match request.given {
-        Some(name) => Some(named_file(name, bytes)),
-        None => None,
-    }
+    request.given.map(|name| NamedFile { name, bytes })
 }
 
 fn asked_with<'a>(

@@ -24,11 +24,29 @@ use std::{fs, io};
 // How many bytes of an input are read at once, at most.
 const INPUT_BUFFER: usize = 65536;
 
-// Puts in the name and the path of an entry of a directory, if its name is UTF-8 and ends in `.json`. An error is of the
-// listing, or of memory.
+/// Which files of a directory are wanted.
+#[derive(Clone, Copy)]
+pub enum Wanted {
+    /// Those whose names end in `.json`.
+    Json,
+    /// All.
+    All,
+}
+
+impl Wanted {
+    fn is_wanted(self, name: &str) -> bool {
+        match self {
+            Wanted::Json => is_json_name(name),
+            Wanted::All => true,
+        }
+    }
+}
+
+// Puts in the name and the path of an entry of a directory, if its name is UTF-8 and wanted. An error is of the listing, or of memory.
 fn put_entry<R: Files + AllocGlobal + Clone + Drop>(
     rt: &R,
     entry: io::Result<DirEntry<R, Global>>,
+    wanted: Wanted,
     paths: &mut BTreeMap<String, String>,
 ) -> io::Result<()> {
     let entry = match entry {
@@ -36,7 +54,7 @@ fn put_entry<R: Files + AllocGlobal + Clone + Drop>(
         Err(error) if error.kind() == ErrorKind::InvalidFilename => return Ok(()),
         Err(error) => return Err(error),
     };
-    if is_json_name(entry.file_name()) {
+    if wanted.is_wanted(entry.file_name()) {
         let name = String::from_str(rt.alloc(), entry.file_name())?;
         let path = String::from_str(rt.alloc(), entry.path().as_str())?;
         paths.insert(name, path)?;
@@ -44,14 +62,16 @@ fn put_entry<R: Files + AllocGlobal + Clone + Drop>(
     Ok(())
 }
 
-// The paths of what a directory holds whose names end in `.json`, by these.
-fn paths_at<R: Files + AllocGlobal + Clone + Drop>(
+/// The paths of what is wanted of a directory, by the names of the files. What has a name that isn't UTF-8 is passed over. An error is of the
+/// listing, or of memory.
+pub fn paths_at<R: Files + AllocGlobal + Clone + Drop>(
     rt: &R,
     path: &str,
+    wanted: Wanted,
 ) -> io::Result<BTreeMap<String, String>> {
     let mut paths = BTreeMap::new(rt.alloc());
     for entry in fs::read_dir(rt, path)? {
-        put_entry(rt, entry, &mut paths)?;
+        put_entry(rt, entry, wanted, &mut paths)?;
     }
     Ok(paths)
 }
@@ -87,6 +107,17 @@ pub fn bytes_at<R: Files + AllocGlobal>(rt: &R, path: &str) -> Result<Option<Vec
     given(regular_bytes(rt, path))
 }
 
+/// The same of a file that may be named; no bytes where none is.
+pub fn bytes_if_named<R: Files + AllocGlobal>(
+    rt: &R,
+    path: Option<&str>,
+) -> Result<Option<Vec<u8>>, NoMemory> {
+    match path {
+        Some(path) => bytes_at(rt, path),
+        None => Ok(None),
+    }
+}
+
 // The folder of the files at these paths, each under its name.
 fn folder_of<R: Files + AllocGlobal, P: Progress>(
     rt: &R,
@@ -111,7 +142,7 @@ pub fn directory_at<R: Files + AllocGlobal + Clone + Drop, P: Progress>(
     path: &str,
     progress: &mut P,
 ) -> Result<MemoryFolder, NoMemory> {
-    match given(paths_at(rt, path))? {
+    match given(paths_at(rt, path, Wanted::Json))? {
         Some(paths) => folder_of(rt, paths, progress),
         None => Ok(MemoryFolder::unlisted(rt.alloc())),
     }

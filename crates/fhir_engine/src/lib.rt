@@ -29,13 +29,18 @@ mod engine;
 mod gathering;
 mod laws;
 mod meter;
+mod refusal;
 mod serving;
+mod status_line;
 
 pub use directory::{
-    Opened, bytes_at, directory_at, open_asked, serve_directory, serve_directory_given,
+    Opened, Wanted, bytes_at, bytes_if_named, directory_at, open_asked, paths_at, serve_directory,
+    serve_directory_given,
 };
 pub use engine::{end_with, files_of, is_written, run, write_reply};
 pub use gathering::{gather_directories, gather_folders};
 pub use laws::verdicts_agree;
 pub use meter::Meter;
+pub use refusal::{Refusal, fault_told};
 pub use serving::{serve_folder, serve_folder_given, vouched};
+pub use status_line::StatusLine;

@@ -1,0 +1,19 @@
+-- Why a run over a folder tells nothing, or not all of it.
+use Rattle.std.specs.Prelude.{[]}
+use Rattle.fhir_json.specs.Tree.{Text}
+use Rattle.fhir_answers.specs.declared.reply.Status.{Status}
+use Rattle.fhir_answers.specs.declared.reply.Status.TheVariants as statuses
+use Rattle.fhir_answers.specs.Replying.{ReplyValue, written, noted, told}
+use Rattle.fhir_engine.specs.declared.refusal.Refusal.{Refusal}
+use Rattle.fhir_engine.specs.declared.refusal.Refusal.TheVariants.{Fault, Unwritten}
+
+-- what is told of a fault
+abbrev pub fault_told : ReplyValue → Text
+fault_told (written status out) = []
+fault_told (noted status out notes) = []
+fault_told (told status err) = err
+
+-- the status of each reason
+abbrev pub refusal_status : Refusal → Status
+refusal_status (Fault text) = statuses.Fault
+refusal_status Unwritten = statuses.Unwritten

@@ -1,0 +1,51 @@
+//! Why a run over a folder tells nothing, or not all of it.
+
+ghost use Rattle.std.specs.Prelude.{◌≡◌, string_bytes};
+ghost use Rattle.fhir_answers.specs.Replying.{reply_seen};
+ghost use Rattle.fhir_engine.specs.Refusing.{fault_told, refusal_status};
+
+use crate::engine::end_with;
+use fhir_answers::{Reply, Status, fault_text};
+use std::alloc::{AllocError, Global};
+use std::io::Write;
+
+/// What is told of a fault; an empty text of another reply. Without memory.
+pub fn fault_told(alloc: Global, reply: Reply) -> String
+    ensures { string_bytes result ≡ fault_told (reply_seen reply.entry) }
+{
+    match reply {
+        Reply::Fault(text) => text,
+        Reply::Answer { .. } | Reply::Noted { .. } => String::new(alloc),
+    }
+}
+
+/// Why a run tells nothing, or not all of it.
+#[derive(Drop)]
+pub enum Refusal {
+    /// A fault of the input: what is told of it.
+    Fault(String),
+    /// The output failed.
+    Unwritten,
+}
+
+impl Refusal {
+    /// That a folder of that name can't be listed. The one refusal is want of memory.
+    pub fn unlisted(alloc: Global, name: &str) -> Result<Refusal, AllocError> {
+        Ok(Refusal::Fault(fault_text(alloc, "P1", name)?))
+    }
+
+    /// The fault that a reply tells.
+    pub fn of_reply(alloc: Global, reply: Reply) -> Refusal {
+        Refusal::Fault(fault_told(alloc, reply))
+    }
+
+    /// Tells it on standard error, where it is a fault, and gives the status.
+    pub fn tell<E: Write>(&self, err: &mut E) -> Status
+        ensures { result ≡ refusal_status self.now }
+    {
+        match self {
+            Refusal::Fault(text) => end_with(err, text.as_str(), Status::Fault),
+            Refusal::Unwritten => Status::Unwritten,
+        }
+    }
+}
