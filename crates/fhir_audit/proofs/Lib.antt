@@ -1,6 +1,5 @@
 -- Lemmas on audits.
 mod Climbing
-mod Each
 mod Groups
 mod Narrowing
 mod Listing

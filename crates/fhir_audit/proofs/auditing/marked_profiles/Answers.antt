@@ -2,7 +2,7 @@ use Rattle.std.proofs.Common.{[]}
 use Rattle.fhir_audit.specs.Asked.{profile_in}
 use Rattle.fhir_audit.specs.Marks.{marked}
 use Rattle.fhir_audit.specs.Placing.{all_placed}
-use Rattle.fhir_audit.proofs.Each.{next_place}
+use Rattle.fhir_findings.proofs.Each.{next_place}
 use Rattle.fhir_audit.proofs.auditing.marked_profiles.Goals as goal
 
 pub loop-place-preserved : goal.loop-place-preserved
