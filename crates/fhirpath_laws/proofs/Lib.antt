@@ -1,0 +1,5 @@
+mod Scalars
+mod Wholes
+mod Points
+mod KindsInJson
+mod Rows

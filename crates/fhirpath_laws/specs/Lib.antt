@@ -1,0 +1,3 @@
+pub mod Decimals
+pub mod Precedence
+pub mod Primitives
