@@ -3,8 +3,7 @@ use Rattle.std.proofs.Common.{◌≡◌, Bool, true, false, refl}
 use Rattle.std.proofs.lemmas.Bool.{false≢true}
 use Rattle.fhir_json.specs.Tree.{Text, boolean, number, string}
 use Rattle.fhir_prims.specs.declared.prim.PrimType.{PrimType}
-use Rattle.fhir_prims.specs.declared.prim.PrimType.TheVariants.{Boolean, Integer, UnsignedInt, PositiveInt, Decimal, String, Markdown, Xhtml, Code}
-use Rattle.fhir_prims.specs.declared.prim.PrimType.TheVariants.{Base64Binary, Id, Uri, Url, Canonical, Oid, Uuid, Date, DateTime, Instant, Time}
+use Rattle.fhir_prims.specs.declared.prim.PrimType.TheVariants.{Boolean, Integer, UnsignedInt, PositiveInt, Decimal}
 use Rattle.fhir_prims.specs.Values.{lexical}
 use Rattle.fhirpath_laws.specs.Primitives.{is_flag_type, is_number_type, is_text_type}
 

@@ -3,3 +3,6 @@ mod Wholes
 mod Points
 mod KindsInJson
 mod Rows
+mod Onward
+mod Ordered
+mod Pairwise

@@ -1,8 +1,8 @@
 -- Which values a text, a number, a flag and null are equal to.
 use Rattle.std.proofs.Common.{◌≡◌, Bool, true, false, refl, sym, ap, ◌∙◌}
 use Rattle.std.proofs.lemmas.Bool.{false≢true}
-use Rattle.fhir_json.specs.Tree.{Text, Tree, null, boolean, number, string, array, object}
-use Rattle.fhir_matching.specs.Equality.{is_null, is_flag, is_number_text, is_text, same_flag}
+use Rattle.fhir_json.specs.Tree.{Text, Tree, null, boolean, number, string}
+use Rattle.fhir_matching.specs.Equality.{is_null, is_flag, is_number_text, is_text}
 use Rattle.fhir_matching.proofs.Members.{text_is, same_text}
 use Rattle.fhir_matching.proofs.Laws.{flag_is, equal-refl}
 

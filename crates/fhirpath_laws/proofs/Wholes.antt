@@ -1,9 +1,9 @@
 -- Equality and fitting of arrays and objects, by the lists of their parts.
-use Rattle.std.proofs.Common.{◌≡◌, ℕ, suc, Bool, true, false, ◌&&◌, ◌||◌, List, [], ◌∷◌, length, refl, sym, ap, ap₂, ◌∙◌, arith}
+use Rattle.std.proofs.Common.{◌≡◌, ℕ, suc, Bool, true, false, ◌&&◌, ◌||◌, length, refl, ap, ap₂, ◌∙◌, arith}
 use Rattle.std.specs.Prelude.{nat_eq}
 use Rattle.std.specs.List.{list_all, list_any, zip}
 use Rattle.std.specs.Str.{bytes_eq}
-use Rattle.fhir_json.specs.Tree.{Text, Tree, null, boolean, number, string, array, object, Items, no_items, item, Members, no_members, member, list_of, properties_of, Property, names}
+use Rattle.fhir_json.specs.Tree.{Text, Tree, array, object, Items, no_items, item, Members, no_members, member, list_of, properties_of, names}
 use Rattle.fhir_json.specs.Sound.{is_among}
 use Rattle.fhir_json.specs.Fields.{is_array, is_object}
 use Rattle.fhir_matching.specs.Equality.{equal, items_equal, members_within, has_passing, are_among}

@@ -1,11 +1,10 @@
 //! What decimals say (FHIR R4, Data Types, decimal).
 
-ghost use Rattle.std.specs.Prelude.{◌≡◌, ◌<◌, ◌++◌, [], ◌∷◌, map, not, Bool, true, false, length, IsTrue, Some, codes};
+ghost use Rattle.std.specs.Prelude.{◌≡◌, ◌<◌, ◌++◌, [], ◌∷◌, not, Bool, true, false, length, IsTrue, Some, codes};
 ghost use Rattle.std.specs.declared.cmp.Ordering.TheVariants.{Less, Equal, Greater};
 ghost use Rattle.fhir_json.specs.Tree.{Text};
 ghost use Rattle.fhir_decimal.specs.Text.{Parts};
 ghost use Rattle.fhir_decimal.specs.Value.{number_of, value_of, value_order, is_same_value};
-ghost use Rattle.fhir_decimal.specs.Whole.{is_whole_value};
 ghost use Rattle.fhirpath_laws.specs.Decimals.{order_between, whole_ones};
 
 /// An exponent moves the point by so many digits: to the right (`raised`, as `1.25e2` is `125`), and behind a `-` to the left

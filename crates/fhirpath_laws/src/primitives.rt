@@ -63,12 +63,13 @@ pub fn texts_of_times()
         ≡ true ∷ true ∷ false ∷ false ∷ [] }
 {}
 
-/// Which texts are a code, an id, a uri, an oid, a uuid and a base64Binary; and a text with a control character is no string (FHIR R4, Data
-/// Types).
+/// Which texts are a code, an id (of 64 characters at most, `long_id`), a uri, an oid, a uuid and a base64Binary; and a text with a control
+/// character is no string (FHIR R4, Data Types).
 pub fn texts_of_names()
     ensures code { are_values Code (codes "a" ∷ codes "a b" ∷ codes " a" ∷ codes "a " ∷ codes "a  b" ∷ [])
         ≡ true ∷ true ∷ false ∷ false ∷ false ∷ [] }
     ensures id { are_values Id (codes "a-1.B" ∷ codes "a_b" ∷ codes "a b" ∷ codes "a/b" ∷ []) ≡ true ∷ false ∷ false ∷ false ∷ [] }
+    ensures long_id { are_values Id (codes "aaaaaaaaaaaaaaaaaaaaaaaaaaaaaaaaaaaaaaaaaaaaaaaaaaaaaaaaaaaaaaaa" ∷ codes "aaaaaaaaaaaaaaaaaaaaaaaaaaaaaaaaaaaaaaaaaaaaaaaaaaaaaaaaaaaaaaaaa" ∷ []) ≡ true ∷ false ∷ [] }
     ensures uri { are_values Uri (codes "urn:a" ∷ codes "a b" ∷ codes " a" ∷ []) ≡ true ∷ false ∷ false ∷ [] }
     ensures oid { are_values Oid (codes "urn:oid:1.2.0" ∷ codes "urn:oid:3.1" ∷ codes "urn:oid:1.02" ∷ codes "urn:oid:1" ∷ codes "urn:oid:1.2." ∷ codes "1.2" ∷ [])
         ≡ true ∷ false ∷ false ∷ false ∷ false ∷ false ∷ [] }
