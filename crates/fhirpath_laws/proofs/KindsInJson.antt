@@ -1,5 +1,5 @@
 -- Which primitive types are which JSON values.
-use Rattle.std.proofs.Common.{◌≡◌, Bool, true, false, refl}
+use Rattle.std.proofs.Common.{◌≡◌, Bool, true, refl}
 use Rattle.std.proofs.lemmas.Bool.{false≢true}
 use Rattle.fhir_json.specs.Tree.{Text, boolean, number, string}
 use Rattle.fhir_prims.specs.declared.prim.PrimType.{PrimType}

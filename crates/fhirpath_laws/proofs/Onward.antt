@@ -7,7 +7,7 @@ use Rattle.fhir_json.specs.Tree.{Text}
 use Rattle.fhir_schema.specs.Schemas.{SchemaValue}
 use Rattle.fhir_instance.specs.Items.{Item, item, Kids, no_kids, kid, Named, kids_of}
 use Rattle.fhir_fp_eval.specs.Values.{Plain, node, truth, number, text}
-use Rattle.fhir_fp_eval.specs.Meaning.{path_name, kids_named, all_kids, below, descendants, descendants_in, of_type, of_types}
+use Rattle.fhir_fp_eval.specs.Meaning.{path_name, kids_named, all_kids, below, descendants, descendants_in, of_type, of_types, has_value}
 use Rattle.fhirpath_laws.specs.Paths.{children_in, of_item, named_so, children_of, all_below, is_item_of}
 
 -- ---- children of a name
@@ -69,3 +69,11 @@ pub of_their_type : (s : SchemaValue) (type : Text) (vs : List Plain) → of_typ
 unfolding of_types
 of_their_type s type [] = refl
 of_their_type s type (v ∷ vs) = ap₂ (λ (b : Bool) (us : List Plain). cond b (v ∷ us) us) (one_type s type v) (of_their_type s type vs)
+
+-- ---- values of several
+
+pub no_value : (v u : Plain) (vs : List Plain) → has_value (v ∷ u ∷ vs) ≡ false
+no_value (node x) u vs = refl
+no_value (truth b) u vs = refl
+no_value (number n) u vs = refl
+no_value (text s) u vs = refl

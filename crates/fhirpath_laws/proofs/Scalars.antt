@@ -1,5 +1,5 @@
 -- Which values a text, a number, a flag and null are equal to.
-use Rattle.std.proofs.Common.{◌≡◌, Bool, true, false, refl, sym, ap, ◌∙◌}
+use Rattle.std.proofs.Common.{◌≡◌, Bool, true, refl, sym, ap, ◌∙◌}
 use Rattle.std.proofs.lemmas.Bool.{false≢true}
 use Rattle.fhir_json.specs.Tree.{Text, Tree, null, boolean, number, string}
 use Rattle.fhir_matching.specs.Equality.{is_null, is_flag, is_number_text, is_text}

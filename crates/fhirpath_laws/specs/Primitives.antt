@@ -1,6 +1,9 @@
 -- The primitive types, and which texts are values of them (FHIR R4, Data Types, primitive types).
-use Rattle.std.specs.Prelude.{ℕ, List, [], ◌∷◌, map, Bool, true, false, not, ◌||◌, codes}
+use Rattle.std.specs.Prelude.{ℕ, List, [], ◌∷◌, map, length, Bool, true, false, not, ◌&&◌, ◌||◌, ◌==◌, nat_le, codes}
+use Rattle.std.specs.List.{list_all}
+use Rattle.std.specs.Str.{chars}
 use Rattle.fhir_json.specs.Tree.{Text, string}
+use Rattle.fhir_json.specs.Bytes.{is_empty}
 use Rattle.fhir_prims.specs.declared.prim.PrimType.{PrimType}
 use Rattle.fhir_prims.specs.declared.prim.PrimType.TheVariants.{Boolean, Integer, UnsignedInt, PositiveInt, Decimal, String, Markdown, Xhtml, Code}
 use Rattle.fhir_prims.specs.declared.prim.PrimType.TheVariants.{Base64Binary, Id, Uri, Url, Canonical, Oid, Uuid, Date, DateTime, Instant, Time}
@@ -40,6 +43,14 @@ is_text_type p = not (is_flag_type p || is_number_type p)
 -- which texts are values of the type
 abbrev pub are_values : PrimType → List Text → List Bool
 are_values p ts = map (λ s. lexical p (string s)) ts
+
+-- no control character but tab, line feed and carriage return
+abbrev pub may_stand : ℕ → Bool
+may_stand b = nat_le 32 b || (b == 9) || (b == 10) || (b == 13)
+
+-- 1 to 1024 * 1024 characters, of which each may stand
+abbrev pub is_text : Text → Bool
+is_text s = not (is_empty s) && list_all may_stand s && nat_le (length (chars s)) 1048576
 
 -- ---- the calendar
 

@@ -22,7 +22,8 @@ pub use equality::{equal_collections, equality_at_work};
 pub use json_values::{equal_scalars, equal_wholes, patterns_of_scalars, patterns_of_wholes};
 pub use paths::{items_with_values, paths_of_each, values_that_there_are};
 pub use primitives::{
-    days_of_months, kinds_in_json, texts_of_dates, texts_of_names, texts_of_times, types_by_codes,
+    days_of_months, kinds_in_json, texts_alike, texts_of_dates, texts_of_names, texts_of_times,
+    types_by_codes,
 };
 pub use syntax::{groups_of_a_row, rows_of_operators, shared_by_name, words_of_values};
 pub use type_tests::{casts, types_of_items};

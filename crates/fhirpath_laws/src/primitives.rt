@@ -3,10 +3,10 @@
 ghost use Rattle.std.specs.Prelude.{◌≡◌, [], ◌∷◌, map, Bool, true, false, Some, None, IsTrue, codes};
 ghost use Rattle.fhir_json.specs.Tree.{Text, boolean, number, string};
 ghost use Rattle.fhir_prims.specs.declared.prim.PrimType.{PrimType};
-ghost use Rattle.fhir_prims.specs.declared.prim.PrimType.TheVariants.{String, Code, Base64Binary, Id, Uri, Oid, Uuid, Date, DateTime, Instant, Time};
+ghost use Rattle.fhir_prims.specs.declared.prim.PrimType.TheVariants.{String, Markdown, Code, Base64Binary, Id, Uri, Url, Canonical, Oid, Uuid, Date, DateTime, Instant, Time};
 ghost use Rattle.fhir_prims.specs.Moments.{days_in};
 ghost use Rattle.fhir_prims.specs.Values.{prim_of, lexical};
-ghost use Rattle.fhirpath_laws.specs.Primitives.{type_codes, types, is_flag_type, is_number_type, is_text_type, are_values, months, februaries};
+ghost use Rattle.fhirpath_laws.specs.Primitives.{type_codes, types, is_flag_type, is_number_type, is_text_type, are_values, months, februaries, is_text};
 
 /// Each primitive type by its code, and codes that are none's.
 pub fn types_by_codes()
@@ -80,4 +80,13 @@ pub fn texts_of_names()
     ensures base64 { are_values Base64Binary (codes "QUJD" ∷ codes "QQ==" ∷ codes " QUJD QUJD " ∷ codes "QUJ" ∷ codes "QU JD" ∷ codes "QU-D" ∷ [])
         ≡ true ∷ true ∷ true ∷ false ∷ false ∷ false ∷ [] }
     ensures string { are_values String ((1 ∷ []) ∷ (97 ∷ 31 ∷ []) ∷ (0 ∷ 97 ∷ []) ∷ []) ≡ false ∷ false ∷ false ∷ [] }
+{}
+
+/// A string has 1 to 1,048,576 characters, and no control character but tab, line feed and carriage return (`strings`), and so has a markdown
+/// (`markdowns`). A url and a canonical are written as a uri is (`urls`, `canonicals`) (FHIR R4, Data Types).
+pub fn texts_alike()
+    ensures strings { (s : Text) → lexical String (string s) ≡ is_text s }
+    ensures markdowns { (s : Text) → lexical Markdown (string s) ≡ is_text s }
+    ensures urls { (s : Text) → lexical Url (string s) ≡ lexical Uri (string s) }
+    ensures canonicals { (s : Text) → lexical Canonical (string s) ≡ lexical Uri (string s) }
 {}
