@@ -1,0 +1,7 @@
+mod Lists
+mod Whole
+mod Entries
+mod Found
+mod Composed
+mod Rooted
+mod Beneath

@@ -1,0 +1,6 @@
+pub mod Ancestors
+pub mod Asked
+pub mod Fields
+pub mod Heads
+pub mod Paths
+pub mod Versions
