@@ -1,7 +1,6 @@
 -- The elements below another, and its slices, by their ids.
 use Rattle.std.proofs.Common.{◌≡◌, ◌↔◌, ◌<◌, ℕ, List, [], map, filter, length, get_or, Some, IsTrue, refl, sym, ap, subst, ◌∙◌}
 use Rattle.std.specs.List.{slice_get, Contains}
-use Rattle.fhir_elements.specs.Element.{Element}
 use Rattle.fhir_definition.specs.Snapshot.{child_place, slice_place}
 use Rattle.fhir_definition.specs.Children.{children_of, slices_of as slice_places}
 use Rattle.fhir_definition.specs.Standing.{StandsUnder, AreUnderEach}

@@ -1,19 +1,18 @@
 -- What discriminators find.
 use Rattle.std.proofs.Common.{◌≡◌, ◌↔◌, Bool, true, false, cond, not, List, [], ◌∷◌, ◌++◌, Option, None, Some, codes, refl, sym, ap, subst, ◌∙◌, inl, inr, ◌⊎◌, ◌&&◌, ◌||◌, IsTrue}
-use Rattle.std.specs.List.{list_any, list_all, flat_map, Contains}
+use Rattle.std.specs.List.{list_any, list_all, Contains}
 use Rattle.std.specs.Option.{option_map_or}
 use Rattle.std.specs.Str.{bytes_eq}
-use Rattle.std.proofs.lemmas.Bool.{or_cases, or_left, or_right, false≢true, cases_Bool}
+use Rattle.std.proofs.lemmas.Bool.{or_cases, or_left, or_right, false≢true}
 use Rattle.std.proofs.lemmas.Slice.Eq.{bytes_eq-Decides}
 use Rattle.fhir_json.specs.Tree.{Text, Tree}
 use Rattle.fhir_json.specs.Bytes.{is_empty}
 use Rattle.fhir_nodes.specs.declared.node.NodeRef.{NodeRef}
 use Rattle.fhir_nodes.specs.Slots.{Slot}
-use Rattle.fhir_forms.specs.Criteria.{absent}
 use Rattle.fhir_schema.specs.Schemas.{SchemaValue, slices}
 use Rattle.fhir_schema.specs.Covers.{covers}
 use Rattle.fhir_instance.specs.Items.{Item, Kids, no_kids, kid, Named, type_of, json_of, kids_of}
-use Rattle.fhir_slicing.specs.Belonging.{is_called, called, items_at, is_found, is_typed, is_in, is_apart}
+use Rattle.fhir_slicing.specs.Belonging.{is_called, called, items_at, is_typed, is_in, is_apart}
 use Rattle.conformance_laws.specs.Paths.{children_in, Calls, Leads}
 use Rattle.conformance_laws.proofs.Lists.{has_none, has_first, has_later, has_cases, found, passes, each, all, gathered, scattered}
 

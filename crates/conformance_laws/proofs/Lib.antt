@@ -5,3 +5,4 @@ mod Found
 mod Composed
 mod Rooted
 mod Beneath
+mod Coded

@@ -1,6 +1,6 @@
 -- What a node asks of an item, in one place: of its value, by constraints, by types, and of its children (FHIR R4, ElementDefinition;
 -- Profiling; StructureDefinition, snapshot).
-use Rattle.std.specs.Prelude.{◌≡◌, ◌⊎◌, List, [], Bool, true, not, ◌&&◌, ◌||◌, None, Some, IsTrue, if◌then◌else◌}
+use Rattle.std.specs.Prelude.{◌≡◌, ◌⊎◌, [], Bool, true, not, ◌&&◌, ◌||◌, None, Some, IsTrue, if◌then◌else◌}
 use Rattle.std.specs.List.{Contains, list_all, list_any}
 use Rattle.std.specs.Option.{option_map_or}
 use Rattle.fhir_json.specs.Tree.{Text}

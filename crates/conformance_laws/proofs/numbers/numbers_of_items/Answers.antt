@@ -1,4 +1,4 @@
-use Rattle.std.proofs.Common.{◌≡◌, ◌≤◌, ℕ, true, Option, Some, nat_le, sym, ap, ◌∙◌, IsTrue}
+use Rattle.std.proofs.Common.{ℕ, true, Option, nat_le, sym, ap, ◌∙◌}
 use Rattle.std.specs.Option.{option_map_or}
 use Rattle.std.proofs.lemmas.Bool.{leb-true, le-leb}
 use Rattle.fhir_elements.specs.Max.{is_within}
