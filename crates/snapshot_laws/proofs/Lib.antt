@@ -1,5 +1,8 @@
 mod Coming
+mod Implied
+mod Inherited
 mod Itself
+mod Members
 mod Said
 mod Named
 mod Standing

@@ -1,2 +1,4 @@
+pub mod Children
 pub mod Differentials
+pub mod Slicings
 pub mod Snapshots

@@ -1,0 +1,5 @@
+pub mod Archives
+pub mod Gathering
+pub mod Names
+pub mod Questions
+pub mod Trees
