@@ -11,7 +11,7 @@ use std::io::Write;
 
 /// What is told of a fault; an empty text of another reply. Without memory.
 pub fn fault_told(alloc: Global, reply: Reply) -> String
-    ensures { string_bytes result ≡ fault_told (reply_seen reply.entry) }
+    ensures { string_bytes result ≡ fault_told (reply_seen reply) }
 {
     match reply {
         Reply::Fault(text) => text,
