@@ -23,16 +23,16 @@ use std::alloc::{AllocError, Global};
 use std::borrow::CowStr;
 
 // The url and the words, and what stands behind them.
-fn object_row<'m>(
+fn object_row(
     alloc: Global,
-    url: &'m str,
-    words: &'m str,
-    further: Members<'m>,
+    url: &str,
+    words: &'static str,
+    further: Members<'static>,
 ) -> Result<Vec<String>, NoMemory>
     ensures { IfOk result (λ ls. IsObject url.now words.now (map string_bytes ls.items)) }
 {
-    let mut members: Members<'m> = Vec::new(alloc);
-    put_text("url", url, &mut members)?;
+    let mut members: Members<'static> = Vec::new(alloc);
+    put_owned("url", String::from_str(alloc, url)?, &mut members)?;
     put_text("verdict", words, &mut members)?;
     put_all(further, &mut members)?;
     let mut rows: Vec<String> = Vec::new(alloc);
@@ -148,15 +148,18 @@ fn ways_rows(
 
 // ---- profiles that can't be used
 
-fn put_reason<'m, 's: 'm>(
-    line: Option<Line<'s>>,
-    into: &mut Members<'m>,
+fn put_reason(
+    alloc: Global,
+    line: Option<Line<'_>>,
+    into: &mut Members<'static>,
 ) -> Result<(), AllocError> {
     let Some(line) = line else {
         return Ok(());
     };
     put_text_if("number", line.number.map(|number| number.text()), into)?;
-    put_text_if("element", line.id, into)?;
+    if let Some(id) = line.id {
+        put_owned("element", String::from_str(alloc, id)?, into)?;
+    }
     put_owned("text", line.text, into)
 }
 
@@ -168,8 +171,8 @@ fn unusable_row<'s, 'f: 's>(
 ) -> Result<Vec<String>, NoMemory>
     ensures { IfOk result (λ ls. IsObject url.now words.now (map string_bytes ls.items)) }
 {
-    let mut members: Members<'s> = Vec::new(alloc);
-    put_reason(unusable_line(alloc, side, url)?, &mut members)?;
+    let mut members: Members<'static> = Vec::new(alloc);
+    put_reason(alloc, unusable_line(alloc, side, url)?, &mut members)?;
     object_row(alloc, url, words, members)
 }
 
