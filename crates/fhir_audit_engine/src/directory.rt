@@ -169,7 +169,10 @@ fn asked_of<'a>(
 ) -> Asked<'a> {
     Asked {
         prefixes: &request.prefixes,
-        given: request.given.map(|name| NamedFile { name, bytes: given }),
+        given: match request.given {
+            Some(name) => Some(NamedFile { name, bytes: given }),
+            None => None,
+        },
         held,
         format: request.format,
     }

@@ -141,7 +141,10 @@ fn names_of(alloc: Global, files: &[InputFile]) -> Result<Vec<&str>, AllocError>
 
 // The file of the texts, if one is named.
 fn given_file<'a>(request: &'a BulkRequest<'_>, bytes: Option<&'a [u8]>) -> Option<NamedFile<'a>> {
-    request.given.map(|name| NamedFile { name, bytes })
+    match request.given {
+        Some(name) => Some(NamedFile { name, bytes }),
+        None => None,
+    }
 }
 
 fn asked_with<'a>(
