@@ -1,5 +1,5 @@
 -- Why a run over a folder tells nothing, or not all of it.
-use Rattle.std.specs.Prelude.{[]}
+use Rattle.std.specs.Prelude.{[], Option, None, Some, string_bytes}
 use Rattle.fhir_json.specs.Tree.{Text}
 use Rattle.fhir_answers.specs.declared.reply.Status.{Status}
 use Rattle.fhir_answers.specs.declared.reply.Status.TheVariants as statuses
@@ -12,6 +12,11 @@ abbrev pub fault_told : ReplyValue → Text
 fault_told (written status out) = []
 fault_told (noted status out notes) = []
 fault_told (told status err) = err
+
+-- what is told of a reason
+abbrev pub refusal_text : Refusal → Option Text
+refusal_text (Fault text) = Some (string_bytes text)
+refusal_text Unwritten = None
 
 -- the status of each reason
 abbrev pub refusal_status : Refusal → Status

@@ -5,6 +5,7 @@ ghost use Rattle.std.specs.IoError.{error_kind};
 ghost use Rattle.fhir_json.specs.Tree.{Text};
 ghost use Rattle.fhir_package.specs.Folder.{Files as FolderFiles};
 ghost use Rattle.fhir_engine.specs.Serving.{IsServed, IsServedAsGiven};
+ghost use Rattle.fhir_json.specs.Views.{text_seen};
 ghost use Rattle.fhir_answers.specs.Views.{bytes_seen};
 ghost use Rattle.fhir_words.specs.Views.{asked_seen};
 
@@ -111,7 +112,9 @@ pub fn bytes_at<R: Files + AllocGlobal>(rt: &R, path: &str) -> Result<Option<Vec
 pub fn bytes_if_named<R: Files + AllocGlobal>(
     rt: &R,
     path: Option<&str>,
-) -> Result<Option<Vec<u8>>, NoMemory> {
+) -> Result<Option<Vec<u8>>, NoMemory>
+    ensures unnamed { text_seen path.entry ≡ None → result ≡ Ok None }
+{
     match path {
         Some(path) => bytes_at(rt, path),
         None => Ok(None),

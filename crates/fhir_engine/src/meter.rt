@@ -28,9 +28,9 @@ impl<'m, C: Clock, E: Write> Meter<'m, C, E> {
     pub fn new(clock: &'m C, terminal: &'m mut E, is_terminal: bool) -> Meter<'m, C, E> {
         let patience = Duration::from_secs(PATIENCE_SECONDS);
         let pause = Duration::from_millis(PAUSE_MILLISECONDS);
-        Meter {
-            line: StatusLine::new(clock, terminal, is_terminal, patience, pause),
-        }
+        let mut line = StatusLine::new(clock, terminal, is_terminal, patience, pause);
+        line.start();
+        Meter { line }
     }
 }
 

@@ -1,8 +1,8 @@
 //! Why a run over a folder tells nothing, or not all of it.
 
-ghost use Rattle.std.specs.Prelude.{◌≡◌, string_bytes};
-ghost use Rattle.fhir_answers.specs.Replying.{reply_seen};
-ghost use Rattle.fhir_engine.specs.Refusing.{fault_told, refusal_status};
+ghost use Rattle.std.specs.Prelude.{◌≡◌, Some, IfOk, codes, string_bytes};
+ghost use Rattle.fhir_answers.specs.Replying.{reply_seen, fault_text};
+ghost use Rattle.fhir_engine.specs.Refusing.{fault_told, refusal_text, refusal_status};
 
 use crate::engine::end_with;
 use fhir_answers::{Reply, Status, fault_text};
@@ -30,12 +30,16 @@ pub enum Refusal {
 
 impl Refusal {
     /// That a folder of that name can't be listed. The one refusal is want of memory.
-    pub fn unlisted(alloc: Global, name: &str) -> Result<Refusal, AllocError> {
+    pub fn unlisted(alloc: Global, name: &str) -> Result<Refusal, AllocError>
+        ensures { IfOk result (λ refusal. refusal_text refusal ≡ Some (fault_text (codes "P1") name.now)) }
+    {
         Ok(Refusal::Fault(fault_text(alloc, "P1", name)?))
     }
 
-    /// The fault that a reply tells.
-    pub fn of_reply(alloc: Global, reply: Reply) -> Refusal {
+    /// The fault that a reply tells, with an empty text for another reply.
+    pub fn of_reply(alloc: Global, reply: Reply) -> Refusal
+        ensures { refusal_text result ≡ Some (fault_told (reply_seen reply)) }
+    {
         Refusal::Fault(fault_told(alloc, reply))
     }
 

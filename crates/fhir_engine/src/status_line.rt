@@ -12,7 +12,7 @@ pub struct StatusLine<'m, C, E> {
     is_terminal: bool,
     patience: Duration,
     pause: Duration,
-    // When it was first asked whether a text is due.
+    // When it was started, or first asked whether a text is due.
     started: Option<Instant>,
     // When a text was shown last.
     shown: Option<Duration>,
@@ -40,7 +40,12 @@ impl<'m, C: Clock, E: Write> StatusLine<'m, C, E> {
         }
     }
 
-    /// The time since this was first asked, if a text is to be shown now.
+    /// Counts the time from now on. Where this isn't called it counts from when it is first asked whether a text is due.
+    pub fn start(&mut self) {
+        self.started = Instant::now(self.clock).ok();
+    }
+
+    /// The time since the start, if a text is to be shown now.
     pub fn due(&mut self) -> Option<Duration> {
         if !self.is_terminal {
             return None;
