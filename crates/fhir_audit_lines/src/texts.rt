@@ -16,7 +16,7 @@ use fhir_cert_check::{Rule, pair_text, rule_text};
 use fhir_certificate::{Certificate, Pair};
 use fhir_derive_check::Side;
 use fhir_json::NoMemory;
-use fhir_lines::{Line, push_texts};
+use fhir_lines::{push_texts, reason_text};
 use fhir_report::rule_words;
 use fhir_schema::Schema;
 use std::alloc::{AllocError, Global};
@@ -149,38 +149,6 @@ fn unusable_front(alloc: Global, audited: &Audited<'_>, side: Side) -> Result<St
     format!(in alloc; "{url}: can't be used{side}")
 }
 
-// Puts in a part of a line, and a colon in front.
-fn push_part(part: Option<&str>, into: &mut String) -> Result<(), AllocError> {
-    let Some(part) = part else {
-        return Ok(());
-    };
-    into.push_str(": ")?;
-    into.push_str(part)
-}
-
-fn push_number(line: &Line<'_>, into: &mut String) -> Result<(), AllocError> {
-    match line.number {
-        Some(number) => push_part(Some(number.text()), into),
-        None => Ok(()),
-    }
-}
-
-// Why it can't be used: the number, the element and the reason.
-fn reason_text(alloc: Global, line: &Line<'_>) -> Result<String, AllocError> {
-    let mut why = String::new(alloc);
-    push_number(line, &mut why)?;
-    push_part(line.id, &mut why)?;
-    push_part(Some(line.text.as_str()), &mut why)?;
-    Ok(why)
-}
-
-fn why_text(alloc: Global, line: Option<&Line<'_>>) -> Result<String, AllocError> {
-    match line {
-        Some(line) => reason_text(alloc, line),
-        None => Ok(String::new(alloc)),
-    }
-}
-
 fn joined(alloc: Global, front: &str, why: &str) -> Result<String, AllocError>
     ensures { IfOk result (λ line. string_bytes line ≡ front.now ++ why.now) }
 {
@@ -196,7 +164,7 @@ fn unusable_text<'s, 'f: 's>(
     ensures { IfOk result (λ line. (why : Text) × (string_bytes line ≡ unusable_front (audited_seen audited.now) side ++ why)) }
 {
     let found = unusable_line(alloc, sources, url_on(side, audited))?;
-    let why = why_text(alloc, found.as_ref())?;
+    let why = reason_text(alloc, found.as_ref())?;
     let front = unusable_front(alloc, audited, side)?;
     let line = joined(alloc, front.as_str(), why.as_str())?;
     Ok(line)

@@ -13,7 +13,7 @@ use crate::sources::{Side, Sources};
 use crate::unusable::unusable_line;
 use fhir_compare::{Change, Compared, Verdict, Way, Ways};
 use fhir_json::NoMemory;
-use fhir_lines::{Line, push_texts};
+use fhir_lines::{push_texts, reason_text};
 use std::alloc::{AllocError, Global};
 
 /// A change in a few words.
@@ -162,26 +162,6 @@ fn ways_lines(
 
 // ---- profiles that can't be used
 
-// Puts in a part of a line, and a colon in front.
-fn push_part(part: Option<&str>, into: &mut String) -> Result<(), AllocError> {
-    let Some(part) = part else {
-        return Ok(());
-    };
-    into.push_str(": ")?;
-    into.push_str(part)
-}
-
-// Why it can't be used: the number, the element and the reason.
-fn reason_text(alloc: Global, line: Option<Line<'_>>) -> Result<String, AllocError> {
-    let mut why = String::new(alloc);
-    if let Some(line) = line {
-        push_part(line.number.map(|number| number.text()), &mut why)?;
-        push_part(line.id, &mut why)?;
-        push_part(Some(line.text.as_str()), &mut why)?;
-    }
-    Ok(why)
-}
-
 fn with_reason(alloc: Global, words: &str, why: &str) -> Result<String, AllocError>
     ensures { IfOk result (λ text. string_bytes text ≡ words.now ++ why.now) }
 {
@@ -196,7 +176,8 @@ fn unusable_one<'s, 'f: 's>(
 ) -> Result<Vec<String>, NoMemory>
     ensures { IfOk result (λ ls. AreUnusableIf true url.now words.now (map string_bytes ls.items)) }
 {
-    let why = reason_text(alloc, unusable_line(alloc, side, url)?)?;
+    let found = unusable_line(alloc, side, url)?;
+    let why = reason_text(alloc, found.as_ref())?;
     let text = with_reason(alloc, words, why.as_str())?;
     let lines = one_line(alloc, url, text.as_str())?;
     Ok(lines)

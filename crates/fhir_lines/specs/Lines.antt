@@ -92,6 +92,10 @@ details_text d = flat_map (λ p. codes "; " ++ p) (details_parts d)
 abbrev pub line_text : LineValue → Text
 line_text l = place_text l ++ name_text l ++ l.text ++ details_text l.details
 
+-- why something can't be used: the number, the id and the text, each behind a colon
+abbrev pub reason_text : LineValue → Text
+reason_text l = flat_map (λ p. codes ": " ++ p) (parts_of (option_map number_text l.number) ++ parts_of l.id ++ parts_of (Some l.text))
+
 -- ---- as a JSON object
 
 abbrev pub text_member : Text → Option Text → List Property

@@ -19,7 +19,7 @@ mod members;
 mod writing;
 
 pub use laws::{escaped_texts, rows_are_lines};
-pub use line::{Details, FaultNumber, Line};
+pub use line::{Details, FaultNumber, Line, reason_text};
 pub use members::{
     Members, object_text, put_all, put_count, put_owned, put_text, put_text_if, put_value,
 };

@@ -2,10 +2,11 @@
 
 ghost use Rattle.std.specs.Prelude.{◌≡◌, ◌++◌, ◌∷◌, [], map, flat_map, None, Some, IfOk, OnOk, option_map, codes, string_bytes};
 ghost use Rattle.std.specs.Fmt.{decimal};
+ghost use Rattle.std.specs.Option.{option_map_or};
 ghost use Rattle.fhir_json.specs.Tree.{string, number, object};
 ghost use Rattle.fhir_json.specs.Memory.{Gives};
 ghost use Rattle.fhir_json.specs.Views.{tree_of, property_of};
-ghost use Rattle.fhir_lines.specs.Lines.{text_line, file_line, number_text, parts_of, group, place_text, name_text, constraint_text, lacks_text, count_text, details_parts, details_text, line_text, details_members, line_tree, no_details, details_seen, line_seen};
+ghost use Rattle.fhir_lines.specs.Lines.{text_line, file_line, number_text, parts_of, group, place_text, name_text, constraint_text, lacks_text, count_text, details_parts, details_text, line_text, reason_text, details_members, line_tree, no_details, details_seen, line_seen};
 
 use crate::members::{Members, put_count_if, put_flag, put_text, put_text_if};
 use fhir_certificate::CertFault;
@@ -299,6 +300,17 @@ impl<'r> Line<'r> {
         Ok(text)
     }
 
+    // Why something can't be used: the number, the id and the text, each behind a colon.
+    fn push_reason(&self, alloc: Global, into: &mut String) -> Result<(), AllocError>
+        ensures { OnOk result (string_bytes into.new ≡ string_bytes into.old ++ reason_text (line_seen self.now)) }
+    {
+        let mut parts = Vec::with_capacity(alloc, 3)?;
+        push_part(number_text(self.number), &mut parts)?;
+        push_part(self.id, &mut parts)?;
+        push_part(Some(self.text.as_str()), &mut parts)?;
+        push_each(": ", &parts, into)
+    }
+
     fn put_details<'l>(&'l self, alloc: Global, into: &mut Members<'l>) -> Result<(), AllocError>
         ensures { OnOk result (map property_of into.new.items
             ≡ map property_of into.old.items ++ details_members (line_seen self.now).details) }
@@ -325,4 +337,16 @@ impl<'r> Line<'r> {
         self.put_details(alloc, &mut members)?;
         Ok(Json::Obj(members))
     }
+}
+
+/// Why something can't be used, as a line says it: `: NUMBER: ID: TEXT`. What the line doesn't have is left out, and where there is no line the
+/// text is empty. The one refusal is want of memory.
+pub fn reason_text(alloc: Global, line: Option<&Line<'_>>) -> Result<String, AllocError>
+    ensures { IfOk result (λ text. string_bytes text ≡ option_map_or (λ l. reason_text (line_seen l.now)) line.entry []) }
+{
+    let mut text = String::new(alloc);
+    if let Some(line) = line {
+        line.push_reason(alloc, &mut text)?;
+    }
+    Ok(text)
 }

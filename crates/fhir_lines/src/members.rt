@@ -6,7 +6,8 @@ ghost use Rattle.fhir_json.specs.Tree.{object, members_of, string};
 ghost use Rattle.fhir_json.specs.Views.{tree_of, property_of, text_seen};
 ghost use Rattle.fhir_lines.specs.Lines.{text_member, count_property, count_member, flag_member};
 
-use fhir_json::{Json, Member, NoMemory, write};
+use crate::writing::json_text;
+use fhir_json::{Json, Member, NoMemory};
 use std::alloc::{AllocError, Global};
 use std::borrow::CowStr;
 
@@ -118,7 +119,5 @@ pub fn put_all<'m>(mut others: Members<'m>, into: &mut Members<'m>) -> Result<()
 pub fn object_text(alloc: Global, members: Members<'_>) -> Result<String, NoMemory>
     ensures { IfOk result (λ text. string_bytes text ≡ compact (object (members_of (map property_of members.entry.items)))) }
 {
-    let object = Json::Obj(members);
-    let bytes = write(alloc, &object)?;
-    Ok(String::from_utf8_lossy(alloc, &bytes)?)
+    json_text(alloc, &Json::Obj(members))
 }

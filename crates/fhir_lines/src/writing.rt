@@ -12,16 +12,21 @@ use fhir_json::{Json, NoMemory, write};
 use fhir_words::Format;
 use std::alloc::{AllocError, Global};
 
+/// The compact text of a tree. The one refusal is want of memory.
+pub(crate) fn json_text(alloc: Global, json: &Json<'_>) -> Result<String, NoMemory>
+    ensures { Gives string_bytes result (compact (tree_of json.now)) }
+{
+    let bytes = write(alloc, json)?;
+    Ok(String::from_utf8_lossy(alloc, &bytes)?)
+}
+
 // A line without its line feed, as it is, with the control characters of texts from files.
 fn row_text(alloc: Global, format: Format, line: &Line<'_>) -> Result<String, NoMemory>
     ensures { Gives string_bytes result (row_text format (line_seen line.now)) }
 {
     match format {
         Format::Text => line.to_text(alloc),
-        Format::Json => {
-            let bytes = write(alloc, &line.to_json(alloc)?)?;
-            Ok(String::from_utf8_lossy(alloc, &bytes)?)
-        }
+        Format::Json => json_text(alloc, &line.to_json(alloc)?),
     }
 }
 
@@ -66,8 +71,7 @@ pub fn push_escaped(text: &str, into: &mut String) -> Result<(), AllocError>
 pub fn push_json(alloc: Global, json: &Json<'_>, into: &mut String) -> Result<(), NoMemory>
     ensures { OnOk result (string_bytes into.new ≡ string_bytes into.old ++ escaped (compact (tree_of json.now))) }
 {
-    let bytes = write(alloc, json)?;
-    let text = String::from_utf8_lossy(alloc, &bytes)?;
+    let text = json_text(alloc, json)?;
     Ok(push_escaped(text.as_str(), into)?)
 }
 
