@@ -4,6 +4,7 @@ use fhir_answers::fault_text;
 use fhir_audit::{Audited, Verdict};
 use fhir_audit_lines::file_names;
 use fhir_certificate::{Certificate, write};
+use fhir_engine::Refusal;
 use fhir_json::NoMemory;
 use fhir_new_folder::{BeginFault, NewFolder, WriteFault};
 use fhir_schema::Schema;
@@ -123,12 +124,12 @@ pub(crate) fn part_of(alloc: Global, name: &str) -> Result<String, AllocError> {
     format!(in alloc; "{}.part", name.trim_end_matches('/'))
 }
 
-/// What is told of the fault for which certificates aren't written to a folder of that name; nothing of want of memory.
-pub(crate) fn files_fault_text(
+/// Why certificates aren't written to a folder of that name, of a fault. The one refusal of its own is want of memory.
+pub(crate) fn files_refusal(
     alloc: Global,
     name: &str,
     fault: &FilesFault,
-) -> Result<Option<String>, AllocError> {
+) -> Result<Refusal, AllocError> {
     let text = match fault {
         FilesFault::Exists => fault_text(alloc, "exists", name)?,
         FilesFault::Left => fault_text(alloc, "exists", part_of(alloc, name)?.as_str())?,
@@ -137,7 +138,7 @@ pub(crate) fn files_fault_text(
             let path = format!(in alloc; "{name}/{}", file.as_str())?;
             fault_text(alloc, "write", path.as_str())?
         }
-        FilesFault::NoMemory => return Ok(None),
+        FilesFault::NoMemory => return Ok(Refusal::NoMemory),
     };
-    Ok(Some(text))
+    Ok(Refusal::Fault(text))
 }

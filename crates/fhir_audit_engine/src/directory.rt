@@ -7,7 +7,7 @@ use crate::outputs::{Named, Outputs};
 use crate::running::audit_folder;
 use fhir_answers::{NamedFile, Status, fault_text};
 use fhir_audit::Watch;
-use fhir_engine::{Wanted, bytes_at, bytes_if_named, directory_at, end_with, paths_at};
+use fhir_engine::{Refusal, Wanted, bytes_at, bytes_if_named, directory_at, end_with, paths_at};
 use fhir_json::NoMemory;
 use fhir_new_folder::NewDirectory;
 use fhir_package::{MemoryFolder, Progress};
@@ -20,33 +20,30 @@ use std::rt::Files;
 
 // ---- a folder of certificates
 
-/// The certificates of a folder, or what is told of why they can't be read.
-type Certificates = Result<Vec<NamedBytes>, String>;
-
 fn read_each<R: Files + AllocGlobal>(
     rt: &R,
     folder: &str,
     paths: BTreeMap<String, String>,
-) -> Result<Certificates, NoMemory> {
+) -> Result<Vec<NamedBytes>, Refusal> {
     let mut files = Vec::with_capacity(rt.alloc(), paths.len())?;
     for (name, path) in paths {
         let Some(bytes) = bytes_at(rt, path.as_str())? else {
             let path = format!(in rt.alloc(); "{folder}/{}", name.as_str())?;
-            return Ok(Err(fault_text(rt.alloc(), "P1", path.as_str())?));
+            return Err(Refusal::Fault(fault_text(rt.alloc(), "P1", path.as_str())?));
         };
         files.push(NamedBytes { name, bytes })?;
     }
-    Ok(Ok(files))
+    Ok(files)
 }
 
 fn certificates_at<R: Files + AllocGlobal + Clone + Drop>(
     rt: &R,
     folder: &str,
-) -> Result<Certificates, NoMemory> {
+) -> Result<Vec<NamedBytes>, Refusal> {
     match paths_at(rt, folder, Wanted::All) {
         Ok(paths) => read_each(rt, folder, paths),
-        Err(error) if error.kind() == ErrorKind::OutOfMemory => Err(NoMemory),
-        Err(_) => Ok(Err(fault_text(rt.alloc(), "P1", folder)?)),
+        Err(error) if error.kind() == ErrorKind::OutOfMemory => Err(Refusal::NoMemory),
+        Err(_) => Err(Refusal::unlisted(rt.alloc(), folder)?),
     }
 }
 
@@ -67,10 +64,10 @@ pub struct Opened {
 fn held_at<R: Files + AllocGlobal + Clone + Drop>(
     rt: &R,
     against: Option<&str>,
-) -> Result<Result<Option<Vec<NamedBytes>>, String>, NoMemory> {
+) -> Result<Option<Vec<NamedBytes>>, Refusal> {
     match against {
-        Some(folder) => Ok(certificates_at(rt, folder)?.map(|files| Some(files))),
-        None => Ok(Ok(None)),
+        Some(folder) => Ok(Some(certificates_at(rt, folder)?)),
+        None => Ok(None),
     }
 }
 
@@ -78,17 +75,15 @@ fn open_request<R: Files + AllocGlobal + Clone + Drop, P: Progress>(
     rt: &R,
     request: &AuditRequest<'_>,
     progress: &mut P,
-) -> Result<Result<Opened, String>, NoMemory> {
+) -> Result<Opened, Refusal> {
     let folder = directory_at(rt, request.folder, progress)?;
     let given = bytes_if_named(rt, request.given)?;
-    match held_at(rt, request.against)? {
-        Ok(held) => Ok(Ok(Opened {
-            folder,
-            given,
-            held,
-        })),
-        Err(text) => Ok(Err(text)),
-    }
+    let held = held_at(rt, request.against)?;
+    Ok(Opened {
+        folder,
+        given,
+        held,
+    })
 }
 
 // ---- where it is written
@@ -98,44 +93,43 @@ fn is_taken<R: Files>(rt: &R, path: &str) -> bool {
     path.is_empty() || fs::symlink_metadata(rt, path).is_ok()
 }
 
-// What is told where something stands at a path under which a new file or folder is to be made.
-fn standing_at<R: Files + AllocGlobal>(rt: &R, path: &str) -> Result<Option<String>, AllocError> {
+fn already_there<R: AllocGlobal>(rt: &R, path: &str) -> Result<Refusal, AllocError> {
+    Ok(Refusal::Fault(fault_text(rt.alloc(), "exists", path)?))
+}
+
+// Refuses a path at which something stands.
+fn expect_free<R: Files + AllocGlobal>(rt: &R, path: &str) -> Result<(), Refusal> {
     if is_taken(rt, path) {
-        Ok(Some(fault_text(rt.alloc(), "exists", path)?))
+        Err(already_there(rt, path)?)
     } else {
-        Ok(None)
+        Ok(())
     }
 }
 
-fn standing_folder<R: Files + AllocGlobal>(
-    rt: &R,
-    name: &str,
-) -> Result<Option<String>, AllocError> {
+fn expect_free_folder<R: Files + AllocGlobal>(rt: &R, name: &str) -> Result<(), Refusal> {
     if is_taken(rt, name.trim_end_matches('/')) {
-        return Ok(Some(fault_text(rt.alloc(), "exists", name)?));
+        return Err(already_there(rt, name)?);
     }
     let part = part_of(rt.alloc(), name)?;
-    standing_at(rt, part.as_str())
+    expect_free(rt, part.as_str())
 }
 
-fn standing_page<R: Files + AllocGlobal>(rt: &R, name: &str) -> Result<Option<String>, AllocError> {
+fn expect_free_page<R: Files + AllocGlobal>(rt: &R, name: &str) -> Result<(), Refusal> {
     let part = format!(in rt.alloc(); "{name}.part")?;
-    standing_at(rt, part.as_str())
+    expect_free(rt, part.as_str())
 }
 
-// What is told where the new folder or the page isn't begun, as far as it is seen before anything is read.
-fn standing<R: Files + AllocGlobal>(
+// Refuses a new folder or a page that can't be begun, as far as that is seen before anything is read.
+fn expect_all_free<R: Files + AllocGlobal>(
     rt: &R,
     request: &AuditRequest<'_>,
-) -> Result<Option<String>, AllocError> {
+) -> Result<(), Refusal> {
     if let Some(name) = request.certificates {
-        if let Some(text) = standing_folder(rt, name)? {
-            return Ok(Some(text));
-        }
+        expect_free_folder(rt, name)?;
     }
     match request.page {
-        Some(name) => standing_page(rt, name),
-        None => Ok(None),
+        Some(name) => expect_free_page(rt, name),
+        None => Ok(()),
     }
 }
 
@@ -218,14 +212,10 @@ fn run_free<R: Files + AllocGlobal + Clone + Drop, P: Progress, V: Watch, W: Wri
     err: &mut E,
 ) -> Status {
     match open_request(rt, request, progress) {
-        Ok(Ok(opened)) => run_opened(rt, request, opened, progress, watch, out, err),
-        Ok(Err(text)) => {
+        Ok(opened) => run_opened(rt, request, opened, progress, watch, out, err),
+        Err(refusal) => {
             progress.end();
-            end_with(err, text.as_str(), Status::Fault)
-        }
-        Err(NoMemory) => {
-            progress.end();
-            end_with(err, "no memory\n", Status::NoMemory)
+            refusal.tell(err)
         }
     }
 }
@@ -247,9 +237,8 @@ pub fn audit_directory<
     out: &mut W,
     err: &mut E,
 ) -> Status {
-    match standing(rt, request) {
-        Ok(None) => run_free(rt, request, progress, watch, out, err),
-        Ok(Some(text)) => end_with(err, text.as_str(), Status::Fault),
-        Err(_) => end_with(err, "no memory\n", Status::NoMemory),
+    match expect_all_free(rt, request) {
+        Ok(()) => run_free(rt, request, progress, watch, out, err),
+        Err(refusal) => refusal.tell(err),
     }
 }

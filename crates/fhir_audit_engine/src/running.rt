@@ -7,14 +7,14 @@ ghost use Rattle.fhir_audit.specs.Views.{all_audited};
 ghost use Rattle.fhir_audit_engine.specs.Promising.{AllNarrowIn, AuditPromise};
 
 use crate::asked::{Asked, NamedBytes};
-use crate::certificate_files::{files_fault_text, write_certificates};
+use crate::certificate_files::{files_refusal, write_certificates};
 use crate::new_file::NewFile;
 use crate::outputs::Outputs;
 use fhir_answers::{Session, Status, fault_text, refused_reply};
 use fhir_audit::{Audited, Watch, are_narrowing, audit, narrowing_profiles, recheck};
 use fhir_audit_lines::{HeldFile, are_holding, audit_text};
 use fhir_audit_words::Sources;
-use fhir_engine::{Refusal, end_with, files_of, is_written, vouched};
+use fhir_engine::{Refusal, files_of, is_written, vouched};
 use fhir_findings::{SelectFault, Selection};
 use fhir_json::NoMemory;
 use fhir_new_folder::{NewFolder, WriteFault};
@@ -94,36 +94,32 @@ fn status_of(audited: &[Audited<'_>], held: Option<&[HeldFile<'_>]>) -> Status
     }
 }
 
-// What is told where something of that name isn't finished.
-fn unfinished(
-    alloc: Global,
-    name: &str,
-    finished: Result<(), WriteFault>,
-) -> Result<Result<(), Refusal>, NoMemory> {
-    match finished {
-        Ok(()) => Ok(Ok(())),
-        Err(WriteFault::Device) => Ok(Err(Refusal::Fault(fault_text(alloc, "write", name)?))),
-        Err(WriteFault::NoMemory) => Err(NoMemory),
+// That something of that name was written, or why it wasn't.
+fn written(alloc: Global, name: &str, written: Result<(), WriteFault>) -> Result<(), Refusal> {
+    match written {
+        Ok(()) => Ok(()),
+        Err(WriteFault::Device) => Err(Refusal::Fault(fault_text(alloc, "write", name)?)),
+        Err(WriteFault::NoMemory) => Err(Refusal::NoMemory),
     }
 }
 
 fn finish_folder<N: NewFolder, G>(
     alloc: Global,
     outputs: &mut Outputs<'_, N, G>,
-) -> Result<Result<(), Refusal>, NoMemory> {
+) -> Result<(), Refusal> {
     match &mut outputs.certificates {
-        Some(new) => unfinished(alloc, new.name, new.output.finish()),
-        None => Ok(Ok(())),
+        Some(new) => written(alloc, new.name, new.output.finish()),
+        None => Ok(()),
     }
 }
 
 fn finish_page<N, G: NewFile>(
     alloc: Global,
     outputs: &mut Outputs<'_, N, G>,
-) -> Result<Result<(), Refusal>, NoMemory> {
+) -> Result<(), Refusal> {
     match &mut outputs.page {
-        Some(page) => unfinished(alloc, page.name, page.output.finish()),
-        None => Ok(Ok(())),
+        Some(page) => written(alloc, page.name, page.output.finish()),
+        None => Ok(()),
     }
 }
 
@@ -131,11 +127,9 @@ fn finish_page<N, G: NewFile>(
 fn finish<N: NewFolder, G: NewFile>(
     alloc: Global,
     outputs: &mut Outputs<'_, N, G>,
-) -> Result<Result<(), Refusal>, NoMemory> {
-    match finish_folder(alloc, outputs)? {
-        Ok(()) => finish_page(alloc, outputs),
-        Err(refusal) => Ok(Err(refusal)),
-    }
+) -> Result<(), Refusal> {
+    finish_folder(alloc, outputs)?;
+    finish_page(alloc, outputs)
 }
 
 // Takes away what is written and has no name yet.
@@ -154,16 +148,13 @@ fn put_certificates<N: NewFolder, G>(
     sources: Sources<'_, '_>,
     audited: &[Audited<'_>],
     outputs: &mut Outputs<'_, N, G>,
-) -> Result<Result<(), Refusal>, NoMemory> {
+) -> Result<(), Refusal> {
     let Some(new) = &mut outputs.certificates else {
-        return Ok(Ok(()));
+        return Ok(());
     };
     match write_certificates(alloc, sources.schema, audited, &mut new.output) {
-        Ok(()) => Ok(Ok(())),
-        Err(fault) => match files_fault_text(alloc, new.name, &fault)? {
-            Some(text) => Ok(Err(Refusal::Fault(text))),
-            None => Err(NoMemory),
-        },
+        Ok(()) => Ok(()),
+        Err(fault) => Err(files_refusal(alloc, new.name, &fault)?),
     }
 }
 
@@ -173,9 +164,9 @@ fn put_page<N, G: NewFile>(
     sources: Sources<'_, '_>,
     audited: &[Audited<'_>],
     outputs: &mut Outputs<'_, N, G>,
-) -> Result<Result<(), Refusal>, NoMemory> {
+) -> Result<(), Refusal> {
     let Some(file) = &mut outputs.page else {
-        return Ok(Ok(()));
+        return Ok(());
     };
     let bytes = page(
         alloc,
@@ -184,26 +175,7 @@ fn put_page<N, G: NewFile>(
         sources.lacking,
         audited,
     )?;
-    match file.output.write(&bytes) {
-        Ok(()) => Ok(Ok(())),
-        Err(WriteFault::Device) => {
-            let text = fault_text(alloc, "write", file.name)?;
-            Ok(Err(Refusal::Fault(text)))
-        }
-        Err(WriteFault::NoMemory) => Err(NoMemory),
-    }
-}
-
-fn put_files<N: NewFolder, G: NewFile>(
-    alloc: Global,
-    sources: Sources<'_, '_>,
-    audited: &[Audited<'_>],
-    outputs: &mut Outputs<'_, N, G>,
-) -> Result<Result<(), Refusal>, NoMemory> {
-    match put_certificates(alloc, sources, audited, outputs)? {
-        Ok(()) => put_page(alloc, sources, audited, outputs),
-        Err(refusal) => Ok(Err(refusal)),
-    }
+    written(alloc, file.name, file.output.write(&bytes))
 }
 
 // Writes what is told, and gives the files their names.
@@ -212,11 +184,11 @@ fn tell<N: NewFolder, G: NewFile, W: Write>(
     text: &str,
     outputs: &mut Outputs<'_, N, G>,
     out: &mut W,
-) -> Result<Result<(), Refusal>, NoMemory> {
+) -> Result<(), Refusal> {
     if is_written(out, text.as_bytes()) {
         finish(alloc, outputs)
     } else {
-        Ok(Err(Refusal::Unwritten))
+        Err(Refusal::Unwritten)
     }
 }
 
@@ -227,11 +199,10 @@ fn put_all<N: NewFolder, G: NewFile, W: Write>(
     text: &str,
     outputs: &mut Outputs<'_, N, G>,
     out: &mut W,
-) -> Result<Result<(), Refusal>, NoMemory> {
-    match put_files(alloc, sources, audited, outputs)? {
-        Ok(()) => tell(alloc, text, outputs, out),
-        Err(refusal) => Ok(Err(refusal)),
-    }
+) -> Result<(), Refusal> {
+    put_certificates(alloc, sources, audited, outputs)?;
+    put_page(alloc, sources, audited, outputs)?;
+    tell(alloc, text, outputs, out)
 }
 
 // The same; where it fails, nothing is left of the files.
@@ -242,9 +213,9 @@ fn put<N: NewFolder, G: NewFile, W: Write>(
     text: &str,
     outputs: &mut Outputs<'_, N, G>,
     out: &mut W,
-) -> Result<Result<(), Refusal>, NoMemory> {
+) -> Result<(), Refusal> {
     let done = put_all(alloc, sources, audited, text, outputs, out);
-    if !matches!(done, Ok(Ok(()))) {
+    if done.is_err() {
         abandon(outputs);
     }
     done
@@ -270,12 +241,12 @@ fn run_vouched<N: NewFolder, G: NewFile, V: Watch, W: Write, E: Write>(
     watch: &mut V,
     out: &mut W,
     err: &mut E,
-) -> Result<Result<Status, Refusal>, NoMemory>
-    ensures { IfOk result (λ r. IfOk r (λ status. status ≡ Status.Yes → AllNarrow (map string_bytes asked.entry.prefixes.now) (schema_in session.now) session.now.survey.definitions)) }
+) -> Result<Status, Refusal>
+    ensures { IfOk result (λ status. status ≡ Status.Yes → AllNarrow (map string_bytes asked.entry.prefixes.now) (schema_in session.now) session.now.survey.definitions) }
 {
     narrowing_profiles();
     let sources = sources_of(session);
-    let audited = audit(
+    let profiles = audit(
         alloc,
         sources.survey,
         sources.schema,
@@ -283,18 +254,15 @@ fn run_vouched<N: NewFolder, G: NewFile, V: Watch, W: Write, E: Write>(
         given,
         watch,
     )?;
+    let audited = profiles.as_slice();
     let held = all_held(alloc, session, asked.held)?;
     let held = held.as_deref();
-    let text = audit_text(alloc, asked.format, sources, &audited, held)?;
+    let text = audit_text(alloc, asked.format, sources, audited, held)?;
     watch.end();
-    match put(alloc, sources, &audited, text.as_str(), outputs, out)? {
-        Ok(()) => {
-            let _ = is_written(err, notes.as_bytes());
-            note_none(&audited, err);
-            Ok(Ok(status_of(&audited, held)))
-        }
-        Err(refusal) => Ok(Err(refusal)),
-    }
+    put(alloc, sources, audited, text.as_str(), outputs, out)?;
+    let _ = is_written(err, notes.as_bytes());
+    note_none(audited, err);
+    Ok(status_of(audited, held))
 }
 
 // Where the file of the texts is read, if one is named.
@@ -306,8 +274,8 @@ fn run_given<N: NewFolder, G: NewFile, V: Watch, W: Write, E: Write>(
     watch: &mut V,
     out: &mut W,
     err: &mut E,
-) -> Result<Result<Status, Refusal>, NoMemory>
-    ensures { IfOk result (λ r. IfOk r (λ status. status ≡ Status.Yes → AllNarrow (map string_bytes asked.entry.prefixes.now) (schema_in session.now) session.now.survey.definitions)) }
+) -> Result<Status, Refusal>
+    ensures { IfOk result (λ status. status ≡ Status.Yes → AllNarrow (map string_bytes asked.entry.prefixes.now) (schema_in session.now) session.now.survey.definitions) }
 {
     let Some(file) = asked.given else {
         return run_vouched(alloc, session, asked, None, "", outputs, watch, out, err);
@@ -324,7 +292,7 @@ fn run_given<N: NewFolder, G: NewFile, V: Watch, W: Write, E: Write>(
             out,
             err,
         ),
-        Err(reply) => Ok(Err(Refusal::of_reply(alloc, reply))),
+        Err(reply) => Err(Refusal::of_reply(alloc, reply)),
     }
 }
 
@@ -337,16 +305,16 @@ fn only_refusal(alloc: Global, prefixes: &[String], place: usize) -> Result<Refu
     Ok(Refusal::Fault(fault_text(alloc, "only", prefix)?))
 }
 
-// Why prefixes are refused, if they are.
-fn refusal_of(
+// Refuses a prefix with which no url begins.
+fn look_for_prefixes(
     alloc: Global,
     session: &Session<'_>,
     prefixes: &[String],
-) -> Result<Option<Refusal>, NoMemory> {
+) -> Result<(), Refusal> {
     match Selection::of(alloc, session.survey().package(), prefixes) {
-        Ok(_selection) => Ok(None),
-        Err(SelectFault::Unknown(place)) => Ok(Some(only_refusal(alloc, prefixes, place)?)),
-        Err(SelectFault::NoMemory) => Err(NoMemory),
+        Ok(_selection) => Ok(()),
+        Err(SelectFault::Unknown(place)) => Err(only_refusal(alloc, prefixes, place)?),
+        Err(SelectFault::NoMemory) => Err(Refusal::NoMemory),
     }
 }
 
@@ -359,13 +327,11 @@ fn run_package<N: NewFolder, G: NewFile, V: Watch, W: Write, E: Write>(
     watch: &mut V,
     out: &mut W,
     err: &mut E,
-) -> Result<Result<Status, Refusal>, NoMemory>
-    ensures { IfOk result (λ r. IfOk r (λ status. status ≡ Status.Yes → AllNarrow (map string_bytes asked.entry.prefixes.now) (schema_in session.now) session.now.survey.definitions)) }
+) -> Result<Status, Refusal>
+    ensures { IfOk result (λ status. status ≡ Status.Yes → AllNarrow (map string_bytes asked.entry.prefixes.now) (schema_in session.now) session.now.survey.definitions) }
 {
-    match refusal_of(alloc, session, asked.prefixes)? {
-        Some(refusal) => Ok(Err(refusal)),
-        None => run_given(alloc, session, asked, outputs, watch, out, err),
-    }
+    look_for_prefixes(alloc, session, asked.prefixes)?;
+    run_given(alloc, session, asked, outputs, watch, out, err)
 }
 
 fn run_session<N: NewFolder, G: NewFile, V: Watch, W: Write, E: Write>(
@@ -376,14 +342,14 @@ fn run_session<N: NewFolder, G: NewFile, V: Watch, W: Write, E: Write>(
     watch: &mut V,
     out: &mut W,
     err: &mut E,
-) -> Result<Result<Status, Refusal>, NoMemory>
-    ensures { IfOk result (λ r. IfOk r (λ status. status ≡ Status.Yes → AllNarrowIn (map string_bytes asked.entry.prefixes.now) session.now)) }
+) -> Result<Status, Refusal>
+    ensures { IfOk result (λ status. status ≡ Status.Yes → AllNarrowIn (map string_bytes asked.entry.prefixes.now) session.now) }
 {
     match session.package() {
         Ok(_schema) => run_package(alloc, session, asked, outputs, watch, out, err),
         Err(fault) => {
             let reply = refused_reply(alloc, fault)?;
-            Ok(Err(Refusal::of_reply(alloc, reply)))
+            Err(Refusal::of_reply(alloc, reply))
         }
     }
 }
@@ -406,8 +372,8 @@ fn run_folder<
     watch: &mut V,
     out: &mut W,
     err: &mut E,
-) -> Result<Result<Status, Refusal>, NoMemory>
-    ensures { IfOk result (λ r. IfOk r (λ status. status ≡ Status.Yes → AuditPromise (map string_bytes asked.entry.prefixes.now) (F.files folder))) }
+) -> Result<Status, Refusal>
+    ensures { IfOk result (λ status. status ≡ Status.Yes → AuditPromise (map string_bytes asked.entry.prefixes.now) (F.files folder)) }
 {
     match files_of(alloc, folder) {
         Ok(files) => {
@@ -415,8 +381,8 @@ fn run_folder<
             progress.end();
             run_session(alloc, &session, asked, outputs, watch, out, err)
         }
-        Err(FolderFault::Device) => Ok(Err(Refusal::unlisted(alloc, name)?)),
-        Err(FolderFault::NoMemory) => Err(NoMemory),
+        Err(FolderFault::Device) => Err(Refusal::unlisted(alloc, name)?),
+        Err(FolderFault::NoMemory) => Err(Refusal::NoMemory),
     }
 }
 
@@ -451,8 +417,7 @@ pub fn audit_folder<
     progress.end();
     watch.end();
     match ended {
-        Ok(Ok(status)) => status,
-        Ok(Err(refusal)) => refusal.tell(err),
-        Err(NoMemory) => end_with(err, "no memory\n", Status::NoMemory),
+        Ok(status) => status,
+        Err(refusal) => refusal.tell(err),
     }
 }

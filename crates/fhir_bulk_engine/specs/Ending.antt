@@ -2,7 +2,6 @@
 use Rattle.std.specs.Prelude.{◌≡◌, Bool, true, false, IsTrue, nat_lt, if◌then◌else◌, Option, None, Some, Result, Ok, Err}
 use Rattle.fhir_answers.specs.declared.reply.Status.{Status}
 use Rattle.fhir_answers.specs.declared.reply.Status.TheVariants.{Yes, No, Open, Fault, Unwritten, NoMemory}
-use Rattle.fhir_json.specs.declared.memory.NoMemory.{NoMemory as WantOfMemory}
 use Rattle.fhir_bulk.specs.declared.tally.Tally.{Tally}
 use Rattle.fhir_engine.specs.declared.refusal.Refusal.{Refusal}
 use Rattle.fhir_engine.specs.declared.refusal.Refusal.TheVariants as refusals
@@ -27,8 +26,8 @@ Ends status None = IsTrue (is_refused status)
 Ends status (Some tally) = status ≡ tally_status tally
 
 -- Where nothing was asked the output is as it was: so it is unless the run was gone through, or the output failed.
-abbrev pub IsUntouched : {W : Type 0} → Result (Result Tally Refusal) WantOfMemory → W → W → Type 0
-IsUntouched (Ok (Ok tally)) old new = Unit {0}
-IsUntouched (Ok (Err (refusals.Fault text))) old new = new ≡ old
-IsUntouched (Ok (Err refusals.Unwritten)) old new = Unit {0}
-IsUntouched (Err fault) old new = new ≡ old
+abbrev pub IsUntouched : {W : Type 0} → Result Tally Refusal → W → W → Type 0
+IsUntouched (Ok tally) old new = Unit {0}
+IsUntouched (Err (refusals.Fault text)) old new = new ≡ old
+IsUntouched (Err refusals.Unwritten) old new = Unit {0}
+IsUntouched (Err refusals.NoMemory) old new = new ≡ old

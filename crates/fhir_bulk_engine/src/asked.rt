@@ -53,9 +53,9 @@ fn run_question<I: Inputs, V: Watch, W: Write>(
     planned: Planned<'_, I>,
     watch: &mut V,
     out: &mut W,
-) -> Result<Result<Tally, Refusal>, NoMemory>
-    ensures told { IfOk result (λ r. IfOk r (λ tally. IsToldOf (question_seen question.entry) (map (λ n. n.now) planned.entry.names.now)
-        (I.inputs planned.entry.inputs.now) planned.entry.passed_over tally (W.contents out.old) (W.contents out.new))) }
+) -> Result<Tally, Refusal>
+    ensures told { IfOk result (λ tally. IsToldOf (question_seen question.entry) (map (λ n. n.now) planned.entry.names.now)
+        (I.inputs planned.entry.inputs.now) planned.entry.passed_over tally (W.contents out.old) (W.contents out.new)) }
     ensures untouched { IsUntouched result out.old out.new }
 {
     let Planned {
@@ -64,9 +64,9 @@ fn run_question<I: Inputs, V: Watch, W: Write>(
         passed_over,
     } = planned;
     match validate_inputs(alloc, question, names, inputs, passed_over, watch, out) {
-        Ok(tally) => Ok(Ok(tally)),
-        Err(RunFault::Unwritten) => Ok(Err(Refusal::Unwritten)),
-        Err(RunFault::NoMemory) => Err(NoMemory),
+        Ok(tally) => Ok(tally),
+        Err(RunFault::Unwritten) => Err(Refusal::Unwritten),
+        Err(RunFault::NoMemory) => Err(Refusal::NoMemory),
     }
 }
 
@@ -84,9 +84,9 @@ fn run_in_words<I: Inputs, V: Watch, W: Write>(
     planned: Planned<'_, I>,
     watch: &mut V,
     out: &mut W,
-) -> Result<Result<Tally, Refusal>, NoMemory>
-    ensures told { IfOk result (λ r. IfOk r (λ tally. IsToldOf (asked_question (schema_in session.now) asked.entry (option_map (λ v. v.now) given.entry))
-        (map (λ n. n.now) planned.entry.names.now) (I.inputs planned.entry.inputs.now) planned.entry.passed_over tally (W.contents out.old) (W.contents out.new))) }
+) -> Result<Tally, Refusal>
+    ensures told { IfOk result (λ tally. IsToldOf (asked_question (schema_in session.now) asked.entry (option_map (λ v. v.now) given.entry))
+        (map (λ n. n.now) planned.entry.names.now) (I.inputs planned.entry.inputs.now) planned.entry.passed_over tally (W.contents out.old) (W.contents out.new)) }
     ensures untouched { IsUntouched result out.old out.new }
 {
     let question = Question {
@@ -109,9 +109,9 @@ fn run_vouched<I: Inputs, V: Watch, W: Write>(
     planned: Planned<'_, I>,
     watch: &mut V,
     out: &mut W,
-) -> Result<Result<Tally, Refusal>, NoMemory>
-    ensures told { IfOk result (λ r. IfOk r (λ tally. IsToldOf (asked_question (schema_in session.now) asked.entry (option_map (λ v. v.now) given.entry))
-        (map (λ n. n.now) planned.entry.names.now) (I.inputs planned.entry.inputs.now) planned.entry.passed_over tally (W.contents out.old) (W.contents out.new))) }
+) -> Result<Tally, Refusal>
+    ensures told { IfOk result (λ tally. IsToldOf (asked_question (schema_in session.now) asked.entry (option_map (λ v. v.now) given.entry))
+        (map (λ n. n.now) planned.entry.names.now) (I.inputs planned.entry.inputs.now) planned.entry.passed_over tally (W.contents out.old) (W.contents out.new)) }
     ensures untouched { IsUntouched result out.old out.new }
 {
     match asked.format {
@@ -141,10 +141,10 @@ fn run_given<I: Inputs, V: Watch, W: Write, E: Write>(
     watch: &mut V,
     out: &mut W,
     err: &mut E,
-) -> Result<Result<Tally, Refusal>, NoMemory>
-    ensures told { IfOk result (λ r. IfOk r (λ tally. (texts : Option (List Text)) × AreTexts (file_seen asked.entry.given) texts
+) -> Result<Tally, Refusal>
+    ensures told { IfOk result (λ tally. (texts : Option (List Text)) × AreTexts (file_seen asked.entry.given) texts
         × IsToldOf (asked_question (schema_in session.now) asked.entry texts) (map (λ n. n.now) planned.entry.names.now)
-        (I.inputs planned.entry.inputs.now) planned.entry.passed_over tally (W.contents out.old) (W.contents out.new))) }
+        (I.inputs planned.entry.inputs.now) planned.entry.passed_over tally (W.contents out.old) (W.contents out.new)) }
     ensures untouched { IsUntouched result out.old out.new }
 {
     let Some(file) = asked.given else {
@@ -155,7 +155,7 @@ fn run_given<I: Inputs, V: Watch, W: Write, E: Write>(
             let _ = is_written(err, notes.as_bytes());
             run_vouched(alloc, session, asked, Some(&vouching), planned, watch, out)
         }
-        Err(reply) => Ok(Err(Refusal::of_reply(alloc, reply))),
+        Err(reply) => Err(Refusal::of_reply(alloc, reply)),
     }
 }
 
@@ -168,17 +168,17 @@ fn run_planned<I: Inputs, V: Watch, W: Write, E: Write>(
     watch: &mut V,
     out: &mut W,
     err: &mut E,
-) -> Result<Result<Tally, Refusal>, NoMemory>
-    ensures told { IfOk result (λ r. IfOk r (λ tally. IsOkAnd planned.entry (λ p. (texts : Option (List Text)) × AreTexts (file_seen asked.entry.given) texts
+) -> Result<Tally, Refusal>
+    ensures told { IfOk result (λ tally. IsOkAnd planned.entry (λ p. (texts : Option (List Text)) × AreTexts (file_seen asked.entry.given) texts
         × IsToldOf (asked_question (schema_in session.now) asked.entry texts) (map (λ n. n.now) p.names.now)
-        (I.inputs p.inputs.now) p.passed_over tally (W.contents out.old) (W.contents out.new)))) }
+        (I.inputs p.inputs.now) p.passed_over tally (W.contents out.old) (W.contents out.new))) }
     ensures untouched { IsUntouched result out.old out.new }
 {
     match planned {
         Ok(planned) => run_given(alloc, session, asked, planned, watch, out, err),
         Err(name) => {
             let reply = unreadable_reply(alloc, name)?;
-            Ok(Err(Refusal::of_reply(alloc, reply)))
+            Err(Refusal::of_reply(alloc, reply))
         }
     }
 }
@@ -224,14 +224,14 @@ fn run_package<I: Inputs, V: Watch, W: Write, E: Write>(
     watch: &mut V,
     out: &mut W,
     err: &mut E,
-) -> Result<Result<Tally, Refusal>, NoMemory>
+) -> Result<Tally, Refusal>
     requires { refusal session.now.survey ≡ None }
-    ensures told { IfOk result (λ r. IfOk r (λ tally. IsOkAnd planned.entry (λ p. IsToldOfSession session.now asked.entry (map (λ n. n.now) p.names.now)
-        (I.inputs p.inputs.now) p.passed_over tally (W.contents out.old) (W.contents out.new)))) }
+    ensures told { IfOk result (λ tally. IsOkAnd planned.entry (λ p. IsToldOfSession session.now asked.entry (map (λ n. n.now) p.names.now)
+        (I.inputs p.inputs.now) p.passed_over tally (W.contents out.old) (W.contents out.new))) }
     ensures untouched { IsUntouched result out.old out.new }
 {
     match refusal_of(alloc, session, asked.profiles)? {
-        Some(told) => Ok(Err(Refusal::Fault(told))),
+        Some(told) => Err(Refusal::Fault(told)),
         None => run_planned(alloc, session, asked, planned, watch, out, err),
     }
 }
@@ -246,16 +246,16 @@ pub(crate) fn run_session<I: Inputs, V: Watch, W: Write, E: Write>(
     watch: &mut V,
     out: &mut W,
     err: &mut E,
-) -> Result<Result<Tally, Refusal>, NoMemory>
-    ensures told { IfOk result (λ r. IfOk r (λ tally. IsOkAnd planned.entry (λ p. IsToldOfSession session.now asked.entry (map (λ n. n.now) p.names.now)
-        (I.inputs p.inputs.now) p.passed_over tally (W.contents out.old) (W.contents out.new)))) }
+) -> Result<Tally, Refusal>
+    ensures told { IfOk result (λ tally. IsOkAnd planned.entry (λ p. IsToldOfSession session.now asked.entry (map (λ n. n.now) p.names.now)
+        (I.inputs p.inputs.now) p.passed_over tally (W.contents out.old) (W.contents out.new))) }
     ensures untouched { IsUntouched result out.old out.new }
 {
     match session.package() {
         Ok(_schema) => run_package(alloc, session, asked, planned, watch, out, err),
         Err(fault) => {
             let reply = refused_reply(alloc, fault)?;
-            Ok(Err(Refusal::of_reply(alloc, reply)))
+            Err(Refusal::of_reply(alloc, reply))
         }
     }
 }

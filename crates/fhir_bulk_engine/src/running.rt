@@ -47,9 +47,9 @@ fn run_folder<F: Folder + Drop, I: Inputs, P: Progress, V: Watch, W: Write, E: W
     watch: &mut V,
     out: &mut W,
     err: &mut E,
-) -> Result<Result<Tally, Refusal>, NoMemory>
-    ensures told { IfOk result (λ r. IfOk r (λ tally. IsOkAnd planned.entry (λ p. IsBulk (F.files folder) asked.entry (map (λ n. n.now) p.names.now)
-        (I.inputs p.inputs.now) p.passed_over tally (W.contents out.old) (W.contents out.new)))) }
+) -> Result<Tally, Refusal>
+    ensures told { IfOk result (λ tally. IsOkAnd planned.entry (λ p. IsBulk (F.files folder) asked.entry (map (λ n. n.now) p.names.now)
+        (I.inputs p.inputs.now) p.passed_over tally (W.contents out.old) (W.contents out.new))) }
     ensures untouched { IsUntouched result out.old out.new }
 {
     match files_of(alloc, folder) {
@@ -58,8 +58,8 @@ fn run_folder<F: Folder + Drop, I: Inputs, P: Progress, V: Watch, W: Write, E: W
             progress.end();
             run_session(alloc, &session, asked, planned, watch, out, err)
         }
-        Err(FolderFault::Device) => Ok(Err(Refusal::unlisted(alloc, name)?)),
-        Err(FolderFault::NoMemory) => Err(NoMemory),
+        Err(FolderFault::Device) => Err(Refusal::unlisted(alloc, name)?),
+        Err(FolderFault::NoMemory) => Err(Refusal::NoMemory),
     }
 }
 
@@ -88,11 +88,8 @@ pub fn validate_folder<F: Folder + Drop, I: Inputs, P: Progress, V: Watch, W: Wr
     );
     progress.end();
     match ended {
-        Ok(run) => match run {
-            Ok(tally) => tally_status(tally),
-            Err(refusal) => refusal.tell(err),
-        },
-        Err(NoMemory) => end_with(err, "no memory\n", Status::NoMemory),
+        Ok(tally) => tally_status(tally),
+        Err(refusal) => refusal.tell(err),
     }
 }
 

@@ -2,10 +2,12 @@
 
 ghost use Rattle.std.specs.Prelude.{◌≡◌, Some, IfOk, codes, string_bytes};
 ghost use Rattle.fhir_answers.specs.Replying.{reply_seen, fault_text};
+ghost use Rattle.fhir_engine.specs.declared.refusal.Refusal.TheVariants as refusals;
 ghost use Rattle.fhir_engine.specs.Refusing.{fault_told, refusal_text, refusal_status};
 
 use crate::engine::end_with;
 use fhir_answers::{Reply, Status, fault_text};
+use fhir_json::NoMemory;
 use std::alloc::{AllocError, Global};
 use std::io::Write;
 
@@ -26,6 +28,24 @@ pub enum Refusal {
     Fault(String),
     /// The output failed.
     Unwritten,
+    /// A growth of memory was refused.
+    NoMemory,
+}
+
+impl From<NoMemory> for Refusal {
+    ghost from_gives = { λ _ refusal. refusal ≡ refusals.NoMemory };
+
+    fn from(_error: NoMemory) -> Refusal {
+        Refusal::NoMemory
+    }
+}
+
+impl From<AllocError> for Refusal {
+    ghost from_gives = { λ _ refusal. refusal ≡ refusals.NoMemory };
+
+    fn from(_error: AllocError) -> Refusal {
+        Refusal::NoMemory
+    }
 }
 
 impl Refusal {
@@ -43,13 +63,14 @@ impl Refusal {
         Refusal::Fault(fault_told(alloc, reply))
     }
 
-    /// Tells it on standard error, where it is a fault, and gives the status.
+    /// Tells it on standard error, unless the output failed, and gives the status.
     pub fn tell<E: Write>(&self, err: &mut E) -> Status
         ensures { result ≡ refusal_status self.now }
     {
         match self {
             Refusal::Fault(text) => end_with(err, text.as_str(), Status::Fault),
             Refusal::Unwritten => Status::Unwritten,
+            Refusal::NoMemory => end_with(err, "no memory\n", Status::NoMemory),
         }
     }
 }
