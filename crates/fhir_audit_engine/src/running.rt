@@ -280,20 +280,18 @@ fn run_given<N: NewFolder, G: NewFile, V: Watch, W: Write, E: Write>(
     let Some(file) = asked.given else {
         return run_vouched(alloc, session, asked, None, "", outputs, watch, out, err);
     };
-    match vouched(alloc, session, file)? {
-        Ok(Given { vouching, notes }) => run_vouched(
-            alloc,
-            session,
-            asked,
-            Some(&vouching),
-            notes.as_str(),
-            outputs,
-            watch,
-            out,
-            err,
-        ),
-        Err(reply) => Err(Refusal::of_reply(alloc, reply)),
-    }
+    let Given { vouching, notes } = vouched(alloc, session, file)?;
+    run_vouched(
+        alloc,
+        session,
+        asked,
+        Some(&vouching),
+        notes.as_str(),
+        outputs,
+        watch,
+        out,
+        err,
+    )
 }
 
 // That no url begins with the prefix at a place.

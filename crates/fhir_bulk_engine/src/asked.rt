@@ -150,13 +150,9 @@ fn run_given<I: Inputs, V: Watch, W: Write, E: Write>(
     let Some(file) = asked.given else {
         return run_vouched(alloc, session, asked, None, planned, watch, out);
     };
-    match vouched(alloc, session, file)? {
-        Ok(Given { vouching, notes }) => {
-            let _ = is_written(err, notes.as_bytes());
-            run_vouched(alloc, session, asked, Some(&vouching), planned, watch, out)
-        }
-        Err(reply) => Err(Refusal::of_reply(alloc, reply)),
-    }
+    let Given { vouching, notes } = vouched(alloc, session, file)?;
+    let _ = is_written(err, notes.as_bytes());
+    run_vouched(alloc, session, asked, Some(&vouching), planned, watch, out)
 }
 
 // Where the profile can be used, and the inputs are planned; else there is the name of the folder that has none.

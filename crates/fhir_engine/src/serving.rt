@@ -1,18 +1,16 @@
 //! How definitions are served: a session over the lines of an input.
 
-ghost use Rattle.std.specs.Prelude.{◌≡◌, ◌⊎◌, Ok, None, Some, IfOk, MatchResult, IsTrue};
+ghost use Rattle.std.specs.Prelude.{◌≡◌, ◌⊎◌, Ok, None, Some, IfOk, IfErr, IsSome};
 ghost use Rattle.fhir_package.specs.Packing.{pack};
 ghost use Rattle.fhir_package.specs.ReadFiles.{pack_given};
-ghost use Rattle.fhir_answers.specs.Replying.{reply_seen, is_told};
+ghost use Rattle.fhir_engine.specs.Refusing.{refusal_text};
 ghost use Rattle.fhir_engine.specs.Serving.{AllWereAnswered, SomeWereAnswered, IsServed, IsPartlyServed, AreTexts, AreVouched, AreHeld, IsOpened, IsServedAsGiven, IsPartlyServedAsGiven};
 ghost use Rattle.fhir_answers.specs.Views.{bytes_seen};
 ghost use Rattle.fhir_unread.specs.Given.{texts_given, AreSame};
 
-use crate::engine::{end_with, files_of, is_written, write_reply};
-use fhir_answers::{
-    NamedFile, Reply, Session, Status, fault_reply, refused_reply, unreadable_reply,
-};
-use fhir_json::NoMemory;
+use crate::engine::{end_with, files_of, is_written};
+use crate::refusal::Refusal;
+use fhir_answers::{NamedFile, Session, Status, refused_reply, unreadable_reply};
 use fhir_package::{
     Folder, FolderFault, FolderFiles, Package, Progress, Survey, given_files, surveys,
 };
@@ -20,7 +18,7 @@ use fhir_registry::Registry;
 use fhir_serve::{Ending, Service, serve};
 use fhir_unread::Given;
 use fhir_vouching::GivenFault;
-use std::alloc::Global;
+use std::alloc::{AllocError, Global};
 use std::io::{BufRead, Write};
 
 // The registry of files, or what is told where they are no package.
@@ -28,19 +26,18 @@ fn registry_of<P: Progress>(
     alloc: Global,
     files: &FolderFiles,
     progress: &mut P,
-) -> Result<Result<Registry, Reply>, NoMemory>
-    ensures { IfOk result (λ r. MatchResult r
-        (λ registry. (pack_given files.now ≡ Some (Ok registry.definitions)) × (registry.texts ≡ None))
-        (λ reply. IsTrue (is_told (reply_seen reply)))) }
+) -> Result<Registry, Refusal>
+    ensures { IfOk result (λ registry. (pack_given files.now ≡ Some (Ok registry.definitions)) × (registry.texts ≡ None)) }
 {
     surveys();
     let mut survey = Survey::of(alloc, files, progress)?;
     if let Some(fault) = survey.refusal() {
-        return Ok(Err(refused_reply(alloc, fault)?));
+        let reply = refused_reply(alloc, fault)?;
+        return Err(Refusal::of_reply(alloc, reply));
     }
     match Registry::new(alloc, survey.replace_package(Package::new(alloc))) {
-        Ok(registry) => Ok(Ok(registry)),
-        Err(_) => Err(NoMemory),
+        Ok(registry) => Ok(registry),
+        Err(_) => Err(Refusal::NoMemory),
     }
 }
 
@@ -50,16 +47,14 @@ fn open_registry<F: Folder + Drop, P: Progress>(
     name: &str,
     folder: F,
     progress: &mut P,
-) -> Result<Result<Registry, Reply>, NoMemory>
-    ensures { IfOk result (λ r. MatchResult r
-        (λ registry. IsOpened (F.files folder) registry)
-        (λ reply. IsTrue (is_told (reply_seen reply)))) }
+) -> Result<Registry, Refusal>
+    ensures { IfOk result (λ registry. IsOpened (F.files folder) registry) }
 {
     given_files();
     match files_of(alloc, folder) {
         Ok(files) => registry_of(alloc, &files, progress),
-        Err(FolderFault::Device) => Ok(Err(fault_reply(alloc, "P1", name)?)),
-        Err(FolderFault::NoMemory) => Err(NoMemory),
+        Err(FolderFault::Device) => Err(Refusal::unlisted(alloc, name)?),
+        Err(FolderFault::NoMemory) => Err(Refusal::NoMemory),
     }
 }
 
@@ -102,47 +97,48 @@ pub fn serve_folder<F: Folder + Drop, I: BufRead, W: Write, E: Write, P: Progres
     let opened = open_registry(alloc, name, folder, progress);
     progress.end();
     match opened {
-        Ok(Ok(registry)) => {
+        Ok(registry) => {
             let mut registry = registry;
             serve_lines(alloc, &mut registry, input, out, err)
         }
-        Ok(Err(reply)) => write_reply(&reply, out, err),
-        Err(NoMemory) => end_with(err, "no memory\n", Status::NoMemory),
+        Err(refusal) => refusal.tell(err),
     }
 }
 
 // ---- where a user vouches for unread rules
+
+// That the file of that name can't be read.
+fn unreadable_file(alloc: Global, name: &str) -> Result<Refusal, AllocError>
+    ensures { IfOk result (λ refusal. IsSome (refusal_text refusal)) }
+{
+    let reply = unreadable_reply(alloc, name)?;
+    Ok(Refusal::of_reply(alloc, reply))
+}
 
 fn vouched_by(
     alloc: Global,
     session: &Session<'_>,
     name: &str,
     bytes: &[u8],
-) -> Result<Result<Given, Reply>, NoMemory>
-    ensures { IfOk result (λ r. MatchResult r
-        (λ given. AreSame given.vouching (texts_given bytes.now))
-        (λ reply. IsTrue (is_told (reply_seen reply)))) }
+) -> Result<Given, Refusal>
+    ensures given { IfOk result (λ given. AreSame given.vouching (texts_given bytes.now)) }
+    ensures told { IfErr result (λ refusal. IsSome (refusal_text refusal)) }
 {
     match session.vouch(alloc, name, bytes) {
-        Ok(given) => Ok(Ok(given)),
-        Err(GivenFault::NotUtf8) => Ok(Err(unreadable_reply(alloc, name)?)),
-        Err(GivenFault::NoMemory) => Err(NoMemory),
+        Ok(given) => Ok(given),
+        Err(GivenFault::NotUtf8) => Err(unreadable_file(alloc, name)?),
+        Err(GivenFault::NoMemory) => Err(Refusal::NoMemory),
     }
 }
 
-/// What a user vouches for by a file, with what is told of its lines; or that it can't be read. The one refusal is want of memory.
-pub fn vouched(
-    alloc: Global,
-    session: &Session<'_>,
-    file: NamedFile<'_>,
-) -> Result<Result<Given, Reply>, NoMemory>
-    ensures { IfOk result (λ r. MatchResult r
-        (λ given. AreTexts (bytes_seen file.entry.bytes) given.vouching)
-        (λ reply. IsTrue (is_told (reply_seen reply)))) }
+/// What a user vouches for by a file, with what is told of its lines. It is refused where the file can't be read or isn't UTF-8.
+pub fn vouched(alloc: Global, session: &Session<'_>, file: NamedFile<'_>) -> Result<Given, Refusal>
+    ensures given { IfOk result (λ given. AreTexts (bytes_seen file.entry.bytes) given.vouching) }
+    ensures told { IfErr result (λ refusal. IsSome (refusal_text refusal)) }
 {
     match file.bytes {
         Some(bytes) => vouched_by(alloc, session, file.name, bytes),
-        None => Ok(Err(unreadable_reply(alloc, file.name)?)),
+        None => Err(unreadable_file(alloc, file.name)?),
     }
 }
 
@@ -152,19 +148,13 @@ fn with_given(
     registry: Registry,
     session: &Session<'_>,
     file: NamedFile<'_>,
-) -> Result<Result<(Registry, String), Reply>, NoMemory>
-    ensures { IfOk result (λ r. MatchResult r
-        (λ held. (held.0.definitions ≡ registry.definitions) × AreVouched (bytes_seen file.entry.bytes) held.0.texts)
-        (λ reply. IsTrue (is_told (reply_seen reply)))) }
+) -> Result<(Registry, String), Refusal>
+    ensures { IfOk result (λ held. (held.0.definitions ≡ registry.definitions) × AreVouched (bytes_seen file.entry.bytes) held.0.texts) }
 {
     let mut registry = registry;
-    match vouched(alloc, session, file)? {
-        Ok(Given { vouching, notes }) => {
-            registry.vouch(vouching);
-            Ok(Ok((registry, notes)))
-        }
-        Err(reply) => Ok(Err(reply)),
-    }
+    let Given { vouching, notes } = vouched(alloc, session, file)?;
+    registry.vouch(vouching);
+    Ok((registry, notes))
 }
 
 // The same of the registry of files.
@@ -173,18 +163,12 @@ fn given_registry_of<P: Progress>(
     files: &FolderFiles,
     file: NamedFile<'_>,
     progress: &mut P,
-) -> Result<Result<(Registry, String), Reply>, NoMemory>
-    ensures { IfOk result (λ r. MatchResult r
-        (λ held. (pack_given files.now ≡ Some (Ok held.0.definitions)) × AreVouched (bytes_seen file.entry.bytes) held.0.texts)
-        (λ reply. IsTrue (is_told (reply_seen reply)))) }
+) -> Result<(Registry, String), Refusal>
+    ensures { IfOk result (λ held. (pack_given files.now ≡ Some (Ok held.0.definitions)) × AreVouched (bytes_seen file.entry.bytes) held.0.texts) }
 {
-    match registry_of(alloc, files, progress)? {
-        Ok(registry) => {
-            let session = Session::of(alloc, files, progress)?;
-            with_given(alloc, registry, &session, file)
-        }
-        Err(reply) => Ok(Err(reply)),
-    }
+    let registry = registry_of(alloc, files, progress)?;
+    let session = Session::of(alloc, files, progress)?;
+    with_given(alloc, registry, &session, file)
 }
 
 // The same of a folder of that name, whose files are dropped then.
@@ -194,16 +178,14 @@ fn open_given<F: Folder + Drop, P: Progress>(
     folder: F,
     file: NamedFile<'_>,
     progress: &mut P,
-) -> Result<Result<(Registry, String), Reply>, NoMemory>
-    ensures { IfOk result (λ r. MatchResult r
-        (λ held. AreHeld (F.files folder) (bytes_seen file.entry.bytes) held.0)
-        (λ reply. IsTrue (is_told (reply_seen reply)))) }
+) -> Result<(Registry, String), Refusal>
+    ensures { IfOk result (λ held. AreHeld (F.files folder) (bytes_seen file.entry.bytes) held.0) }
 {
     given_files();
     match files_of(alloc, folder) {
         Ok(files) => given_registry_of(alloc, &files, file, progress),
-        Err(FolderFault::Device) => Ok(Err(fault_reply(alloc, "P1", name)?)),
-        Err(FolderFault::NoMemory) => Err(NoMemory),
+        Err(FolderFault::Device) => Err(Refusal::unlisted(alloc, name)?),
+        Err(FolderFault::NoMemory) => Err(Refusal::NoMemory),
     }
 }
 
@@ -229,12 +211,11 @@ pub fn serve_folder_given<F: Folder + Drop, I: BufRead, W: Write, E: Write, P: P
     let opened = open_given(alloc, name, folder, file, progress);
     progress.end();
     match opened {
-        Ok(Ok((registry, notes))) => {
+        Ok((registry, notes)) => {
             let mut registry = registry;
             let _ = is_written(err, notes.as_bytes());
             serve_lines(alloc, &mut registry, input, out, err)
         }
-        Ok(Err(reply)) => write_reply(&reply, out, err),
-        Err(NoMemory) => end_with(err, "no memory\n", Status::NoMemory),
+        Err(refusal) => refusal.tell(err),
     }
 }
