@@ -1,0 +1,255 @@
+-- The verdicts of a run, told one behind the other.
+use Rattle.std.proofs.Common.{◌≡◌, ℕ, ◌+◌, ◌<◌, ◌≤◌, Bool, true, false, ◌||◌, cond, eqb, ltb, List, [], ◌∷◌, length, map, refl, sym, ap, ◌∙◌, arith}
+use Rattle.std.specs.List.{fold, count_by, sum_by}
+use Rattle.std.proofs.lemmas.Bool.{eqb-true, eqb-false, lt-ltb}
+use Rattle.std.proofs.lemmas.List.Sums.{sum_by-cons}
+use Rattle.fhir_commands.specs.declared.reply.Standing.{Standing}
+use Rattle.fhir_commands.specs.declared.reply.Standing.TheVariants as standings
+use Rattle.fhir_telling.specs.declared.verdict.LineVerdict.{LineVerdict}
+use Rattle.fhir_telling.specs.declared.verdict.LineVerdict.TheVariants.{Conforms, Violates, Open, Fault, NoMemory, Empty}
+use Rattle.fhir_telling.specs.Verdicts.{verdict_of, worse, worst}
+use Rattle.fhir_answers.specs.Status.{code_of, standing_status}
+use Rattle.fhir_answers.specs.declared.reply.Status.{Status}
+use Rattle.fhir_answers.specs.declared.reply.Status.TheVariants as statuses
+use Rattle.fhir_bulk.specs.declared.tally.Tally.{Tally}
+use Rattle.fhir_bulk.specs.Counting.{most, more, no_tally, tallied}
+use Rattle.fhir_bulk_engine.specs.Ending.{tally_status}
+use Rattle.answer_laws.specs.Runs.{tally_of, counted, count_in, is_same, has, status_said, total}
+
+-- ---- what has been told stays told
+
+or_false : (b : Bool) → (b || false) ≡ b
+or_false true = refl
+or_false false = refl
+
+or_true : (b : Bool) → (b || true) ≡ true
+or_true true = refl
+or_true false = refl
+
+or_assoc : (a b c : Bool) → ((a || b) || c) ≡ (a || (b || c))
+or_assoc true b c = refl
+or_assoc false b c = refl
+
+some_more : (n : ℕ) → ltb 0 (more n) ≡ (ltb 0 n || true)
+some_more n = by (eqb n most) refl ∙ sym (or_true (ltb 0 n))
+  where
+    by : (b : Bool) → eqb n most ≡ b → ltb 0 (cond b n (n + 1)) ≡ true
+    by true e = lt-ltb 0 n (omega (arith, eqb-true n most e))
+    by false e = lt-ltb 0 (n + 1) (omega arith)
+
+-- of one verdict, whose count a tally has
+module _ (of : LineVerdict) (one : (v : LineVerdict) (t : Tally) → ltb 0 (count_in of (tallied v t)) ≡ (ltb 0 (count_in of t) || is_same of v)) where
+  since : (vs : List LineVerdict) (t : Tally) → ltb 0 (count_in of (fold counted t vs)) ≡ (ltb 0 (count_in of t) || has of vs)
+  since [] t = sym (or_false (ltb 0 (count_in of t)))
+  since (v ∷ vs) t =
+      since vs (tallied v t) ∙ ap (λ b. b || has of vs) (one v t) ∙ or_assoc (ltb 0 (count_in of t)) (is_same of v) (has of vs)
+
+one_violates : (v : LineVerdict) (t : Tally) → ltb 0 (count_in Violates (tallied v t)) ≡ (ltb 0 (count_in Violates t) || is_same Violates v)
+one_violates Conforms t = sym (or_false (ltb 0 t.violates))
+one_violates Violates t = some_more t.violates
+one_violates Open t = sym (or_false (ltb 0 t.violates))
+one_violates Fault t = sym (or_false (ltb 0 t.violates))
+one_violates NoMemory t = sym (or_false (ltb 0 t.violates))
+one_violates Empty t = sym (or_false (ltb 0 t.violates))
+
+one_memory : (v : LineVerdict) (t : Tally) → ltb 0 (count_in NoMemory (tallied v t)) ≡ (ltb 0 (count_in NoMemory t) || is_same NoMemory v)
+one_memory Conforms t = sym (or_false (ltb 0 t.no_memory))
+one_memory Violates t = sym (or_false (ltb 0 t.no_memory))
+one_memory Open t = sym (or_false (ltb 0 t.no_memory))
+one_memory Fault t = sym (or_false (ltb 0 t.no_memory))
+one_memory NoMemory t = some_more t.no_memory
+one_memory Empty t = sym (or_false (ltb 0 t.no_memory))
+
+one_fault : (v : LineVerdict) (t : Tally) → ltb 0 (count_in Fault (tallied v t)) ≡ (ltb 0 (count_in Fault t) || is_same Fault v)
+one_fault Conforms t = sym (or_false (ltb 0 t.faults))
+one_fault Violates t = sym (or_false (ltb 0 t.faults))
+one_fault Open t = sym (or_false (ltb 0 t.faults))
+one_fault Fault t = some_more t.faults
+one_fault NoMemory t = sym (or_false (ltb 0 t.faults))
+one_fault Empty t = sym (or_false (ltb 0 t.faults))
+
+one_open : (v : LineVerdict) (t : Tally) → ltb 0 (count_in Open (tallied v t)) ≡ (ltb 0 (count_in Open t) || is_same Open v)
+one_open Conforms t = sym (or_false (ltb 0 t.opens))
+one_open Violates t = sym (or_false (ltb 0 t.opens))
+one_open Open t = some_more t.opens
+one_open Fault t = sym (or_false (ltb 0 t.opens))
+one_open NoMemory t = sym (or_false (ltb 0 t.opens))
+one_open Empty t = sym (or_false (ltb 0 t.opens))
+
+-- the status by four tests
+abbrev by_tests : Bool → Bool → Bool → Bool → Status
+by_tests violates memory fault is_open =
+    cond violates statuses.No (cond memory statuses.NoMemory (cond fault statuses.Fault (cond is_open statuses.Open statuses.Yes)))
+
+code_by_tests : (violates memory fault is_open : Bool)
+    → code_of (by_tests violates memory fault is_open) ≡ cond violates 1 (cond memory 5 (cond fault 3 (cond is_open 2 0)))
+code_by_tests true memory fault is_open = refl
+code_by_tests false true fault is_open = refl
+code_by_tests false false true is_open = refl
+code_by_tests false false false true = refl
+code_by_tests false false false false = refl
+
+by_told : (vs : List LineVerdict) → tally_status (tally_of vs) ≡ by_tests (has Violates vs) (has NoMemory vs) (has Fault vs) (has Open vs)
+by_told vs =
+    let t = tally_of vs in
+    ap (λ b. by_tests b (ltb 0 t.no_memory) (ltb 0 t.faults) (ltb 0 t.opens)) (since Violates one_violates vs no_tally)
+    ∙ ap (λ b. by_tests (has Violates vs) b (ltb 0 t.faults) (ltb 0 t.opens)) (since NoMemory one_memory vs no_tally)
+    ∙ ap (λ b. by_tests (has Violates vs) (has NoMemory vs) b (ltb 0 t.opens)) (since Fault one_fault vs no_tally)
+    ∙ ap (λ b. by_tests (has Violates vs) (has NoMemory vs) (has Fault vs) b) (since Open one_open vs no_tally)
+
+pub worst_told : (vs : List LineVerdict) → code_of (tally_status (tally_of vs)) ≡ status_said vs
+worst_told vs = ap code_of (by_told vs) ∙ code_by_tests (has Violates vs) (has NoMemory vs) (has Fault vs) (has Open vs)
+
+pub blank_told : (vs : List LineVerdict) → tally_status (tally_of (Empty ∷ vs)) ≡ tally_status (tally_of vs)
+blank_told vs = by_told (Empty ∷ vs) ∙ sym (by_told vs)
+
+-- ---- the worst of a resource's profiles
+
+pub alone_told : (standing : Standing) → tally_status (tally_of (verdict_of standing ∷ [])) ≡ standing_status standing
+alone_told standings.Conforms = refl
+alone_told standings.Violates = refl
+alone_told standings.Open = refl
+alone_told standings.Fault = refl
+
+one_worse : (a b : Standing) (vs : List LineVerdict) → status_said (verdict_of (worse a b) ∷ vs) ≡ status_said (verdict_of a ∷ verdict_of b ∷ vs)
+one_worse standings.Conforms standings.Conforms vs = refl
+one_worse standings.Conforms standings.Violates vs = refl
+one_worse standings.Conforms standings.Open vs = refl
+one_worse standings.Conforms standings.Fault vs = refl
+one_worse standings.Violates standings.Conforms vs = refl
+one_worse standings.Violates standings.Violates vs = refl
+one_worse standings.Violates standings.Open vs = refl
+one_worse standings.Violates standings.Fault vs = refl
+one_worse standings.Open standings.Conforms vs = refl
+one_worse standings.Open standings.Violates vs = refl
+one_worse standings.Open standings.Open vs = refl
+one_worse standings.Open standings.Fault vs = refl
+one_worse standings.Fault standings.Conforms vs = refl
+one_worse standings.Fault standings.Violates vs = refl
+one_worse standings.Fault standings.Open vs = refl
+one_worse standings.Fault standings.Fault vs = refl
+
+alone_said : (standing : Standing) → code_of (standing_status standing) ≡ status_said (verdict_of standing ∷ [])
+alone_said standings.Conforms = refl
+alone_said standings.Violates = refl
+alone_said standings.Open = refl
+alone_said standings.Fault = refl
+
+worst_since : (standings : List Standing) (a : Standing)
+    → code_of (standing_status (fold worse a standings)) ≡ status_said (verdict_of a ∷ map verdict_of standings)
+worst_since [] a = alone_said a
+worst_since (b ∷ standings) a = worst_since standings (worse a b) ∙ one_worse a b (map verdict_of standings)
+
+pub own_told : (standings : List Standing)
+    → code_of (tally_status (tally_of (map verdict_of standings))) ≡ code_of (standing_status (worst standings))
+own_told standings = worst_told (map verdict_of standings) ∙ sym (worst_since standings standings.Conforms)
+
+-- ---- counts
+
+one_more : (n : ℕ) → n < most → more n ≡ n + 1
+one_more n under = by (eqb n most) refl
+  where
+    by : (b : Bool) → eqb n most ≡ b → cond b n (n + 1) ≡ n + 1
+    by true e = absurd (omega (arith, eqb-true n most e, under))
+    by false e = refl
+
+-- what is counted, as one more line is told
+counted_one : (of v : LineVerdict) (t : Tally) → count_in of t < most → count_in of (tallied v t) ≡ count_in of t + cond (is_same of v) 1 0
+counted_one Conforms Conforms t under = one_more t.conforms under
+counted_one Conforms Violates t under = omega arith
+counted_one Conforms Open t under = omega arith
+counted_one Conforms Fault t under = omega arith
+counted_one Conforms NoMemory t under = omega arith
+counted_one Conforms Empty t under = omega arith
+counted_one Violates Conforms t under = omega arith
+counted_one Violates Violates t under = one_more t.violates under
+counted_one Violates Open t under = omega arith
+counted_one Violates Fault t under = omega arith
+counted_one Violates NoMemory t under = omega arith
+counted_one Violates Empty t under = omega arith
+counted_one Open Conforms t under = omega arith
+counted_one Open Violates t under = omega arith
+counted_one Open Open t under = one_more t.opens under
+counted_one Open Fault t under = omega arith
+counted_one Open NoMemory t under = omega arith
+counted_one Open Empty t under = omega arith
+counted_one Fault Conforms t under = omega arith
+counted_one Fault Violates t under = omega arith
+counted_one Fault Open t under = omega arith
+counted_one Fault Fault t under = one_more t.faults under
+counted_one Fault NoMemory t under = omega arith
+counted_one Fault Empty t under = omega arith
+counted_one NoMemory Conforms t under = omega arith
+counted_one NoMemory Violates t under = omega arith
+counted_one NoMemory Open t under = omega arith
+counted_one NoMemory Fault t under = omega arith
+counted_one NoMemory NoMemory t under = one_more t.no_memory under
+counted_one NoMemory Empty t under = omega arith
+counted_one Empty Conforms t under = omega arith
+counted_one Empty Violates t under = omega arith
+counted_one Empty Open t under = omega arith
+counted_one Empty Fault t under = omega arith
+counted_one Empty NoMemory t under = omega arith
+counted_one Empty Empty t under = one_more t.empties under
+
+one_at_most : (b : Bool) → cond b 1 0 ≤ 1
+one_at_most true = omega arith
+one_at_most false = omega arith
+
+counted_since : (of : LineVerdict) (vs : List LineVerdict) (t : Tally) → count_in of t + length vs ≤ most
+    → count_in of (fold counted t vs) ≡ count_in of t + count_by (is_same of) vs
+counted_since of [] t fits = omega arith
+counted_since of (v ∷ vs) t fits =
+    let one = counted_one of v t (omega (arith, fits)) in
+    let rest = counted_since of vs (tallied v t) (omega (arith, fits, one, one_at_most (is_same of v))) in
+    omega (arith, one, rest, sum_by-cons (λ w. cond (is_same of w) 1 0) v vs)
+
+pub counted_told : (of : LineVerdict) (vs : List LineVerdict) → length vs ≤ most → count_in of (tally_of vs) ≡ count_by (is_same of) vs
+counted_told Conforms vs fits = counted_since Conforms vs no_tally fits
+counted_told Violates vs fits = counted_since Violates vs no_tally fits
+counted_told Open vs fits = counted_since Open vs no_tally fits
+counted_told Fault vs fits = counted_since Fault vs no_tally fits
+counted_told NoMemory vs fits = counted_since NoMemory vs no_tally fits
+counted_told Empty vs fits = counted_since Empty vs no_tally fits
+
+-- each verdict is just one of the six
+abbrev many : LineVerdict → List LineVerdict → ℕ
+many of vs = count_by (is_same of) vs
+
+one_of_six : (v : LineVerdict)
+    → cond (is_same Conforms v) 1 0 + cond (is_same Violates v) 1 0 + cond (is_same Open v) 1 0 + cond (is_same Fault v) 1 0
+    + cond (is_same NoMemory v) 1 0 + cond (is_same Empty v) 1 0 ≡ 1
+one_of_six Conforms = refl
+one_of_six Violates = refl
+one_of_six Open = refl
+one_of_six Fault = refl
+one_of_six NoMemory = refl
+one_of_six Empty = refl
+
+six : (vs : List LineVerdict) → many Conforms vs + many Violates vs + many Open vs + many Fault vs + many NoMemory vs + many Empty vs ≡ length vs
+six [] = refl
+six (v ∷ vs) =
+    omega (
+      arith,
+      six vs,
+      one_of_six v,
+      sum_by-cons (λ w. cond (is_same Conforms w) 1 0) v vs,
+      sum_by-cons (λ w. cond (is_same Violates w) 1 0) v vs,
+      sum_by-cons (λ w. cond (is_same Open w) 1 0) v vs,
+      sum_by-cons (λ w. cond (is_same Fault w) 1 0) v vs,
+      sum_by-cons (λ w. cond (is_same NoMemory w) 1 0) v vs,
+      sum_by-cons (λ w. cond (is_same Empty w) 1 0) v vs,
+    )
+
+pub all_told : (vs : List LineVerdict) → length vs ≤ most → total (tally_of vs) ≡ length vs
+all_told vs fits =
+    omega (
+      arith,
+      six vs,
+      counted_told Conforms vs fits,
+      counted_told Violates vs fits,
+      counted_told Open vs fits,
+      counted_told Fault vs fits,
+      counted_told NoMemory vs fits,
+      counted_told Empty vs fits,
+    )
