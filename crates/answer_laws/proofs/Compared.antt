@@ -1,6 +1,5 @@
 -- What a comparison counts and says.
-use Rattle.std.proofs.Common.{◌≡◌, ℕ, ◌+◌, ◌++◌, Bool, true, false, not, ◌&&◌, ◌||◌, cond, eqb, List, [], ◌∷◌, length, Option, None, Some, is_none, refl, sym, ap, ◌∙◌, subst, arith, IsTrue}
-use Rattle.std.specs.List.{count_by, list_any, slice_get}
+use Rattle.std.proofs.Common.{◌≡◌, ℕ, suc, ◌+◌, ◌++◌, Bool, true, false, not, ◌&&◌, ◌||◌, cond, eqb, List, [], ◌∷◌, length, Option, None, Some, is_none, slice_get, refl, ap, ◌∙◌, arith, IsTrue}
 use Rattle.std.proofs.lemmas.Bool.{false≢true}
 use Rattle.std.proofs.lemmas.List.Sums.{sum_by-cons}
 use Rattle.fhir_json.specs.Tree.{Text, Tree}
@@ -31,10 +30,13 @@ one_change Narrows = refl
 one_change Widens = refl
 one_change Neither = refl
 
+with_zeros : (n : ℕ) → n ≡ 1 → n + 0 + 0 + 0 ≡ 1
+with_zeros n is = omega (arith, is)
+
 one_of_seven : (v : VerdictValue)
     → cond (is_changed_so Same v) 1 0 + cond (is_changed_so Narrows v) 1 0 + cond (is_changed_so Widens v) 1 0 + cond (is_changed_so Neither v) 1 0
     + cond (is_unusable v) 1 0 + cond (is_in_old_alone v) 1 0 + cond (is_in_new_alone v) 1 0 ≡ 1
-one_of_seven (both w) = omega (arith, one_change (change_of w))
+one_of_seven (both w) = with_zeros _ (one_change (change_of w))
 one_of_seven (unusable_in in_old in_new) = refl
 one_of_seven only_in_old = refl
 one_of_seven only_in_new = refl
@@ -42,16 +44,29 @@ one_of_seven only_in_new = refl
 abbrev one : (VerdictValue → Bool) → Compared → ℕ
 one test c = cond (test (verdict_seen c.verdict)) 1 0
 
+-- one more of each of seven counts
+seven_more : (a b c d e f g u v w x y z o n a' b' c' d' e' f' g' : ℕ) → a' ≡ u + a → b' ≡ v + b → c' ≡ w + c → d' ≡ x + d → e' ≡ y + e → f' ≡ z + f
+    → g' ≡ o + g → a + b + c + d + e + f + g ≡ n → u + v + w + x + y + z + o ≡ 1 → a' + b' + c' + d' + e' + f' + g' ≡ suc n
+seven_more a b c d e f g u v w x y z o n a' b' c' d' e' f' g' p q r s t h k all one = omega (arith, p, q, r, s, t, h, k, all, one)
+
+more_with : (test : VerdictValue → Bool) (c : Compared) (told : List Compared) → with_verdict test (c ∷ told) ≡ one test c + with_verdict test told
+more_with test c told = sum_by-cons (one test) c told
+
 pub all_counted : (told : List Compared)
     → with_verdict (is_changed_so Same) told + with_verdict (is_changed_so Narrows) told + with_verdict (is_changed_so Widens) told
     + with_verdict (is_changed_so Neither) told + with_verdict is_unusable told + with_verdict is_in_old_alone told + with_verdict is_in_new_alone told
     ≡ length told
 all_counted [] = refl
 all_counted (c ∷ told) =
-    omega (arith, all_counted told, one_of_seven (verdict_seen c.verdict), sum_by-cons (one (is_changed_so Same)) c told,
-    sum_by-cons (one (is_changed_so Narrows)) c told, sum_by-cons (one (is_changed_so Widens)) c told,
-    sum_by-cons (one (is_changed_so Neither)) c told, sum_by-cons (one is_unusable) c told, sum_by-cons (one is_in_old_alone) c told,
-    sum_by-cons (one is_in_new_alone) c told)
+    seven_more (with_verdict (is_changed_so Same) told) (with_verdict (is_changed_so Narrows) told) (with_verdict (is_changed_so Widens) told)
+    (with_verdict (is_changed_so Neither) told) (with_verdict is_unusable told) (with_verdict is_in_old_alone told) (with_verdict is_in_new_alone told)
+    (one (is_changed_so Same) c) (one (is_changed_so Narrows) c) (one (is_changed_so Widens) c) (one (is_changed_so Neither) c) (one is_unusable c)
+    (one is_in_old_alone c) (one is_in_new_alone c) (length told) (with_verdict (is_changed_so Same) (c ∷ told))
+    (with_verdict (is_changed_so Narrows) (c ∷ told)) (with_verdict (is_changed_so Widens) (c ∷ told)) (with_verdict (is_changed_so Neither) (c ∷ told))
+    (with_verdict is_unusable (c ∷ told)) (with_verdict is_in_old_alone (c ∷ told)) (with_verdict is_in_new_alone (c ∷ told))
+    (more_with (is_changed_so Same) c told) (more_with (is_changed_so Narrows) c told) (more_with (is_changed_so Widens) c told)
+    (more_with (is_changed_so Neither) c told) (more_with is_unusable c told) (more_with is_in_old_alone c told) (more_with is_in_new_alone c told)
+    (all_counted told) (one_of_seven (verdict_seen c.verdict))
 
 -- ---- parts of a version
 
@@ -122,15 +137,19 @@ is_none_of : {A : Type 0} (o : Option A) → is_none o ≡ true → o ≡ None
 is_none_of None e = refl
 is_none_of (Some x) e = absurd (false≢true e)
 
-is_narrowing is_widening is_same : Change → Bool
+abbrev is_narrowing : Change → Bool
 is_narrowing Same = false
 is_narrowing Narrows = true
 is_narrowing Widens = false
 is_narrowing Neither = false
+
+abbrev is_widening : Change → Bool
 is_widening Same = false
 is_widening Narrows = false
 is_widening Widens = true
 is_widening Neither = false
+
+abbrev is_same : Change → Bool
 is_same Same = true
 is_same Narrows = false
 is_same Widens = false
@@ -157,7 +176,7 @@ module _ (old made : Definitions) (mark : Text) (place : ℕ) (e : Text × Tree)
   -- where a way holds, what conforms to the one conforms to the other
   held : (way : Direction) → holds (way_of w way) ≡ true
       → Includes (schema_of made) (sides_by way e.0 (mark ++ e.0)).0 (sides_by way e.0 (mark ++ e.0)).1
-  held way is = ((said.3 way).holds (is_none_of (way_of w way).blamed is) place e (0, refl) there profile).4
+  held way is = ((said.3 way).holds (is_none_of (way_of w way).blamed is) place e (0, refl) there profile).3.1
 
   pub narrows_new : change_of w ≡ Narrows → Includes (schema_of made) e.0 (mark ++ e.0)
   narrows_new is = held new_in_old (narrowing_by (holds w.new_in_old) (holds w.old_in_new) is)

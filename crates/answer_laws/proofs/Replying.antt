@@ -62,7 +62,7 @@ module _ (P : ReplyValue → Type 0) (at_fault : (number subject : Text) → P (
   by_lines : (Q : List Text → Text → ReplyValue → Type 0) (s : SessionValue) (name lines : Text)
       → ((texts : List Text) (notes : Text) (reply : ReplyValue) → Q texts notes reply → P reply)
       → (reply : ReplyValue) → IsByLines Q s name lines reply → P reply
-  by_lines Q s name lines each reply (inl read) = each read.1 _ reply read.3
+  by_lines Q s name lines each reply (inl read) = each read.1.0 _ reply read.1.2
   by_lines Q s name lines each reply (inr unread) = subst P (sym unread.1) (at_fault (codes "read") name)
 
   -- ---- certificates
@@ -162,64 +162,55 @@ given_shape folder profile name given standings.Fault notes out = inr (notes, 3,
 
 shaped : (q : RequestValue) (s : SessionValue) (files : List (Option Text)) (reply : ReplyValue) → IsReply (answer_by q s files) reply → Shape q reply
 shaped (certify folder name) s files reply is =
-    let q = certify folder name in
-    packed (Shape q) (at_fault q) (refusal s.survey) (certify_answer (schema_in s) name (file_at files 0))
-    (filed (Shape q) (at_fault q) (λ bytes. stated (certificate_reply name (schema_in s) bytes)) name (file_at files 0)
-    (λ bytes reply is. subst (Shape q) (sym is)
-    (certified (Shape q) (at_fault q) (inr ([], 0, _, refl, refl, refl)) (λ out. inr ([], 1, out, refl, refl, refl)) name (schema_in s)
+    packed (Shape (certify folder name)) (at_fault (certify folder name)) (refusal s.survey) (certify_answer (schema_in s) name (file_at files 0))
+    (filed (Shape (certify folder name)) (at_fault (certify folder name)) (λ bytes. stated (certificate_reply name (schema_in s) bytes)) name (file_at files 0)
+    (λ bytes reply is. subst (Shape (certify folder name)) (sym is)
+    (certified (Shape (certify folder name)) (at_fault (certify folder name)) (inr ([], 0, codes "yes\n", refl, refl, refl)) (λ out. inr ([], 1, out, refl, refl, refl)) name (schema_in s)
     (certificate_answer (reading (schema_in s) bytes) (schema_in s)))))
     reply is
 shaped (migrate folder name) s files reply is =
-    let q = migrate folder name in
-    packed (Shape q) (at_fault q) (refusal s.survey) (migrate_answer (schema_in s) name (file_at files 0))
-    (filed (Shape q) (at_fault q) (λ bytes. stated (migrated_reply name (migrated (schema_in s) bytes))) name (file_at files 0)
-    (λ bytes reply is. subst (Shape q) (sym is)
-    (migrates (Shape q) (at_fault q) (λ out. inr ([], 0, out, refl, refl, refl)) name (migrated (schema_in s) bytes))))
+    packed (Shape (migrate folder name)) (at_fault (migrate folder name)) (refusal s.survey) (migrate_answer (schema_in s) name (file_at files 0))
+    (filed (Shape (migrate folder name)) (at_fault (migrate folder name)) (λ bytes. stated (migrated_reply name (migrated (schema_in s) bytes))) name (file_at files 0)
+    (λ bytes reply is. subst (Shape (migrate folder name)) (sym is)
+    (migrates (Shape (migrate folder name)) (at_fault (migrate folder name)) (λ out. inr ([], 0, out, refl, refl, refl)) name (migrated (schema_in s) bytes))))
     reply is
 shaped (validate folder profile name) s files reply is =
-    let q = validate folder profile name in
-    packed (Shape q) (at_fault q) (refusal s.survey) (validate_answer (schema_in s) profile name (file_at files 0))
-    (filed (Shape q) (at_fault q) (λ bytes. judged (schema_in s) profile bytes) name (file_at files 0)
-    (λ bytes. answered (Shape q) (at_fault q) (outcome_shape folder profile name) (schema_in s) profile bytes))
+    packed (Shape (validate folder profile name)) (at_fault (validate folder profile name)) (refusal s.survey) (validate_answer (schema_in s) profile name (file_at files 0))
+    (filed (Shape (validate folder profile name)) (at_fault (validate folder profile name)) (λ bytes. judged (schema_in s) profile bytes) name (file_at files 0)
+    (λ bytes. answered (Shape (validate folder profile name)) (at_fault (validate folder profile name)) (outcome_shape folder profile name) (schema_in s) profile bytes))
     reply is
 shaped (validate_given folder profile name given) s files reply is =
-    let q = validate_given folder profile name given in
-    packed (Shape q) (at_fault q) (refusal s.survey) (given_answer s profile name (file_at files 0) given (file_at files 1))
-    (filed (Shape q) (at_fault q) (λ bytes. file_answer (λ texts. judged_as_given s profile bytes given texts) given (file_at files 1)) name (file_at files 0)
-    (λ bytes. filed (Shape q) (at_fault q) (λ texts. judged_as_given s profile bytes given texts) given (file_at files 1)
-    (λ lines. given_answered (Shape q) (at_fault q) (given_shape folder profile name given) s profile bytes given lines)))
+    packed (Shape (validate_given folder profile name given)) (at_fault (validate_given folder profile name given)) (refusal s.survey) (given_answer s profile name (file_at files 0) given (file_at files 1))
+    (filed (Shape (validate_given folder profile name given)) (at_fault (validate_given folder profile name given)) (λ bytes. file_answer (λ texts. judged_as_given s profile bytes given texts) given (file_at files 1)) name (file_at files 0)
+    (λ bytes. filed (Shape (validate_given folder profile name given)) (at_fault (validate_given folder profile name given)) (λ texts. judged_as_given s profile bytes given texts) given (file_at files 1)
+    (λ lines. given_answered (Shape (validate_given folder profile name given)) (at_fault (validate_given folder profile name given)) (given_shape folder profile name given) s profile bytes given lines)))
     reply is
 shaped (snapshot folder url) s files reply is =
-    let q = snapshot folder url in
-    packed (Shape q) (at_fault q) (refusal s.survey) (listed s.survey.definitions url)
-    (snapped (Shape q) (at_fault q) (λ out. inr ([], 0, out, refl, refl, refl)) s.survey.definitions url)
+    packed (Shape (snapshot folder url)) (at_fault (snapshot folder url)) (refusal s.survey) (listed s.survey.definitions url)
+    (snapped (Shape (snapshot folder url)) (at_fault (snapshot folder url)) (λ out. inr ([], 0, out, refl, refl, refl)) s.survey.definitions url)
     reply is
 shaped (derive folder derived base) s files reply is =
-    let q = derive folder derived base in
-    packed (Shape q) (at_fault q) (refusal s.survey) (between (schema_in s) derived base)
-    (λ reply is. subst (Shape q) (sym is.is_reply)
-    (derivations (Shape q) (at_fault q) (λ out. inr ([], 0, out, refl, refl, refl)) (λ out. inr ([], 1, out, refl, refl, refl)) (schema_in s) derived base
+    packed (Shape (derive folder derived base)) (at_fault (derive folder derived base)) (refusal s.survey) (between (schema_in s) derived base)
+    (λ reply is. subst (Shape (derive folder derived base)) (sym is.is_reply)
+    (derivations (Shape (derive folder derived base)) (at_fault (derive folder derived base)) (λ out. inr ([], 0, out, refl, refl, refl)) (λ out. inr ([], 1, out, refl, refl, refl)) (schema_in s) derived base
     is.derivation))
     reply is
 shaped (counter folder derived base) s files reply is =
-    let q = counter folder derived base in
-    packed (Shape q) (at_fault q) (refusal s.survey) (countered (schema_in s) derived base)
-    (λ reply is. subst (Shape q) (sym is.is_reply)
-    (countered_so (Shape q) (at_fault q) (λ notes out. inr (notes, 0, out, refl, refl, refl)) (λ notes out. inr (notes, 1, out, refl, refl, refl))
+    packed (Shape (counter folder derived base)) (at_fault (counter folder derived base)) (refusal s.survey) (countered (schema_in s) derived base)
+    (λ reply is. subst (Shape (counter folder derived base)) (sym is.is_reply)
+    (countered_so (Shape (counter folder derived base)) (at_fault (counter folder derived base)) (λ notes out. inr (notes, 0, out, refl, refl, refl)) (λ notes out. inr (notes, 1, out, refl, refl, refl))
     (λ notes out. inr (notes, 2, out, refl, refl, refl)) (schema_in s) [] derived base is.found is.derivation))
     reply is
 shaped (counter_given folder derived base given) s files reply is =
-    let q = counter_given folder derived base given in
-    packed (Shape q) (at_fault q) (refusal s.survey) (counter_given_answer s derived base given (file_at files 0))
-    (filed (Shape q) (at_fault q) (λ lines. countered_as_given s derived base given lines) given (file_at files 0)
-    (λ lines. by_lines (Shape q) (at_fault q) (λ texts notes. IsCounterReply (Some texts) (schema_in s) notes derived base) s given lines
-    (λ texts notes reply is. subst (Shape q) (sym is.is_reply)
-    (countered_so (Shape q) (at_fault q) (λ notes out. inr (notes, 0, out, refl, refl, refl)) (λ notes out. inr (notes, 1, out, refl, refl, refl))
+    packed (Shape (counter_given folder derived base given)) (at_fault (counter_given folder derived base given)) (refusal s.survey) (counter_given_answer s derived base given (file_at files 0))
+    (filed (Shape (counter_given folder derived base given)) (at_fault (counter_given folder derived base given)) (λ lines. countered_as_given s derived base given lines) given (file_at files 0)
+    (λ lines. by_lines (Shape (counter_given folder derived base given)) (at_fault (counter_given folder derived base given)) (λ texts notes. IsCounterReply (Some texts) (schema_in s) notes derived base) s given lines
+    (λ texts notes reply is. subst (Shape (counter_given folder derived base given)) (sym is.is_reply)
+    (countered_so (Shape (counter_given folder derived base given)) (at_fault (counter_given folder derived base given)) (λ notes out. inr (notes, 0, out, refl, refl, refl)) (λ notes out. inr (notes, 1, out, refl, refl, refl))
     (λ notes out. inr (notes, 2, out, refl, refl, refl)) (schema_in s) notes derived base is.found is.derivation))))
     reply is
 shaped (check folder certificate prefixes manner) s files reply is =
-    let q = check folder certificate prefixes manner in
-    only_so q prefixes (unknown_place s.survey.definitions prefixes)
+    only_so (check folder certificate prefixes manner) prefixes (unknown_place s.survey.definitions prefixes)
     (report_answer manner (asked_selection prefixes s.survey.definitions) s certificate (file_at files 0))
     (report_so certificate) reply is
   where
@@ -228,7 +219,7 @@ shaped (check folder certificate prefixes manner) s files reply is =
     only_so q prefixes None answer each reply is = each reply is
     only_so q prefixes (Some place) answer each reply is = subst (Shape q) (sym is) (at_fault q (codes "only") (get_or prefixes place []))
 
-    asked_of : RequestValue
+    abbrev asked_of : RequestValue
     asked_of = check folder certificate prefixes manner
 
     one : (c : Option CertificateValue) (reply : ReplyValue)
@@ -243,9 +234,8 @@ shaped (check folder certificate prefixes manner) s files reply is =
         filed (Shape asked_of) (at_fault asked_of) (λ bytes. reported manner (asked_selection prefixes s.survey.definitions) s (Some (name, bytes))) name
         (file_at files 0) (λ bytes. one (Some (name, bytes))) reply is
 shaped (unread folder profile) s files reply is =
-    let q = unread folder profile in
-    packed (Shape q) (at_fault q) (refusal s.survey) (stated (unread_reply s profile))
-    (λ reply is. subst (Shape q) (sym is) (listed_rules (Shape q) (at_fault q) (λ out. inr ([], 0, out, refl, refl, refl)) s profile))
+    packed (Shape (unread folder profile)) (at_fault (unread folder profile)) (refusal s.survey) (stated (unread_reply s profile))
+    (λ reply is. subst (Shape (unread folder profile)) (sym is) (listed_rules (Shape (unread folder profile)) (at_fault (unread folder profile)) (λ out. inr ([], 0, out, refl, refl, refl)) s profile))
     reply is
 
 -- each request may have a fault of the input

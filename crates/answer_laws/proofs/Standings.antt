@@ -181,20 +181,20 @@ module _ (s : SchemaValue) (profile bytes : Text) where
 module _ (s : SessionValue) (profile bytes name lines : Text) (reply : ReplyValue) where
   pub given_conforms : IsGivenReply s profile bytes name lines reply → status_of reply ≡ 0 → (texts : List Text) × AreSame texts (texts_given lines)
       × (t : Tree) × Reads bytes t × ((meaning : Interpretation) → AreGiven texts meaning → Conforms (schema_in s) meaning profile t)
-  given_conforms (inl read) e = (read.1, read.2, conforms_so (schema_in s) profile bytes read.1 _ reply read.3 e)
+  given_conforms (inl read) e = let it = conforms_so (schema_in s) profile bytes read.1.0 _ reply read.1.2 e in (read.1.0, read.1.1, it.0, it.1, it.2)
   given_conforms (inr unread) e = absurd (false≢true (ap (eqb 0) (sym (ap status_of unread.1) ∙ e)))
 
   pub given_violates : IsGivenReply s profile bytes name lines reply → status_of reply ≡ 1 → NeverConforms (schema_in s) profile bytes
-  given_violates (inl read) e = violates_so (schema_in s) profile bytes read.1 _ reply read.3 e
+  given_violates (inl read) e = violates_so (schema_in s) profile bytes read.1.0 _ reply read.1.2 e
   given_violates (inr unread) e = absurd (false≢true (ap (eqb 1) (sym (ap status_of unread.1) ∙ e)))
 
   pub given_open : IsGivenReply s profile bytes name lines reply → status_of reply ≡ 2 → (texts : List Text) × AreSame texts (texts_given lines)
       × (t : Tree) × Reads bytes t × (¬ Conforms (schema_in s) (as_read texts as_given) profile t)
       × (¬ ¬ Conforms (schema_in s) (constant true) profile t)
-  given_open (inl read) e = (read.1, read.2, open_so (schema_in s) profile bytes read.1 _ reply read.3 e)
+  given_open (inl read) e = let it = open_so (schema_in s) profile bytes read.1.0 _ reply read.1.2 e in (read.1.0, read.1.1, it.0, it.1, it.2, it.3)
   given_open (inr unread) e = absurd (false≢true (ap (eqb 2) (sym (ap status_of unread.1) ∙ e)))
 
   pub given_outcome : IsGivenReply s profile bytes name lines reply → is_told reply ≡ false
       → (outcome : Tree) × (out_of reply ≡ compact outcome ++ codes "\n") × IsOutcome (severity (status_of reply)) outcome
-  given_outcome (inl read) plain = outcome_so (schema_in s) profile bytes read.1 _ reply read.3
+  given_outcome (inl read) plain = outcome_so (schema_in s) profile bytes read.1.0 _ reply read.1.2
   given_outcome (inr unread) plain = absurd (false≢true (sym plain ∙ ap is_told unread.1))

@@ -1,6 +1,5 @@
 -- The verdicts of a run, told one behind the other.
-use Rattle.std.proofs.Common.{◌≡◌, ℕ, ◌+◌, ◌<◌, ◌≤◌, Bool, true, false, ◌||◌, cond, eqb, ltb, List, [], ◌∷◌, length, map, refl, sym, ap, ◌∙◌, arith}
-use Rattle.std.specs.List.{fold, count_by, sum_by}
+use Rattle.std.proofs.Common.{◌≡◌, ℕ, suc, ◌+◌, ◌<◌, ◌≤◌, Bool, true, false, ◌||◌, cond, eqb, ltb, List, [], ◌∷◌, length, map, fold, count_by, refl, sym, ap, ◌∙◌, arith}
 use Rattle.std.proofs.lemmas.Bool.{eqb-true, eqb-false, lt-ltb}
 use Rattle.std.proofs.lemmas.List.Sums.{sum_by-cons}
 use Rattle.fhir_commands.specs.declared.reply.Standing.{Standing}
@@ -153,72 +152,114 @@ one_more n under = by (eqb n most) refl
     by true e = absurd (omega (arith, eqb-true n most e, under))
     by false e = refl
 
+none_more : (n : ℕ) → n ≡ n + 0
+none_more n = omega arith
+
 -- what is counted, as one more line is told
 counted_one : (of v : LineVerdict) (t : Tally) → count_in of t < most → count_in of (tallied v t) ≡ count_in of t + cond (is_same of v) 1 0
 counted_one Conforms Conforms t under = one_more t.conforms under
-counted_one Conforms Violates t under = omega arith
-counted_one Conforms Open t under = omega arith
-counted_one Conforms Fault t under = omega arith
-counted_one Conforms NoMemory t under = omega arith
-counted_one Conforms Empty t under = omega arith
-counted_one Violates Conforms t under = omega arith
+counted_one Conforms Violates t under = none_more t.conforms
+counted_one Conforms Open t under = none_more t.conforms
+counted_one Conforms Fault t under = none_more t.conforms
+counted_one Conforms NoMemory t under = none_more t.conforms
+counted_one Conforms Empty t under = none_more t.conforms
+counted_one Violates Conforms t under = none_more t.violates
 counted_one Violates Violates t under = one_more t.violates under
-counted_one Violates Open t under = omega arith
-counted_one Violates Fault t under = omega arith
-counted_one Violates NoMemory t under = omega arith
-counted_one Violates Empty t under = omega arith
-counted_one Open Conforms t under = omega arith
-counted_one Open Violates t under = omega arith
+counted_one Violates Open t under = none_more t.violates
+counted_one Violates Fault t under = none_more t.violates
+counted_one Violates NoMemory t under = none_more t.violates
+counted_one Violates Empty t under = none_more t.violates
+counted_one Open Conforms t under = none_more t.opens
+counted_one Open Violates t under = none_more t.opens
 counted_one Open Open t under = one_more t.opens under
-counted_one Open Fault t under = omega arith
-counted_one Open NoMemory t under = omega arith
-counted_one Open Empty t under = omega arith
-counted_one Fault Conforms t under = omega arith
-counted_one Fault Violates t under = omega arith
-counted_one Fault Open t under = omega arith
+counted_one Open Fault t under = none_more t.opens
+counted_one Open NoMemory t under = none_more t.opens
+counted_one Open Empty t under = none_more t.opens
+counted_one Fault Conforms t under = none_more t.faults
+counted_one Fault Violates t under = none_more t.faults
+counted_one Fault Open t under = none_more t.faults
 counted_one Fault Fault t under = one_more t.faults under
-counted_one Fault NoMemory t under = omega arith
-counted_one Fault Empty t under = omega arith
-counted_one NoMemory Conforms t under = omega arith
-counted_one NoMemory Violates t under = omega arith
-counted_one NoMemory Open t under = omega arith
-counted_one NoMemory Fault t under = omega arith
+counted_one Fault NoMemory t under = none_more t.faults
+counted_one Fault Empty t under = none_more t.faults
+counted_one NoMemory Conforms t under = none_more t.no_memory
+counted_one NoMemory Violates t under = none_more t.no_memory
+counted_one NoMemory Open t under = none_more t.no_memory
+counted_one NoMemory Fault t under = none_more t.no_memory
 counted_one NoMemory NoMemory t under = one_more t.no_memory under
-counted_one NoMemory Empty t under = omega arith
-counted_one Empty Conforms t under = omega arith
-counted_one Empty Violates t under = omega arith
-counted_one Empty Open t under = omega arith
-counted_one Empty Fault t under = omega arith
-counted_one Empty NoMemory t under = omega arith
+counted_one NoMemory Empty t under = none_more t.no_memory
+counted_one Empty Conforms t under = none_more t.empties
+counted_one Empty Violates t under = none_more t.empties
+counted_one Empty Open t under = none_more t.empties
+counted_one Empty Fault t under = none_more t.empties
+counted_one Empty NoMemory t under = none_more t.empties
 counted_one Empty Empty t under = one_more t.empties under
 
 one_at_most : (b : Bool) → cond b 1 0 ≤ 1
 one_at_most true = omega arith
 one_at_most false = omega arith
 
-counted_since : (of : LineVerdict) (vs : List LineVerdict) (t : Tally) → count_in of t + length vs ≤ most
-    → count_in of (fold counted t vs) ≡ count_in of t + count_by (is_same of) vs
-counted_since of [] t fits = omega arith
-counted_since of (v ∷ vs) t fits =
-    let one = counted_one of v t (omega (arith, fits)) in
-    let rest = counted_since of vs (tallied v t) (omega (arith, fits, one, one_at_most (is_same of v))) in
-    omega (arith, one, rest, sum_by-cons (λ w. cond (is_same of w) 1 0) v vs)
+-- ---- on numbers alone
 
-pub counted_told : (of : LineVerdict) (vs : List LineVerdict) → length vs ≤ most → count_in of (tally_of vs) ≡ count_by (is_same of) vs
-counted_told Conforms vs fits = counted_since Conforms vs no_tally fits
-counted_told Violates vs fits = counted_since Violates vs no_tally fits
-counted_told Open vs fits = counted_since Open vs no_tally fits
-counted_told Fault vs fits = counted_since Fault vs no_tally fits
-counted_told NoMemory vs fits = counted_since NoMemory vs no_tally fits
-counted_told Empty vs fits = counted_since Empty vs no_tally fits
+room : (n l k : ℕ) → n + suc l ≤ k → n < k
+room n l k fits = omega (arith, fits)
 
--- each verdict is just one of the six
+room_behind : (n l k x n' : ℕ) → n' ≡ n + x → x ≤ 1 → n + suc l ≤ k → n' + l ≤ k
+room_behind n l k x n' more least fits = omega (arith, more, least, fits)
+
+onward : (n x m n' r m' : ℕ) → n' ≡ n + x → r ≡ n' + m → m' ≡ x + m → r ≡ n + m'
+onward n x m n' r m' more rest all = omega (arith, more, rest, all)
+
+from_none : (z l k : ℕ) → z ≡ 0 → l ≤ k → z + l ≤ k
+from_none z l k none fits = omega (arith, none, fits)
+
+none_before : (z c : ℕ) → z ≡ 0 → z + c ≡ c
+none_before z c none = omega (arith, none)
+
+six_more : (a b c d e f u v w x y z n a' b' c' d' e' f' : ℕ) → a' ≡ u + a → b' ≡ v + b → c' ≡ w + c → d' ≡ x + d → e' ≡ y + e → f' ≡ z + f
+    → a + b + c + d + e + f ≡ n → u + v + w + x + y + z ≡ 1 → a' + b' + c' + d' + e' + f' ≡ suc n
+six_more a b c d e f u v w x y z n a' b' c' d' e' f' p q r s t o all one = omega (arith, p, q, r, s, t, o, all, one)
+
+six_same : (a b c d e f a' b' c' d' e' f' n : ℕ) → a ≡ a' → b ≡ b' → c ≡ c' → d ≡ d' → e ≡ e' → f ≡ f'
+    → a' + b' + c' + d' + e' + f' ≡ n → a + b + c + d + e + f ≡ n
+six_same a b c d e f a' b' c' d' e' f' n p q r s t o all = omega (arith, p, q, r, s, t, o, all)
+
+-- ---- of all lines
+
+-- what one line counts for a verdict
+abbrev one_of : LineVerdict → LineVerdict → ℕ
+one_of of v = cond (is_same of v) 1 0
+
+-- how often a verdict is among some
 abbrev many : LineVerdict → List LineVerdict → ℕ
 many of vs = count_by (is_same of) vs
 
-one_of_six : (v : LineVerdict)
-    → cond (is_same Conforms v) 1 0 + cond (is_same Violates v) 1 0 + cond (is_same Open v) 1 0 + cond (is_same Fault v) 1 0
-    + cond (is_same NoMemory v) 1 0 + cond (is_same Empty v) 1 0 ≡ 1
+many_more : (of v : LineVerdict) (vs : List LineVerdict) → many of (v ∷ vs) ≡ one_of of v + many of vs
+many_more of v vs = sum_by-cons (one_of of) v vs
+
+counted_since : (of : LineVerdict) (vs : List LineVerdict) (t : Tally) → count_in of t + length vs ≤ most
+    → count_in of (fold counted t vs) ≡ count_in of t + many of vs
+counted_since of [] t fits = none_more (count_in of t)
+counted_since of (v ∷ vs) t fits =
+    let one = counted_one of v t (room (count_in of t) (length vs) most fits) in
+    let behind = room_behind (count_in of t) (length vs) most (one_of of v) (count_in of (tallied v t)) one (one_at_most (is_same of v)) fits in
+    onward (count_in of t) (one_of of v) (many of vs) (count_in of (tallied v t)) (count_in of (fold counted (tallied v t) vs)) (many of (v ∷ vs)) one
+    (counted_since of vs (tallied v t) behind) (many_more of v vs)
+
+none_told : (of : LineVerdict) → count_in of no_tally ≡ 0
+none_told Conforms = refl
+none_told Violates = refl
+none_told Open = refl
+none_told Fault = refl
+none_told NoMemory = refl
+none_told Empty = refl
+
+pub counted_told : (of : LineVerdict) (vs : List LineVerdict) → length vs ≤ most → count_in of (tally_of vs) ≡ many of vs
+counted_told of vs fits =
+    counted_since of vs no_tally (from_none (count_in of no_tally) (length vs) most (none_told of) fits)
+    ∙ none_before (count_in of no_tally) (many of vs) (none_told of)
+
+-- each verdict is just one of the six
+one_of_six : (v : LineVerdict) → one_of Conforms v + one_of Violates v + one_of Open v + one_of Fault v + one_of NoMemory v + one_of Empty v ≡ 1
 one_of_six Conforms = refl
 one_of_six Violates = refl
 one_of_six Open = refl
@@ -229,27 +270,16 @@ one_of_six Empty = refl
 six : (vs : List LineVerdict) → many Conforms vs + many Violates vs + many Open vs + many Fault vs + many NoMemory vs + many Empty vs ≡ length vs
 six [] = refl
 six (v ∷ vs) =
-    omega (
-      arith,
-      six vs,
-      one_of_six v,
-      sum_by-cons (λ w. cond (is_same Conforms w) 1 0) v vs,
-      sum_by-cons (λ w. cond (is_same Violates w) 1 0) v vs,
-      sum_by-cons (λ w. cond (is_same Open w) 1 0) v vs,
-      sum_by-cons (λ w. cond (is_same Fault w) 1 0) v vs,
-      sum_by-cons (λ w. cond (is_same NoMemory w) 1 0) v vs,
-      sum_by-cons (λ w. cond (is_same Empty w) 1 0) v vs,
-    )
+    six_more (many Conforms vs) (many Violates vs) (many Open vs) (many Fault vs) (many NoMemory vs) (many Empty vs)
+    (one_of Conforms v) (one_of Violates v) (one_of Open v) (one_of Fault v) (one_of NoMemory v) (one_of Empty v) (length vs)
+    (many Conforms (v ∷ vs)) (many Violates (v ∷ vs)) (many Open (v ∷ vs)) (many Fault (v ∷ vs)) (many NoMemory (v ∷ vs)) (many Empty (v ∷ vs))
+    (many_more Conforms v vs) (many_more Violates v vs) (many_more Open v vs) (many_more Fault v vs) (many_more NoMemory v vs) (many_more Empty v vs)
+    (six vs) (one_of_six v)
 
 pub all_told : (vs : List LineVerdict) → length vs ≤ most → total (tally_of vs) ≡ length vs
 all_told vs fits =
-    omega (
-      arith,
-      six vs,
-      counted_told Conforms vs fits,
-      counted_told Violates vs fits,
-      counted_told Open vs fits,
-      counted_told Fault vs fits,
-      counted_told NoMemory vs fits,
-      counted_told Empty vs fits,
-    )
+    let t = tally_of vs in
+    six_same t.conforms t.violates t.opens t.faults t.no_memory t.empties
+    (many Conforms vs) (many Violates vs) (many Open vs) (many Fault vs) (many NoMemory vs) (many Empty vs) (length vs)
+    (counted_told Conforms vs fits) (counted_told Violates vs fits) (counted_told Open vs fits) (counted_told Fault vs fits)
+    (counted_told NoMemory vs fits) (counted_told Empty vs fits) (six vs)

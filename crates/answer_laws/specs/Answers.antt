@@ -1,5 +1,5 @@
 -- A reply to a request by a session and the bytes of files.
-use Rattle.std.specs.Prelude.{◌≡◌, ◌×◌, List, Option, None}
+use Rattle.std.specs.Prelude.{◌≡◌, List, Option, None}
 use Rattle.fhir_json.specs.Tree.{Text}
 use Rattle.fhir_package.specs.Surveying.{refusal}
 use Rattle.fhir_words.specs.Requests.{RequestValue}

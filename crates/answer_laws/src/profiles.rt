@@ -1,6 +1,6 @@
 //! What the statuses of `derive`, `counter`, `certify` and `check` say (docs/USAGE.md, What it answers).
 
-ghost use Rattle.std.specs.Prelude.{◌≡◌, ◌↔◌, ◌×◌, ◌∷◌, ◌++◌, [], List, Option, None, Some, Ok, Err, codes};
+ghost use Rattle.std.specs.Prelude.{◌≡◌, ◌↔◌, ◌∷◌, ◌++◌, [], List, Option, None, Some, Ok, Err, codes};
 ghost use Rattle.fhir_json.specs.Tree.{Text};
 ghost use Rattle.fhir_certificate.specs.declared.fault.CertFault.{CertFault};
 ghost use Rattle.fhir_certificate.specs.declared.pair.Pair.{Pair};

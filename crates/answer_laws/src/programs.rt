@@ -1,6 +1,6 @@
 //! How the program ends (docs/USAGE.md, What it answers).
 
-ghost use Rattle.std.specs.Prelude.{◌≡◌, ◌×◌, ℕ, List, Option, Result, Err, true, nat_le, codes};
+ghost use Rattle.std.specs.Prelude.{◌≡◌, ℕ, List, Option, Result, Err, true, nat_le, codes};
 ghost use Rattle.std.specs.Io.KnownBytes.{Appends};
 ghost use Rattle.fhir_json.specs.Tree.{Text};
 ghost use Rattle.fhir_package.specs.declared.folder.FolderFault.{FolderFault};
