@@ -1,13 +1,12 @@
 -- What is told of two profiles, and of a certificate, by the status of what is answered.
-use Rattle.std.proofs.Common.{◌≡◌, ◌↔◌, ℕ, ◌++◌, Bool, true, false, ◌&&◌, eqb, List, [], Option, None, Some, is_some, is_none, cond, Result, Ok, Err, codes, refl, sym, ap, ◌∙◌, subst, tt}
-use Rattle.std.specs.Prelude.{IfSome, IsTrue}
+use Rattle.std.proofs.Common.{◌≡◌, ◌↔◌, ◌++◌, Bool, true, false, ◌&&◌, eqb, [], Option, None, Some, is_some, is_none, cond, Result, Ok, Err, codes, refl, sym, ap, ◌∙◌, subst, tt}
+use Rattle.std.specs.Prelude.{IfSome}
 use Rattle.std.specs.Option.{option_and_then, option_map}
 use Rattle.std.proofs.lemmas.Bool.{false≢true}
 use Rattle.fhir_json.specs.Tree.{Text}
 use Rattle.fhir_elements.specs.declared.reason.Reason.{Reason}
 use Rattle.fhir_nodes.specs.declared.node.NodeRef.{NodeRef}
 use Rattle.fhir_schema.specs.Schemas.{SchemaValue, root, unusable}
-use Rattle.fhir_conformance.specs.Conformance.{constant, IsFairEverywhere}
 use Rattle.fhir_certificate.specs.declared.fault.CertFault.{CertFault}
 use Rattle.fhir_certificate.specs.declared.pair.NodePair.{NodePair}
 use Rattle.fhir_certificate.specs.declared.pair.Pair.{Pair}
@@ -16,12 +15,11 @@ use Rattle.fhir_cert_check.specs.Checking.{IsCertificate, is_among}
 use Rattle.fhir_cert_check.specs.Inclusion.{Includes}
 use Rattle.fhir_cert_check.specs.Rule.{RuleName}
 use Rattle.fhir_derive_check.specs.declared.fault.DeriveFault.{DeriveFault}
-use Rattle.fhir_derive_check.specs.declared.fault.Side.{Side}
 use Rattle.fhir_derive_check.specs.declared.fault.Side.TheVariants.{Derived, Base}
 use Rattle.fhir_derive_check.specs.Deriving.{IsDerived}
 use Rattle.fhir_derive_check.specs.Faults.{is_missing, is_unusable, first_side, refusal, derive_refusal}
-use Rattle.fhir_derive_check.specs.Reaching.{HasCertificate, IsTenable, roots_between}
-use Rattle.fhir_counter.specs.Shows.{Shows, ShowsAsGiven, ShowsBy}
+use Rattle.fhir_derive_check.specs.Reaching.{HasCertificate, roots_between}
+use Rattle.fhir_counter.specs.Shows.{Shows, ShowsBy}
 use Rattle.fhir_findings.specs.Finding.{selected_unusable}
 use Rattle.fhir_replies.specs.Deriving.{Derivation, derives, fails, missing, IsDerivationOf}
 use Rattle.fhir_replies.specs.Deriving.{unusable as unusable_side}
@@ -31,25 +29,8 @@ use Rattle.fhir_answers.specs.Replying.{ReplyValue, status_of, out_of, derivatio
 use Rattle.fhir_answers.specs.Session.{SessionValue, schema_in}
 use Rattle.fhir_answers.specs.Showing.{IsCounterReply}
 use Rattle.fhir_answers.specs.Status.{code_of, report_status}
+use Rattle.answer_laws.proofs.Refuted.{AreFair, refuted}
 use Rattle.answer_laws.proofs.Standings.{unrooted}
-
--- ---- counterexamples
-
--- the meanings by which each unread rule holds, or none does, are fair
-abbrev pub AreFair : Type 0
-AreFair = (s : SchemaValue) (b : Bool) → IsFairEverywhere s (constant b)
-
-module _ (fair : AreFair) (s : SchemaValue) (derived base bytes : Text) where
-  pub refuted : Shows s derived base bytes → Includes s derived base → ⊥
-  refuted h includes = h.3 (constant false) (includes (constant false) (fair s false) h.0 (h.2.0 (constant false)))
-
-  pub refuted_as_given : (texts : List Text) → ShowsAsGiven s texts derived base bytes → Includes s derived base → ⊥
-  refuted_as_given texts h includes =
-      h.3 (constant true) (includes (constant true) (fair s true) h.0 (h.2.0 (constant true) (λ u outermost place given. refl)))
-
-  pub refuted_by : (texts : Option (List Text)) → ShowsBy texts s derived base bytes → Includes s derived base → ⊥
-  refuted_by None h includes = refuted h includes
-  refuted_by (Some texts) h includes = refuted_as_given texts h includes
 
 -- ---- a certificate excludes a refusal
 

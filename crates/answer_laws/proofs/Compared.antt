@@ -12,7 +12,7 @@ use Rattle.fhir_alike.specs.Profiles.{is_profile}
 use Rattle.fhir_compare.specs.declared.verdict.Change.{Change}
 use Rattle.fhir_compare.specs.declared.verdict.Change.TheVariants.{Same, Narrows, Widens, Neither}
 use Rattle.fhir_compare.specs.declared.verdict.Compared.{Compared}
-use Rattle.fhir_compare.specs.Comparing.{Said, Direction, new_in_old, old_in_new, sides_by, WayValue, WaysValue, way_of, holds, change_by, change_of, VerdictValue, both, unusable_in, only_in_old, only_in_new, NarrowsBy, IsVerdict, IsWay}
+use Rattle.fhir_compare.specs.Comparing.{Said, Direction, new_in_old, old_in_new, sides_by, WaysValue, way_of, holds, change_by, change_of, VerdictValue, both, unusable_in, only_in_old, only_in_new, IsVerdict}
 use Rattle.fhir_compare.specs.Views.{verdict_seen}
 use Rattle.fhir_compare_lines.specs.Counting.{with_verdict, is_changed_so, is_unusable, is_in_old_alone, is_in_new_alone, same_change}
 use Rattle.fhir_compare_lines.specs.declared.parts.Part.{Part}

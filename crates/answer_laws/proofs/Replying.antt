@@ -1,5 +1,5 @@
 -- What is so of each reply to a request: cases by what is answered.
-use Rattle.std.proofs.Common.{◌≡◌, ℕ, ◌<◌, Bool, true, false, ◌||◌, eqb, ltb, List, [], ◌∷◌, Option, None, Some, Result, Ok, Err, get_or, codes, refl, sym, ap, ◌∙◌, subst, arith, inl, inr, IsTrue}
+use Rattle.std.proofs.Common.{◌≡◌, ℕ, Bool, true, false, ◌||◌, eqb, ltb, List, [], ◌∷◌, Option, None, Some, Result, Ok, Err, get_or, codes, refl, sym, ap, ◌∙◌, subst, arith, inl, inr, IsTrue}
 use Rattle.std.specs.Prelude.{◌⊎◌}
 use Rattle.std.specs.Option.{option_map_or}
 use Rattle.std.specs.List.{list_any}
@@ -20,13 +20,12 @@ use Rattle.fhir_commands.specs.declared.reply.Standing.{Standing}
 use Rattle.fhir_commands.specs.declared.reply.Standing.TheVariants as standings
 use Rattle.fhir_findings.specs.Selecting.{SelectionValue, unknown_place, asked_selection, profile_selection}
 use Rattle.fhir_replies.specs.Deriving.{Derivation, derives, fails, missing, unusable as unusable_side}
-use Rattle.fhir_unread.specs.Given.{texts_given, AreSame}
 use Rattle.fhir_words.specs.Requests.{RequestValue, certify, migrate, validate, validate_given, snapshot, derive, counter, counter_given, check, unread}
-use Rattle.fhir_answers.specs.Answering.{AnswerValue, stated, judged, judged_as_given, listed, between, countered, countered_as_given, reported, IsReply, IsAnswered, IsGivenReply, IsJudgedReply, IsListed, IsDerivationReply, IsReported, answer_by, package_answer, file_answer, certify_answer, migrate_answer, validate_answer, given_answer, counter_given_answer, only_answer, report_answer, list_reply, profile_reply, unread_reply}
+use Rattle.fhir_answers.specs.Answering.{AnswerValue, stated, judged, judged_as_given, listed, between, countered, countered_as_given, reported, IsReply, IsAnswered, IsGivenReply, IsJudgedReply, IsListed, answer_by, package_answer, file_answer, certify_answer, migrate_answer, validate_answer, given_answer, counter_given_answer, only_answer, report_answer, list_reply, profile_reply, unread_reply}
 use Rattle.fhir_answers.specs.ByLines.{IsByLines}
-use Rattle.fhir_answers.specs.Replying.{ReplyValue, written, noted, told, status_of, out_of, is_told, answer_noted, fault_reply, refused_reply, unreadable_reply, wrong_reply, checked_reply, migrated_reply, derivation_reply, shown_reply, counter_reply, certificate_reply}
+use Rattle.fhir_answers.specs.Replying.{ReplyValue, written, noted, told, status_of, out_of, is_told, answer_noted, fault_reply, checked_reply, migrated_reply, derivation_reply, counter_reply, certificate_reply}
 use Rattle.fhir_answers.specs.Session.{SessionValue, schema_in}
-use Rattle.fhir_answers.specs.Showing.{IsCounterReply, IsGivenCounter}
+use Rattle.fhir_answers.specs.Showing.{IsCounterReply}
 use Rattle.fhir_answers.specs.Status.{code_of, standing_status, report_status}
 use Rattle.fhir_answers.specs.Views.{file_at}
 use Rattle.fhir_report.specs.Faultless.{CertificateValue}

@@ -1,6 +1,6 @@
 -- How a resource stands, by the status of what is answered.
-use Rattle.std.proofs.Common.{◌≡◌, ℕ, ◌++◌, Bool, true, false, eqb, List, [], Option, None, Some, is_some, is_none, cond, Result, Ok, Err, codes, refl, sym, ap, ◌∙◌, subst, inl, inr}
-use Rattle.std.specs.Prelude.{IsSome, IsTrue, option_map, if◌then◌else◌}
+use Rattle.std.proofs.Common.{◌≡◌, ℕ, ◌++◌, true, false, eqb, List, Option, None, Some, is_some, is_none, Result, Ok, Err, codes, refl, sym, ap, ◌∙◌, subst, inl, inr}
+use Rattle.std.specs.Prelude.{IsSome, option_map, if◌then◌else◌}
 use Rattle.std.specs.Option.{option_and_then}
 use Rattle.std.proofs.lemmas.Bool.{false≢true}
 use Rattle.fhir_json.specs.Tree.{Text, Tree}
@@ -22,11 +22,11 @@ use Rattle.fhir_validator.specs.declared.verdict.Vouched.{Vouched}
 use Rattle.fhir_validator.specs.declared.verdict.Vouched.TheVariants as vouched
 use Rattle.fhir_validator.specs.Verdicts.{Means, AreGiven}
 use Rattle.fhir_replies.specs.Standing.{Stands, StandsAsGiven, NeverConforms}
-use Rattle.fhir_replies.specs.Judging.{standing_of, standing_given, IsJudged, IsJudgedAsGiven}
+use Rattle.fhir_replies.specs.Judging.{standing_of, standing_given}
 use Rattle.fhir_replies.specs.Outcomes.{IsOutcome, severity_of, severity_given}
 use Rattle.fhir_unread.specs.Given.{texts_given, AreSame}
-use Rattle.fhir_answers.specs.Answering.{AnswerValue, judged, judged_as_given, IsReply, IsAnswered, IsJudgedReply, IsGivenReply, package_answer}
-use Rattle.fhir_answers.specs.Replying.{ReplyValue, status_of, out_of, is_told, unreadable_reply}
+use Rattle.fhir_answers.specs.Answering.{AnswerValue, judged, IsReply, IsAnswered, IsJudgedReply, IsGivenReply, package_answer}
+use Rattle.fhir_answers.specs.Replying.{ReplyValue, status_of, out_of, is_told}
 use Rattle.fhir_answers.specs.Session.{SessionValue, schema_in}
 use Rattle.fhir_answers.specs.Status.{code_of, standing_status}
 use Rattle.answer_laws.specs.Manual.{severity}

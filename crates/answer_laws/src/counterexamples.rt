@@ -1,6 +1,6 @@
 //! What a counterexample shows: that the profile allows more than its base (docs/USAGE.md, When the answer is no).
 
-ghost use Rattle.std.specs.Prelude.{◌≡◌, List, ◌∷◌, Option, Some};
+ghost use Rattle.std.specs.Prelude.{List, Option, Some};
 ghost use Rattle.fhir_json.specs.Tree.{Text};
 ghost use Rattle.fhir_schema.specs.Schemas.{SchemaValue};
 ghost use Rattle.fhir_certificate.specs.Certificate.{CertificateValue};

@@ -1,6 +1,6 @@
 //! Runs over many resources (docs/USAGE.md, Many resources).
 
-ghost use Rattle.std.specs.Prelude.{◌≡◌, ℕ, ◌+◌, ◌≤◌, ◌∷◌, [], List, length, map, codes};
+ghost use Rattle.std.specs.Prelude.{◌≡◌, ◌≤◌, ◌∷◌, [], List, length, map, codes};
 ghost use Rattle.std.specs.List.{count_by};
 ghost use Rattle.fhir_commands.specs.declared.reply.Standing.{Standing};
 ghost use Rattle.fhir_words.specs.declared.request.Format.TheVariants.{Text as AsText};
@@ -8,10 +8,10 @@ ghost use Rattle.fhir_telling.specs.declared.verdict.LineVerdict.{LineVerdict};
 ghost use Rattle.fhir_telling.specs.declared.verdict.LineVerdict.TheVariants.{Empty};
 ghost use Rattle.fhir_telling.specs.Verdicts.{verdict_of, worst};
 ghost use Rattle.fhir_answers.specs.Status.{code_of, standing_status};
-ghost use Rattle.fhir_bulk.specs.Counting.{most, no_tally};
+ghost use Rattle.fhir_bulk.specs.Counting.{most};
 ghost use Rattle.fhir_bulk.specs.Running.{summary};
 ghost use Rattle.fhir_bulk_engine.specs.Ending.{tally_status};
-ghost use Rattle.answer_laws.specs.Runs.{tally_of, counted, count_in, is_same, status_said, total};
+ghost use Rattle.answer_laws.specs.Runs.{tally_of, count_in, is_same, status_said, total};
 
 /// The status of a run: 1 where a resource violates a profile, else 5 where memory was refused, else 3 where something is a fault, else 2 where
 /// something is open, and else 0 (`worst`). A line of blanks counts for nothing (`blank`).

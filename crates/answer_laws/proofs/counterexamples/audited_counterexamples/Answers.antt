@@ -1,4 +1,4 @@
-use Rattle.answer_laws.proofs.Certificates.{refuted_by}
+use Rattle.answer_laws.proofs.Refuted.{refuted_by}
 use Rattle.answer_laws.proofs.counterexamples.audited_counterexamples.Goals as goal
 
 pub returns-clause-narrows : goal.returns-clause-narrows

@@ -1,4 +1,4 @@
-use Rattle.answer_laws.proofs.Certificates.{refuted, refuted_as_given, refuted_by}
+use Rattle.answer_laws.proofs.Refuted.{refuted, refuted_as_given, refuted_by}
 use Rattle.answer_laws.proofs.counterexamples.counterexamples_refute.Goals as goal
 
 pub returns-clause-refutes : goal.returns-clause-refutes
