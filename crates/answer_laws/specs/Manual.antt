@@ -51,3 +51,16 @@ is_decided Fault = true
 is_decided Unwritten = false
 is_decided Usage = true
 is_decided NoMemory = false
+
+-- what is wrong in the files of the folder is listed, in place of being the one thing that is told
+abbrev pub lists_faults : RequestValue → Bool
+lists_faults (certify folder name) = false
+lists_faults (migrate folder name) = false
+lists_faults (validate folder profile name) = false
+lists_faults (validate_given folder profile name given) = false
+lists_faults (snapshot folder url) = false
+lists_faults (derive folder derived base) = false
+lists_faults (counter folder derived base) = false
+lists_faults (counter_given folder derived base given) = false
+lists_faults (check folder certificate prefixes manner) = true
+lists_faults (unread folder profile) = false
