@@ -6,4 +6,4 @@ mod Refuted
 mod Standings
 mod Certificates
 mod Endings
-mod Faults
+mod FirstFaults

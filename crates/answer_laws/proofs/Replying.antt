@@ -218,19 +218,16 @@ shaped (check folder certificate prefixes manner) s files reply is =
     only_so q prefixes None answer each reply is = each reply is
     only_so q prefixes (Some place) answer each reply is = subst (Shape q) (sym is) (at_fault q (codes "only") (get_or prefixes place []))
 
-    abbrev asked_of : RequestValue
-    asked_of = check folder certificate prefixes manner
-
     one : (c : Option CertificateValue) (reply : ReplyValue)
-        → IsReply (reported manner (asked_selection prefixes s.survey.definitions) s c) reply → Shape asked_of reply
-    one c reply is = subst (Shape asked_of) (sym is.is_reply)
-        (reported_so (Shape asked_of) (at_fault asked_of) (λ out. inr ([], 0, out, refl, refl, refl)) (λ out. inr ([], 1, out, refl, refl, refl)) is.is_clean is.text)
+        → IsReply (reported manner (asked_selection prefixes s.survey.definitions) s c) reply → Shape (check folder certificate prefixes manner) reply
+    one c reply is = subst (Shape (check folder certificate prefixes manner)) (sym is.is_reply)
+        (reported_so (Shape (check folder certificate prefixes manner)) (at_fault (check folder certificate prefixes manner)) (λ out. inr ([], 0, out, refl, refl, refl)) (λ out. inr ([], 1, out, refl, refl, refl)) is.is_clean is.text)
 
     report_so : (name : Option Text) (reply : ReplyValue)
-        → IsReply (report_answer manner (asked_selection prefixes s.survey.definitions) s name (file_at files 0)) reply → Shape asked_of reply
+        → IsReply (report_answer manner (asked_selection prefixes s.survey.definitions) s name (file_at files 0)) reply → Shape (check folder certificate prefixes manner) reply
     report_so None reply is = one None reply is
     report_so (Some name) reply is =
-        filed (Shape asked_of) (at_fault asked_of) (λ bytes. reported manner (asked_selection prefixes s.survey.definitions) s (Some (name, bytes))) name
+        filed (Shape (check folder certificate prefixes manner)) (at_fault (check folder certificate prefixes manner)) (λ bytes. reported manner (asked_selection prefixes s.survey.definitions) s (Some (name, bytes))) name
         (file_at files 0) (λ bytes. one (Some (name, bytes))) reply is
 shaped (unread folder profile) s files reply is =
     packed (Shape (unread folder profile)) (at_fault (unread folder profile)) (refusal s.survey) (stated (unread_reply s profile))

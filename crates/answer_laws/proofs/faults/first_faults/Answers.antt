@@ -2,7 +2,7 @@ use Rattle.fhir_package.specs.Surveying.{refusal}
 use Rattle.fhir_derive_check.specs.Faults.{is_missing, is_unusable}
 use Rattle.fhir_answers.specs.Answering.{stated}
 use Rattle.fhir_answers.specs.Replying.{unreadable_reply}
-use Rattle.answer_laws.proofs.Faults.{told_first, missing_first, unusable_next}
+use Rattle.answer_laws.proofs.FirstFaults.{told_first, missing_first, unusable_next}
 use Rattle.answer_laws.proofs.Standings.{opened}
 use Rattle.answer_laws.proofs.faults.first_faults.Goals as goal
 
