@@ -62,14 +62,14 @@ module _ (P : ReplyValue → Type 0) (at_fault : (number subject : Text) → P (
       → ((texts : List Text) (notes : Text) (reply : ReplyValue) → Q texts notes reply → P reply)
       → (reply : ReplyValue) → IsByLines Q s name lines reply → P reply
   by_lines Q s name lines each reply (inl read) = each read.1.0 _ reply read.1.2
-  by_lines Q s name lines each reply (inr unread) = subst P (sym unread.1) (at_fault (codes "read") name)
+  by_lines Q s name lines each reply (inr unreadable) = subst P (sym unreadable.1) (at_fault (codes "read") name)
 
   -- ---- certificates
 
-  module _ (yes : P (written 0 (codes "yes\n"))) (no : (out : Text) → P (written 1 out)) where
+  module _ (if_yes : P (written 0 (codes "yes\n"))) (if_no : (out : Text) → P (written 1 out)) where
     certified : (name : Text) (s : SchemaValue) (r : Result (Option (Pair × RuleName)) CertFault) → P (checked_reply name s r)
-    certified name s (Ok None) = yes
-    certified name s (Ok (Some wrong)) = no _
+    certified name s (Ok None) = if_yes
+    certified name s (Ok (Some wrong)) = if_no _
     certified name s (Err fault) = at_fault _ name
 
   migrates : ((out : Text) → P (written 0 out)) → (name : Text) (r : Result Text CertFault) → P (migrated_reply name r)
@@ -78,19 +78,19 @@ module _ (P : ReplyValue → Type 0) (at_fault : (number subject : Text) → P (
 
   derivations : ((out : Text) → P (written 0 out)) → ((out : Text) → P (written 1 out)) → (s : SchemaValue) (derived base : Text) (d : Derivation)
       → P (derivation_reply s derived base d)
-  derivations yes no s derived base (derives c) = yes _
-  derivations yes no s derived base (fails pair rule) = no _
-  derivations yes no s derived base (missing side) = at_fault (codes "D1") _
-  derivations yes no s derived base (unusable_side side) = at_fault (codes "D2") _
+  derivations if_yes if_no s derived base (derives c) = if_yes _
+  derivations if_yes if_no s derived base (fails pair rule) = if_no _
+  derivations if_yes if_no s derived base (missing side) = at_fault (codes "D1") _
+  derivations if_yes if_no s derived base (unusable_side side) = at_fault (codes "D2") _
 
   -- ---- counterexamples, with what is told of the lines of a file
 
-  module _ (yes : (notes out : Text) → P (answer_noted notes 0 out)) (no : (notes out : Text) → P (answer_noted notes 1 out))
-      (open_ : (notes out : Text) → P (answer_noted notes 2 out)) where
+  module _ (if_yes : (notes out : Text) → P (answer_noted notes 0 out)) (if_no : (notes out : Text) → P (answer_noted notes 1 out))
+      (if_open : (notes out : Text) → P (answer_noted notes 2 out)) where
     countered_so : (s : SchemaValue) (notes derived base : Text) (found : Option Text) (d : Derivation) → P (counter_reply s notes derived base found d)
-    countered_so s notes derived base found (derives c) = yes notes _
-    countered_so s notes derived base None (fails pair rule) = open_ notes _
-    countered_so s notes derived base (Some bytes) (fails pair rule) = no notes _
+    countered_so s notes derived base found (derives c) = if_yes notes _
+    countered_so s notes derived base None (fails pair rule) = if_open notes _
+    countered_so s notes derived base (Some bytes) (fails pair rule) = if_no notes _
     countered_so s notes derived base found (missing side) = at_fault (codes "D1") _
     countered_so s notes derived base found (unusable_side side) = at_fault (codes "D2") _
 
@@ -119,8 +119,8 @@ module _ (P : ReplyValue → Type 0) (at_fault : (number subject : Text) → P (
 
   reported_so : ((out : Text) → P (written 0 out)) → ((out : Text) → P (written 1 out))
       → (is_clean : Bool) (text : Text) → P (written (code_of (report_status is_clean)) text)
-  reported_so yes no true text = yes text
-  reported_so yes no false text = no text
+  reported_so if_yes if_no true text = if_yes text
+  reported_so if_yes if_no false text = if_no text
 
   -- ---- outcomes
 

@@ -37,11 +37,11 @@ some_more n = by (eqb n most) refl ∙ sym (or_true (ltb 0 n))
     by false e = lt-ltb 0 (n + 1) (omega arith)
 
 -- of one verdict, whose count a tally has
-module _ (of : LineVerdict) (one : (v : LineVerdict) (t : Tally) → ltb 0 (count_in of (tallied v t)) ≡ (ltb 0 (count_in of t) || is_same of v)) where
-  since : (vs : List LineVerdict) (t : Tally) → ltb 0 (count_in of (fold counted t vs)) ≡ (ltb 0 (count_in of t) || has of vs)
-  since [] t = sym (or_false (ltb 0 (count_in of t)))
+module _ (which : LineVerdict) (one : (v : LineVerdict) (t : Tally) → ltb 0 (count_in which (tallied v t)) ≡ (ltb 0 (count_in which t) || is_same which v)) where
+  since : (vs : List LineVerdict) (t : Tally) → ltb 0 (count_in which (fold counted t vs)) ≡ (ltb 0 (count_in which t) || has which vs)
+  since [] t = sym (or_false (ltb 0 (count_in which t)))
   since (v ∷ vs) t =
-      since vs (tallied v t) ∙ ap (λ b. b || has of vs) (one v t) ∙ or_assoc (ltb 0 (count_in of t)) (is_same of v) (has of vs)
+      since vs (tallied v t) ∙ ap (λ b. b || has which vs) (one v t) ∙ or_assoc (ltb 0 (count_in which t)) (is_same which v) (has which vs)
 
 one_violates : (v : LineVerdict) (t : Tally) → ltb 0 (count_in Violates (tallied v t)) ≡ (ltb 0 (count_in Violates t) || is_same Violates v)
 one_violates Conforms t = sym (or_false (ltb 0 t.violates))
@@ -141,7 +141,7 @@ worst_since (b ∷ standings) a = worst_since standings (worse a b) ∙ one_wors
 
 pub own_told : (standings : List Standing)
     → code_of (tally_status (tally_of (map verdict_of standings))) ≡ code_of (standing_status (worst standings))
-own_told standings = worst_told (map verdict_of standings) ∙ sym (worst_since standings standings.Conforms)
+own_told each = worst_told (map verdict_of each) ∙ sym (worst_since each standings.Conforms)
 
 -- ---- counts
 
@@ -156,7 +156,7 @@ none_more : (n : ℕ) → n ≡ n + 0
 none_more n = omega arith
 
 -- what is counted, as one more line is told
-counted_one : (of v : LineVerdict) (t : Tally) → count_in of t < most → count_in of (tallied v t) ≡ count_in of t + cond (is_same of v) 1 0
+counted_one : (which v : LineVerdict) (t : Tally) → count_in which t < most → count_in which (tallied v t) ≡ count_in which t + cond (is_same which v) 1 0
 counted_one Conforms Conforms t under = one_more t.conforms under
 counted_one Conforms Violates t under = none_more t.conforms
 counted_one Conforms Open t under = none_more t.conforms
@@ -227,25 +227,25 @@ six_same a b c d e f a' b' c' d' e' f' n p q r s t o all = omega (arith, p, q, r
 
 -- what one line counts for a verdict
 abbrev one_of : LineVerdict → LineVerdict → ℕ
-one_of of v = cond (is_same of v) 1 0
+one_of which v = cond (is_same which v) 1 0
 
 -- how often a verdict is among some
 abbrev many : LineVerdict → List LineVerdict → ℕ
-many of vs = count_by (is_same of) vs
+many which vs = count_by (is_same which) vs
 
-many_more : (of v : LineVerdict) (vs : List LineVerdict) → many of (v ∷ vs) ≡ one_of of v + many of vs
-many_more of v vs = sum_by-cons (one_of of) v vs
+many_more : (which v : LineVerdict) (vs : List LineVerdict) → many which (v ∷ vs) ≡ one_of which v + many which vs
+many_more which v vs = sum_by-cons (one_of which) v vs
 
-counted_since : (of : LineVerdict) (vs : List LineVerdict) (t : Tally) → count_in of t + length vs ≤ most
-    → count_in of (fold counted t vs) ≡ count_in of t + many of vs
-counted_since of [] t fits = none_more (count_in of t)
-counted_since of (v ∷ vs) t fits =
-    let one = counted_one of v t (room (count_in of t) (length vs) most fits) in
-    let behind = room_behind (count_in of t) (length vs) most (one_of of v) (count_in of (tallied v t)) one (one_at_most (is_same of v)) fits in
-    onward (count_in of t) (one_of of v) (many of vs) (count_in of (tallied v t)) (count_in of (fold counted (tallied v t) vs)) (many of (v ∷ vs)) one
-    (counted_since of vs (tallied v t) behind) (many_more of v vs)
+counted_since : (which : LineVerdict) (vs : List LineVerdict) (t : Tally) → count_in which t + length vs ≤ most
+    → count_in which (fold counted t vs) ≡ count_in which t + many which vs
+counted_since which [] t fits = none_more (count_in which t)
+counted_since which (v ∷ vs) t fits =
+    let one = counted_one which v t (room (count_in which t) (length vs) most fits) in
+    let behind = room_behind (count_in which t) (length vs) most (one_of which v) (count_in which (tallied v t)) one (one_at_most (is_same which v)) fits in
+    onward (count_in which t) (one_of which v) (many which vs) (count_in which (tallied v t)) (count_in which (fold counted (tallied v t) vs)) (many which (v ∷ vs)) one
+    (counted_since which vs (tallied v t) behind) (many_more which v vs)
 
-none_told : (of : LineVerdict) → count_in of no_tally ≡ 0
+none_told : (which : LineVerdict) → count_in which no_tally ≡ 0
 none_told Conforms = refl
 none_told Violates = refl
 none_told Open = refl
@@ -253,10 +253,10 @@ none_told Fault = refl
 none_told NoMemory = refl
 none_told Empty = refl
 
-pub counted_told : (of : LineVerdict) (vs : List LineVerdict) → length vs ≤ most → count_in of (tally_of vs) ≡ many of vs
-counted_told of vs fits =
-    counted_since of vs no_tally (from_none (count_in of no_tally) (length vs) most (none_told of) fits)
-    ∙ none_before (count_in of no_tally) (many of vs) (none_told of)
+pub counted_told : (which : LineVerdict) (vs : List LineVerdict) → length vs ≤ most → count_in which (tally_of vs) ≡ many which vs
+counted_told which vs fits =
+    counted_since which vs no_tally (from_none (count_in which no_tally) (length vs) most (none_told which) fits)
+    ∙ none_before (count_in which no_tally) (many which vs) (none_told which)
 
 -- each verdict is just one of the six
 one_of_six : (v : LineVerdict) → one_of Conforms v + one_of Violates v + one_of Open v + one_of Fault v + one_of NoMemory v + one_of Empty v ≡ 1
