@@ -60,11 +60,13 @@ same_step m n m' p = by (eqb m n) refl
 fewer : (m n m' : ℕ) → m' ≡ 0 + m → m ≤ n → m' ≡ suc n → ⊥
 fewer m n m' p least same = absurd (omega (arith, p, least, same))
 
+narrowing_step : (a : Audited) (told : List Audited) (b : Bool) → is_narrowing (verdict_seen a.verdict) ≡ b
+    → are_narrowing (all_audited told) ≡ eqb (narrow told) (length told)
+    → (b && are_narrowing (all_audited told)) ≡ eqb (narrow (a ∷ told)) (suc (length told))
+narrowing_step a told true e same = same ∙ same_step (narrow told) (length told) (narrow (a ∷ told)) (more_narrow a told true e)
+narrowing_step a told false e same =
+    sym (ne_eqb (narrow (a ∷ told)) (suc (length told)) (fewer (narrow told) (length told) (narrow (a ∷ told)) (more_narrow a told false e) (under told)))
+
 pub narrowing_counted : (told : List Audited) → are_narrowing (all_audited told) ≡ eqb (narrow told) (length told)
 narrowing_counted [] = refl
-narrowing_counted (a ∷ told) = by (is_narrowing (verdict_seen a.verdict)) refl
-  where
-    by : (b : Bool) → is_narrowing (verdict_seen a.verdict) ≡ b
-        → (b && are_narrowing (all_audited told)) ≡ eqb (narrow (a ∷ told)) (suc (length told))
-    by true e = narrowing_counted told ∙ same_step (narrow told) (length told) (narrow (a ∷ told)) (more_narrow a told true e)
-    by false e = sym (ne_eqb (narrow (a ∷ told)) (suc (length told)) (fewer (narrow told) (length told) (narrow (a ∷ told)) (more_narrow a told false e) (under told)))
+narrowing_counted (a ∷ told) = narrowing_step a told (is_narrowing (verdict_seen a.verdict)) refl (narrowing_counted told)

@@ -1,5 +1,5 @@
 -- What is told of two profiles, and of a certificate, by the status of what is answered.
-use Rattle.std.proofs.Common.{◌≡◌, ◌↔◌, ◌++◌, Bool, true, false, ◌&&◌, eqb, [], Option, None, Some, is_some, is_none, cond, Result, Ok, Err, codes, refl, sym, ap, ◌∙◌, subst, tt}
+use Rattle.std.proofs.Common.{◌≡◌, ◌↔◌, ◌++◌, Bool, true, false, ◌&&◌, eqb, [], Option, None, Some, is_some, is_none, cond, Result, Ok, Err, codes, refl, sym, ap, ◌∙◌, subst}
 use Rattle.std.specs.Prelude.{IfSome}
 use Rattle.std.specs.Option.{option_and_then, option_map}
 use Rattle.std.proofs.lemmas.Bool.{false≢true}
