@@ -1,0 +1,9 @@
+mod Told
+mod Audited
+mod Compared
+mod Replying
+mod Refuted
+mod Standings
+mod Certificates
+mod Endings
+mod FirstFaults

@@ -1,0 +1,4 @@
+pub mod Manual
+pub mod Runs
+pub mod Parts
+pub mod Answers
