@@ -31,7 +31,9 @@ fn read_each<R: Files + AllocGlobal>(
             let path = format!(in rt.alloc(); "{folder}/{}", name.as_str())?;
             return Err(Refusal::Fault(fault_text(rt.alloc(), "P1", path.as_str())?));
         };
-        files.push(NamedBytes { name, bytes })?;
+        if files.push(NamedBytes { name, bytes }).is_err() {
+            return Err(Refusal::NoMemory);
+        }
     }
     Ok(files)
 }
