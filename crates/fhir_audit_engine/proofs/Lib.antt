@@ -1,2 +1,4 @@
 -- Lemmas on what an audit promises.
 mod Promised
+pub mod Ended
+pub mod Rechecked

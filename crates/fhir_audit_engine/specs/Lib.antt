@@ -1,1 +1,2 @@
 pub mod Promising
+pub mod Told

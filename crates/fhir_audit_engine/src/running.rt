@@ -1,10 +1,15 @@
 //! An audit of the definitions in a folder.
 
-ghost use Rattle.std.specs.Prelude.{◌≡◌, map, string_bytes, IfOk, IsTrue};
+ghost use Rattle.std.specs.Prelude.{◌≡◌, None, map, option_map, string_bytes, IfOk, OnOk};
+ghost use Rattle.std.specs.Io.KnownBytes.{Appends};
+ghost use Rattle.fhir_json.specs.Tree.{Text};
+ghost use Rattle.fhir_package.specs.Surveying.{refusal};
 ghost use Rattle.fhir_answers.specs.Session.{schema_in};
-ghost use Rattle.fhir_audit.specs.Auditing.{are_narrowing, AllNarrow};
+ghost use Rattle.fhir_audit.specs.Auditing.{AllNarrow};
+ghost use Rattle.fhir_audit.specs.Standing.{IsHeld};
 ghost use Rattle.fhir_audit.specs.Views.{all_audited};
 ghost use Rattle.fhir_audit_engine.specs.Promising.{AllNarrowIn, AuditPromise};
+ghost use Rattle.fhir_audit_engine.specs.Told.{are_held, audit_status, file_seen, AreRechecked, AreRecheckedIf, IsAuditOf, IsTold, IsAnswered, SaysOf};
 
 use crate::asked::{Asked, NamedBytes};
 use crate::certificate_files::{files_refusal, write_certificates};
@@ -42,7 +47,10 @@ fn held_file<'s>(
     alloc: Global,
     session: &'s Session<'_>,
     file: &NamedBytes,
-) -> Result<HeldFile<'s>, NoMemory> {
+) -> Result<HeldFile<'s>, NoMemory>
+    ensures name { IfOk result (λ h. string_bytes h.name ≡ string_bytes file.now.name) }
+    ensures held { IfOk result (λ h. IsHeld (schema_in session.now) session.now.survey.definitions file.now.bytes.items h.held) }
+{
     let package = session.survey().package();
     Ok(HeldFile {
         name: file.name.clone()?,
@@ -54,7 +62,9 @@ fn held_files<'s>(
     alloc: Global,
     session: &'s Session<'_>,
     files: &[NamedBytes],
-) -> Result<Vec<HeldFile<'s>>, NoMemory> {
+) -> Result<Vec<HeldFile<'s>>, NoMemory>
+    ensures { IfOk result (λ all. AreRechecked (schema_in session.now) session.now.survey.definitions files.now all.items) }
+{
     let mut all: Vec<HeldFile<'s>> = Vec::with_capacity(alloc, files.len())?;
     for file in files {
         all.push(held_file(alloc, session, file)?)?;
@@ -66,7 +76,10 @@ fn all_held<'s>(
     alloc: Global,
     session: &'s Session<'_>,
     files: Option<&[NamedBytes]>,
-) -> Result<Option<Vec<HeldFile<'s>>>, NoMemory> {
+) -> Result<Option<Vec<HeldFile<'s>>>, NoMemory>
+    ensures { IfOk result (λ all. AreRecheckedIf (schema_in session.now) session.now.survey.definitions (option_map (λ f. f.now) files.entry)
+        (option_map (λ v. v.items) all)) }
+{
     match files {
         Some(files) => Ok(Some(held_files(alloc, session, files)?)),
         None => Ok(None),
@@ -75,7 +88,9 @@ fn all_held<'s>(
 
 // ---- what is written
 
-fn are_held(held: Option<&[HeldFile<'_>]>) -> bool {
+fn are_held(held: Option<&[HeldFile<'_>]>) -> bool
+    ensures { result ≡ are_held (option_map (λ f. f.now) held.entry) }
+{
     match held {
         Some(files) => are_holding(files),
         None => true,
@@ -83,11 +98,9 @@ fn are_held(held: Option<&[HeldFile<'_>]>) -> bool {
 }
 
 fn status_of(audited: &[Audited<'_>], held: Option<&[HeldFile<'_>]>) -> Status
-    ensures { result ≡ Status.Yes → IsTrue (are_narrowing (all_audited audited.now)) }
+    ensures { result ≡ audit_status (all_audited audited.now) (option_map (λ f. f.now) held.entry) }
 {
-    if !are_narrowing(audited) {
-        Status::No
-    } else if are_held(held) {
+    if are_narrowing(audited) && are_held(held) {
         Status::Yes
     } else {
         Status::No
@@ -184,12 +197,14 @@ fn tell<N: NewFolder, G: NewFile, W: Write>(
     text: &str,
     outputs: &mut Outputs<'_, N, G>,
     out: &mut W,
-) -> Result<(), Refusal> {
-    if is_written(out, text.as_bytes()) {
-        finish(alloc, outputs)
-    } else {
-        Err(Refusal::Unwritten)
+) -> Result<(), Refusal>
+    ensures { OnOk result (Appends (W.contents out.old) (W.contents out.new) text.now) }
+{
+    if !is_written(out, text.as_bytes()) {
+        return Err(Refusal::Unwritten);
     }
+    finish(alloc, outputs)?;
+    Ok(())
 }
 
 fn put_all<N: NewFolder, G: NewFile, W: Write>(
@@ -199,7 +214,9 @@ fn put_all<N: NewFolder, G: NewFile, W: Write>(
     text: &str,
     outputs: &mut Outputs<'_, N, G>,
     out: &mut W,
-) -> Result<(), Refusal> {
+) -> Result<(), Refusal>
+    ensures { OnOk result (Appends (W.contents out.old) (W.contents out.new) text.now) }
+{
     put_certificates(alloc, sources, audited, outputs)?;
     put_page(alloc, sources, audited, outputs)?;
     tell(alloc, text, outputs, out)
@@ -213,7 +230,9 @@ fn put<N: NewFolder, G: NewFile, W: Write>(
     text: &str,
     outputs: &mut Outputs<'_, N, G>,
     out: &mut W,
-) -> Result<(), Refusal> {
+) -> Result<(), Refusal>
+    ensures { OnOk result (Appends (W.contents out.old) (W.contents out.new) text.now) }
+{
     let done = put_all(alloc, sources, audited, text, outputs, out);
     if done.is_err() {
         abandon(outputs);
@@ -242,7 +261,10 @@ fn run_vouched<N: NewFolder, G: NewFile, V: Watch, W: Write, E: Write>(
     out: &mut W,
     err: &mut E,
 ) -> Result<Status, Refusal>
-    ensures { IfOk result (λ status. status ≡ Status.Yes → AllNarrow (map string_bytes asked.entry.prefixes.now) (schema_in session.now) session.now.survey.definitions) }
+    ensures narrow { IfOk result (λ status. status ≡ Status.Yes → AllNarrow (map string_bytes asked.entry.prefixes.now) (schema_in session.now) session.now.survey.definitions) }
+    ensures told { IfOk result (λ status. (text : Text) × IsAuditOf (map string_bytes asked.entry.prefixes.now) asked.entry.format (option_map (λ f. f.now) asked.entry.held)
+        (option_map (λ texts. texts.now) given.entry) (schema_in session.now) session.now.survey status text
+        × Appends (W.contents out.old) (W.contents out.new) text) }
 {
     narrowing_profiles();
     let sources = sources_of(session);
@@ -275,7 +297,9 @@ fn run_given<N: NewFolder, G: NewFile, V: Watch, W: Write, E: Write>(
     out: &mut W,
     err: &mut E,
 ) -> Result<Status, Refusal>
-    ensures { IfOk result (λ status. status ≡ Status.Yes → AllNarrow (map string_bytes asked.entry.prefixes.now) (schema_in session.now) session.now.survey.definitions) }
+    ensures narrow { IfOk result (λ status. status ≡ Status.Yes → AllNarrow (map string_bytes asked.entry.prefixes.now) (schema_in session.now) session.now.survey.definitions) }
+    ensures told { IfOk result (λ status. IsTold (map string_bytes asked.entry.prefixes.now) asked.entry.format (option_map (λ f. f.now) asked.entry.held)
+        (file_seen asked.entry.given) (schema_in session.now) session.now.survey status (W.contents out.old) (W.contents out.new)) }
 {
     let Some(file) = asked.given else {
         return run_vouched(alloc, session, asked, None, "", outputs, watch, out, err);
@@ -326,7 +350,9 @@ fn run_package<N: NewFolder, G: NewFile, V: Watch, W: Write, E: Write>(
     out: &mut W,
     err: &mut E,
 ) -> Result<Status, Refusal>
-    ensures { IfOk result (λ status. status ≡ Status.Yes → AllNarrow (map string_bytes asked.entry.prefixes.now) (schema_in session.now) session.now.survey.definitions) }
+    ensures narrow { IfOk result (λ status. status ≡ Status.Yes → AllNarrow (map string_bytes asked.entry.prefixes.now) (schema_in session.now) session.now.survey.definitions) }
+    ensures told { IfOk result (λ status. IsTold (map string_bytes asked.entry.prefixes.now) asked.entry.format (option_map (λ f. f.now) asked.entry.held)
+        (file_seen asked.entry.given) (schema_in session.now) session.now.survey status (W.contents out.old) (W.contents out.new)) }
 {
     look_for_prefixes(alloc, session, asked.prefixes)?;
     run_given(alloc, session, asked, outputs, watch, out, err)
@@ -341,7 +367,10 @@ fn run_session<N: NewFolder, G: NewFile, V: Watch, W: Write, E: Write>(
     out: &mut W,
     err: &mut E,
 ) -> Result<Status, Refusal>
-    ensures { IfOk result (λ status. status ≡ Status.Yes → AllNarrowIn (map string_bytes asked.entry.prefixes.now) session.now) }
+    ensures narrow { IfOk result (λ status. status ≡ Status.Yes → AllNarrowIn (map string_bytes asked.entry.prefixes.now) session.now) }
+    ensures told { IfOk result (λ status. (refusal session.now.survey ≡ None) × IsTold (map string_bytes asked.entry.prefixes.now) asked.entry.format
+        (option_map (λ f. f.now) asked.entry.held) (file_seen asked.entry.given) (schema_in session.now) session.now.survey status
+        (W.contents out.old) (W.contents out.new)) }
 {
     match session.package() {
         Ok(_schema) => run_package(alloc, session, asked, outputs, watch, out, err),
@@ -371,7 +400,9 @@ fn run_folder<
     out: &mut W,
     err: &mut E,
 ) -> Result<Status, Refusal>
-    ensures { IfOk result (λ status. status ≡ Status.Yes → AuditPromise (map string_bytes asked.entry.prefixes.now) (F.files folder)) }
+    ensures narrow { IfOk result (λ status. status ≡ Status.Yes → AuditPromise (map string_bytes asked.entry.prefixes.now) (F.files folder)) }
+    ensures told { IfOk result (λ status. IsAnswered (map string_bytes asked.entry.prefixes.now) asked.entry.format (option_map (λ f. f.now) asked.entry.held)
+        (file_seen asked.entry.given) (F.files folder) status (W.contents out.old) (W.contents out.new)) }
 {
     match files_of(alloc, folder) {
         Ok(files) => {
@@ -407,7 +438,10 @@ pub fn audit_folder<
     err: &mut E,
 ) -> Status
     // What a yes promises: the folder's files are a package, and each profile that is asked about narrows its base.
-    ensures { result ≡ Status.Yes → AuditPromise (map string_bytes asked.entry.prefixes.now) (F.files folder) }
+    ensures promised { result ≡ Status.Yes → AuditPromise (map string_bytes asked.entry.prefixes.now) (F.files folder) }
+    // What each status says, and what is told.
+    ensures told { SaysOf (map string_bytes asked.entry.prefixes.now) asked.entry.format (option_map (λ f. f.now) asked.entry.held) (file_seen asked.entry.given)
+        (F.files folder) result (W.contents out.old) (W.contents out.new) }
 {
     let ended = run_folder(
         alloc, name, folder, asked, outputs, progress, watch, out, err,
