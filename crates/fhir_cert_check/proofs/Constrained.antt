@@ -17,7 +17,7 @@ use Rattle.fhir_schema.specs.Schemas.{SchemaValue, element_at, target}
 use Rattle.fhir_schema.specs.Expressions.{constraint_at}
 use Rattle.fhir_nodes.specs.Expressions.{expression_of}
 use Rattle.fhir_fp_syntax.specs.Expression.{Expression}
-use Rattle.fhir_fp_eval.specs.Values.{World}
+use Rattle.fhir_fp_eval.specs.Worlds.{World}
 use Rattle.fhir_fp_eval.specs.Meaning.{is_true}
 use Rattle.fhir_entail.specs.Entailment.{entails}
 use Rattle.fhir_instance.specs.Items.{Item}

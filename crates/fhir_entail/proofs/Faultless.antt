@@ -10,9 +10,10 @@ use Rattle.fhir_fp_syntax.specs.declared.expr.Filter.{Filter}
 use Rattle.fhir_fp_syntax.specs.declared.expr.Filter.TheVariants as filters
 use Rattle.fhir_fp_syntax.specs.declared.expr.TypeTest.{TypeTest}
 use Rattle.fhir_fp_syntax.specs.declared.expr.TypeTest.TheVariants as tests
-use Rattle.fhir_fp_eval.specs.declared.fault.EvalFault.{EvalFault}
-use Rattle.fhir_fp_eval.specs.Values.{Plain, World}
-use Rattle.fhir_fp_eval.specs.Equality.{Kleene, kleene_and, kleene_or, kleene_not, kleene_xor, kleene_implies, is_yes, equality}
+use Rattle.fhir_fp_values.specs.declared.fault.EvalFault.{EvalFault}
+use Rattle.fhir_fp_values.specs.Values.{Plain}
+use Rattle.fhir_fp_eval.specs.Worlds.{World}
+use Rattle.fhir_fp_values.specs.Equality.{Kleene, kleene_and, kleene_or, kleene_not, kleene_xor, kleene_implies, is_yes, equality}
 use Rattle.fhir_fp_eval.specs.Meaning.{Found, ◌>>=◌, den, truth_of, answer, criteria_hold, values_where, function_result, type_test_result, operator_result, of_truths, filtered_by}
 use Rattle.fhir_entail.specs.Total.{is_total, is_total_truth, joins_truths, is_equality, joins_lists, takes_lists, tests_lists, is_negation, is_where, is_of_type}
 use Rattle.fhir_entail.specs.Truths.{HasResult, HasTruth}

@@ -6,9 +6,10 @@ use Rattle.std.proofs.lemmas.List.Elements.{All-head, All-tail}
 use Rattle.fhir_instance.specs.Items.{Item}
 use Rattle.fhir_fp_syntax.specs.Expression.{Expression, binary}
 use Rattle.fhir_fp_syntax.specs.declared.expr.Operator.TheVariants.{And, Or, Implies}
-use Rattle.fhir_fp_eval.specs.declared.fault.EvalFault.{EvalFault}
-use Rattle.fhir_fp_eval.specs.Values.{Plain, node, World}
-use Rattle.fhir_fp_eval.specs.Equality.{Kleene, kleene_and, kleene_or, kleene_not, kleene_implies, is_yes}
+use Rattle.fhir_fp_values.specs.declared.fault.EvalFault.{EvalFault}
+use Rattle.fhir_fp_values.specs.Values.{Plain, node}
+use Rattle.fhir_fp_eval.specs.Worlds.{World}
+use Rattle.fhir_fp_values.specs.Equality.{Kleene, kleene_and, kleene_or, kleene_not, kleene_implies, is_yes}
 use Rattle.fhir_fp_eval.specs.Meaning.{Found, ◌>>=◌, den, truth_of, answer, of_truths, verdict, is_true}
 use Rattle.fhir_entail.specs.Same.{same_expression}
 use Rattle.fhir_entail.specs.Total.{is_total_truth}

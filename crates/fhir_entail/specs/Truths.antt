@@ -1,8 +1,9 @@
 -- What is promised of total expressions and of what is entailed.
 use Rattle.std.specs.Prelude.{◌≡◌, List, Ok}
 use Rattle.fhir_fp_syntax.specs.Expression.{Expression}
-use Rattle.fhir_fp_eval.specs.Values.{Plain, World}
-use Rattle.fhir_fp_eval.specs.Equality.{Kleene}
+use Rattle.fhir_fp_values.specs.Values.{Plain}
+use Rattle.fhir_fp_eval.specs.Worlds.{World}
+use Rattle.fhir_fp_values.specs.Equality.{Kleene}
 use Rattle.fhir_fp_eval.specs.Meaning.{◌>>=◌, den, truth_of}
 
 -- the expression has a result there, which is no fault

@@ -3,7 +3,8 @@
 ghost use Rattle.std.specs.Prelude.{◌≡◌, ◌↔◌, List, All, IsTrue};
 ghost use Rattle.fhir_fp_syntax.specs.Expression.{Expression};
 ghost use Rattle.fhir_instance.specs.Items.{Item};
-ghost use Rattle.fhir_fp_eval.specs.Values.{Plain, World};
+ghost use Rattle.fhir_fp_values.specs.Values.{Plain};
+ghost use Rattle.fhir_fp_eval.specs.Worlds.{World};
 ghost use Rattle.fhir_fp_eval.specs.Meaning.{is_true};
 ghost use Rattle.fhir_entail.specs.Same.{same_expression};
 ghost use Rattle.fhir_entail.specs.Total.{is_total, is_total_truth};

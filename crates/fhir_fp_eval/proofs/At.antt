@@ -3,8 +3,8 @@ use Rattle.std.proofs.Common.{◌≡◌, ℕ, zero, suc, ◌+◌, ◌<◌, Bool,
 use Rattle.fhir_decimal.specs.Value.{is_same_value}
 use Rattle.fhir_decimal.specs.Value.{Value as Number}
 use Rattle.fhir_decimal.specs.Whole.{count}
-use Rattle.fhir_fp_eval.specs.declared.value.Value.{Value}
-use Rattle.fhir_fp_eval.specs.Views.{plain_of, plains_of}
+use Rattle.fhir_fp_values.specs.declared.value.Value.{Value}
+use Rattle.fhir_fp_values.specs.Views.{plain_of, plains_of}
 use Rattle.fhir_fp_eval.specs.Meaning.{at_from}
 
 place_sum : (n i : ℕ) → n + suc i ≡ suc n + i

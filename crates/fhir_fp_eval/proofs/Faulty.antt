@@ -11,9 +11,10 @@ use Rattle.fhir_fp_syntax.specs.declared.expr.Operator.TheVariants.{And}
 use Rattle.fhir_fp_syntax.specs.declared.expr.Filter.{Filter}
 use Rattle.fhir_fp_syntax.specs.declared.expr.Function.{Function}
 use Rattle.fhir_fp_syntax.specs.declared.expr.TypeTest.{TypeTest}
-use Rattle.fhir_fp_eval.specs.declared.fault.EvalFault.{EvalFault}
-use Rattle.fhir_fp_eval.specs.Values.{Plain, node, World}
-use Rattle.fhir_fp_eval.specs.Equality.{Kleene, kleene_and, is_yes}
+use Rattle.fhir_fp_values.specs.declared.fault.EvalFault.{EvalFault}
+use Rattle.fhir_fp_values.specs.Values.{Plain, node}
+use Rattle.fhir_fp_eval.specs.Worlds.{World}
+use Rattle.fhir_fp_values.specs.Equality.{Kleene, kleene_and, is_yes}
 use Rattle.fhir_fp_eval.specs.Meaning.{◌>>=◌, Found, den, criteria_hold, values_where, children_of, function_result, type_test_result, operator_result, of_truths, truth_of, answer, filtered_by, verdict, is_true}
 
 pub child_faulty : (w : World) (a : Expression) (n : Text) (x : Plain) (e : EvalFault) → den w a x ≡ Err e → den w (child a n) x ≡ Err e

@@ -5,8 +5,9 @@ use Rattle.std.specs.List.{filter, list_any, list_all}
 use Rattle.fhir_fp_syntax.specs.Expression.{Expression, filtered}
 use Rattle.fhir_fp_syntax.specs.declared.expr.Filter.{Filter}
 use Rattle.fhir_fp_syntax.specs.declared.expr.Filter.TheVariants.{Where, Exists, All}
-use Rattle.fhir_fp_eval.specs.declared.fault.EvalFault.{EvalFault}
-use Rattle.fhir_fp_eval.specs.Values.{Plain, truth, World}
+use Rattle.fhir_fp_values.specs.declared.fault.EvalFault.{EvalFault}
+use Rattle.fhir_fp_values.specs.Values.{Plain, truth}
+use Rattle.fhir_fp_eval.specs.Worlds.{World}
 use Rattle.fhir_fp_eval.specs.Meaning.{◌>>=◌, Found, den, criteria_hold, values_where, filtered_by, is_empty, verdict}
 
 kept_step : (r : Result Bool EvalFault) (s : Found) (v : Plain) (us fs : List Plain) → ((ws : List Plain) → s ≡ Ok ws → ws ≡ fs)

@@ -2,11 +2,11 @@
 use Rattle.std.proofs.Common.{◌≡◌, ℕ, ◌+◌, ◌<◌, ◌≤◌, Bool, true, false, cond, List, [], ◌∷◌, ◌++◌, length, get_or, drop, Result, Ok, Err, refl, sym, ap, ◌∙◌, append_assoc}
 use Rattle.std.proofs.lemmas.List.{drop_more, drop_all, append-nil}
 use Rattle.fhir_json.specs.Memory.{IsFault}
-use Rattle.fhir_fp_eval.specs.declared.fault.EvalFault.{EvalFault}
-use Rattle.fhir_fp_eval.specs.declared.value.Value.{Value}
-use Rattle.fhir_fp_eval.specs.Faults.{is_no_memory}
-use Rattle.fhir_fp_eval.specs.Values.{Plain}
-use Rattle.fhir_fp_eval.specs.Views.{plain_of, plains_of}
+use Rattle.fhir_fp_values.specs.declared.fault.EvalFault.{EvalFault}
+use Rattle.fhir_fp_values.specs.declared.value.Value.{Value}
+use Rattle.fhir_fp_values.specs.Faults.{is_no_memory}
+use Rattle.fhir_fp_values.specs.Values.{Plain}
+use Rattle.fhir_fp_values.specs.Views.{plain_of, plains_of}
 use Rattle.fhir_fp_eval.specs.Meaning.{◌>>=◌, Found, criteria_hold, values_where, with_next}
 
 -- what was kept before, and then the rest

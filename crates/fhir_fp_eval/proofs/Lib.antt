@@ -1,8 +1,5 @@
 pub mod Heights
-pub mod ByName
-pub mod Sorted
 pub mod Kept
-pub mod Pairing
 pub mod At
 pub mod Faulty
 pub mod Filtering

@@ -6,9 +6,10 @@ use Rattle.fhir_json.specs.Memory.{IsFault}
 use Rattle.fhir_fp_syntax.specs.declared.expr.Expr.{Expr}
 use Rattle.fhir_fp_syntax.specs.Expression.{Expression, nothing, boolean, this, resource, context, name, child, call, typed, filtered, binary, expression_of}
 use Rattle.fhir_fp_syntax.specs.Expression as expressions
-use Rattle.fhir_fp_eval.specs.declared.fault.EvalFault.{EvalFault}
-use Rattle.fhir_fp_eval.specs.Faults.{is_no_memory}
-use Rattle.fhir_fp_eval.specs.Values.{Plain, World}
+use Rattle.fhir_fp_values.specs.declared.fault.EvalFault.{EvalFault}
+use Rattle.fhir_fp_values.specs.Faults.{is_no_memory}
+use Rattle.fhir_fp_values.specs.Values.{Plain}
+use Rattle.fhir_fp_eval.specs.Worlds.{World}
 use Rattle.fhir_fp_eval.specs.Meaning.{◌>>=◌, Found, children_of, function_result, type_test_result, operator_result, values_where, filtered_by, den}
 use Rattle.fhir_fp_eval.specs.Spines.{base_of, spine, made_of, steps_of}
 

@@ -10,13 +10,14 @@ use Rattle.fhir_instance.specs.declared.typed.Kid.{Kid}
 use Rattle.fhir_instance.specs.View.{named_of, named_in}
 use Rattle.fhir_fp_syntax.specs.Expression.{Expression, child, binary}
 use Rattle.fhir_fp_syntax.specs.declared.expr.Operator.{Operator}
-use Rattle.fhir_fp_eval.specs.declared.fault.EvalFault.{EvalFault}
-use Rattle.fhir_fp_eval.specs.declared.value.Value.{Value}
-use Rattle.fhir_fp_eval.specs.Views.{plain_of}
+use Rattle.fhir_fp_values.specs.declared.fault.EvalFault.{EvalFault}
+use Rattle.fhir_fp_values.specs.declared.value.Value.{Value}
+use Rattle.fhir_fp_values.specs.Views.{plain_of}
 use Rattle.fhir_fp_eval.specs.declared.step.Step.{Step}
 use Rattle.fhir_fp_eval.specs.declared.step.Step.TheVariants as steps
-use Rattle.fhir_fp_eval.specs.Values.{Plain, node, truth, number, text, World}
-use Rattle.fhir_fp_eval.specs.Equality.{Kleene, kleene_and, alike, pairs, is_yes}
+use Rattle.fhir_fp_values.specs.Values.{Plain, node, truth, number, text}
+use Rattle.fhir_fp_eval.specs.Worlds.{World}
+use Rattle.fhir_fp_values.specs.Equality.{Kleene, kleene_and, alike, pairs, is_yes}
 use Rattle.fhir_fp_eval.specs.Meaning.{◌>>=◌, Found, below, den, criteria_hold, verdict, is_true}
 use Rattle.fhir_fp_eval.specs.Paths.{takes, taken, step_from, onward, then_step, then_steps, then_operator, first_in, at_most_one, truth_said}
 

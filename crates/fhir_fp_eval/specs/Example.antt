@@ -9,7 +9,8 @@ use Rattle.fhir_fp_syntax.specs.Expression as expressions
 use Rattle.fhir_fp_syntax.specs.declared.expr.Operator.{Operator}
 use Rattle.fhir_fp_syntax.specs.declared.expr.Operator.TheVariants.{Greater, Or}
 use Rattle.fhir_fp_syntax.specs.declared.expr.Function.TheVariants.{Count, Children, HasValue}
-use Rattle.fhir_fp_eval.specs.Values.{node, truth, World}
+use Rattle.fhir_fp_values.specs.Values.{node, truth}
+use Rattle.fhir_fp_eval.specs.Worlds.{World}
 use Rattle.fhir_fp_eval.specs.Meaning.{Found, den}
 
 -- ---- items

@@ -1,10 +1,5 @@
-pub mod Values
-pub mod Views
-pub mod Faults
+pub mod Worlds
 pub mod Literals
-pub mod Equality
-pub mod Pairing
-pub mod Comparing
 pub mod Meaning
 pub mod Spines
 pub mod Paths

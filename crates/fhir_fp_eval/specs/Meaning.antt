@@ -21,12 +21,13 @@ use Rattle.fhir_fp_syntax.specs.declared.expr.Filter.{Filter}
 use Rattle.fhir_fp_syntax.specs.declared.expr.Filter.TheVariants as filters
 use Rattle.fhir_fp_syntax.specs.declared.expr.TypeTest.{TypeTest}
 use Rattle.fhir_fp_syntax.specs.declared.expr.TypeTest.TheVariants as tests
-use Rattle.fhir_fp_eval.specs.declared.fault.EvalFault.{EvalFault}
-use Rattle.fhir_fp_eval.specs.declared.fault.EvalFault.TheVariants.{Several, Kind}
-use Rattle.fhir_fp_eval.specs.Values.{Plain, node, truth, number, text, World, SystemValue, boolean_of, number_of, item_value, system_value}
+use Rattle.fhir_fp_values.specs.declared.fault.EvalFault.{EvalFault}
+use Rattle.fhir_fp_values.specs.declared.fault.EvalFault.TheVariants.{Several, Kind}
+use Rattle.fhir_fp_values.specs.Values.{Plain, node, truth, number, text, SystemValue, boolean_of, number_of, item_value, system_value}
+use Rattle.fhir_fp_eval.specs.Worlds.{World}
 use Rattle.fhir_fp_eval.specs.Literals.{literal_value}
-use Rattle.fhir_fp_eval.specs.Equality.{Kleene, kleene_and, kleene_or, kleene_not, kleene_xor, kleene_implies, is_yes, has, equality}
-use Rattle.fhir_fp_eval.specs.Comparing.{Compared, order_of}
+use Rattle.fhir_fp_values.specs.Equality.{Kleene, kleene_and, kleene_or, kleene_not, kleene_xor, kleene_implies, is_yes, has, equality}
+use Rattle.fhir_fp_values.specs.Comparing.{Compared, order_of}
 
 abbrev pub Found : Type 0
 Found = Result (List Plain) EvalFault
@@ -106,19 +107,7 @@ abbrev pub has_value : List Plain → Bool
 has_value (node x ∷ []) = is_some (item_value x)
 has_value vs = false
 
--- what stands once
-abbrev pub add : List Plain → Plain → List Plain
-add seen x = if has seen x then seen else seen ++ x ∷ []
-
-unfoldable pub joined : List Plain → List Plain → List Plain
-joined seen [] = seen
-joined seen (x ∷ xs) = joined (add seen x) xs
-
--- those of the list that are in ws, once
-unfoldable pub shared : List Plain → List Plain → List Plain → List Plain
-shared ws seen [] = seen
-shared ws seen (x ∷ xs) = shared ws (if has ws x then add seen x else seen) xs
-
+-- whether the one value is in ws
 abbrev pub member_of : List Plain → List Plain → Found
 member_of [] ws = Ok []
 member_of (v ∷ []) ws = Ok (truth (has ws v) ∷ [])

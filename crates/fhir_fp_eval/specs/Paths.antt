@@ -12,8 +12,8 @@ use Rattle.fhir_fp_eval.specs.declared.step.Step.{Step}
 use Rattle.fhir_fp_eval.specs.declared.step.Step.TheVariants as steps
 use Rattle.fhir_fp_eval.specs.declared.step.Steps.{Steps}
 use Rattle.fhir_fp_eval.specs.declared.paths.Path.{Path}
-use Rattle.fhir_fp_eval.specs.Values.{Plain, node, system_value}
-use Rattle.fhir_fp_eval.specs.Equality.{Kleene}
+use Rattle.fhir_fp_values.specs.Values.{Plain, node, system_value}
+use Rattle.fhir_fp_values.specs.Equality.{Kleene}
 use Rattle.fhir_fp_eval.specs.Meaning.{◌>>=◌, Found, path_name, kids_named, all_kids, below, truth_in, function_result, operator_result}
 
 -- whether a step leads to a child of this name

@@ -3,7 +3,8 @@ use Rattle.std.specs.Prelude.{List, [], ◌∷◌, map, Option, Some, None, Ok}
 use Rattle.std.specs.Borrow.{Bor}
 use Rattle.fhir_fp_syntax.specs.declared.expr.Expr.{Expr}
 use Rattle.fhir_fp_syntax.specs.Expression.{Expression, child, call, typed, filtered, binary, expression_of}
-use Rattle.fhir_fp_eval.specs.Values.{Plain, World}
+use Rattle.fhir_fp_values.specs.Values.{Plain}
+use Rattle.fhir_fp_eval.specs.Worlds.{World}
 use Rattle.fhir_fp_eval.specs.Meaning.{◌>>=◌, Found, children_of, function_result, type_test_result, operator_result, values_where, filtered_by, den}
 
 -- the first operand

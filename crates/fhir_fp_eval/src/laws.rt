@@ -1,10 +1,10 @@
 //! Laws: what the definitions say.
 
-ghost use Rattle.std.specs.Prelude.{◌≡◌, ◌↔◌, [], ◌∷◌, ◌&&◌, map, true, false, Option, None, Some, Result, Ok, Err, List, codes, IsTrue, IsErr};
+ghost use Rattle.std.specs.Prelude.{◌≡◌, [], ◌∷◌, ◌&&◌, true, false, None, Ok, Err, List, codes, IsTrue, IsErr};
 ghost use Rattle.std.specs.List.{Contains as Has, filter, list_any, list_all};
-ghost use Rattle.fhir_json.specs.Tree.{Text, Tree};
+ghost use Rattle.fhir_json.specs.Tree.{Text};
 ghost use Rattle.fhir_schema.specs.Covers.{derives};
-ghost use Rattle.fhir_instance.specs.Items.{Item, item, Kids, type_of};
+ghost use Rattle.fhir_instance.specs.Items.{Item, type_of};
 ghost use Rattle.fhir_fp_syntax.specs.Expression.{Expression, nothing, boolean, this, name, child, call, typed, filtered, binary};
 ghost use Rattle.fhir_fp_syntax.specs.declared.expr.Operator.{Operator};
 ghost use Rattle.fhir_fp_syntax.specs.declared.expr.Operator.TheVariants.{And, Or, Xor, Implies, In, Contains};
@@ -14,10 +14,10 @@ ghost use Rattle.fhir_fp_syntax.specs.declared.expr.TypeTest.{TypeTest};
 ghost use Rattle.fhir_fp_syntax.specs.declared.expr.TypeTest.TheVariants.{Is, As, OfType};
 ghost use Rattle.fhir_fp_syntax.specs.declared.expr.Filter.{Filter};
 ghost use Rattle.fhir_fp_syntax.specs.declared.expr.Filter.TheVariants.{Where, Exists, All};
-ghost use Rattle.fhir_fp_eval.specs.declared.fault.EvalFault.{EvalFault};
-ghost use Rattle.fhir_fp_eval.specs.Values.{Plain, node, truth, World, item_value};
-ghost use Rattle.fhir_fp_eval.specs.Comparing.{quantity_order, order_of};
-ghost use Rattle.fhir_fp_eval.specs.Equality.{items_named, in_turn, equal};
+ghost use Rattle.fhir_fp_values.specs.declared.fault.EvalFault.{EvalFault};
+ghost use Rattle.fhir_fp_values.specs.Values.{Plain, node, truth, item_value};
+ghost use Rattle.fhir_fp_eval.specs.Worlds.{World};
+ghost use Rattle.fhir_fp_values.specs.Comparing.{quantity_order, order_of};
 ghost use Rattle.fhir_fp_eval.specs.Meaning.{den, criteria_hold, verdict, is_true};
 ghost use Rattle.fhir_fp_eval.specs.Example.{is, none, table, truths, given_by};
 
@@ -79,20 +79,6 @@ pub fn true_expressions()
 pub fn paths_by_type()
     ensures { (w : World) (type : Text) (x : Item) → IsTrue (derives w.schema (type_of x) type)
         → den w (name type) (node x) ≡ Ok (node x ∷ []) }
-{}
-
-/// Whether items are equal hangs on their children of each name alone, and not on the order in which their types list the
-/// names (FHIRPath N1, section 6.1): so of the one on the left (`left`), and of the other (`right`). Two that say nothing, of one
-/// type, are equal exactly where their children of each name are, one after another (`by_name`).
-pub fn equality_by_name()
-    ensures left { (type : Text) (json : Option Tree) (ks ls : Kids) (y : Item)
-        → ((n : Text) → items_named n ks ≡ items_named n ls) → equal (item type json ks) y ≡ equal (item type json ls) y }
-    ensures right { (x : Item) (type : Text) (json : Option Tree) (ks ls : Kids)
-        → ((n : Text) → items_named n ks ≡ items_named n ls) → equal x (item type json ks) ≡ equal x (item type json ls) }
-    ensures by_name { (type : Text) (json other : Option Tree) (ks ls : Kids)
-        → item_value (item type json ks) ≡ None → item_value (item type other ls) ≡ None
-        → (equal (item type json ks) (item type other ls) ≡ Some true)
-        ↔ ((n : Text) → in_turn (map equal (items_named n ks)) (items_named n ls) ≡ Some true) }
 {}
 
 /// Type tests of one item go by its type and the chain of its bases (FHIRPath N1, section 6.3): `is` is true, and `ofType` and

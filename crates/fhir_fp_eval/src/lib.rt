@@ -30,9 +30,8 @@
 #![tactic(auto)]
 
 mod comparing;
-mod equality;
+mod env;
 mod evaluation;
-mod fault;
 mod laws;
 mod lists;
 mod literals;
@@ -41,17 +40,15 @@ mod paths;
 mod quick;
 mod sets;
 mod step;
-mod system_value;
 mod truths;
-mod value;
 mod words;
 mod worked;
 
+pub use env::Env;
 pub use evaluation::{eval, holds};
-pub use fault::EvalFault;
+pub use fhir_fp_values::{EvalFault, Value};
 pub use laws::{
-    contains_is_in, criteria, equality_by_name, faults_pass, order_of_quantities, paths_by_type,
+    contains_is_in, criteria, faults_pass, order_of_quantities, paths_by_type,
     true_expressions, truth_tables, type_tests,
 };
-pub use value::{Env, Value};
 pub use worked::{equality_example, order_example, paths_example};

@@ -4,13 +4,12 @@ ghost use Rattle.std.specs.Prelude.{◌≡◌, ◌++◌, ◌∷◌, [], map, OnO
 ghost use Rattle.fhir_json.specs.Memory.{GivesOr};
 ghost use Rattle.fhir_instance.specs.Items.{kids_of};
 ghost use Rattle.fhir_instance.specs.View.{item_of};
-ghost use Rattle.fhir_fp_eval.specs.Faults.{is_no_memory};
-ghost use Rattle.fhir_fp_eval.specs.Values.{node};
-ghost use Rattle.fhir_fp_eval.specs.Views.{plain_of, plains_of};
+ghost use Rattle.fhir_fp_values.specs.Faults.{is_no_memory};
+ghost use Rattle.fhir_fp_values.specs.Values.{node};
+ghost use Rattle.fhir_fp_values.specs.Views.{plain_of, plains_of};
 ghost use Rattle.fhir_fp_eval.specs.Meaning.{path_name, kids_named, all_kids, descendants, below, children_of, first_of, answer, is_empty};
 
-use crate::fault::EvalFault;
-use crate::value::Value;
+use fhir_fp_values::{EvalFault, Value};
 use fhir_instance::Typed;
 use std::alloc::{AllocError, Global};
 

@@ -6,11 +6,11 @@ ghost use Rattle.std.specs.Char.{is_ascii_digit};
 ghost use Rattle.fhir_decimal.specs.Value.{value_of};
 ghost use Rattle.fhir_decimal.specs.Views.{parts_seen};
 ghost use Rattle.fhir_fp_eval.specs.Literals.{literal_value};
-ghost use Rattle.fhir_fp_eval.specs.Values.{number};
-ghost use Rattle.fhir_fp_eval.specs.Views.{plain_of};
+ghost use Rattle.fhir_fp_values.specs.Values.{number};
+ghost use Rattle.fhir_fp_values.specs.Views.{plain_of};
 
-use crate::value::Value;
 use fhir_decimal::{Decimal, Number};
+use fhir_fp_values::Value;
 
 fn cut_digits(text: &[u8]) -> (&[u8], &[u8])
     ensures digits { result.0.now ≡ take (prefix_len is_ascii_digit text.now) text.now }

@@ -3,20 +3,18 @@
 ghost use Rattle.std.specs.Prelude.{◌≡◌};
 ghost use Rattle.std.specs.Ordering.{is_lt, is_le, is_gt, is_ge};
 ghost use Rattle.fhir_json.specs.Memory.{GivesOr};
-ghost use Rattle.fhir_fp_eval.specs.Equality.{kleene_and, kleene_or, kleene_xor, kleene_implies};
-ghost use Rattle.fhir_fp_eval.specs.Faults.{is_no_memory};
-ghost use Rattle.fhir_fp_eval.specs.Views.{plains_of};
+ghost use Rattle.fhir_fp_values.specs.Equality.{kleene_and, kleene_or, kleene_xor, kleene_implies};
+ghost use Rattle.fhir_fp_values.specs.Faults.{is_no_memory};
+ghost use Rattle.fhir_fp_values.specs.Views.{plains_of};
 ghost use Rattle.fhir_fp_eval.specs.Meaning.{of_truths, order_between, in_order, operator_result};
 
 use crate::comparing::order_between;
-use crate::equality::equality;
-use crate::fault::EvalFault;
 use crate::lists::answer;
-use crate::sets::{intersection, member_of, union};
-use crate::truths::{kleene_and, kleene_implies, kleene_not, kleene_or, kleene_xor, truth_of};
-use crate::value::Value;
+use crate::sets::member_of;
+use crate::truths::truth_of;
 use crate::words::at_index;
 use fhir_fp_syntax::Operator;
+use fhir_fp_values::{EvalFault, Value, equality, intersection, kleene_and, kleene_implies, kleene_not, kleene_or, kleene_xor, union};
 use fhir_schema::Schema;
 use std::alloc::Global;
 

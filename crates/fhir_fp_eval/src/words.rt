@@ -3,19 +3,17 @@
 ghost use Rattle.std.specs.Prelude.{◌≡◌, ◌∷◌, [], option_map, Ok};
 ghost use Rattle.fhir_json.specs.Memory.{GivesOr};
 ghost use Rattle.fhir_decimal.specs.Numbers.{number_seen};
-ghost use Rattle.fhir_fp_eval.specs.Faults.{is_no_memory};
-ghost use Rattle.fhir_fp_eval.specs.Views.{plain_of, plains_of, system_value_seen};
+ghost use Rattle.fhir_fp_values.specs.Faults.{is_no_memory};
+ghost use Rattle.fhir_fp_values.specs.Views.{plain_of, plains_of, system_value_seen};
 ghost use Rattle.fhir_fp_eval.specs.Meaning.{starts, function_result, has_value, of_type, of_types, type_test_result, at_from, at_system_value, at_index};
 
-use crate::fault::EvalFault;
 use crate::lists::{
     all_children, all_descendants, answer, children_of, first_of, is_empty, single,
 };
-use crate::system_value::{SystemValue, item_value, system_value_of};
-use crate::truths::{kleene_not, truth_of};
-use crate::value::Value;
+use crate::truths::truth_of;
 use fhir_decimal::Number;
 use fhir_fp_syntax::{Function, TypeTest};
+use fhir_fp_values::{EvalFault, SystemValue, Value, item_value, kleene_not, system_value_of};
 use fhir_schema::Schema;
 use std::alloc::Global;
 

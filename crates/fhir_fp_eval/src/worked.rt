@@ -10,8 +10,8 @@ ghost use Rattle.fhir_fp_syntax.specs.declared.expr.Operator.TheVariants.{Index,
 ghost use Rattle.fhir_fp_syntax.specs.declared.expr.Function.TheVariants.{Count, First, Exists, Empty, HasValue, Children, Descendants};
 ghost use Rattle.fhir_fp_syntax.specs.declared.expr.Filter.TheVariants.{Exists as ExistsWhere};
 ghost use Rattle.fhir_fp_syntax.specs.declared.expr.TypeTest.TheVariants.{Is, As, OfType};
-ghost use Rattle.fhir_fp_eval.specs.declared.fault.EvalFault.TheVariants.{Several, Kind};
-ghost use Rattle.fhir_fp_eval.specs.Values.{node, number};
+ghost use Rattle.fhir_fp_values.specs.declared.fault.EvalFault.TheVariants.{Several, Kind};
+ghost use Rattle.fhir_fp_values.specs.Values.{node, number};
 ghost use Rattle.fhir_fp_eval.specs.Example.{is, none, leaf, whole, period, quantity, coded_quantity, two_parts, twice, patient, given_by, between, given_names, digits, quoted, has_content, around};
 ghost use Rattle.fhir_fp_eval.specs.Meaning.{den};
 

@@ -6,7 +6,7 @@ use Rattle.std.proofs.lemmas.List.{map-append}
 use Rattle.fhir_json.specs.Tree.{Text}
 use Rattle.fhir_schema.specs.Schemas.{SchemaValue}
 use Rattle.fhir_instance.specs.Items.{Item, item, Kids, no_kids, kid, Named, kids_of}
-use Rattle.fhir_fp_eval.specs.Values.{Plain, node, truth, number, text}
+use Rattle.fhir_fp_values.specs.Values.{Plain, node, truth, number, text}
 use Rattle.fhir_fp_eval.specs.Meaning.{path_name, kids_named, all_kids, below, descendants, descendants_in, of_type, of_types, has_value}
 use Rattle.fhirpath_laws.specs.Paths.{children_in, of_item, named_so, children_of, all_below, is_item_of}
 

@@ -4,9 +4,10 @@ use Rattle.std.proofs.lemmas.Bool.{false≢true}
 use Rattle.fhir_fp_syntax.specs.Expression.{Expression, binary}
 use Rattle.fhir_fp_syntax.specs.declared.expr.Operator.{Operator}
 use Rattle.fhir_fp_syntax.specs.declared.expr.Operator.TheVariants.{Less, LessOrEqual, Greater, GreaterOrEqual}
-use Rattle.fhir_fp_eval.specs.declared.fault.EvalFault.TheVariants.{Several}
-use Rattle.fhir_fp_eval.specs.Values.{Plain, World}
-use Rattle.fhir_fp_eval.specs.Comparing.{order_of}
+use Rattle.fhir_fp_values.specs.declared.fault.EvalFault.TheVariants.{Several}
+use Rattle.fhir_fp_values.specs.Values.{Plain}
+use Rattle.fhir_fp_eval.specs.Worlds.{World}
+use Rattle.fhir_fp_values.specs.Comparing.{order_of}
 use Rattle.fhir_fp_eval.specs.Meaning.{den}
 use Rattle.fhirpath_laws.specs.Comparing.{is_comparison}
 

@@ -1,8 +1,8 @@
 -- When two collections are equal, pair by pair.
 use Rattle.std.proofs.Common.{◌≡◌, suc, Bool, true, false, List, [], ◌∷◌, length, None, Some, Ok, refl, ap, ◌∙◌, inl, inr}
 use Rattle.std.proofs.lemmas.Bool.{and_parts, and_from, or_cases, false≢true}
-use Rattle.fhir_fp_eval.specs.Values.{Plain}
-use Rattle.fhir_fp_eval.specs.Equality.{Kleene, kleene_and, kleene_not, is_yes, alike, pairs}
+use Rattle.fhir_fp_values.specs.Values.{Plain}
+use Rattle.fhir_fp_values.specs.Equality.{Kleene, kleene_and, kleene_not, is_yes, alike, pairs}
 use Rattle.fhir_fp_eval.specs.Meaning.{◌>>=◌, Found, answer, truth_of}
 use Rattle.fhir_fp_eval.specs.Example.{is}
 use Rattle.fhirpath_laws.specs.Equality.{is_no, are_alike, are_told_apart}

@@ -1,8 +1,8 @@
 -- Values of two collections, pair by pair (FHIRPath N1, section 6.1).
 use Rattle.std.specs.Prelude.{List, Bool, not, false, None, Some}
 use Rattle.std.specs.List.{list_all, list_any, zip}
-use Rattle.fhir_fp_eval.specs.Values.{Plain}
-use Rattle.fhir_fp_eval.specs.Equality.{Kleene, alike, is_yes}
+use Rattle.fhir_fp_values.specs.Values.{Plain}
+use Rattle.fhir_fp_values.specs.Equality.{Kleene, alike, is_yes}
 
 -- it is told, and isn't so
 abbrev pub is_no : Kleene → Bool

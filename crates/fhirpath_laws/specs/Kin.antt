@@ -7,7 +7,7 @@ use Rattle.fhir_instance.specs.Items.{no_kids}
 use Rattle.fhir_instance.specs.TypingExample.{element, definition, with_snapshot}
 use Rattle.fhir_fp_syntax.specs.Expression.{this, typed}
 use Rattle.fhir_fp_syntax.specs.declared.expr.TypeTest.{TypeTest}
-use Rattle.fhir_fp_eval.specs.Values.{node}
+use Rattle.fhir_fp_values.specs.Values.{node}
 use Rattle.fhir_fp_eval.specs.Meaning.{Found, den}
 use Rattle.fhir_fp_eval.specs.Example.{patient, whole}
 

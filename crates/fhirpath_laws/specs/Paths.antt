@@ -6,7 +6,7 @@ use Rattle.fhir_json.specs.Tree.{Text}
 use Rattle.fhir_schema.specs.Schemas.{SchemaValue}
 use Rattle.fhir_schema.specs.Covers.{derives}
 use Rattle.fhir_instance.specs.Items.{Item, Kids, no_kids, kid, Named, type_of, kids_of}
-use Rattle.fhir_fp_eval.specs.Values.{Plain, node}
+use Rattle.fhir_fp_values.specs.Values.{Plain, node}
 use Rattle.fhir_fp_eval.specs.Meaning.{path_name, descendants}
 
 -- the children with their names, in their order

@@ -4,7 +4,8 @@ ghost use Rattle.std.specs.Prelude.{◌≡◌, ◌↔◌, List, [], ◌∷◌, l
 ghost use Rattle.fhir_fp_syntax.specs.Expression.{Expression, boolean, call, binary};
 ghost use Rattle.fhir_fp_syntax.specs.declared.expr.Function.TheVariants.{Not};
 ghost use Rattle.fhir_fp_syntax.specs.declared.expr.Operator.TheVariants.{Equal, NotEqual, Union};
-ghost use Rattle.fhir_fp_eval.specs.Values.{Plain, World};
+ghost use Rattle.fhir_fp_values.specs.Values.{Plain};
+ghost use Rattle.fhir_fp_eval.specs.Worlds.{World};
 ghost use Rattle.fhir_fp_eval.specs.Meaning.{den};
 ghost use Rattle.fhir_fp_eval.specs.Example.{is, given_by, quoted};
 ghost use Rattle.fhirpath_laws.specs.Comparing.{table};

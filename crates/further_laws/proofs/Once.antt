@@ -3,10 +3,10 @@ use Rattle.std.proofs.Common.{◌≡◌, Bool, true, false, cond, List, [], ◌�
 use Rattle.std.specs.List.{Contains, filter}
 use Rattle.std.proofs.lemmas.Bool.{or_cases, or_left, or_right, false≢true}
 use Rattle.std.proofs.lemmas.List.Elements.{Contains-push_cases, Contains-append_left, Contains-append_right}
-use Rattle.fhir_fp_eval.specs.Values.{Plain}
+use Rattle.fhir_fp_values.specs.Values.{Plain}
 use Rattle.fhir_package.proofs.Entries.{contains_cases}
-use Rattle.fhir_fp_eval.specs.Equality.{is_yes, alike, has}
-use Rattle.fhir_fp_eval.specs.Meaning.{add, joined, shared}
+use Rattle.fhir_fp_values.specs.Equality.{is_yes, alike, has}
+use Rattle.fhir_fp_values.specs.Sets.{add, joined, shared}
 
 pub joined_append : (seen xs ys : List Plain) → joined seen (xs ++ ys) ≡ joined (joined seen xs) ys
 unfolding joined

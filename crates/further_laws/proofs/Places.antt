@@ -8,7 +8,7 @@ use Rattle.std.specs.Option.{option_to_list}
 use Rattle.fhir_decimal.specs.Value.{is_same_value}
 use Rattle.fhir_decimal.specs.Whole.{count}
 use Rattle.fhir_decimal.proofs.Counting.{counts_order}
-use Rattle.fhir_fp_eval.specs.Values.{Plain}
+use Rattle.fhir_fp_values.specs.Values.{Plain}
 use Rattle.fhir_fp_eval.specs.Meaning.{at_from}
 
 here : (n : ℕ) → is_same_value (count (n + 0)) (count n) ≡ true

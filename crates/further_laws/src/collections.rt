@@ -9,9 +9,11 @@ ghost use Rattle.fhir_fp_syntax.specs.Expression.{Expression, call, typed, binar
 ghost use Rattle.fhir_fp_syntax.specs.declared.expr.Function.TheVariants.{First};
 ghost use Rattle.fhir_fp_syntax.specs.declared.expr.Operator.TheVariants.{Union, Intersect, Index, Equal, NotEqual, In};
 ghost use Rattle.fhir_fp_syntax.specs.declared.expr.TypeTest.TheVariants.{Is};
-ghost use Rattle.fhir_fp_eval.specs.Values.{Plain, World, number, truth};
-ghost use Rattle.fhir_fp_eval.specs.Equality.{has};
-ghost use Rattle.fhir_fp_eval.specs.Meaning.{den, joined};
+ghost use Rattle.fhir_fp_values.specs.Values.{Plain, number, truth};
+ghost use Rattle.fhir_fp_eval.specs.Worlds.{World};
+ghost use Rattle.fhir_fp_values.specs.Equality.{has};
+ghost use Rattle.fhir_fp_values.specs.Sets.{joined};
+ghost use Rattle.fhir_fp_eval.specs.Meaning.{den};
 
 /// `a | b` gives the values of both, each once (`values`). Of a list each once are values of that list (`some`), of which no one is equal
 /// to one before it (`once`); and each value of the list is there, or one that is equal to it (`each`).

@@ -1,5 +1,5 @@
 use Rattle.std.proofs.Common.{refl}
-use Rattle.fhir_fp_eval.specs.Comparing.{order_of}
+use Rattle.fhir_fp_values.specs.Comparing.{order_of}
 use Rattle.fhir_fp_eval.proofs.laws.order_of_quantities.Goals as goal
 
 pub returns : goal.returns

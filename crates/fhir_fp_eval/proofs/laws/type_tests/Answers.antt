@@ -1,5 +1,5 @@
 use Rattle.std.proofs.Common.{Ok, [], ◌∷◌, refl, ap}
-use Rattle.fhir_fp_eval.specs.Values.{truth}
+use Rattle.fhir_fp_values.specs.Values.{truth}
 use Rattle.fhir_fp_eval.specs.Meaning.{den, of_types}
 use Rattle.fhir_fp_eval.proofs.laws.type_tests.Goals as goal
 

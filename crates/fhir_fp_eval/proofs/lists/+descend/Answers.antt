@@ -1,6 +1,6 @@
 use Rattle.std.proofs.Common.{arith}
 use Rattle.fhir_instance.specs.View.{item_of}
-use Rattle.fhir_fp_eval.proofs.Heights.{higher}
+use Rattle.fhir_fp_values.proofs.Heights.{higher}
 use Rattle.fhir_fp_eval.proofs.lists.+descend.Goals as goal
 
 pub push_descendants-requires : goal.push_descendants-requires

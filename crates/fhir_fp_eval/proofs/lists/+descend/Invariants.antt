@@ -1,10 +1,10 @@
 use Rattle.std.proofs.Common.{◌≡◌, ◌++◌, map, drop}
 use Rattle.fhir_instance.specs.Items.{kids_in}
 use Rattle.fhir_instance.specs.View.{item_of, named_in}
-use Rattle.fhir_fp_eval.specs.Values.{node}
-use Rattle.fhir_fp_eval.specs.Views.{plains_of}
+use Rattle.fhir_fp_values.specs.Values.{node}
+use Rattle.fhir_fp_values.specs.Views.{plains_of}
 use Rattle.fhir_fp_eval.specs.Meaning.{descendants_in}
-use Rattle.fhir_fp_eval.specs.Pairing.{height}
+use Rattle.fhir_fp_values.specs.Pairing.{height}
 use Rattle.fhir_fp_eval.proofs.lists.+descend.Given as goal
 
 abbrev pub decreases-push_descendants : goal.decreases-push_descendants

@@ -1,6 +1,6 @@
 use Rattle.std.proofs.Common.{◌≡◌, ◌++◌, drop}
 use Rattle.fhir_instance.specs.Items.{kids_of}
-use Rattle.fhir_fp_eval.specs.Views.{plains_of}
+use Rattle.fhir_fp_values.specs.Views.{plains_of}
 use Rattle.fhir_fp_eval.specs.Meaning.{below, all_kids}
 use Rattle.fhir_fp_eval.proofs.lists.all_children.Given as goal
 

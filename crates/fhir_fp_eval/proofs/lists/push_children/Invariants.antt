@@ -1,8 +1,8 @@
 use Rattle.std.proofs.Common.{◌≡◌, ◌++◌, map, drop}
 use Rattle.fhir_instance.specs.Items.{kids_in}
 use Rattle.fhir_instance.specs.View.{named_in}
-use Rattle.fhir_fp_eval.specs.Values.{node}
-use Rattle.fhir_fp_eval.specs.Views.{plains_of}
+use Rattle.fhir_fp_values.specs.Values.{node}
+use Rattle.fhir_fp_values.specs.Views.{plains_of}
 use Rattle.fhir_fp_eval.specs.Meaning.{kids_named}
 use Rattle.fhir_fp_eval.proofs.lists.push_children.Given as goal
 

@@ -1,6 +1,6 @@
 use Rattle.std.proofs.Common.{Some, None, refl, arith}
 use Rattle.fhir_instance.specs.View.{item_of}
-use Rattle.fhir_fp_eval.specs.Values.{node}
+use Rattle.fhir_fp_values.specs.Values.{node}
 use Rattle.fhir_fp_eval.proofs.Visits.{first_from, first_goes, first_found, first_ends}
 use Rattle.fhir_fp_eval.proofs.paths.+first.Goals as goal
 

@@ -1,7 +1,7 @@
 use Rattle.std.proofs.Common.{Ok, ap, ◌∙◌, sym, List}
 use Rattle.fhir_decimal.specs.Numbers.{number_seen}
-use Rattle.fhir_fp_eval.specs.Values.{Plain}
-use Rattle.fhir_fp_eval.specs.Views.{plains_of}
+use Rattle.fhir_fp_values.specs.Values.{Plain}
+use Rattle.fhir_fp_values.specs.Views.{plains_of}
 use Rattle.fhir_fp_eval.proofs.At.{no_place, one_place}
 use Rattle.fhir_fp_eval.proofs.words.at_number.Goals as goal
 

@@ -1,5 +1,5 @@
 use Rattle.std.proofs.Common.{◌≡◌, ◌++◌, drop}
-use Rattle.fhir_fp_eval.specs.Views.{plains_of}
+use Rattle.fhir_fp_values.specs.Views.{plains_of}
 use Rattle.fhir_fp_eval.specs.Meaning.{of_types}
 use Rattle.fhir_fp_eval.proofs.words.of_types.Given as goal
 

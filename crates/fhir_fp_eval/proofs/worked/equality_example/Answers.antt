@@ -2,9 +2,10 @@ use Rattle.std.proofs.Common.{refl}
 use Rattle.fhir_decimal.specs.Reading.{parts}
 use Rattle.fhir_decimal.specs.Value.{value_of, value_order}
 use Rattle.fhir_decimal.specs.Whole.{is_whole_value}
-use Rattle.fhir_fp_eval.specs.Equality.{alike, pairs}
-use Rattle.fhir_fp_eval.specs.Comparing.{order_of}
-use Rattle.fhir_fp_eval.specs.Meaning.{den, values_where, joined, shared, at_from, of_types}
+use Rattle.fhir_fp_values.specs.Equality.{alike, pairs}
+use Rattle.fhir_fp_values.specs.Comparing.{order_of}
+use Rattle.fhir_fp_values.specs.Sets.{joined, shared}
+use Rattle.fhir_fp_eval.specs.Meaning.{den, values_where, at_from, of_types}
 use Rattle.fhir_fp_eval.proofs.worked.equality_example.Goals as goal
 
 pub returns-clause-decimals : goal.returns-clause-decimals

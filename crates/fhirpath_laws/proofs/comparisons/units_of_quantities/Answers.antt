@@ -1,8 +1,8 @@
 use Rattle.std.proofs.Common.{refl}
 use Rattle.fhir_decimal.specs.Reading.{parts}
 use Rattle.fhir_decimal.specs.Value.{value_of, value_order}
-use Rattle.fhir_fp_eval.specs.Equality.{alike}
-use Rattle.fhir_fp_eval.specs.Comparing.{order_of}
+use Rattle.fhir_fp_values.specs.Equality.{alike}
+use Rattle.fhir_fp_values.specs.Comparing.{order_of}
 use Rattle.fhir_fp_eval.specs.Meaning.{den}
 use Rattle.fhirpath_laws.proofs.comparisons.units_of_quantities.Goals as goal
 

@@ -1,6 +1,6 @@
 use Rattle.std.proofs.Common.{◌≡◌, suc, ◌∷◌, length, ap, arith}
 use Rattle.std.specs.Prelude.{Ok}
-use Rattle.fhir_fp_eval.specs.Equality.{Kleene, equality, pairs}
+use Rattle.fhir_fp_values.specs.Equality.{Kleene, equality, pairs}
 use Rattle.fhir_fp_eval.specs.Meaning.{Found, den, answer}
 use Rattle.fhirpath_laws.proofs.Pairwise.{pairs_alike, alike_pairs, other_numbers, told_apart, told_true, not_answered}
 use Rattle.fhirpath_laws.proofs.equality.equal_collections.Goals as goal

@@ -1,6 +1,6 @@
 use Rattle.std.proofs.Common.{[], ◌∷◌, Bool, Option, is_some, refl, ap}
 use Rattle.std.specs.Prelude.{Ok}
-use Rattle.fhir_fp_eval.specs.Values.{SystemValue, truth}
+use Rattle.fhir_fp_values.specs.Values.{SystemValue, truth}
 use Rattle.fhir_fp_eval.specs.Meaning.{Found, den}
 use Rattle.fhirpath_laws.proofs.Onward.{no_value}
 use Rattle.fhirpath_laws.proofs.paths.items_with_values.Goals as goal

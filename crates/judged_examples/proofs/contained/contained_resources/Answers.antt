@@ -8,9 +8,10 @@ use Rattle.fhir_fp_syntax.specs.Lexing.{words_in, words_at, piece_at, token_at, 
 use Rattle.fhir_fp_syntax.specs.Parsing.{expression_at, level_at, more_at, tail_at, primary_at, call_at, calls_at, inner_at, type_at}
 use Rattle.fhir_fp_syntax.specs.Words.{function_of, given_of, is_system_type}
 use Rattle.fhir_fp_syntax.specs.Strings.{text_in, text_at, escape_at, unicode_at, low_at}
-use Rattle.fhir_fp_eval.specs.Equality.{alike, pairs}
-use Rattle.fhir_fp_eval.specs.Comparing.{order_of}
-use Rattle.fhir_fp_eval.specs.Meaning.{den, is_true, values_where, joined, shared, at_from, of_types}
+use Rattle.fhir_fp_values.specs.Equality.{alike, pairs}
+use Rattle.fhir_fp_values.specs.Comparing.{order_of}
+use Rattle.fhir_fp_values.specs.Sets.{joined, shared}
+use Rattle.fhir_fp_eval.specs.Meaning.{den, is_true, values_where, at_from, of_types}
 use Rattle.judged_examples.proofs.contained.contained_resources.Goals as goal
 
 pub returns-clause-note : goal.returns-clause-note

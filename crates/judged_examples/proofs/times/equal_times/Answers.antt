@@ -1,7 +1,7 @@
 use Rattle.std.proofs.Common.{refl}
 use Rattle.fhir_decimal.specs.Reading.{parts}
 use Rattle.fhir_decimal.specs.Value.{value_of, value_order}
-use Rattle.fhir_fp_eval.specs.Equality.{alike, pairs}
+use Rattle.fhir_fp_values.specs.Equality.{alike, pairs}
 use Rattle.fhir_fp_eval.specs.Meaning.{den}
 use Rattle.judged_examples.proofs.times.equal_times.Goals as goal
 

@@ -1,8 +1,0 @@
-use Rattle.std.proofs.Common.{◌≡◌, drop, []}
-use Rattle.fhir_fp_eval.specs.Views.{plains_of}
-use Rattle.fhir_fp_eval.specs.Meaning.{shared}
-use Rattle.fhir_fp_eval.proofs.sets.intersection.Given as goal
-
-abbrev pub invariant-loop-value : goal.invariant-loop-value
-invariant-loop-value l =
-    shared (plains_of l.right) (plains_of l.out.items) (plains_of (drop l.value-index l.left)) ≡ shared (plains_of l.right) [] (plains_of l.left)

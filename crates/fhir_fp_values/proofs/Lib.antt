@@ -1,0 +1,4 @@
+pub mod Heights
+pub mod ByName
+pub mod Sorted
+pub mod Pairing
