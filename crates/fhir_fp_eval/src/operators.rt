@@ -14,7 +14,7 @@ use crate::sets::member_of;
 use crate::truths::truth_of;
 use crate::words::at_index;
 use fhir_fp_syntax::Operator;
-use fhir_fp_values::{EvalFault, Value, equality, intersection, kleene_and, kleene_implies, kleene_not, kleene_or, kleene_xor, union};
+use fhir_fp_values::{EvalFault, Value, equality_between, intersection, kleene_and, kleene_implies, kleene_not, kleene_or, kleene_xor, union};
 use fhir_schema::Schema;
 use std::alloc::Global;
 
@@ -141,8 +141,8 @@ pub(crate) fn operator_result<'e, 'a, 'j>(
         Operator::LessOrEqual => at_most_of(alloc, schema, left, right),
         Operator::Greater => greater_of(alloc, schema, left, right),
         Operator::GreaterOrEqual => at_least_of(alloc, schema, left, right),
-        Operator::Equal => answer(alloc, equality(alloc, left, right)?),
-        Operator::NotEqual => answer(alloc, kleene_not(equality(alloc, left, right)?)),
+        Operator::Equal => answer(alloc, equality_between(alloc, left, right)?),
+        Operator::NotEqual => answer(alloc, kleene_not(equality_between(alloc, left, right)?)),
         Operator::In => member_of(alloc, left, right),
         Operator::Contains => member_of(alloc, right, left),
         Operator::And => and_of(alloc, left, right),

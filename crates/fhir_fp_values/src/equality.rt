@@ -216,7 +216,7 @@ fn pairs(
 }
 
 /// Whether two lists are equal; undecided where one is empty. The one refusal is want of memory.
-pub fn equality(
+pub fn equality_between(
     alloc: Global,
     left: &[Value<'_, '_, '_>],
     right: &[Value<'_, '_, '_>],

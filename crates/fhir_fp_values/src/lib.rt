@@ -27,7 +27,7 @@ mod truths;
 mod value;
 
 pub use comparing::order_of;
-pub use equality::{alike, equality, has};
+pub use equality::{alike, equality_between, has};
 pub use fault::EvalFault;
 pub use laws::equality_by_name;
 pub use sets::{intersection, union};
