@@ -1,4 +1,5 @@
 pub mod Worlds
+pub mod Views
 pub mod Literals
 pub mod Meaning
 pub mod Spines

@@ -8,16 +8,16 @@ ghost use Rattle.fhir_instance.specs.View.{item_of};
 ghost use Rattle.fhir_fp_values.specs.Values.{node};
 ghost use Rattle.fhir_fp_values.specs.Faults.{is_no_memory};
 ghost use Rattle.fhir_fp_values.specs.Views.{plain_of, plains_of};
-ghost use Rattle.fhir_fp_eval.specs.Worlds.{world_of};
+ghost use Rattle.fhir_fp_eval.specs.Views.{world_of};
 ghost use Rattle.fhir_fp_eval.specs.Meaning.{criteria_hold, with_next, values_where, filtered_by, den, verdict, is_true};
 ghost use Rattle.fhir_fp_eval.specs.Spines.{base_of, spine, made_of, steps_of};
 
+use crate::env::Env;
 use crate::lists::{children_of, is_empty, single};
 use crate::literals::number_of;
 use crate::operators::operator_result;
 use crate::quick::{few, truth_said};
 use crate::truths::truth_of;
-use crate::env::Env;
 use crate::words::{function_result, starts, type_test_result};
 use fhir_fp_syntax::{Expr, Filter};
 use fhir_fp_values::{EvalFault, Value, is_yes};

@@ -48,7 +48,7 @@ pub use env::Env;
 pub use evaluation::{eval, holds};
 pub use fhir_fp_values::{EvalFault, Value};
 pub use laws::{
-    contains_is_in, criteria, faults_pass, order_of_quantities, paths_by_type,
-    true_expressions, truth_tables, type_tests,
+    contains_is_in, criteria, faults_pass, order_of_quantities, paths_by_type, true_expressions,
+    truth_tables, type_tests,
 };
 pub use worked::{equality_example, order_example, paths_example};

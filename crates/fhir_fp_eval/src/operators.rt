@@ -14,7 +14,10 @@ use crate::sets::member_of;
 use crate::truths::truth_of;
 use crate::words::at_index;
 use fhir_fp_syntax::Operator;
-use fhir_fp_values::{EvalFault, Value, equality_between, intersection, kleene_and, kleene_implies, kleene_not, kleene_or, kleene_xor, union};
+use fhir_fp_values::{
+    EvalFault, Value, equality_between, intersection, kleene_and, kleene_implies, kleene_not,
+    kleene_or, kleene_xor, union,
+};
 use fhir_schema::Schema;
 use std::alloc::Global;
 

@@ -6,13 +6,13 @@ ghost use Rattle.fhir_instance.specs.View.{item_of, named_of, named_in};
 ghost use Rattle.fhir_fp_syntax.specs.Expression.{child, expression_of};
 ghost use Rattle.fhir_fp_values.specs.Values.{Plain, node};
 ghost use Rattle.fhir_fp_eval.specs.Worlds.{World};
-ghost use Rattle.fhir_fp_eval.specs.Worlds.{world_of};
+ghost use Rattle.fhir_fp_eval.specs.Views.{world_of};
 ghost use Rattle.fhir_fp_eval.specs.Meaning.{starts, den};
 ghost use Rattle.fhir_fp_eval.specs.Paths.{takes, taken, onward, then_step, then_steps, steps_in, given_by, first_in, at_most_one};
 
+use crate::env::Env;
 use crate::lists::path_name;
 use crate::step::{Step, Steps};
-use crate::env::Env;
 use fhir_fp_syntax::{Expr, Function};
 use fhir_instance::{Kid, Typed};
 

@@ -6,19 +6,22 @@ ghost use Rattle.fhir_instance.specs.View.{item_of};
 ghost use Rattle.fhir_fp_syntax.specs.Expression.{binary, expression_of};
 ghost use Rattle.fhir_fp_values.specs.Values.{node};
 ghost use Rattle.fhir_fp_values.specs.Views.{plain_of};
-ghost use Rattle.fhir_fp_eval.specs.Worlds.{world_of};
+ghost use Rattle.fhir_fp_eval.specs.Views.{world_of};
 ghost use Rattle.fhir_fp_values.specs.Equality.{pairs, equality};
 ghost use Rattle.fhir_fp_eval.specs.Meaning.{answer, has_value, function_result, operator_result, order_between, den};
 ghost use Rattle.fhir_fp_eval.specs.Paths.{then_function, then_operator, given_by, at_most_one, truth_said};
 
+use crate::env::Env;
 use crate::literals::number_of;
 use crate::paths::Path;
 use crate::truths::truth_in;
-use crate::env::Env;
 use crate::words::value_has_value;
 use fhir_decimal::Number;
 use fhir_fp_syntax::{Expr, Function, Operator};
-use fhir_fp_values::{Value, alike, kleene_and, kleene_implies, kleene_not, kleene_or, kleene_xor, order_of, system_value_of};
+use fhir_fp_values::{
+    Value, alike, kleene_and, kleene_implies, kleene_not, kleene_or, kleene_xor, order_of,
+    system_value_of,
+};
 use fhir_instance::Typed;
 use fhir_schema::Schema;
 use std::alloc::Global;

@@ -7,7 +7,7 @@ ghost use Rattle.fhir_fp_values.specs.Views.{plains_of};
 ghost use Rattle.fhir_fp_eval.specs.Meaning.{member_of};
 
 use crate::lists::single;
-use fhir_fp_values::{EvalFault, Value, has};
+use fhir_fp_values::{EvalFault, Value, is_among};
 use std::alloc::Global;
 
 /// Whether the one value of the left is in the right.
@@ -20,7 +20,7 @@ pub(crate) fn member_of<'e, 'a, 'j>(
 {
     match left {
         [] => Ok(Vec::new(alloc)),
-        [value] => single(alloc, Value::Truth(has(alloc, right, *value)?)),
+        [value] => single(alloc, Value::Truth(is_among(alloc, right, *value)?)),
         _ => Err(EvalFault::Several),
     }
 }

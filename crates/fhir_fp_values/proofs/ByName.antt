@@ -32,7 +32,7 @@ same_of_all None (Some true) f g same a b = a.all (λ n. same n ∙ b.each refl 
 same_of_all None (Some false) f g same a b = let h = b.one refl in a.some h.0 (same h.0 ∙ h.1)
 same_of_all None None f g same a b = refl
 
-both_true : (p q : Kleene) → kleene_and p q ≡ Some true → (p ≡ Some true) × (q ≡ Some true)
+pub both_true : (p q : Kleene) → kleene_and p q ≡ Some true → (p ≡ Some true) × (q ≡ Some true)
 both_true (Some true) q h = (refl, h)
 both_true (Some false) q h = absurd cc
 both_true None (Some true) h = absurd cc

@@ -5,3 +5,5 @@ pub mod Equality
 pub mod Pairing
 pub mod Comparing
 pub mod Sets
+pub mod Keys
+pub mod Tables

@@ -44,8 +44,8 @@ fn same_system_value(left: SystemValue<'_>, right: SystemValue<'_>) -> Option<bo
 
 // A kid, as a value to sort.
 #[derive(Clone, Copy)]
-struct KidRef<'k, 'a, 'j> {
-    kid: &'k Kid<'a, 'j>,
+pub(crate) struct KidRef<'k, 'a, 'j> {
+    pub(crate) kid: &'k Kid<'a, 'j>,
 }
 
 fn name_order(left: &Kid<'_, '_>, right: &Kid<'_, '_>) -> Ordering
@@ -65,7 +65,7 @@ fn sort_by_name(kids: &mut Vec<KidRef<'_, '_, '_>>) -> Result<(), AllocError>
 }
 
 // Kids in the order of their names. Those of one name stay in their order.
-fn sorted_by_name<'k, 'a, 'j>(
+pub(crate) fn sorted_by_name<'k, 'a, 'j>(
     alloc: Global,
     kids: &'k [Kid<'a, 'j>],
 ) -> Result<Vec<KidRef<'k, 'a, 'j>>, AllocError>
@@ -230,7 +230,7 @@ pub fn equality_between(
 }
 
 /// Whether a value of the list is equal to this one. The one refusal is want of memory.
-pub fn has(
+pub(crate) fn has(
     alloc: Global,
     seen: &[Value<'_, '_, '_>],
     value: Value<'_, '_, '_>,

@@ -20,17 +20,19 @@
 mod comparing;
 mod equality;
 mod fault;
+mod keys;
 mod laws;
 mod sets;
 mod system_value;
+mod table;
 mod truths;
 mod value;
 
 pub use comparing::order_of;
-pub use equality::{alike, equality_between, has};
+pub use equality::{alike, equality_between};
 pub use fault::EvalFault;
 pub use laws::equality_by_name;
-pub use sets::{intersection, union};
+pub use sets::{intersection, is_among, union};
 pub use system_value::{SystemValue, item_value, system_value_of};
 pub use truths::{is_yes, kleene_and, kleene_implies, kleene_not, kleene_or, kleene_xor};
 pub use value::Value;

@@ -3,7 +3,7 @@ use Rattle.std.proofs.lemmas.Result.{err_from_is_err_and}
 use Rattle.fhir_fp_syntax.specs.Expression.{expression_of}
 use Rattle.fhir_fp_values.specs.Values.{Plain}
 use Rattle.fhir_fp_values.specs.Views.{plain_of, plains_of}
-use Rattle.fhir_fp_eval.specs.Worlds.{world_of}
+use Rattle.fhir_fp_eval.specs.Views.{world_of}
 use Rattle.fhir_fp_eval.specs.Meaning.{den, values_where}
 use Rattle.fhir_fp_eval.proofs.Kept.{in_front, kept_fails, kept_goes, kept_ends}
 use Rattle.fhir_fp_eval.specs.Spines.{steps_of}

@@ -1,7 +1,7 @@
 use Rattle.std.proofs.Common.{◌≡◌, ◌+◌, ◌*◌, drop, length, Ok}
 use Rattle.fhir_fp_syntax.specs.Expression.{expression_of}
 use Rattle.fhir_fp_values.specs.Views.{plain_of, plains_of}
-use Rattle.fhir_fp_eval.specs.Worlds.{world_of}
+use Rattle.fhir_fp_eval.specs.Views.{world_of}
 use Rattle.fhir_fp_eval.specs.Meaning.{values_where, den}
 use Rattle.fhir_fp_eval.specs.Spines.{steps_of}
 use Rattle.fhir_fp_eval.proofs.Kept.{in_front}

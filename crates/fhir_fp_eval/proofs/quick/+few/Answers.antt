@@ -1,7 +1,7 @@
 use Rattle.fhir_instance.specs.View.{item_of}
 use Rattle.fhir_fp_syntax.specs.Expression.{expression_of}
 use Rattle.fhir_fp_values.specs.Values.{node}
-use Rattle.fhir_fp_eval.specs.Worlds.{world_of}
+use Rattle.fhir_fp_eval.specs.Views.{world_of}
 use Rattle.fhir_fp_eval.proofs.Visits.{operated_told}
 use Rattle.fhir_fp_eval.proofs.quick.+few.Goals as goal
 

@@ -2,7 +2,7 @@ use Rattle.std.proofs.Common.{◌≡◌}
 use Rattle.fhir_instance.specs.View.{item_of}
 use Rattle.fhir_fp_syntax.specs.Expression.{expression_of}
 use Rattle.fhir_fp_values.specs.Values.{node}
-use Rattle.fhir_fp_eval.specs.Worlds.{world_of}
+use Rattle.fhir_fp_eval.specs.Views.{world_of}
 use Rattle.fhir_fp_eval.specs.Meaning.{den}
 use Rattle.fhir_fp_eval.specs.Paths.{steps_in, then_steps}
 use Rattle.fhir_fp_eval.proofs.paths.Path.of.Given as goal

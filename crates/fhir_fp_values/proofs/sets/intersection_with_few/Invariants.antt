@@ -1,8 +1,8 @@
 use Rattle.std.proofs.Common.{◌≡◌, drop, []}
 use Rattle.fhir_fp_values.specs.Views.{plains_of}
 use Rattle.fhir_fp_values.specs.Sets.{shared}
-use Rattle.fhir_fp_values.proofs.sets.intersection.Given as goal
+use Rattle.fhir_fp_values.proofs.sets.intersection_with_few.Given as goal
 
 abbrev pub invariant-loop-value : goal.invariant-loop-value
 invariant-loop-value l =
-    shared (plains_of l.right) (plains_of l.out.items) (plains_of (drop l.value-index l.left)) ≡ shared (plains_of l.right) [] (plains_of l.left)
+    shared (plains_of l.right) (plains_of l.seen.items) (plains_of (drop l.value-index l.left)) ≡ shared (plains_of l.right) [] (plains_of l.left)
