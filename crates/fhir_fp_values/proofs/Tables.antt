@@ -17,7 +17,7 @@ use Rattle.fhir_fp_values.specs.Tables.{held, of_key, Holds}
 use Rattle.fhir_fp_values.proofs.OneKey.{alike_one}
 
 -- of another key, values aren't equal
-not_alike : (y x : Plain) → bytes_eq (key_of x) (key_of y) ≡ false → is_yes (alike y x) ≡ false
+pub not_alike : (y x : Plain) → bytes_eq (key_of x) (key_of y) ≡ false → is_yes (alike y x) ≡ false
 not_alike y x other = go (alike y x) refl
   where
     go : (r : Kleene) → alike y x ≡ r → is_yes r ≡ false

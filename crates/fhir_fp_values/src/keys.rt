@@ -77,6 +77,7 @@ fn push_parts(alloc: Global, key: &mut String, item: &Typed<'_, '_>) -> Result<(
 }
 
 #[cycle(keys)]
+#[tactic(auto, using(crate::proofs::OneKey::sorted_keys))]
 fn push_kids(alloc: Global, key: &mut String, kids: &[Kid<'_, '_>]) -> Result<(), AllocError>
     ensures { OnOk result (string_bytes key.new ≡ string_bytes key.old
         ++ written (in_order (keyed_kids (kids_in (named_in kids.now))))) }

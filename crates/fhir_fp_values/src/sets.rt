@@ -192,6 +192,7 @@ pub fn intersection<'e, 'a, 'j>(
 }
 
 // Whether a value that has the key is equal to another.
+#[tactic(auto, using(crate::proofs::Tables::not_alike))]
 fn is_alike_by_key(
     alloc: Global,
     key: &str,
@@ -202,7 +203,7 @@ fn is_alike_by_key(
         → r ≡ is_yes (alike (plain_of other.entry) (plain_of value.entry))) }
 {
     let other_key = key_of(alloc, other)?;
-    if other_key.as_str() == key {
+    if key == other_key.as_str() {
         Ok(is_yes(alike(alloc, other, value)?))
     } else {
         Ok(false)

@@ -58,6 +58,7 @@ impl<'e, 'a, 'j> Table<'e, 'a, 'j> {
     }
 
     /// Whether an equal value is in the table. The one refusal is want of memory.
+    #[tactic(auto, using(crate::proofs::Tables::has_held))]
     pub(crate) fn has(&self, alloc: Global, value: Value<'_, '_, '_>) -> Result<bool, NoMemory>
         ensures { IfOk result (λ r. (vs : List Value) → Holds self.now vs
             → r ≡ has (plains_of vs) (plain_of value.entry)) }
@@ -67,6 +68,7 @@ impl<'e, 'a, 'j> Table<'e, 'a, 'j> {
     }
 
     /// Puts a value into the table, and says so, unless an equal one is there. The one refusal is want of memory.
+    #[tactic(auto, using(crate::proofs::Tables::has_held, crate::proofs::Tables::holds_more))]
     pub(crate) fn add(&mut self, alloc: Global, value: Value<'e, 'a, 'j>) -> Result<bool, NoMemory>
         ensures new { IfOk result (λ is_new. (vs : List Value) → Holds self.old vs
             → is_new ≡ not (has (plains_of vs) (plain_of value.entry))) }
@@ -82,6 +84,7 @@ impl<'e, 'a, 'j> Table<'e, 'a, 'j> {
     }
 
     // Puts a value into the table.
+    #[tactic(auto, using(crate::proofs::Tables::holds_more))]
     fn put_value(&mut self, alloc: Global, value: Value<'e, 'a, 'j>) -> Result<(), NoMemory>
         ensures { OnOk result ((vs : List Value) → Holds self.old vs
             → Holds self.new (vs ++ value.entry ∷ [])) }
