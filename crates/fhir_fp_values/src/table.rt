@@ -33,7 +33,7 @@ impl<'e, 'a, 'j> Table<'e, 'a, 'j> {
     // Puts a value behind those of its key.
     fn put(&mut self, alloc: Global, key: String, value: Value<'e, 'a, 'j>) -> Result<(), NoMemory>
         ensures { OnOk result ((other : List ℕ) → held self.new other
-            ≡ (if bytes_eq other (string_bytes key.entry) then held self.old other ++ value.entry ∷ []
+            ≡ (if bytes_eq other (string_bytes key) then held self.old other ++ value.entry ∷ []
             else held self.old other)) }
     {
         self.values
