@@ -43,6 +43,7 @@ ghost use Rattle.fhir_fp_syntax.specs.Expression.{expression_of};
 ghost use Rattle.fhir_fp_syntax.specs.Reading.{expression_in};
 ghost use Rattle.fhir_fp_eval.specs.Meaning.{is_true};
 ghost use Rattle.fhir_facets.specs.Seen.{Seen};
+ghost use Rattle.fhir_facets.specs.Targets.{targets_narrower};
 ghost use Rattle.fhir_facets.specs.Values.{pattern_holds};
 ghost use Rattle.fhir_slicing.specs.Belonging.{belongs};
 ghost use Rattle.fhir_conformance.specs.Asks.{asks};
@@ -89,7 +90,7 @@ use fhir_definition::Definition;
 use fhir_demands::{Demand, below};
 use fhir_derive_check::{DeriveFault, Outcome, derive};
 use fhir_differences::{Difference, differences};
-use fhir_elements::{ElementDef, ElementFault};
+use fhir_elements::{ElementDef, ElementFault, TypeEntry};
 use fhir_entail::entails;
 use fhir_facets::{Facet, Pattern, narrower_holds};
 use fhir_findings::Selection;
@@ -115,6 +116,7 @@ use fhir_report::Subject;
 use fhir_schema::{NodeRef, Schema, Slot};
 use fhir_slicing::belongs;
 use fhir_snapshot::{SnapFault, generate};
+use fhir_targets::targets_narrower;
 use fhir_validator::{Fault, validate};
 use fhir_vouching::{Spelled, Vouching};
 use fhir_words::{Detail, Format, Invocation, Manner, Task, WordsFault, task_of};
@@ -323,6 +325,18 @@ pub fn asks_for_all(pattern: &Json<'static>, other: &Json<'static>) -> bool
 {
     narrower_holds();
     Pattern(pattern).narrower(&Pattern(other))
+}
+
+/// Whether references of a type entry may lead wherever those of another may.
+pub fn leads_as_far(
+    alloc: Global,
+    schema: &Schema,
+    entry: &TypeEntry,
+    other: &TypeEntry,
+) -> Result<bool, NoMemory>
+    ensures { Gives (λ b. b) result (targets_narrower schema.now other.now entry.now) }
+{
+    targets_narrower(alloc, schema, other, entry)
 }
 
 /// Whether an item belongs to the slice that a node is.

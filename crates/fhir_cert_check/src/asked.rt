@@ -54,11 +54,11 @@ struct OwnEntry<'s> {
 }
 
 impl OwnEntry<'_> {
-    fn put_profile(&self, asked: &mut Vec<Pair>, own: &str, base: &TypeEntry) -> Done
+    fn put_profile(&self, alloc: Global, asked: &mut Vec<Pair>, own: &str, base: &TypeEntry) -> Done
         ensures { OnOk result (asked.new.items ≡ asked.old.items
             ++ profile_asked self.now.schema.now self.now.entry.now own.now base.now) }
     {
-        if !code_answers(self.schema, self.entry, base) {
+        if !code_answers(alloc, self.schema, self.entry, base)? {
             return Ok(());
         }
         for profile in base.profiles() {
@@ -67,22 +67,22 @@ impl OwnEntry<'_> {
         Ok(())
     }
 
-    fn put_own(&self, asked: &mut Vec<Pair>, own: &str, bases: &[TypeEntry]) -> Done
+    fn put_own(&self, alloc: Global, asked: &mut Vec<Pair>, own: &str, bases: &[TypeEntry]) -> Done
         ensures { OnOk result (asked.new.items ≡ asked.old.items
             ++ flat_map (profile_asked self.now.schema.now self.now.entry.now own.now) bases.now) }
     {
         for base in bases {
-            self.put_profile(asked, own, base)?;
+            self.put_profile(alloc, asked, own, base)?;
         }
         Ok(())
     }
 
-    fn put_profiles(&self, asked: &mut Vec<Pair>, bases: &[TypeEntry]) -> Done
+    fn put_profiles(&self, alloc: Global, asked: &mut Vec<Pair>, bases: &[TypeEntry]) -> Done
         ensures { OnOk result (asked.new.items ≡ asked.old.items
             ++ entry_asked self.now.schema.now bases.now self.now.entry.now) }
     {
         for own in self.entry.profiles() {
-            self.put_own(asked, own.as_str(), bases)?;
+            self.put_own(alloc, asked, own.as_str(), bases)?;
         }
         Ok(())
     }
@@ -130,11 +130,11 @@ impl OwnEntry<'_> {
     }
 }
 
-fn put_types(asked: &mut Vec<Pair>, schema: &Schema, nodes: NodePair) -> Done
+fn put_types(alloc: Global, asked: &mut Vec<Pair>, schema: &Schema, nodes: NodePair) -> Done
     ensures { OnOk result (asked.new.items ≡ asked.old.items ++ types_asked schema.now nodes.derived nodes.base) }
 {
     for entry in schema.types(nodes.derived) {
-        OwnEntry { schema, entry }.put_profiles(asked, schema.types(nodes.base))?;
+        OwnEntry { schema, entry }.put_profiles(alloc, asked, schema.types(nodes.base))?;
     }
     Ok(())
 }
@@ -207,7 +207,7 @@ pub fn asked_for(alloc: Global, schema: &Schema, pair: Pair) -> Result<Vec<Pair>
     let mut asked = Vec::new(alloc);
     match pair {
         Pair::Item(nodes) => {
-            put_types(&mut asked, schema, nodes)?;
+            put_types(alloc, &mut asked, schema, nodes)?;
             put_children(&mut asked, schema, nodes)?;
         }
         Pair::Kids(nodes) => put_slots(&mut asked, schema, nodes)?,

@@ -23,20 +23,11 @@ use crate::pair_set::PairSet;
 use crate::rule::Rule;
 use fhir_certificate::{NodePair, Pair};
 use fhir_elements::{ElementDef, TypeEntry};
-use fhir_facets::{Binding, Facet, Fixed, Length, Pattern, Range, Targets, fixed_fits};
+use fhir_facets::{Binding, Facet, Fixed, Length, Pattern, Range, fixed_fits};
 use fhir_json::NoMemory;
 use fhir_schema::{NodeRef, Schema};
+use fhir_targets::targets_narrower;
 use std::alloc::Global;
-
-fn targets_answer(schema: &Schema, entry: &TypeEntry, base: &TypeEntry) -> bool
-    ensures { result ≡ targets_narrower schema.now entry.now base.now }
-{
-    let own = Targets { schema, entry };
-    own.narrower(&Targets {
-        schema,
-        entry: base,
-    })
-}
 
 fn are_paired(schema: &Schema, pairs: &PairSet, own: &str, base: &str) -> bool
     ensures { result ≡ option_map_or (λ n. option_map_or (has_item_pair (has_pair pairs.now) n) (loaded schema.now base.now) false)
@@ -85,32 +76,69 @@ fn profiles_answer(schema: &Schema, pairs: &PairSet, own: &[String], bases: &[St
 }
 
 /// Whether a type entry is of a type that the base's allows, with targets that it allows.
-pub(crate) fn code_answers(schema: &Schema, entry: &TypeEntry, base: &TypeEntry) -> bool
-    ensures { result ≡ (covers schema.now base.now.code entry.now.code && targets_narrower schema.now entry.now base.now) }
+pub(crate) fn code_answers(
+    alloc: Global,
+    schema: &Schema,
+    entry: &TypeEntry,
+    base: &TypeEntry,
+) -> Result<bool, NoMemory>
+    ensures { Gives (λ b. b) result
+        (covers schema.now base.now.code entry.now.code && targets_narrower schema.now entry.now base.now) }
 {
-    schema.covers(base.code(), entry.code()) && targets_answer(schema, entry, base)
+    if schema.covers(base.code(), entry.code()) {
+        targets_narrower(alloc, schema, entry, base)
+    } else {
+        Ok(false)
+    }
 }
 
-fn entry_answers(schema: &Schema, pairs: &PairSet, entry: &TypeEntry, base: &TypeEntry) -> bool
-    ensures { result ≡ entry_answers (has_pair pairs.now) schema.now entry.now base.now }
+fn entry_answers(
+    alloc: Global,
+    schema: &Schema,
+    pairs: &PairSet,
+    entry: &TypeEntry,
+    base: &TypeEntry,
+) -> Result<bool, NoMemory>
+    ensures { Gives (λ b. b) result (entry_answers (has_pair pairs.now) schema.now entry.now base.now) }
 {
-    code_answers(schema, entry, base)
-        && profiles_answer(schema, pairs, entry.profiles(), base.profiles())
+    if !code_answers(alloc, schema, entry, base)? {
+        return Ok(false);
+    }
+    Ok(profiles_answer(schema, pairs, entry.profiles(), base.profiles()))
 }
 
-fn answers_one(schema: &Schema, pairs: &PairSet, entry: &TypeEntry, bases: &[TypeEntry]) -> bool
-    ensures { result ≡ list_any (λ base. entry_answers (has_pair pairs.now) schema.now entry.now base) bases.now }
+fn answers_one(
+    alloc: Global,
+    schema: &Schema,
+    pairs: &PairSet,
+    entry: &TypeEntry,
+    bases: &[TypeEntry],
+) -> Result<bool, NoMemory>
+    ensures { Gives (λ b. b) result (list_any (λ base. entry_answers (has_pair pairs.now) schema.now entry.now base) bases.now) }
 {
-    bases
-        .iter()
-        .any(|base| entry_answers(schema, pairs, entry, base))
+    for base in bases {
+        if entry_answers(alloc, schema, pairs, entry, base)? {
+            return Ok(true);
+        }
+    }
+    Ok(false)
 }
 
-fn each_answers(schema: &Schema, pairs: &PairSet, owns: &[TypeEntry], bases: &[TypeEntry]) -> bool
-    ensures { result ≡ each_answers (entry_answers (has_pair pairs.now) schema.now) owns.now bases.now }
+fn each_answers(
+    alloc: Global,
+    schema: &Schema,
+    pairs: &PairSet,
+    owns: &[TypeEntry],
+    bases: &[TypeEntry],
+) -> Result<bool, NoMemory>
+    ensures { Gives (λ b. b) result (each_answers (entry_answers (has_pair pairs.now) schema.now) owns.now bases.now) }
 {
-    owns.iter()
-        .all(|entry| answers_one(schema, pairs, entry, bases))
+    for entry in owns {
+        if !answers_one(alloc, schema, pairs, entry, bases)? {
+            return Ok(false);
+        }
+    }
+    Ok(true)
 }
 
 fn is_untyped(schema: &Schema, node: NodeRef) -> bool
@@ -119,11 +147,22 @@ fn is_untyped(schema: &Schema, node: NodeRef) -> bool
     schema.types(node).is_empty()
 }
 
-fn types_answer(schema: &Schema, pairs: &PairSet, n: NodeRef, m: NodeRef) -> bool
-    ensures { result ≡ types_answer (has_pair pairs.now) schema.now n m }
+fn types_answer(
+    alloc: Global,
+    schema: &Schema,
+    pairs: &PairSet,
+    n: NodeRef,
+    m: NodeRef,
+) -> Result<bool, NoMemory>
+    ensures { Gives (λ b. b) result (types_answer (has_pair pairs.now) schema.now n m) }
 {
-    is_untyped(schema, m)
-        || (!is_untyped(schema, n) && each_answers(schema, pairs, schema.types(n), schema.types(m)))
+    if is_untyped(schema, m) {
+        return Ok(true);
+    }
+    if is_untyped(schema, n) {
+        return Ok(false);
+    }
+    each_answers(alloc, schema, pairs, schema.types(n), schema.types(m))
 }
 
 fn roots_answer(schema: &Schema, n: NodeRef, m: NodeRef) -> bool
@@ -132,14 +171,22 @@ fn roots_answer(schema: &Schema, n: NodeRef, m: NodeRef) -> bool
     schema.is_root(m) && schema.covers(schema.type_code(m), schema.type_code(n))
 }
 
-fn type_answers(schema: &Schema, pairs: &PairSet, n: NodeRef, m: NodeRef) -> bool
-    ensures { result ≡ type_answers (has_pair pairs.now) schema.now n m }
+fn type_answers(
+    alloc: Global,
+    schema: &Schema,
+    pairs: &PairSet,
+    n: NodeRef,
+    m: NodeRef,
+) -> Result<bool, NoMemory>
+    ensures { Gives (λ b. b) result (type_answers (has_pair pairs.now) schema.now n m) }
 {
     if schema.is_root(n) {
-        roots_answer(schema, n, m)
-    } else {
-        !schema.is_root(m) && types_answer(schema, pairs, n, m)
+        return Ok(roots_answer(schema, n, m));
     }
+    if schema.is_root(m) {
+        return Ok(false);
+    }
+    types_answer(alloc, schema, pairs, n, m)
 }
 
 fn fixed_answers(own: &ElementDef, base: &ElementDef) -> bool
@@ -317,7 +364,8 @@ pub(crate) fn item_failing<'s>(
 ) -> Result<Option<Rule<'s>>, NoMemory>
     ensures { Gives (option_map rule_name) result (first_of (item_rules (has_pair pairs.now) schema.now n m)) }
 {
-    if !type_answers(schema, pairs, n, m) {
+    let is_typed = type_answers(alloc, schema, pairs, n, m)?;
+    if !is_typed {
         return Ok(Some(Rule::TypeCode));
     }
     if let Some(rule) = facet_failing(schema, n, m) {

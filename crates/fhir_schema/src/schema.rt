@@ -9,7 +9,7 @@ ghost use Rattle.fhir_json.specs.Views.{text_seen};
 ghost use Rattle.fhir_schema.specs.Versions.{can_be_used, stated_version, version_at, version};
 ghost use Rattle.fhir_elements.specs.Causes.{blamed_reason, is_blame_among};
 ghost use Rattle.fhir_definition.specs.Blames.{AreBlamesAmong};
-ghost use Rattle.fhir_schema.specs.Settling.{reason_at, all_reasons};
+ghost use Rattle.fhir_schema.specs.Settling.{reason_at, all_reasons, base_of_place};
 ghost use Rattle.fhir_schema.specs.Blaming.{reasons_of};
 ghost use Rattle.fhir_nodes.specs.Slots.{all_slots, all_slices};
 ghost use Rattle.fhir_nodes.specs.Expressions.{all_expressions};
@@ -28,7 +28,7 @@ ghost use Rattle.fhir_schema.specs.Covers.{type_at, covers, derives};
 use crate::covering::{covers, derives};
 use crate::lineage::Lineage;
 use crate::settling::all_blames;
-use crate::types::blame_at;
+use crate::types::{base_place, blame_at};
 use fhir_codes::{ConceptSet, ValueSets};
 use fhir_definition::Definition;
 use fhir_elements::{Blame, ElementDef, Reason, TypeEntry};
@@ -197,6 +197,17 @@ impl Schema {
         ensures { result ≡ type_place self.now.definitions code.now }
     {
         self.table.type_place(code)
+    }
+
+    /// The place of the definition on which the one at a place is based (FHIR R4, StructureDefinition, baseDefinition), if
+    /// both are there. It may be one that can't be used.
+    pub fn base_of_place(&self, place: usize) -> Option<usize>
+        ensures { result ≡ base_of_place self.now.definitions place }
+    {
+        match self.table.definition(place) {
+            Some(definition) => base_place(&self.table, definition),
+            None => None,
+        }
     }
 
     /// Why the definition at a place can't be used, if there is one that can't.

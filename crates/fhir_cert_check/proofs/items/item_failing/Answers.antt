@@ -20,7 +20,7 @@ returns-in-Some c =
     let m = c.args.m in
     let facets = facet_rules s n m in
     let below = constraint_rules s n m ++ (children_answer (has_pair c.args.pairs.now) s n m, children) ∷ [] in
-    sym (first_holds (type_answers (has_pair c.args.pairs.now) s n m) type (facets ++ below) (sym c.type_answers.ensures ∙ c.if-not-type_answers.false)
+    sym (first_holds (type_answers (has_pair c.args.pairs.now) s n m) type (facets ++ below) (sym c.in_ok-is_typed.ensures ∙ c.if-not-is_typed.false)
     ∙ first_before facets below (rule_name c.in-Some.rule) (sym c.in-Some.ensures))
 
 pub returns-in-Some-2 : goal.returns-in-Some-2
@@ -30,7 +30,7 @@ returns-in-Some-2 c =
     let m = c.args.m in
     let below : List (Bool × RuleName) = (children_answer (has_pair c.args.pairs.now) s n m, children) ∷ [] in
     let no_facet : c.facet_failing.result ≡ None = grind arith in
-    sym (behind (type_answers (has_pair c.args.pairs.now) s n m) (facet_rules s n m) (constraint_rules s n m ++ below) (sym c.type_answers.ensures ∙ c.if-not-type_answers.false)
+    sym (behind (type_answers (has_pair c.args.pairs.now) s n m) (facet_rules s n m) (constraint_rules s n m ++ below) (sym c.in_ok-is_typed.ensures ∙ c.if-not-is_typed.false)
     (sym c.facet_failing.ensures ∙ ap (option_map rule_name) no_facet)
     ∙ first_before (constraint_rules s n m) below (rule_name c.in-Some-2.rule) (sym c.in_ok-rule.ensures ∙ ap (option_map rule_name) c.in-Some-2.is))
 
@@ -43,7 +43,7 @@ returns-then-not-children_answer c =
     let below : List (Bool × RuleName) = (answer, children) ∷ [] in
     let no_facet : c.facet_failing.result ≡ None = grind arith in
     let no_constraint : c.in_ok-rule.field-0 ≡ None = grind arith in
-    sym (behind (type_answers (has_pair c.args.pairs.now) s n m) (facet_rules s n m) (constraint_rules s n m ++ below) (sym c.type_answers.ensures ∙ c.if-not-type_answers.false)
+    sym (behind (type_answers (has_pair c.args.pairs.now) s n m) (facet_rules s n m) (constraint_rules s n m ++ below) (sym c.in_ok-is_typed.ensures ∙ c.if-not-is_typed.false)
     (sym c.facet_failing.ensures ∙ ap (option_map rule_name) no_facet)
     ∙ first_behind (constraint_rules s n m) below (sym c.in_ok-rule.ensures ∙ ap (option_map rule_name) no_constraint)
     ∙ first_fails answer children [] (sym c.children_answer.ensures ∙ c.if-not-children_answer.true))
@@ -57,7 +57,7 @@ returns c =
     let below : List (Bool × RuleName) = (answer, children) ∷ [] in
     let no_facet : c.facet_failing.result ≡ None = grind arith in
     let no_constraint : c.in_ok-rule.field-0 ≡ None = grind arith in
-    sym (behind (type_answers (has_pair c.args.pairs.now) s n m) (facet_rules s n m) (constraint_rules s n m ++ below) (sym c.type_answers.ensures ∙ c.if-not-type_answers.false)
+    sym (behind (type_answers (has_pair c.args.pairs.now) s n m) (facet_rules s n m) (constraint_rules s n m ++ below) (sym c.in_ok-is_typed.ensures ∙ c.if-not-is_typed.false)
     (sym c.facet_failing.ensures ∙ ap (option_map rule_name) no_facet)
     ∙ first_behind (constraint_rules s n m) below (sym c.in_ok-rule.ensures ∙ ap (option_map rule_name) no_constraint)
     ∙ first_holds answer children [] (sym c.children_answer.ensures ∙ c.if-not-children_answer.false))

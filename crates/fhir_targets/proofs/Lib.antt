@@ -1,0 +1,5 @@
+mod Taking
+mod Sets
+mod Climbing
+mod Reaching
+mod Covered
