@@ -25,7 +25,7 @@ is_equality operators.Equal = true
 is_equality operators.NotEqual = true
 is_equality op = false
 
--- `|` and `intersect`, which take any lists (sections 6.3 and 5.3)
+-- `|` and `intersect`, which take any lists (sections 6.4 and 5.3)
 abbrev pub joins_lists : Operator → Bool
 joins_lists operators.Union = true
 joins_lists operators.Intersect = true

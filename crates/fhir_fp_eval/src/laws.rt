@@ -22,7 +22,7 @@ ghost use Rattle.fhir_fp_eval.specs.Meaning.{den, criteria_hold, verdict, is_tru
 ghost use Rattle.fhir_fp_eval.specs.Example.{is, none, table, truths, given_by};
 
 /// The truth tables of `and`, `or`, `xor` and `implies`, whose rows and columns are `true`, `false` and `{}`, and `not()`
-/// of these (FHIRPath N1, sections 6.5 and 6.3).
+/// of these (FHIRPath N1, section 6.5).
 pub fn truth_tables()
     ensures and { table And ≡ (is true ∷ is false ∷ none ∷ []) ∷ (is false ∷ is false ∷ is false ∷ [])
         ∷ (none ∷ is false ∷ none ∷ []) ∷ [] }
