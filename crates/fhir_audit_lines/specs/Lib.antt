@@ -3,4 +3,6 @@ pub mod Naming
 pub mod Counting
 pub mod Telling
 pub mod Trees
+pub mod Held
+pub mod Urls
 pub mod Report

@@ -1,18 +1,26 @@
 //! What is told of certificates that were made before.
 
-ghost use Rattle.std.specs.Prelude.{◌≡◌};
+ghost use Rattle.std.specs.Prelude.{◌≡◌, ◌∷◌, ◌++◌, [], map, codes, string_bytes, Some, IfOk};
 ghost use Rattle.std.specs.List.{list_all};
+ghost use Rattle.fhir_json.specs.Tree.{Text, string};
+ghost use Rattle.fhir_json.specs.Views.{property_of};
+ghost use Rattle.fhir_certificate.specs.Faults.{cert_number};
+ghost use Rattle.fhir_cert_check.specs.Views.{rule_name};
 ghost use Rattle.fhir_audit.specs.Standing.{standing_seen, is_holding};
+ghost use Rattle.fhir_audit.specs.Views.{all_audited};
+ghost use Rattle.fhir_lines.specs.Each.{AreOnEach};
+ghost use Rattle.fhir_audit_lines.specs.Telling.{under, failing_line};
+ghost use Rattle.fhir_audit_lines.specs.Held.{held_seen, held_line, failing_members, IsHeldText, IsHeldTree, AreOnFile, AreOnCertificates};
 
 use crate::texts::{failing_line, words_line};
 use crate::trees::put_failing;
+use crate::without::push_without;
 use fhir_audit::{Audited, Held, Standing};
-use fhir_audit_words::Sources;
 use fhir_cert_check::Rule;
-use fhir_certificate::Pair;
+use fhir_certificate::{CertFault, Pair};
 use fhir_json::NoMemory;
-use fhir_lines::{Members, object_text, put_text};
-use fhir_names::Index;
+use fhir_lines::{Members, object_text, push_texts, put_all, put_text};
+use fhir_schema::Schema;
 use fhir_words::Format;
 use std::alloc::{AllocError, Global};
 
@@ -43,184 +51,171 @@ pub fn are_holding(files: &[HeldFile<'_>]) -> bool
 
 // ---- a certificate
 
-// That a pair fails a rule, with what both elements say.
-fn push_failing(
+fn alone(alloc: Global, line: String) -> Result<Vec<String>, AllocError>
+    ensures { IfOk result (λ ls. map string_bytes ls.items ≡ string_bytes line ∷ []) }
+{
+    let mut lines: Vec<String> = Vec::new(alloc);
+    lines.push(line)?;
+    Ok(lines)
+}
+
+// That a pair fails a rule, and what both elements say.
+fn failing_text(
     alloc: Global,
-    sources: Sources<'_, '_>,
+    schema: &Schema,
     name: &str,
     pair: Pair,
     rule: Rule<'_>,
-    into: &mut Vec<String>,
-) -> Result<(), NoMemory> {
+) -> Result<Vec<String>, NoMemory>
+    ensures { IfOk result (λ ls. (words : Text) × (map string_bytes ls.items
+        ≡ failing_line schema.now (name.now ++ codes ": no longer holds") pair (rule_name rule.entry) ∷ under [] words ∷ [])) }
+{
+    let mut lines: Vec<String> = Vec::new(alloc);
     let front = format!(in alloc; "{name}: no longer holds")?;
-    let line = failing_line(alloc, sources.schema, front.as_str(), pair, rule)?;
-    let words = words_line(alloc, sources.schema, pair, rule)?;
-    into.push(line)?;
-    into.push(words)?;
-    Ok(())
+    let line = failing_line(alloc, schema, front.as_str(), pair, rule)?;
+    let words = words_line(alloc, schema, pair, rule)?;
+    lines.push(line)?;
+    lines.push(words)?;
+    Ok(lines)
 }
 
-fn push_text(
+fn faulty_line(alloc: Global, name: &str, fault: CertFault) -> Result<String, AllocError>
+    ensures { IfOk result (λ line. string_bytes line ≡ name.now ++ codes ": is no certificate here: " ++ cert_number fault) }
+{
+    let number = fault.number();
+    format!(in alloc; "{name}: is no certificate here: {number}")
+}
+
+fn gone_line(alloc: Global, name: &str, url: &str) -> Result<String, AllocError>
+    ensures { IfOk result (λ line. string_bytes line ≡ name.now ++ codes ": its profile is gone: " ++ url.now) }
+{
+    format!(in alloc; "{name}: its profile is gone: {url}")
+}
+
+fn held_text(
     alloc: Global,
-    sources: Sources<'_, '_>,
+    schema: &Schema,
     file: &HeldFile<'_>,
-    into: &mut Vec<String>,
-) -> Result<(), NoMemory> {
+) -> Result<Vec<String>, NoMemory>
+    ensures { IfOk result (λ ls. IsHeldText schema.now (string_bytes file.now.name) (standing_seen file.now.held.standing) (map string_bytes ls.items)) }
+{
     let name = file.name.as_str();
     match &file.held.standing {
-        Standing::Holds => Ok(()),
-        Standing::Fails(pair, rule) => push_failing(alloc, sources, name, *pair, *rule, into),
-        Standing::IsFaulty(fault) => {
-            let number = fault.number();
-            Ok(into.push(format!(in alloc; "{name}: is no certificate here: {number}")?)?)
-        }
-        Standing::IsGone(url) => {
-            let url = url.as_str();
-            Ok(into.push(format!(in alloc; "{name}: its profile is gone: {url}")?)?)
-        }
+        Standing::Holds => Ok(Vec::new(alloc)),
+        Standing::Fails(pair, rule) => failing_text(alloc, schema, name, *pair, *rule),
+        Standing::IsFaulty(fault) => Ok(alone(alloc, faulty_line(alloc, name, *fault)?)?),
+        Standing::IsGone(url) => Ok(alone(alloc, gone_line(alloc, name, url.as_str())?)?),
     }
 }
 
-fn members_of<'m>(
+// The line that spells an object: the file's name, what is said of it, and more.
+fn held_line<'m>(
     alloc: Global,
-    sources: Sources<'_, '_>,
-    file: &'m HeldFile<'_>,
-) -> Result<Members<'m>, NoMemory> {
+    name: &'m str,
+    verdict: &'static str,
+    more: Members<'m>,
+) -> Result<Vec<String>, NoMemory>
+    ensures { IfOk result (λ ls. map string_bytes ls.items ≡ held_line name.now verdict.now (map property_of more.items) ∷ []) }
+{
     let mut members: Members<'m> = Vec::new(alloc);
-    put_text("certificate", file.name.as_str(), &mut members)?;
+    put_text("certificate", name, &mut members)?;
+    put_text("verdict", verdict, &mut members)?;
+    put_all(more, &mut members)?;
+    let line = object_text(alloc, members)?;
+    Ok(alone(alloc, line)?)
+}
+
+fn failing_tree(
+    alloc: Global,
+    schema: &Schema,
+    name: &str,
+    pair: Pair,
+    rule: Rule<'_>,
+) -> Result<Vec<String>, NoMemory>
+    ensures { IfOk result (λ ls. (words : Text) × (map string_bytes ls.items
+        ≡ held_line name.now (codes "no longer holds") (failing_members schema.now pair (rule_name rule.entry) words) ∷ [])) }
+{
+    let mut more: Members<'_> = Vec::new(alloc);
+    put_failing(alloc, schema, pair, rule, &mut more)?;
+    let lines = held_line(alloc, name, "no longer holds", more)?;
+    Ok(lines)
+}
+
+fn faulty_tree(alloc: Global, name: &str, fault: CertFault) -> Result<Vec<String>, NoMemory>
+    ensures { IfOk result (λ ls. map string_bytes ls.items
+        ≡ held_line name.now (codes "is no certificate here") ((codes "number", string (cert_number fault)) ∷ []) ∷ []) }
+{
+    let mut more: Members<'_> = Vec::new(alloc);
+    put_text("number", fault.number(), &mut more)?;
+    held_line(alloc, name, "is no certificate here", more)
+}
+
+fn gone_tree(alloc: Global, name: &str, url: &str) -> Result<Vec<String>, NoMemory>
+    ensures { IfOk result (λ ls. map string_bytes ls.items
+        ≡ held_line name.now (codes "its profile is gone") ((codes "url", string url.now) ∷ []) ∷ []) }
+{
+    let mut more: Members<'_> = Vec::new(alloc);
+    put_text("url", url, &mut more)?;
+    held_line(alloc, name, "its profile is gone", more)
+}
+
+fn held_tree(
+    alloc: Global,
+    schema: &Schema,
+    file: &HeldFile<'_>,
+) -> Result<Vec<String>, NoMemory>
+    ensures { IfOk result (λ ls. IsHeldTree schema.now (string_bytes file.now.name) (standing_seen file.now.held.standing) (map string_bytes ls.items)) }
+{
+    let name = file.name.as_str();
     match &file.held.standing {
-        Standing::Holds => {}
-        Standing::Fails(pair, rule) => {
-            put_text("verdict", "no longer holds", &mut members)?;
-            put_failing(alloc, sources, *pair, *rule, &mut members)?;
-        }
-        Standing::IsFaulty(fault) => {
-            put_text("verdict", "is no certificate here", &mut members)?;
-            put_text("number", fault.number(), &mut members)?;
-        }
-        Standing::IsGone(url) => {
-            put_text("verdict", "its profile is gone", &mut members)?;
-            put_text("url", url.as_str(), &mut members)?;
-        }
+        Standing::Holds => Ok(Vec::new(alloc)),
+        Standing::Fails(pair, rule) => failing_tree(alloc, schema, name, *pair, *rule),
+        Standing::IsFaulty(fault) => faulty_tree(alloc, name, *fault),
+        Standing::IsGone(url) => gone_tree(alloc, name, url.as_str()),
     }
-    Ok(members)
 }
 
-fn push_file(
+fn lines_on(
     alloc: Global,
     format: Format,
-    sources: Sources<'_, '_>,
+    schema: &Schema,
     file: &HeldFile<'_>,
-    into: &mut Vec<String>,
-) -> Result<(), NoMemory> {
+) -> Result<Vec<String>, NoMemory>
+    ensures { IfOk result (λ ls. AreOnFile format schema.now (held_seen file.now) (map string_bytes ls.items)) }
+{
     match format {
-        Format::Text => push_text(alloc, sources, file, into),
-        Format::Json => {
-            let members = members_of(alloc, sources, file)?;
-            Ok(into.push(object_text(alloc, members)?)?)
-        }
+        Format::Text => held_text(alloc, schema, file),
+        Format::Json => held_tree(alloc, schema, file),
     }
 }
 
-fn push_bad(
+fn lines_on_files(
     alloc: Global,
     format: Format,
-    sources: Sources<'_, '_>,
-    file: &HeldFile<'_>,
-    into: &mut Vec<String>,
-) -> Result<(), NoMemory> {
-    if is_holding(file) {
-        Ok(())
-    } else {
-        push_file(alloc, format, sources, file, into)
+    schema: &Schema,
+    files: &[HeldFile<'_>],
+) -> Result<Vec<String>, NoMemory>
+    ensures { IfOk result (λ ls. AreOnEach (AreOnFile format schema.now) (map held_seen files.now) (map string_bytes ls.items)) }
+{
+    let mut lines: Vec<String> = Vec::new(alloc);
+    for file in files {
+        let own = lines_on(alloc, format, schema, file)?;
+        push_texts(own, &mut lines)?;
     }
+    Ok(lines)
 }
 
-// ---- profiles without one
-
-// A profile and a base in one text: no url of a certificate has a line feed.
-fn key_of(alloc: Global, derived: &str, base: &str) -> Result<String, AllocError> {
-    format!(in alloc; "{derived}\n{base}")
-}
-
-fn put_file(
-    alloc: Global,
-    file: &HeldFile<'_>,
-    place: usize,
-    named: &mut Index,
-) -> Result<(), NoMemory> {
-    match &file.held.profiles {
-        Some((derived, base)) => {
-            let key = key_of(alloc, derived.as_str(), base.as_str())?;
-            Ok(named.add(alloc, key.as_str(), place)?)
-        }
-        None => Ok(()),
-    }
-}
-
-// The profiles of which certificates say that they narrow a base, each with the bases.
-fn named_in(alloc: Global, files: &[HeldFile<'_>]) -> Result<Index, NoMemory> {
-    let mut named = Index::new(alloc);
-    for (place, file) in files.iter().enumerate() {
-        put_file(alloc, file, place, &mut named)?;
-    }
-    Ok(named)
-}
-
-fn push_without(
-    alloc: Global,
-    format: Format,
-    url: &str,
-    into: &mut Vec<String>,
-) -> Result<(), NoMemory> {
-    match format {
-        Format::Text => { Ok(into.push(format!(in alloc; "{url}: has no certificate")?)?) }
-        Format::Json => {
-            let mut members = Vec::new(alloc);
-            put_text("url", url, &mut members)?;
-            put_text("verdict", "has no certificate", &mut members)?;
-            Ok(into.push(object_text(alloc, members)?)?)
-        }
-    }
-}
-
-fn has_one(alloc: Global, named: &Index, audited: &Audited<'_>) -> Result<bool, NoMemory> {
-    let Some(base) = audited.base else {
-        return Ok(false);
-    };
-    let key = key_of(alloc, audited.url, base)?;
-    Ok(named.get(key.as_str()).is_some())
-}
-
-fn push_if_without(
-    alloc: Global,
-    format: Format,
-    named: &Index,
-    audited: &Audited<'_>,
-    into: &mut Vec<String>,
-) -> Result<(), NoMemory> {
-    if has_one(alloc, named, audited)? {
-        Ok(())
-    } else {
-        push_without(alloc, format, audited.url, into)
-    }
-}
-
-/// What is told of certificates, and which profiles have none.
+/// What is told of certificates, and which profiles have none. The one refusal is want of memory.
 pub(crate) fn held_lines(
     alloc: Global,
     format: Format,
-    sources: Sources<'_, '_>,
+    schema: &Schema,
     audited: &[Audited<'_>],
     files: &[HeldFile<'_>],
-) -> Result<Vec<String>, NoMemory> {
-    let mut lines: Vec<String> = Vec::new(alloc);
-    for file in files {
-        push_bad(alloc, format, sources, file, &mut lines)?;
-    }
-    let named = named_in(alloc, files)?;
-    for one in audited {
-        push_if_without(alloc, format, &named, one, &mut lines)?;
-    }
+) -> Result<Vec<String>, NoMemory>
+    ensures { IfOk result (λ ls. AreOnCertificates format schema.now (all_audited audited.now) (Some (map held_seen files.now)) (map string_bytes ls.items)) }
+{
+    let mut lines = lines_on_files(alloc, format, schema, files)?;
+    push_without(alloc, format, audited, files, &mut lines)?;
     Ok(lines)
 }

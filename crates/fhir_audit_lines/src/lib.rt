@@ -23,6 +23,7 @@ mod naming;
 mod reporting;
 mod texts;
 mod trees;
+mod without;
 
 pub use held_lines::{HeldFile, are_holding};
 pub use laws::names_differ;

@@ -2,6 +2,7 @@
 
 ghost use Rattle.std.specs.Prelude.{◌≡◌, ◌∷◌, ◌++◌, [], map, string_bytes, IfOk};
 ghost use Rattle.fhir_audit.specs.Views.{audited_seen, all_audited};
+ghost use Rattle.fhir_audit_lines.specs.Held.{files_seen, AreOnCertificates};
 ghost use Rattle.fhir_audit_lines.specs.Report.{IsTold, AreTold, last_line, IsReport};
 
 use crate::counting::counts_text;
@@ -12,6 +13,7 @@ use fhir_audit::Audited;
 use fhir_audit_words::{Sources, counts_of};
 use fhir_json::NoMemory;
 use fhir_lines::{push_texts, text_rows};
+use fhir_schema::Schema;
 use fhir_words::Format;
 use std::alloc::{AllocError, Global};
 
@@ -60,12 +62,14 @@ fn last_line(alloc: Global, format: Format, audited: &[Audited<'_>]) -> Result<S
 fn lines_held(
     alloc: Global,
     format: Format,
-    sources: Sources<'_, '_>,
+    schema: &Schema,
     audited: &[Audited<'_>],
     held: Option<&[HeldFile<'_>]>,
-) -> Result<Vec<String>, NoMemory> {
+) -> Result<Vec<String>, NoMemory>
+    ensures { IfOk result (λ ls. AreOnCertificates format schema.now (all_audited audited.now) (files_seen held.entry) (map string_bytes ls.items)) }
+{
     match held {
-        Some(files) => held_lines(alloc, format, sources, audited, files),
+        Some(files) => held_lines(alloc, format, schema, audited, files),
         None => Ok(Vec::new(alloc)),
     }
 }
@@ -93,10 +97,10 @@ pub fn audit_text<'s, 'f: 's>(
     audited: &[Audited<'s>],
     held: Option<&[HeldFile<'_>]>,
 ) -> Result<String, NoMemory>
-    ensures { IfOk result (λ text. IsReport format sources.entry.schema.now audited.now (string_bytes text)) }
+    ensures { IfOk result (λ text. IsReport format sources.entry.schema.now audited.now (files_seen held.entry) (string_bytes text)) }
 {
     let lines = all_lines(alloc, format, sources, audited)?;
-    let others = lines_held(alloc, format, sources, audited, held)?;
+    let others = lines_held(alloc, format, sources.schema, audited, held)?;
     let last = last_line(alloc, format, audited)?;
     let all = joined(lines, others, last)?;
     let text = text_rows(alloc, all.as_slice())?;

@@ -1,11 +1,13 @@
 //! What is said of a profile, as a JSON object.
 
 ghost use Rattle.std.specs.Prelude.{◌≡◌, ◌++◌, List, map, string_bytes, IfOk, OnOk};
-ghost use Rattle.fhir_json.specs.Tree.{Property};
+ghost use Rattle.fhir_json.specs.Tree.{Text, Property};
 ghost use Rattle.fhir_json.specs.Compact.{compact};
 ghost use Rattle.fhir_json.specs.Views.{property_of};
+ghost use Rattle.fhir_cert_check.specs.Views.{rule_name};
 ghost use Rattle.fhir_audit.specs.Views.{audited_seen};
 ghost use Rattle.fhir_audit_lines.specs.Trees.{first_members, IsToldTree, counts_tree};
+ghost use Rattle.fhir_audit_lines.specs.Held.{failing_members};
 
 use crate::texts::{is_of_resource, pair_count, url_on};
 use fhir_audit::{Audited, Verdict};
@@ -18,21 +20,26 @@ use fhir_lines::{
     Line, Members, object_text, put_all, put_count, put_owned, put_text, put_text_if, put_value,
 };
 use fhir_report::rule_words;
+use fhir_schema::Schema;
 use std::alloc::{AllocError, Global};
 use std::borrow::CowStr;
 
 /// Puts in that a pair fails a rule, with what both elements say.
 pub(crate) fn put_failing(
     alloc: Global,
-    sources: Sources<'_, '_>,
+    schema: &Schema,
     pair: Pair,
     rule: Rule<'_>,
     into: &mut Members<'_>,
-) -> Result<(), NoMemory> {
-    put_owned("pair", pair_text(alloc, sources.schema, pair)?, into)?;
+) -> Result<(), NoMemory>
+    ensures { OnOk result ((words : Text) × (map property_of into.new.items
+        ≡ map property_of into.old.items ++ failing_members schema.now pair (rule_name rule.entry) words)) }
+{
+    put_owned("pair", pair_text(alloc, schema, pair)?, into)?;
     put_owned("rule", rule_text(alloc, rule)?, into)?;
-    let words = rule_words(alloc, sources.schema, pair, rule)?;
-    Ok(put_owned("text", words, into)?)
+    let words = rule_words(alloc, schema, pair, rule)?;
+    put_owned("text", words, into)?;
+    Ok(())
 }
 
 // The resource that bytes are, or where they are none a text.
@@ -109,11 +116,11 @@ fn put_verdict<'m, 's: 'm, 'f: 's>(
             rule,
             resource,
         } => {
-            put_failing(alloc, sources, *pair, *rule, into)?;
+            put_failing(alloc, sources.schema, *pair, *rule, into)?;
             put_resource(alloc, resource, into)
         }
         Verdict::IsNotShown { pair, rule } => {
-            put_failing(alloc, sources, *pair, *rule, into)?;
+            put_failing(alloc, sources.schema, *pair, *rule, into)?;
             Ok(put_not_looked_for(sources, audited.url, into)?)
         }
         Verdict::CannotBeUsed(side) => put_unusable(alloc, sources, audited, *side, into),

@@ -9,6 +9,7 @@ use Rattle.fhir_compare.specs.declared.verdict.Compared.{Compared}
 use Rattle.fhir_compare.specs.Comparing.{Said}
 use Rattle.fhir_compare.specs.Views.{all_said}
 use Rattle.fhir_lines.specs.Lines.{text_rows}
+use Rattle.fhir_lines.specs.Each.{AreOnEach}
 use Rattle.fhir_compare_lines.specs.declared.parts.Part.{Part}
 use Rattle.fhir_compare_lines.specs.Parts.{part_word}
 use Rattle.fhir_compare_lines.specs.Counting.{counts_of, counts_text}
@@ -22,8 +23,7 @@ IsTold AsJson old new s ls = IsToldTree s.0 s.1 ls
 
 -- those on each, in order
 abbrev pub AreTold : Format → (old new : Definitions) → List Said → List Text → Type 0
-AreTold format old new [] ls = ls ≡ []
-AreTold format old new (s ∷ said) ls = (own more : List Text) × (ls ≡ own ++ more) × IsTold format old new s own × AreTold format old new said more
+AreTold format old new said ls = AreOnEach (IsTold format old new) said ls
 
 -- how many types differ, if any do; and last the counts, with the part of a version that has to change
 abbrev pub last_lines : Format → List Compared → (types : ℕ) → Part → List Text

@@ -1,2 +1,3 @@
 -- Lemmas on lines.
 pub mod Shown
+pub mod OnEach

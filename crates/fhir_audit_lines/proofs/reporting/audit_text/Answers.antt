@@ -12,6 +12,7 @@ returns c =
       on_profiles = on_profiles;
       are_told = c.in_ok-lines.ensures;
       on_certificates = others;
+      are_held = c.in_ok-others.ensures;
       written =
           all_told (string_bytes c.in_ok-text.text) all on_profiles others (string_bytes c.in_ok-last.last) (last_line c.args.format c.args.audited.now)
           (rw c.as_slice.ensures.value at c.in_ok-text.ensures) c.in_ok-all.ensures c.in_ok-last.ensures;
