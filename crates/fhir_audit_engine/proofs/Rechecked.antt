@@ -12,6 +12,7 @@ use Rattle.fhir_audit.specs.Auditing.{IsAudit}
 use Rattle.fhir_audit.specs.Standing.{IsHeld}
 use Rattle.fhir_audit.specs.Views.{all_audited}
 use Rattle.fhir_audit_lines.specs.declared.held_lines.HeldFile.{HeldFile}
+use Rattle.fhir_audit_lines.specs.Held.{files_seen}
 use Rattle.fhir_audit_lines.specs.Report.{IsReport}
 use Rattle.fhir_audit_engine.specs.declared.asked.NamedBytes.{NamedBytes}
 use Rattle.fhir_audit_engine.specs.Told.{audit_status, AreRechecked, AreRecheckedIf, IsAuditOf}
@@ -37,7 +38,7 @@ module _ (s : SchemaValue) (p : Definitions) where
 pub audit_of : (prefixes : List Text) (format : Format) (files : Option (List NamedBytes)) (texts : Option (List Text)) (s s' : SchemaValue) (v v' : Surveyed)
     (told told' : List Audited) (held held' : Option (List HeldFile)) (status : Status) (text : Text) → s' ≡ s → v' ≡ v → told' ≡ told → held' ≡ held
     → IsAudit prefixes texts s' v' (all_audited told) → AreRecheckedIf s v.definitions files held → status ≡ audit_status (all_audited told') held'
-    → IsReport format s' told' text → IsAuditOf prefixes format files texts s v status text
+    → IsReport format s' told' (files_seen held') text → IsAuditOf prefixes format files texts s v status text
 audit_of prefixes format files texts s s' v v' told told' held held' status text same_schema same_survey same_told same_held audit rechecked is report = record {
   told = told;
   is_audit = subst (λ (x : SchemaValue). IsAudit prefixes texts x v (all_audited told)) same_schema
@@ -46,5 +47,7 @@ audit_of prefixes format files texts s s' v v' told told' held held' status text
   are_rechecked = rechecked;
   status_is = subst (λ (x : Option (List HeldFile)). status ≡ audit_status (all_audited told) x) same_held
       (subst (λ (x : List Audited). status ≡ audit_status (all_audited x) held') same_told is);
-  report = subst (λ (x : SchemaValue). IsReport format x told text) same_schema (subst (λ (x : List Audited). IsReport format s' x text) same_told report);
+  report = subst (λ (x : SchemaValue). IsReport format x told (files_seen held) text) same_schema
+      (subst (λ (x : List Audited). IsReport format s' x (files_seen held) text) same_told
+      (subst (λ (x : Option (List HeldFile)). IsReport format s' told' (files_seen x) text) same_held report));
 }

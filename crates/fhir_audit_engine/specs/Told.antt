@@ -12,17 +12,16 @@ use Rattle.fhir_package.specs.Surveying.{Surveyed, refusal}
 use Rattle.fhir_schema.specs.Schemas.{SchemaValue}
 use Rattle.fhir_answers.specs.declared.reply.Status.{Status}
 use Rattle.fhir_answers.specs.declared.reply.Status.TheVariants.{Yes, No, Open, Fault, Unwritten, Usage, NoMemory}
-use Rattle.fhir_answers.specs.declared.given.NamedFile.{NamedFile}
-use Rattle.fhir_answers.specs.Views.{bytes_seen}
 use Rattle.fhir_answers.specs.Session.{SessionValue, IsSessionOf, schema_in}
 use Rattle.fhir_audit.specs.declared.verdict.Audited.{Audited}
 use Rattle.fhir_audit.specs.Auditing.{AuditedValue, IsAudit, are_narrowing}
 use Rattle.fhir_audit.specs.Standing.{standing_seen, is_holding, IsHeld}
 use Rattle.fhir_audit.specs.Views.{all_audited}
 use Rattle.fhir_audit_lines.specs.declared.held_lines.HeldFile.{HeldFile}
+use Rattle.fhir_audit_lines.specs.Held.{files_seen}
 use Rattle.fhir_audit_lines.specs.Report.{IsReport}
 use Rattle.fhir_engine.specs.Reading.{IsReadOf}
-use Rattle.fhir_engine.specs.Serving.{AreTexts}
+use Rattle.fhir_engine.specs.Serving.{AreTextsIf}
 use Rattle.fhir_audit_engine.specs.declared.asked.NamedBytes.{NamedBytes}
 
 -- ---- the status
@@ -50,15 +49,6 @@ AreRecheckedIf s p None (Some held) = ⊥
 AreRecheckedIf s p (Some files) None = ⊥
 AreRecheckedIf s p (Some files) (Some held) = AreRechecked s p files held
 
--- the bytes of a file that is named, where it can be read
-abbrev pub file_seen : Option NamedFile → Option (Option Text)
-file_seen file = option_map (λ f. bytes_seen f.bytes) file
-
--- The texts are those that the lines of a file give, if one is named.
-abbrev pub AreTextsIf : Option (Option Text) → Option (List Text) → Type 0
-AreTextsIf None texts = texts ≡ None
-AreTextsIf (Some file) texts = (given : List Text) × (texts ≡ Some given) × AreTexts file given
-
 -- Of a package and its schema: how each profile that is asked about stands with its base, and each certificate that was made before; the status is the
 -- worst of that, and the text tells it.
 pub record IsAuditOf (prefixes : List Text) (format : Format) (files : Option (List NamedBytes)) (texts : Option (List Text)) (s : SchemaValue) (survey : Surveyed) (status : Status) (text : Text) : Type 0 where
@@ -67,7 +57,7 @@ pub record IsAuditOf (prefixes : List Text) (format : Format) (files : Option (L
   pub held : Option (List HeldFile)
   pub are_rechecked : AreRecheckedIf s survey.definitions files held
   pub status_is : status ≡ audit_status (all_audited told) held
-  pub report : IsReport format s told text
+  pub report : IsReport format s told (files_seen held) text
 
 -- The same where the texts of unread rules that hold are those of a file, and standard output, whose bytes before and after are these, has grown by it.
 abbrev pub IsTold : List Text → Format → Option (List NamedBytes) → Option (Option Text) → SchemaValue → Surveyed → Status → (old new : Option (List ℕ)) → Type 0
@@ -80,7 +70,8 @@ IsAnswered prefixes format files given folder status old new =
     (read : ReadFiles) × (s : SessionValue) × IsReadOf folder (Ok read) × IsSessionOf read s × (refusal s.survey ≡ None)
     × IsTold prefixes format files given (schema_in s) s.survey status old new
 
--- What each status says: 0 and 1 that all is told, and the others that this isn't so.
+-- What each status says: 0 and 1 that all is told. It is never 2 or 4; and the others promise nothing: by them something stood in the way, before the
+-- report was printed or behind it.
 abbrev pub SaysOf : List Text → Format → Option (List NamedBytes) → Option (Option Text) → Files → Status → (old new : Option (List ℕ)) → Type 0
 SaysOf prefixes format files given folder Yes old new = IsAnswered prefixes format files given folder Yes old new
 SaysOf prefixes format files given folder No old new = IsAnswered prefixes format files given folder No old new

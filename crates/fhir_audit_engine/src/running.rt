@@ -9,7 +9,8 @@ ghost use Rattle.fhir_audit.specs.Auditing.{AllNarrow};
 ghost use Rattle.fhir_audit.specs.Standing.{IsHeld};
 ghost use Rattle.fhir_audit.specs.Views.{all_audited};
 ghost use Rattle.fhir_audit_engine.specs.Promising.{AllNarrowIn, AuditPromise};
-ghost use Rattle.fhir_audit_engine.specs.Told.{are_held, audit_status, file_seen, AreRechecked, AreRecheckedIf, IsAuditOf, IsTold, IsAnswered, SaysOf};
+ghost use Rattle.fhir_engine.specs.Serving.{file_seen};
+ghost use Rattle.fhir_audit_engine.specs.Told.{are_held, audit_status, AreRechecked, AreRecheckedIf, IsAuditOf, IsTold, IsAnswered, SaysOf};
 
 use crate::asked::{Asked, NamedBytes};
 use crate::certificate_files::{files_refusal, write_certificates};
@@ -108,8 +109,12 @@ fn status_of(audited: &[Audited<'_>], held: Option<&[HeldFile<'_>]>) -> Status
 }
 
 // That something of that name was written, or why it wasn't.
-fn written(alloc: Global, name: &str, written: Result<(), WriteFault>) -> Result<(), Refusal> {
-    match written {
+fn expect_written(
+    alloc: Global,
+    name: &str,
+    finished: Result<(), WriteFault>,
+) -> Result<(), Refusal> {
+    match finished {
         Ok(()) => Ok(()),
         Err(WriteFault::Device) => Err(Refusal::Fault(fault_text(alloc, "write", name)?)),
         Err(WriteFault::NoMemory) => Err(Refusal::NoMemory),
@@ -121,7 +126,7 @@ fn finish_folder<N: NewFolder, G>(
     outputs: &mut Outputs<'_, N, G>,
 ) -> Result<(), Refusal> {
     match &mut outputs.certificates {
-        Some(new) => written(alloc, new.name, new.output.finish()),
+        Some(new) => expect_written(alloc, new.name, new.output.finish()),
         None => Ok(()),
     }
 }
@@ -131,7 +136,7 @@ fn finish_page<N, G: NewFile>(
     outputs: &mut Outputs<'_, N, G>,
 ) -> Result<(), Refusal> {
     match &mut outputs.page {
-        Some(page) => written(alloc, page.name, page.output.finish()),
+        Some(page) => expect_written(alloc, page.name, page.output.finish()),
         None => Ok(()),
     }
 }
@@ -188,7 +193,7 @@ fn put_page<N, G: NewFile>(
         sources.lacking,
         audited,
     )?;
-    written(alloc, file.name, file.output.write(&bytes))
+    expect_written(alloc, file.name, file.output.write(&bytes))
 }
 
 // Writes what is told, and gives the files their names.

@@ -1,7 +1,6 @@
 -- What an audit tells of certificates that were made before, and of profiles without one.
 use Rattle.std.specs.Prelude.{◌≡◌, ◌&&◌, List, [], ◌∷◌, ◌++◌, map, not, Bool, false, Option, None, Some, codes, string_bytes}
 use Rattle.std.specs.List.{filter, list_any}
-use Rattle.std.specs.Borrow.{Bor}
 use Rattle.std.specs.Option.{option_map, option_map_or}
 use Rattle.std.specs.Str.{bytes_eq}
 use Rattle.fhir_json.specs.Tree.{Text, string, object, members_of, Property}
@@ -29,8 +28,8 @@ abbrev pub held_seen : HeldFile → HeldValue
 held_seen h = record { name = string_bytes h.name; standing = standing_seen h.held.standing; profiles = profiles_seen h.held }
 
 -- those of a folder, if one is named
-abbrev pub files_seen : Option (Bor (List HeldFile)) → Option (List HeldValue)
-files_seen held = option_map (λ files. map held_seen files.now) held
+abbrev pub files_seen : Option (List HeldFile) → Option (List HeldValue)
+files_seen held = option_map (λ files. map held_seen files) held
 
 -- ---- the lines on a file, none where its certificate holds
 

@@ -1,6 +1,6 @@
 //! All that an audit tells.
 
-ghost use Rattle.std.specs.Prelude.{◌≡◌, ◌∷◌, ◌++◌, [], map, string_bytes, IfOk};
+ghost use Rattle.std.specs.Prelude.{◌≡◌, ◌∷◌, ◌++◌, [], map, option_map, string_bytes, IfOk};
 ghost use Rattle.fhir_audit.specs.Views.{audited_seen, all_audited};
 ghost use Rattle.fhir_audit_lines.specs.Held.{files_seen, AreOnCertificates};
 ghost use Rattle.fhir_audit_lines.specs.Report.{IsTold, AreTold, last_line, IsReport};
@@ -66,7 +66,7 @@ fn lines_held(
     audited: &[Audited<'_>],
     held: Option<&[HeldFile<'_>]>,
 ) -> Result<Vec<String>, NoMemory>
-    ensures { IfOk result (λ ls. AreOnCertificates format schema.now (all_audited audited.now) (files_seen held.entry) (map string_bytes ls.items)) }
+    ensures { IfOk result (λ ls. AreOnCertificates format schema.now (all_audited audited.now) (files_seen (option_map (λ f. f.now) held.entry)) (map string_bytes ls.items)) }
 {
     match held {
         Some(files) => held_lines(alloc, format, schema, audited, files),
@@ -97,7 +97,7 @@ pub fn audit_text<'s, 'f: 's>(
     audited: &[Audited<'s>],
     held: Option<&[HeldFile<'_>]>,
 ) -> Result<String, NoMemory>
-    ensures { IfOk result (λ text. IsReport format sources.entry.schema.now audited.now (files_seen held.entry) (string_bytes text)) }
+    ensures { IfOk result (λ text. IsReport format sources.entry.schema.now audited.now (files_seen (option_map (λ f. f.now) held.entry)) (string_bytes text)) }
 {
     let lines = all_lines(alloc, format, sources, audited)?;
     let others = lines_held(alloc, format, sources.schema, audited, held)?;

@@ -1,16 +1,14 @@
 -- What a run is of.
-use Rattle.std.specs.Prelude.{◌≡◌, ℕ, List, None, Option, Some, Ok, IsSome, ◌++◌, option_map}
+use Rattle.std.specs.Prelude.{◌≡◌, ℕ, List, None, Option, Some, Ok, IsSome, ◌++◌}
 use Rattle.std.specs.Io.KnownBytes.{Appends}
 use Rattle.fhir_json.specs.Tree.{Text}
 use Rattle.fhir_package.specs.Folder.{Files}
 use Rattle.fhir_package.specs.ReadFiles.{ReadFiles}
 use Rattle.fhir_package.specs.Surveying.{refusal}
 use Rattle.fhir_schema.specs.Schemas.{SchemaValue, root}
-use Rattle.fhir_unread.specs.Given.{texts_given, AreSame}
-use Rattle.fhir_answers.specs.declared.given.NamedFile.{NamedFile}
-use Rattle.fhir_answers.specs.Views.{bytes_seen}
 use Rattle.fhir_answers.specs.Session.{SessionValue, IsSessionOf, schema_in}
 use Rattle.fhir_engine.specs.Reading.{IsReadOf}
+use Rattle.fhir_engine.specs.Serving.{file_seen, AreTextsIf}
 use Rattle.fhir_inputs.specs.Inputs.{InputValue}
 use Rattle.fhir_bulk.specs.declared.tally.Tally.{Tally}
 use Rattle.fhir_telling.specs.Questions.{QuestionValue, profile_asked, skips}
@@ -21,16 +19,6 @@ use Rattle.fhir_bulk_engine.specs.declared.plan.InputFile.{InputFile}
 -- what is known of a file of a device: what it holds, and not its bytes
 abbrev pub input_of : InputFile → InputValue
 input_of file = record { kind = file.kind; bytes = None }
-
--- No rules are vouched for where no file is named; else those are whose texts the lines of the file give, which was read.
-abbrev pub AreTexts : Option (Option Text) → Option (List Text) → Type 0
-AreTexts None texts = texts ≡ None
-AreTexts (Some file) texts =
-    (bytes : Text) × (given : List Text) × (file ≡ Some bytes) × (texts ≡ Some given) × AreSame given (texts_given bytes)
-
--- the bytes of a file that is named, where it can be read
-abbrev pub file_seen : Option NamedFile → Option (Option Text)
-file_seen file = option_map (λ f. bytes_seen f.bytes) file
 
 -- what is asked by a schema, and by the texts that are given, if any are
 abbrev pub asked_question : SchemaValue → Asked → Option (List Text) → QuestionValue
@@ -61,7 +49,7 @@ pub record IsToldOfSession (session : SessionValue) (asked : Asked) (names : Lis
   pub is_package : refusal session.survey ≡ None
   pub usable : CanBeUsed (schema_in session) (profile_asked asked.profiles)
   pub texts : Option (List Text)
-  pub are_texts : AreTexts (file_seen asked.given) texts
+  pub are_texts : AreTextsIf (file_seen asked.given) texts
   pub told : IsToldOf (asked_question (schema_in session) asked texts) names inputs passed_over tally old new
 
 -- The same of what was read of a folder's files.

@@ -5,7 +5,8 @@ ghost use Rattle.fhir_json.specs.Tree.{Text};
 ghost use Rattle.fhir_answers.specs.Session.{schema_in};
 ghost use Rattle.fhir_package.specs.Surveying.{refusal};
 ghost use Rattle.fhir_telling.specs.Questions.{question_seen, profile_asked};
-ghost use Rattle.fhir_bulk_engine.specs.Bulk.{AreTexts, asked_question, CanBeUsed, file_seen, IsToldOf, IsToldOfSession};
+ghost use Rattle.fhir_engine.specs.Serving.{file_seen, AreTextsIf};
+ghost use Rattle.fhir_bulk_engine.specs.Bulk.{asked_question, CanBeUsed, IsToldOf, IsToldOfSession};
 ghost use Rattle.fhir_bulk_engine.specs.Ending.{IsUntouched};
 
 use fhir_answers::{NamedFile, Session, profile_refusal, refused_reply, unreadable_reply};
@@ -142,7 +143,7 @@ fn run_given<I: Inputs, V: Watch, W: Write, E: Write>(
     out: &mut W,
     err: &mut E,
 ) -> Result<Tally, Refusal>
-    ensures told { IfOk result (λ tally. (texts : Option (List Text)) × AreTexts (file_seen asked.entry.given) texts
+    ensures told { IfOk result (λ tally. (texts : Option (List Text)) × AreTextsIf (file_seen asked.entry.given) texts
         × IsToldOf (asked_question (schema_in session.now) asked.entry texts) (map (λ n. n.now) planned.entry.names.now)
         (I.inputs planned.entry.inputs.now) planned.entry.passed_over tally (W.contents out.old) (W.contents out.new)) }
     ensures untouched { IsUntouched result out.old out.new }
@@ -165,7 +166,7 @@ fn run_planned<I: Inputs, V: Watch, W: Write, E: Write>(
     out: &mut W,
     err: &mut E,
 ) -> Result<Tally, Refusal>
-    ensures told { IfOk result (λ tally. IsOkAnd planned.entry (λ p. (texts : Option (List Text)) × AreTexts (file_seen asked.entry.given) texts
+    ensures told { IfOk result (λ tally. IsOkAnd planned.entry (λ p. (texts : Option (List Text)) × AreTextsIf (file_seen asked.entry.given) texts
         × IsToldOf (asked_question (schema_in session.now) asked.entry texts) (map (λ n. n.now) p.names.now)
         (I.inputs p.inputs.now) p.passed_over tally (W.contents out.old) (W.contents out.new))) }
     ensures untouched { IsUntouched result out.old out.new }

@@ -1,5 +1,5 @@
 -- How the definitions in a folder are served.
-use Rattle.std.specs.Prelude.{◌≡◌, ℕ, List, Option, None, Some, Ok, IfSome}
+use Rattle.std.specs.Prelude.{◌≡◌, ℕ, List, Option, None, Some, Ok, IfSome, option_map}
 use Rattle.std.specs.Io.KnownBytes.{Appends}
 use Rattle.fhir_json.specs.Tree.{Text}
 use Rattle.fhir_package.specs.Folder.{Files}
@@ -9,6 +9,8 @@ use Rattle.fhir_serve.specs.Serving.{Serves}
 use Rattle.fhir_registry.specs.Keeping.{RegistryValue}
 use Rattle.fhir_registry.specs.Lines.{AnswersLine}
 use Rattle.fhir_unread.specs.Given.{texts_given, AreSame}
+use Rattle.fhir_answers.specs.declared.given.NamedFile.{NamedFile}
+use Rattle.fhir_answers.specs.Views.{bytes_seen}
 
 module _ {V : Type 0} (Answers : V → List ℕ → V → List ℕ → Type 0) where
   -- Beginning with what a service holds the lines were answered in turn, and the output has grown by the answers.
@@ -47,6 +49,15 @@ IsPartlyServed files input old new = (r : RegistryValue) × IsOpened files r × 
 -- the file was read, and the texts are those that its lines give
 abbrev pub AreTexts : Option Text → List Text → Type 0
 AreTexts given texts = (bytes : Text) × (given ≡ Some bytes) × AreSame texts (texts_given bytes)
+
+-- the bytes of a file that is named, where it can be read
+abbrev pub file_seen : Option NamedFile → Option (Option Text)
+file_seen file = option_map (λ f. bytes_seen f.bytes) file
+
+-- Nobody vouches for a text where no file is named, and else a user does for the texts of the file that is.
+abbrev pub AreTextsIf : Option (Option Text) → Option (List Text) → Type 0
+AreTextsIf None texts = texts ≡ None
+AreTextsIf (Some file) texts = (given : List Text) × (texts ≡ Some given) × AreTexts file given
 
 -- A user vouches for the texts that the lines of the file give.
 pub record AreVouched (given : Option Text) (vouched : Option (List Text)) : Type 0 where
