@@ -1,3 +1,4 @@
 -- Lemmas on what an audit tells.
 mod Names
 mod Told
+mod Urls

@@ -5,8 +5,8 @@ ghost use Rattle.std.specs.Str.{bytes_eq};
 ghost use Rattle.fhir_json.specs.Tree.{Text};
 ghost use Rattle.fhir_words.specs.declared.request.Format.TheVariants.{Text as AsText, Json as AsJson};
 ghost use Rattle.fhir_audit.specs.Views.{audited_seen, all_audited};
-ghost use Rattle.fhir_audit_lines.specs.Held.{HeldValue, held_seen, has_certificate, without_line, without_lines};
-ghost use Rattle.fhir_audit_lines.specs.Urls.{has_urls, AreUrls};
+ghost use Rattle.fhir_audit_lines.specs.Held.{HeldValue, held_seen, without_line, without_lines};
+ghost use Rattle.fhir_audit_lines.specs.Urls.{has_urls, AreUrls, has_urls_of, missing_lines};
 
 use crate::held_lines::HeldFile;
 use fhir_audit::Audited;
@@ -60,8 +60,8 @@ fn has_urls(urls: &BTreeSet<(&str, &str)>, derived: &str, base: &str) -> bool
     urls.contains(&(derived, base))
 }
 
-fn has_certificate(urls: &BTreeSet<(&str, &str)>, audited: &Audited<'_>) -> bool
-    ensures { (held : List HeldValue) → AreUrls held urls.now → result ≡ has_certificate held (audited_seen audited.now) }
+fn has_urls_of(urls: &BTreeSet<(&str, &str)>, audited: &Audited<'_>) -> bool
+    ensures { result ≡ has_urls_of urls.now (audited_seen audited.now) }
 {
     match audited.base {
         Some(base) => has_urls(urls, audited.url, base),
@@ -93,6 +93,25 @@ fn without_line(alloc: Global, format: Format, url: &str) -> Result<String, NoMe
     }
 }
 
+// Puts in a line on each profile whose urls aren't among these.
+fn push_missing(
+    alloc: Global,
+    format: Format,
+    urls: &BTreeSet<(&str, &str)>,
+    audited: &[Audited<'_>],
+    into: &mut Vec<String>,
+) -> Result<(), NoMemory>
+    ensures { OnOk result (map string_bytes into.new.items
+        ≡ map string_bytes into.old.items ++ missing_lines format urls.now (all_audited audited.now)) }
+{
+    for one in audited {
+        if !has_urls_of(urls, one) {
+            into.push(without_line(alloc, format, one.url)?)?;
+        }
+    }
+    Ok(())
+}
+
 /// Puts in a line on each profile that has no certificate among these. The one refusal is want of memory.
 pub(crate) fn push_without(
     alloc: Global,
@@ -105,10 +124,6 @@ pub(crate) fn push_without(
         ≡ map string_bytes into.old.items ++ without_lines format (map held_seen files.now) (all_audited audited.now)) }
 {
     let urls = urls_of(alloc, files)?;
-    for one in audited {
-        if !has_certificate(&urls, one) {
-            into.push(without_line(alloc, format, one.url)?)?;
-        }
-    }
+    push_missing(alloc, format, &urls, audited, into)?;
     Ok(())
 }
