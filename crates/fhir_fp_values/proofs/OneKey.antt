@@ -9,7 +9,7 @@ use Rattle.std.proofs.lemmas.Slice.Eq.{bytes_eq-Decides}
 use Rattle.fhir_json.specs.Tree.{Text}
 use Rattle.fhir_instance.specs.Items.{Item, item, Kids, no_kids, kid, Named, kids_in, type_of, kids_of}
 use Rattle.fhir_fp_values.specs.Values.{Plain, node, truth, number, text, SystemValue, boolean_of, number_of, string_of, moment_of, time_of, item_value, system_value}
-use Rattle.fhir_fp_values.specs.Equality.{Kleene, kleene_and, same_truth, same_system_value, same_said, if_same, sides_named, items_named, in_turn, by_name, sides_of, equal, same_node, alike}
+use Rattle.fhir_fp_values.specs.Equality.{Kleene, same_truth, same_system_value, same_said, if_same, sides_named, items_named, in_turn, by_name, sides_of, equal, same_node, alike}
 use Rattle.fhir_fp_values.specs.Pairing.{Ascends}
 use Rattle.fhir_fp_values.specs.Keys.{measured, truth_key, said_key, key_said, Keyed, in_order, written, parts_key, item_key, keyed_kids, node_key, key_of}
 use Rattle.fhir_fp_values.proofs.ByName.{both_true, of_names}

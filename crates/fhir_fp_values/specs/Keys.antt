@@ -4,7 +4,7 @@ use Rattle.std.specs.Cmp.Lexicographic.{slice_cmp}
 use Rattle.std.specs.Ordering.{is_lt, nat_cmp}
 use Rattle.fhir_json.specs.Tree.{Text}
 use Rattle.fhir_instance.specs.Items.{Item, item, Kids, no_kids, kid}
-use Rattle.fhir_fp_values.specs.Values.{Plain, node, truth, number, text, SystemValue, boolean_of, number_of, string_of, moment_of, time_of, item_value, system_value}
+use Rattle.fhir_fp_values.specs.Values.{Plain, node, SystemValue, boolean_of, number_of, string_of, moment_of, time_of, item_value, system_value}
 
 -- a text behind its length, so that nothing that follows is taken for a part of it
 abbrev pub measured : Text → Text

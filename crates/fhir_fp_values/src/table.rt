@@ -58,7 +58,6 @@ impl<'e, 'a, 'j> Table<'e, 'a, 'j> {
     }
 
     /// Whether an equal value is in the table. The one refusal is want of memory.
-    #[tactic(auto, using(crate::proofs::Tables::has_held))]
     pub(crate) fn has(&self, alloc: Global, value: Value<'_, '_, '_>) -> Result<bool, NoMemory>
         ensures { IfOk result (λ r. (vs : List Value) → Holds self.now vs
             → r ≡ has (plains_of vs) (plain_of value.entry)) }

@@ -1,5 +1,5 @@
 -- A chain of bases, one step at a time.
-use Rattle.std.proofs.Common.{◌≡◌, ℕ, zero, suc, ◌+◌, ◌-◌, ◌<◌, ◌≤◌, List, length, Bool, true, false, ◌||◌, Option, None, Some, is_some, IsTrue, nat_eq, inl, inr, refl, sym, ap, subst, ◌∙◌, arith}
+use Rattle.std.proofs.Common.{◌≡◌, ℕ, zero, suc, ◌+◌, ◌-◌, ◌<◌, ◌≤◌, List, length, Bool, true, false, ◌||◌, Option, None, Some, is_some, IsTrue, nat_eq, inl, inr, sym, ap, ◌∙◌, arith}
 use Rattle.std.proofs.lemmas.Bool.{or_cases, or_left, or_right, eqb-true, false≢true, false_from_ne_true}
 use Rattle.std.specs.Borrow.{Bor}
 use Rattle.fhir_json.specs.Tree.{Text}
@@ -40,7 +40,7 @@ module _ (ds : List Definition) where
   -- one step further, where the first place isn't the goal
   further : (goal n place : ℕ) → nat_eq goal place ≡ false
       → meets_within ds goal (suc n) (Some place) ≡ meets_within ds goal n (base_of_place ds place)
-  further goal n place no = ap (λ (b : Bool). b || meets_within ds goal n (base_of_place ds place)) no
+  further goal n place other = ap (λ (b : Bool). b || meets_within ds goal n (base_of_place ds place)) other
 
   pub climb_begins : (at : ℕ → Option Text) (start all : ℕ) → Climbs ds at start all 0 start
   climb_begins at start all = record {

@@ -1,5 +1,5 @@
 -- Which types are covered by those of a base's targets.
-use Rattle.std.proofs.Common.{◌≡◌, ℕ, List, [], ◌∷◌, length, Bool, true, false, ◌&&◌, ◌||◌, Option, None, Some, is_some, IsTrue, refl, sym, ap, ap₂, subst, ◌∙◌}
+use Rattle.std.proofs.Common.{◌≡◌, ℕ, List, [], ◌∷◌, length, Bool, true, false, ◌&&◌, ◌||◌, Option, None, Some, IsTrue, inl, inr, refl, sym, ap, ap₂, ◌∙◌}
 use Rattle.std.proofs.lemmas.Bool.{and_from, or_left, or_right, or_cases, false≢true, false_from_ne_true}
 use Rattle.std.proofs.lemmas.Slice.Eq.{bytes_eq-Decides}
 use Rattle.std.specs.List.{list_any}
@@ -12,35 +12,36 @@ use Rattle.fhir_schema.specs.Covers.{meets_within, reaches, reaches_type, covers
 use Rattle.fhir_schema.specs.Schemas.{SchemaValue}
 use Rattle.fhir_facets.specs.Targets.{target_type, covers_known, target_narrower}
 use Rattle.fhir_targets.specs.Chains.{IsReaching, IsAnswer}
-use Rattle.fhir_targets.specs.Base.{names_code, has_code, is_covered}
+use Rattle.fhir_targets.specs.Base.{has_code, is_covered}
 use Rattle.fhir_targets.proofs.Climbing.{settles}
 
 module _ (s : SchemaValue) where
   any_covers : (targets : List Text) (c code : Text) → IsTrue (has_code s targets c) → IsTrue (covers s c code) → IsTrue (is_covered s targets code)
   any_covers [] c code named covered = absurd (false≢true named)
-  any_covers (t ∷ ts) c code named covered = go (target_type s t) named
+  any_covers (t ∷ ts) c code named covered = go (target_type s t) (λ h. any_covers ts c code h covered) named
     where
-      go : (o : Option Text) → IsTrue (option_map_or (bytes_eq c) o false || has_code s ts c)
+      go : (o : Option Text) → (IsTrue (has_code s ts c) → IsTrue (is_covered s ts code)) → IsTrue (option_map_or (bytes_eq c) o false || has_code s ts c)
           → IsTrue (option_map_or (λ d. covers s d code) o false || is_covered s ts code)
-      go None h = any_covers ts c code h covered
-      go (Some d) h =
+      go None rest h = rest h
+      go (Some d) rest h =
           elim (or_cases (bytes_eq c d) (has_code s ts c) h) [
             | inl same ↦ or_left (covers s d code) (is_covered s ts code)
                 (sym (ap (λ (x : Text). covers s x code) ((bytes_eq-Decides c d).0 same)) ∙ covered)
-            | inr later ↦ or_right (covers s d code) (is_covered s ts code) (any_covers ts c code later covered)
+            | inr later ↦ or_right (covers s d code) (is_covered s ts code) (rest later)
           ]
 
   none_covers : (targets : List Text) (code : Text) → ((c : Text) → IsTrue (has_code s targets c) → covers s c code ≡ false)
       → is_covered s targets code ≡ false
   none_covers [] code none = refl
-  none_covers (t ∷ ts) code none = go (target_type s t) none
+  none_covers (t ∷ ts) code none = go (target_type s t) (λ others. none_covers ts code others) none
     where
-      go : (o : Option Text) → ((c : Text) → IsTrue (option_map_or (bytes_eq c) o false || has_code s ts c) → covers s c code ≡ false)
+      go : (o : Option Text) → (((c : Text) → IsTrue (has_code s ts c) → covers s c code ≡ false) → is_covered s ts code ≡ false)
+          → ((c : Text) → IsTrue (option_map_or (bytes_eq c) o false || has_code s ts c) → covers s c code ≡ false)
           → (option_map_or (λ d. covers s d code) o false || is_covered s ts code) ≡ false
-      go None no = none_covers ts code no
-      go (Some d) no =
-          ap₂ (λ (a b : Bool). a || b) (no d (or_left (bytes_eq d d) (has_code s ts d) ((bytes_eq-Decides d d).1 refl)))
-          (none_covers ts code (λ c h. no c (or_right (bytes_eq c d) (has_code s ts c) h)))
+      go None rest none_does = rest none_does
+      go (Some d) rest none_does =
+          ap₂ (λ (a b : Bool). a || b) (none_does d (or_left (bytes_eq d d) (has_code s ts d) ((bytes_eq-Decides d d).1 refl)))
+          (rest (λ c h. none_does c (or_right (bytes_eq c d) (has_code s ts c) h)))
 
   -- a type covers itself
   pub covered_by_itself : (targets : List Text) (code : Text) → IsTrue (has_code s targets code) → IsTrue (is_covered s targets code)
@@ -75,7 +76,7 @@ module _ (s : SchemaValue) where
       → ((c : Text) (goal : ℕ) → IsTrue (has_code s targets c) → IsTrue (names_resource s.definitions c) → type_place s.definitions c ≡ Some goal
       → reaches s.definitions start goal ≡ false)
       → is_covered s targets code ≡ false
-  not_covered_by targets code start none is no =
+  not_covered_by targets code start none is none_reached =
       none_covers targets code
       (λ c named. at c (other targets c code none named) (names_resource s.definitions c) refl (type_place s.definitions c) refl named)
     where
@@ -83,13 +84,13 @@ module _ (s : SchemaValue) where
           → IsTrue (has_code s targets c) → covers s c code ≡ false
       at c apart false res o place named = rw (apart, res) refl
       at c apart true res None place named = rw (apart, res, is, place) refl
-      at c apart true res (Some goal) place named = rw (apart, res, is, place) (no c goal named res place)
+      at c apart true res (Some goal) place named = rw (apart, res, is, place) (none_reached c goal named res place)
 
   pub not_covered_apart : (targets : List Text) (code : Text) (start : ℕ) → has_code s targets code ≡ false → type_place s.definitions code ≡ Some start
       → IsAnswer s.definitions (has_code s targets) start None → is_covered s targets code ≡ false
-  not_covered_apart targets code start none is no =
+  not_covered_apart targets code start none is answer =
       not_covered_by targets code start none is
-      (λ c goal named res place. and_second (ends_within s.definitions (length s.definitions) (Some start)) _ (no c goal named res place))
+      (λ c goal named res place. and_second (ends_within s.definitions (length s.definitions) (Some start)) _ (answer c goal named res place))
     where
       and_second : (a b : Bool) → b ≡ false → (a && b) ≡ false
       and_second true b e = e
@@ -98,7 +99,7 @@ module _ (s : SchemaValue) where
   -- a chain that comes by a type without covering it doesn't end, and is of no type
   pub not_covered_unended : (targets : List Text) (code c : Text) (start : ℕ) → has_code s targets code ≡ false → type_place s.definitions code ≡ Some start
       → IsReaching s.definitions (has_code s targets) start c → covers s c code ≡ false → is_covered s targets code ≡ false
-  not_covered_unended targets code c start none is r no =
+  not_covered_unended targets code c start none is r uncovered =
       not_covered_by targets code start none is
       (λ d goal named res place. ap (λ (b : Bool). b && meets_within s.definitions goal (length s.definitions) (Some start)) unended)
     where
@@ -112,7 +113,7 @@ module _ (s : SchemaValue) where
           let is_covering : IsTrue (covers s c code) =
           or_right (bytes_eq c code) (names_resource s.definitions c && reaches_type s.definitions code c)
           (and_from (names_resource s.definitions c) (reaches_type s.definitions code c) r.resource is_reached) in
-          false≢true (sym no ∙ is_covering))
+          false≢true (sym uncovered ∙ is_covering))
 
   -- ---- a target
 

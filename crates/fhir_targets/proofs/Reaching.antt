@@ -1,5 +1,5 @@
 -- Places with codes, one more at a time.
-use Rattle.std.proofs.Common.{◌≡◌, ℕ, zero, suc, List, [], Bool, true, false, cond, ◌||◌, Option, None, Some, is_some, IsTrue, nat_eq, inl, inr, refl, sym, ap, subst, ◌∙◌, arith}
+use Rattle.std.proofs.Common.{◌≡◌, ℕ, zero, suc, List, [], Bool, true, false, cond, ◌||◌, Option, None, Some, is_some, IsTrue, nat_eq, inl, inr, refl, sym, ap, subst, ◌∙◌}
 use Rattle.std.proofs.lemmas.Bool.{or_cases, or_left, or_right, eqb-true, eq-eqb, false≢true}
 use Rattle.std.proofs.lemmas.Slice.Eq.{bytes_eq-Decides}
 use Rattle.std.specs.Borrow.{Bor}
@@ -128,9 +128,9 @@ module _ (ds : List Definition) where
 
     meets_onwards : (steps goal place : ℕ) → nat_eq goal place ≡ false → IsTrue (meets_within ds goal steps (Some place))
         → (k : ℕ) × IsTrue (meets_within ds goal k (base_of_place ds place))
-    meets_onwards zero goal place no meets = absurd (false≢true meets)
-    meets_onwards (suc k) goal place no meets =
-        (k, sym (ap (λ (b : Bool). b || meets_within ds goal k (base_of_place ds place)) no) ∙ meets)
+    meets_onwards zero goal place other meets = absurd (false≢true meets)
+    meets_onwards (suc k) goal place other meets =
+        (k, sym (ap (λ (b : Bool). b || meets_within ds goal k (base_of_place ds place)) other) ∙ meets)
 
     -- what a place without a code reaches, its base does
     pub chain_goes_on : (at : ℕ → Option Text) (code : Text) (place base : ℕ) → at place ≡ None → base_of_place ds place ≡ Some base
@@ -143,6 +143,6 @@ module _ (ds : List Definition) where
 pub none_reach : (ds : List Definition) (places : BTreeMap ℕ (Bor Text)) → places.entries ≡ [] → AreReaching ds (λ c. false) (code_at places)
 none_reach ds places none = record {
   each = λ p c at.
-      let no : None ≡ Some c = sym (ap (λ (es : List (ℕ × Bor Text)). option_map (λ (code : Bor Text). code.now) (lookup (is_at (nat_cmp p)) es)) none) ∙ at in cc;
+      let fault : None ≡ Some c = sym (ap (λ (es : List (ℕ × Bor Text)). option_map (λ (code : Bor Text). code.now) (lookup (is_at (nat_cmp p)) es)) none) ∙ at in cc;
   all = λ c goal named resource at. absurd (false≢true named);
 }

@@ -1,4 +1,4 @@
-use Rattle.std.proofs.Common.{◌≡◌, ◌+◌, ◌<◌, ◌≤◌, ◌++◌, ◌∷◌, [], List, length, take, map, string_bytes, ap, sym, subst, ◌∙◌, arith}
+use Rattle.std.proofs.Common.{◌≡◌, ◌+◌, ◌<◌, ◌≤◌, ◌++◌, ◌∷◌, [], length, take, map, string_bytes, ap, sym, subst, ◌∙◌, arith}
 use Rattle.std.proofs.lemmas.List.{take_all}
 use Rattle.fhir_json.specs.Tree.{Text}
 use Rattle.fhir_targets.specs.Base.{AreCodes}
@@ -7,7 +7,7 @@ use Rattle.fhir_targets.proofs.Sets.{has_in}
 use Rattle.fhir_targets.proofs.base.codes_of.Goals as goal
 
 pub loop-target-init : goal.loop-target-init
-loop-target-init c = λ code. ap (has_in code) c.new.ensures.empty
+loop-target-init c = λ code. ap (has_in code) c.new-codes.ensures.empty
 
 pub loop-target-preserved : goal.loop-target-preserved
 loop-target-preserved c =

@@ -1,4 +1,4 @@
-use Rattle.std.proofs.Common.{◌≡◌, ◌+◌, ◌<◌, ◌≤◌, ◌++◌, ◌∷◌, [], List, length, take, map, string_bytes, ap, sym, subst, ◌∙◌, arith}
+use Rattle.std.proofs.Common.{◌≡◌, ◌+◌, ◌<◌, ◌≤◌, ◌++◌, ◌∷◌, [], length, take, map, string_bytes, ap, sym, subst, ◌∙◌, arith}
 use Rattle.std.proofs.lemmas.List.{take_all}
 use Rattle.fhir_json.specs.Tree.{Text}
 use Rattle.fhir_targets.specs.Base.{ArePlaces}
@@ -7,7 +7,7 @@ use Rattle.fhir_targets.proofs.Reaching.{none_reach}
 use Rattle.fhir_targets.proofs.base.places_of.Goals as goal
 
 pub loop-target-init : goal.loop-target-init
-loop-target-init c = none_reach c.args.schema.now.definitions c.new.result c.new.ensures.empty
+loop-target-init c = none_reach c.args.schema.now.definitions c.new-places.result c.new-places.ensures.empty
 
 pub loop-target-preserved : goal.loop-target-preserved
 loop-target-preserved c =

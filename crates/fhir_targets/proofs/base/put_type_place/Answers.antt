@@ -1,7 +1,6 @@
-use Rattle.std.proofs.Common.{◌≡◌, None, Some, sym, ap, ◌∙◌}
+use Rattle.std.proofs.Common.{sym, ◌∙◌}
 use Rattle.std.proofs.lemmas.Bool.{false≢true}
 use Rattle.std.proofs.lemmas.Result.{on_ok_weaker}
-use Rattle.fhir_nodes.specs.Types.{type_place}
 use Rattle.fhir_targets.specs.Chains.{code_at}
 use Rattle.fhir_targets.proofs.Reaching.{type_put, type_passed, no_place}
 use Rattle.fhir_targets.proofs.base.put_type_place.Goals as goal

@@ -1,13 +1,12 @@
-use Rattle.std.proofs.Common.{◌≡◌, ◌+◌, ◌<◌, ◌≤◌, List, length, take, map, string_bytes, ap, subst, arith}
+use Rattle.std.proofs.Common.{◌+◌, ◌<◌, ◌≤◌, length, take, map, string_bytes, ap, subst, arith}
 use Rattle.std.proofs.lemmas.List.{take_all}
-use Rattle.std.specs.List.{list_any}
 use Rattle.fhir_targets.specs.Base.{AreTexts}
 use Rattle.fhir_targets.proofs.Taking.{taken}
 use Rattle.fhir_targets.proofs.Sets.{has_in, texts_more}
 use Rattle.fhir_targets.proofs.base.texts_of.Goals as goal
 
 pub loop-target-init : goal.loop-target-init
-loop-target-init c = λ text. ap (has_in text) c.new.ensures.empty
+loop-target-init c = λ text. ap (has_in text) c.new-texts.ensures.empty
 
 pub loop-target-preserved : goal.loop-target-preserved
 loop-target-preserved c =

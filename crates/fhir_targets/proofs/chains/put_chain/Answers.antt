@@ -1,4 +1,4 @@
-use Rattle.std.proofs.Common.{◌≡◌, false, None, Some, sym, ◌∙◌}
+use Rattle.std.proofs.Common.{◌≡◌, None, Some, sym, ◌∙◌}
 use Rattle.fhir_schema.specs.Settling.{base_of_place}
 use Rattle.fhir_targets.specs.Chains.{code_at}
 use Rattle.fhir_targets.proofs.Climbing.{none_at}

@@ -1,4 +1,4 @@
-use Rattle.std.proofs.Common.{◌≡◌, ◌+◌, ◌<◌, ◌≤◌, ◌&&◌, Bool, true, false, List, length, drop, map, string_bytes, sym, ap, refl, ◌∙◌, arith}
+use Rattle.std.proofs.Common.{◌≡◌, ◌+◌, ◌<◌, ◌≤◌, ◌&&◌, Bool, true, false, length, drop, map, string_bytes, sym, ap, refl, ◌∙◌, arith}
 use Rattle.std.proofs.lemmas.List.{at_drop_all}
 use Rattle.std.specs.List.{list_all, list_any}
 use Rattle.fhir_json.specs.Tree.{Text}
@@ -34,9 +34,9 @@ returns-then-not-branch c =
     let p = λ (t : Text). list_any (target_narrower c.args.schema.now t) bases in
     let rest = list_all p (map string_bytes (drop (i + 1) owns)) in
     let lt : i < length owns = omega arith in
-    let no : p (string_bytes own) ≡ false =
+    let missing : p (string_bytes own) ≡ false =
     ap p (sym c.as_str.ensures.value) ∙ sym (c.in_ok-has.ensures.among bases c.loop-own.invariant.base) ∙ c.if-not-branch.true in
-    sym (ap (λ (b : Bool). b && rest) no) ∙ sym (all_next p string_bytes owns i own lt c.own-item.is) ∙ c.loop-own.invariant.rest
+    sym (ap (λ (b : Bool). b && rest) missing) ∙ sym (all_next p string_bytes owns i own lt c.own-item.is) ∙ c.loop-own.invariant.rest
 
 pub returns : goal.returns
 returns c =
