@@ -27,6 +27,7 @@ use Rattle.fhir_fp_values.specs.Values.{Plain, node, truth, number, text, System
 use Rattle.fhir_fp_eval.specs.Worlds.{World}
 use Rattle.fhir_fp_eval.specs.Literals.{literal_value}
 use Rattle.fhir_fp_values.specs.Equality.{Kleene, kleene_and, kleene_or, kleene_not, kleene_xor, kleene_implies, is_yes, has, equality}
+use Rattle.fhir_fp_values.specs.Sets.{joined, shared}
 use Rattle.fhir_fp_values.specs.Comparing.{Compared, order_of}
 
 abbrev pub Found : Type 0
