@@ -1,5 +1,5 @@
 -- What paths give, child by child.
-use Rattle.std.proofs.Common.{◌≡◌, ℕ, suc, ◌+◌, ◌<◌, ◌≤◌, zero, Bool, true, false, cond, List, [], ◌∷◌, ◌++◌, length, map, get_or, drop, Option, Some, None, Result, Ok, Err, refl, sym, ap, ◌∙◌, append_assoc, length-append, arith}
+use Rattle.std.proofs.Common.{◌≡◌, ℕ, ◌+◌, ◌<◌, ◌≤◌, Bool, true, false, cond, List, [], ◌∷◌, ◌++◌, length, map, get_or, drop, Option, Some, None, Ok, Err, refl, sym, ap, ◌∙◌, append_assoc, length-append, arith}
 use Rattle.std.specs.Prelude.{IfSome}
 use Rattle.std.specs.Borrow.{Bor}
 use Rattle.std.specs.Option.{option_or, option_map}
@@ -10,7 +10,6 @@ use Rattle.fhir_instance.specs.declared.typed.Kid.{Kid}
 use Rattle.fhir_instance.specs.View.{named_of, named_in}
 use Rattle.fhir_fp_syntax.specs.Expression.{Expression, child, binary}
 use Rattle.fhir_fp_syntax.specs.declared.expr.Operator.{Operator}
-use Rattle.fhir_fp_values.specs.declared.fault.EvalFault.{EvalFault}
 use Rattle.fhir_fp_values.specs.declared.value.Value.{Value}
 use Rattle.fhir_fp_values.specs.Views.{plain_of}
 use Rattle.fhir_fp_eval.specs.declared.step.Step.{Step}
@@ -18,7 +17,7 @@ use Rattle.fhir_fp_eval.specs.declared.step.Step.TheVariants as steps
 use Rattle.fhir_fp_values.specs.Values.{Plain, node, truth, number, text}
 use Rattle.fhir_fp_eval.specs.Worlds.{World}
 use Rattle.fhir_fp_values.specs.Equality.{Kleene, kleene_and, alike, pairs, is_yes}
-use Rattle.fhir_fp_eval.specs.Meaning.{◌>>=◌, Found, below, den, criteria_hold, verdict, is_true}
+use Rattle.fhir_fp_eval.specs.Meaning.{Found, below, den, criteria_hold, verdict, is_true}
 use Rattle.fhir_fp_eval.specs.Paths.{takes, taken, step_from, onward, then_step, then_steps, then_operator, first_in, at_most_one, truth_said}
 
 below_append : (f : Item → List Item) (us vs : List Plain) → below f (us ++ vs) ≡ below f us ++ below f vs

@@ -1,6 +1,5 @@
-use Rattle.std.proofs.Common.{◌≡◌, ℕ, ◌+◌, ◌-◌, ◌∷◌, List, drop, refl, ap, ◌∙◌, arith}
+use Rattle.std.proofs.Common.{◌≡◌, ℕ, ◌+◌, ◌-◌, ◌∷◌, drop, refl, ap, ◌∙◌, arith}
 use Rattle.std.proofs.lemmas.Grind.{drop-set_at}
-use Rattle.fhir_fp_eval.specs.declared.step.Step.{Step}
 use Rattle.fhir_fp_eval.proofs.step.Steps.put_first.Goals as goal
 
 pub returns-clause-put : goal.returns-clause-put

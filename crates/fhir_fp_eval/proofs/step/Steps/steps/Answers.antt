@@ -1,4 +1,3 @@
-use Rattle.std.proofs.Common.{◌≡◌}
 use Rattle.std.proofs.lemmas.List.{take_rest}
 use Rattle.fhir_fp_eval.proofs.step.Steps.steps.Goals as goal
 
