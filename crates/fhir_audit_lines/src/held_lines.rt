@@ -206,12 +206,12 @@ fn lines_on_files(
 }
 
 /// What is told of certificates, and which profiles have none. The one refusal is want of memory.
-pub(crate) fn held_lines(
+pub(crate) fn held_lines<'h>(
     alloc: Global,
     format: Format,
     schema: &Schema,
-    audited: &[Audited<'_>],
-    files: &[HeldFile<'_>],
+    audited: &[Audited<'h>],
+    files: &'h [HeldFile<'_>],
 ) -> Result<Vec<String>, NoMemory>
     ensures { IfOk result (λ ls. AreOnCertificates format schema.now (all_audited audited.now) (Some (map held_seen files.now)) (map string_bytes ls.items)) }
 {

@@ -59,12 +59,12 @@ fn last_line(alloc: Global, format: Format, audited: &[Audited<'_>]) -> Result<S
 }
 
 // The lines on certificates that were made before.
-fn lines_held(
+fn lines_held<'h>(
     alloc: Global,
     format: Format,
     schema: &Schema,
-    audited: &[Audited<'_>],
-    held: Option<&[HeldFile<'_>]>,
+    audited: &[Audited<'h>],
+    held: Option<&'h [HeldFile<'_>]>,
 ) -> Result<Vec<String>, NoMemory>
     ensures { IfOk result (λ ls. AreOnCertificates format schema.now (all_audited audited.now) (files_seen (option_map (λ f. f.now) held.entry)) (map string_bytes ls.items)) }
 {

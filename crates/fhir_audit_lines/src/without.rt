@@ -54,13 +54,17 @@ fn urls_of<'h>(
     Ok(urls)
 }
 
-fn has_urls(urls: &BTreeSet<(&str, &str)>, derived: &str, base: &str) -> bool
+fn has_urls<'h>(
+    urls: &BTreeSet<(&'h str, &'h str)>,
+    derived: &'h str,
+    base: &'h str,
+) -> bool
     ensures { result ≡ has_urls derived.now base.now urls.now }
 {
     urls.contains(&(derived, base))
 }
 
-fn has_urls_of(urls: &BTreeSet<(&str, &str)>, audited: &Audited<'_>) -> bool
+fn has_urls_of<'h>(urls: &BTreeSet<(&'h str, &'h str)>, audited: &Audited<'h>) -> bool
     ensures { result ≡ has_urls_of urls.now (audited_seen audited.now) }
 {
     match audited.base {
@@ -94,11 +98,11 @@ fn without_line(alloc: Global, format: Format, url: &str) -> Result<String, NoMe
 }
 
 // Puts in a line on each profile whose urls aren't among these.
-fn push_missing(
+fn push_missing<'h>(
     alloc: Global,
     format: Format,
-    urls: &BTreeSet<(&str, &str)>,
-    audited: &[Audited<'_>],
+    urls: &BTreeSet<(&'h str, &'h str)>,
+    audited: &[Audited<'h>],
     into: &mut Vec<String>,
 ) -> Result<(), NoMemory>
     ensures { OnOk result (map string_bytes into.new.items
@@ -113,11 +117,11 @@ fn push_missing(
 }
 
 /// Puts in a line on each profile that has no certificate among these. The one refusal is want of memory.
-pub(crate) fn push_without(
+pub(crate) fn push_without<'h>(
     alloc: Global,
     format: Format,
-    audited: &[Audited<'_>],
-    files: &[HeldFile<'_>],
+    audited: &[Audited<'h>],
+    files: &'h [HeldFile<'_>],
     into: &mut Vec<String>,
 ) -> Result<(), NoMemory>
     ensures { OnOk result (map string_bytes into.new.items
