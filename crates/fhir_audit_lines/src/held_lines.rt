@@ -59,6 +59,25 @@ fn alone(alloc: Global, line: String) -> Result<Vec<String>, AllocError>
     Ok(lines)
 }
 
+fn no_longer(alloc: Global, name: &str) -> Result<String, AllocError>
+    ensures { IfOk result (λ text. string_bytes text ≡ name.now ++ codes ": no longer holds") }
+{
+    format!(in alloc; "{name}: no longer holds")
+}
+
+fn failed_line(
+    alloc: Global,
+    schema: &Schema,
+    name: &str,
+    pair: Pair,
+    rule: Rule<'_>,
+) -> Result<String, AllocError>
+    ensures { IfOk result (λ line. string_bytes line ≡ failing_line schema.now (name.now ++ codes ": no longer holds") pair (rule_name rule.entry)) }
+{
+    let front = no_longer(alloc, name)?;
+    failing_line(alloc, schema, front.as_str(), pair, rule)
+}
+
 // That a pair fails a rule, and what both elements say.
 fn failing_text(
     alloc: Global,
@@ -71,8 +90,7 @@ fn failing_text(
         ≡ failing_line schema.now (name.now ++ codes ": no longer holds") pair (rule_name rule.entry) ∷ under [] words ∷ [])) }
 {
     let mut lines: Vec<String> = Vec::new(alloc);
-    let front = format!(in alloc; "{name}: no longer holds")?;
-    let line = failing_line(alloc, schema, front.as_str(), pair, rule)?;
+    let line = failed_line(alloc, schema, name, pair, rule)?;
     let words = words_line(alloc, schema, pair, rule)?;
     lines.push(line)?;
     lines.push(words)?;
@@ -115,7 +133,7 @@ fn held_line<'m>(
     verdict: &'static str,
     more: Members<'m>,
 ) -> Result<Vec<String>, NoMemory>
-    ensures { IfOk result (λ ls. map string_bytes ls.items ≡ held_line name.now verdict.now (map property_of more.items) ∷ []) }
+    ensures { IfOk result (λ ls. map string_bytes ls.items ≡ held_line name.now verdict.now (map property_of more.entry.items) ∷ []) }
 {
     let mut members: Members<'m> = Vec::new(alloc);
     put_text("certificate", name, &mut members)?;

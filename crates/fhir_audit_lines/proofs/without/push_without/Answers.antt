@@ -8,5 +8,5 @@ use Rattle.fhir_audit_lines.proofs.without.push_without.Goals as goal
 pub returns : goal.returns
 returns c =
     c.in_ok-push_missing.ensures
-    ∙ ap (λ (ls : List Text). map string_bytes c.args.into.items ++ ls)
+    ∙ ap (λ (ls : List Text). map string_bytes c.args.into.now.items ++ ls)
     (missing_are c.args.format (map held_seen c.args.files.now) c.in_ok-urls.urls (all_audited c.args.audited.now) c.in_ok-urls.ensures)
