@@ -110,11 +110,7 @@ fn gone_line(alloc: Global, name: &str, url: &str) -> Result<String, AllocError>
     format!(in alloc; "{name}: its profile is gone: {url}")
 }
 
-fn held_text(
-    alloc: Global,
-    schema: &Schema,
-    file: &HeldFile<'_>,
-) -> Result<Vec<String>, NoMemory>
+fn held_text(alloc: Global, schema: &Schema, file: &HeldFile<'_>) -> Result<Vec<String>, NoMemory>
     ensures { IfOk result (λ ls. IsHeldText schema.now (string_bytes file.now.name) (standing_seen file.now.held.standing) (map string_bytes ls.items)) }
 {
     let name = file.name.as_str();
@@ -177,11 +173,7 @@ fn gone_tree(alloc: Global, name: &str, url: &str) -> Result<Vec<String>, NoMemo
     held_line(alloc, name, "its profile is gone", more)
 }
 
-fn held_tree(
-    alloc: Global,
-    schema: &Schema,
-    file: &HeldFile<'_>,
-) -> Result<Vec<String>, NoMemory>
+fn held_tree(alloc: Global, schema: &Schema, file: &HeldFile<'_>) -> Result<Vec<String>, NoMemory>
     ensures { IfOk result (λ ls. IsHeldTree schema.now (string_bytes file.now.name) (standing_seen file.now.held.standing) (map string_bytes ls.items)) }
 {
     let name = file.name.as_str();

@@ -54,11 +54,7 @@ fn urls_of<'h>(
     Ok(urls)
 }
 
-fn has_urls<'h>(
-    urls: &BTreeSet<(&'h str, &'h str)>,
-    derived: &'h str,
-    base: &'h str,
-) -> bool
+fn has_urls<'h>(urls: &BTreeSet<(&'h str, &'h str)>, derived: &'h str, base: &'h str) -> bool
     ensures { result ≡ has_urls derived.now base.now urls.now }
 {
     urls.contains(&(derived, base))
