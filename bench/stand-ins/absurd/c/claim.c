@@ -1,0 +1,1 @@
+void claim(void){}
