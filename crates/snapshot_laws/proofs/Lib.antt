@@ -20,3 +20,9 @@ mod Siblings
 mod There
 mod Ups
 mod Whole
+mod Unicode
+mod Readable
+mod Good
+mod Sources
+mod Made
+mod Finished

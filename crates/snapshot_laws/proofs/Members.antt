@@ -19,7 +19,7 @@ use Rattle.fhir_inheritance.specs.Sources.{elements_in}
 -- ---- a member in place of others of its name
 
 -- the members but for those of a name, and then one of that name
-abbrev with_last : Text → Tree → List Property → Members
+abbrev pub with_last : Text → Tree → List Property → Members
 with_last last s ps = members_of (without_member last ps ++ (last, s) ∷ [])
 
 others_stay : (last name : Text) (s : Tree) (ps : List Property) → bytes_eq name last ≡ false
@@ -44,7 +44,7 @@ last_there last s (m ∷ ps) = by (bytes_eq last m.0) refl (last_there last s ps
     by true is rest = rest
     by false is rest = cond-false (bytes_eq last m.0) (Some m.1) (value_named last (with_last last s ps)) is ∙ rest
 
-same_members : (ms : Members) → members_of (properties_of ms) ≡ ms
+pub same_members : (ms : Members) → members_of (properties_of ms) ≡ ms
 same_members no_members = refl
 same_members (member name t ms) = ap (member name t) (same_members ms)
 

@@ -28,7 +28,7 @@ use Rattle.snapshot_laws.proofs.There.{IsGood, good_written, good_laid}
 source_is : (p : Definitions) (url : Text) (t : Tree) → at_url StructureDefinition url p ≡ Some t → source_at p url ≡ Some (source_of p t)
 source_is p url t at = ap (option_map (source_of p)) at
 
-written_elements : (p : Definitions) (t : Tree) → brings_snapshot t ≡ true → (source_of p t).elements ≡ elements_in (codes "snapshot") t
+pub written_elements : (p : Definitions) (t : Tree) → brings_snapshot t ≡ true → (source_of p t).elements ≡ elements_in (codes "snapshot") t
 written_elements p t is = ap (λ (b : Bool). elements_in (cond b (codes "snapshot") (codes "differential")) t) is
 
 own_elements : (p : Definitions) (t : Tree) → brings_snapshot t ≡ false → (source_of p t).elements ≡ elements_in (codes "differential") t

@@ -1,5 +1,5 @@
-//! Laws that say in the standard's words what the snapshot of a profile is (FHIR R4, Profiling, snapshots). Nothing stands on them, so
-//! they cost no other crate's proof.
+//! Laws that say in the standard's words what the snapshot of a profile is (FHIR R4, Profiling, snapshots). No crate of the program
+//! stands on them, so they cost none a proof.
 #![tactic(auto)]
 
 mod children;
@@ -10,7 +10,7 @@ mod slicings;
 mod snapshots;
 
 pub use children::{ids_without_a_slice, new_children};
-pub use completed::completed_definitions;
+pub use completed::{completed_definitions, completed_packages};
 pub use differentials::{bases_are_named, differentials_hold, slicings_stay};
 pub use ids::each_id_once;
 pub use slicings::{implied_slicings, new_slices_are_elements, paths_of_new_slices};
