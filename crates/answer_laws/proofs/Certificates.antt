@@ -11,7 +11,8 @@ use Rattle.fhir_certificate.specs.declared.fault.CertFault.{CertFault}
 use Rattle.fhir_certificate.specs.declared.pair.NodePair.{NodePair}
 use Rattle.fhir_certificate.specs.declared.pair.Pair.{Pair}
 use Rattle.fhir_certificate.specs.Certificate.{CertificateValue}
-use Rattle.fhir_cert_check.specs.Checking.{IsCertificate, is_among}
+use Rattle.fhir_certificate.specs.Reading.{reading}
+use Rattle.fhir_cert_check.specs.Checking.{IsCertificate, is_among, answer_of}
 use Rattle.fhir_cert_check.specs.Inclusion.{Includes}
 use Rattle.fhir_cert_check.specs.Rule.{RuleName}
 use Rattle.fhir_derive_check.specs.declared.fault.DeriveFault.{DeriveFault}
@@ -72,7 +73,7 @@ module _ (s : SchemaValue) (derived base : Text) where
       (no_side (is_missing s) (not_missing s derived d) (not_missing s base b))
       ∙ ap (refusal None) (no_side (is_unusable s) (not_unusable s derived d) (not_unusable s base b))
 
-  some_refusal : (fault : DeriveFault) → derive_refusal s derived base ≡ Some fault → HasCertificate s derived base → ⊥
+  pub some_refusal : (fault : DeriveFault) → derive_refusal s derived base ≡ Some fault → HasCertificate s derived base → ⊥
   some_refusal fault is has = false≢true (ap is_some (sym (unrefused has) ∙ is))
 
   has_certificate : (c : CertificateValue) → IsDerived s derived base c × IsCertificate s c → HasCertificate s derived base
@@ -210,4 +211,12 @@ pub clean_at : (manner : Manner) (s : SessionValue) (reply : ReplyValue) → IsR
 clean_at manner s reply is = (
   λ e. let right = is.all_right.0 (clean_by is.is_clean (sym (ap status_of is.is_reply) ∙ e)) in (right.0, right.1),
   λ h. ap status_of is.is_reply ∙ ap (λ b. code_of (report_status b)) (is.all_right.1 (h.0, h.1, tt)),
+)
+
+pub clean_with : (manner : Manner) (s : SessionValue) (name bytes : Text) (reply : ReplyValue) → IsReported manner None s (Some (name, bytes)) reply
+    → (status_of reply ≡ 0)
+    ↔ ((s.survey.faults ≡ []) × (selected_unusable None (schema_in s) s.survey ≡ []) × (answer_of (reading (schema_in s) bytes) (schema_in s) ≡ Ok None))
+clean_with manner s name bytes reply is = (
+  λ e. is.all_right.0 (clean_by is.is_clean (sym (ap status_of is.is_reply) ∙ e)),
+  λ h. ap status_of is.is_reply ∙ ap (λ b. code_of (report_status b)) (is.all_right.1 h),
 )

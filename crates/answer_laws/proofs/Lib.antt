@@ -7,3 +7,11 @@ mod Standings
 mod Certificates
 mod Endings
 mod FirstFaults
+mod Fitting
+mod Usable
+mod Checked
+mod Printed
+mod Agreeing
+mod Shown
+mod Alike
+mod ReadBack

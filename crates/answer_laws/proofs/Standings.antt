@@ -53,7 +53,7 @@ pub unrooted : (s : SchemaValue) (profile : Text) (reason : Reason) → unusable
 unrooted s profile reason h = unrooted_at s reason (url_place s.definitions profile) h
 
 module _ (s : SchemaValue) (profile bytes : Text) where
-  no_fault : (fault : Fault) → Means s profile bytes fault × (fault ≡ NoMemory → ⊥) → (t : Tree) → Reads bytes t → IsSome (root s profile) → ⊥
+  pub no_fault : (fault : Fault) → Means s profile bytes fault × (fault ≡ NoMemory → ⊥) → (t : Tree) → Reads bytes t → IsSome (root s profile) → ⊥
   no_fault Missing h t reads some = false≢true (sym (ap is_some h.0.0) ∙ some)
   no_fault (Unusable reason) h t reads some = false≢true (sym (ap is_some (unrooted s profile reason h.0)) ∙ some)
   no_fault (NotJson fault) h t reads some = h.0.1 t reads
@@ -61,7 +61,7 @@ module _ (s : SchemaValue) (profile bytes : Text) where
 
   -- ---- by the number of the status
 
-  abbrev number : Result Verdict Fault → ℕ
+  abbrev pub number : Result Verdict Fault → ℕ
   number v = code_of (standing_status (standing_of v))
 
   conforming : (v : Result Verdict Fault) → Stands s profile bytes v → number v ≡ 0
@@ -97,7 +97,7 @@ module _ (s : SchemaValue) (profile bytes : Text) where
   severe (Err fault) = refl
 
   module _ (reply : ReplyValue) (is : IsAnswered s profile bytes reply) where
-    its_status : status_of reply ≡ number is.is_judged.validated
+    pub its_status : status_of reply ≡ number is.is_judged.validated
     its_status = ap status_of is.is_reply ∙ ap (λ standing. code_of (standing_status standing)) is.is_judged.stands_so
 
     pub conforms_by : status_of reply ≡ 0 → (t : Tree) × Reads bytes t × ((meaning : Interpretation) → Conforms s meaning profile t)

@@ -2,3 +2,4 @@ pub mod Manual
 pub mod Runs
 pub mod Parts
 pub mod Answers
+pub mod Folders

@@ -11,11 +11,15 @@ ghost use Rattle.fhir_validator.specs.Verdicts.{AreGiven};
 ghost use Rattle.fhir_replies.specs.Outcomes.{IsOutcome};
 ghost use Rattle.fhir_replies.specs.Standing.{NeverConforms};
 ghost use Rattle.fhir_unread.specs.Given.{texts_given, AreSame};
-ghost use Rattle.fhir_words.specs.Requests.{validate, validate_given};
+ghost use Rattle.fhir_words.specs.Requests.{derive, validate, validate_given};
 ghost use Rattle.fhir_answers.specs.Replying.{ReplyValue, status_of, out_of, is_told};
 ghost use Rattle.fhir_answers.specs.Session.{SessionValue, schema_in};
 ghost use Rattle.answer_laws.specs.Answers.{Replies};
 ghost use Rattle.answer_laws.specs.Manual.{severity};
+
+use fhir_cert_check::certificates_include;
+use fhir_conformance::fair_meanings;
+use fhir_json::one_tree;
 
 /// What `validate` says of the bytes of a resource by its status: 0 that it conforms, whatever the unread rules mean (`conforms`); 1 that it doesn't, whatever
 /// they mean (`violates`); 2 that this hangs on them: it doesn't where none holds, and can't fail to where each holds (`open`); and 3 that the bytes are no
@@ -63,3 +67,15 @@ pub fn outcomes_by_status()
         → is_told reply ≡ false
         → (outcome : Tree) × (out_of reply ≡ compact outcome ++ codes "\n") × IsOutcome (severity (status_of reply)) outcome }
 {}
+
+/// Where `derive` has status 0 of a profile and its base, each resource of which `validate` has status 0 by the profile has status 0 by the base too.
+pub fn narrower_profiles_agree()
+    ensures { (s : SessionValue) (folder derived base name bytes : Text) (files more others : List (Option Text)) (made one other : ReplyValue)
+        → Replies (derive folder derived base) s files made → status_of made ≡ 0
+        → Replies (validate folder derived name) s (Some bytes ∷ more) one → status_of one ≡ 0
+        → Replies (validate folder base name) s (Some bytes ∷ others) other → status_of other ≡ 0 }
+{
+    certificates_include();
+    fair_meanings();
+    one_tree();
+}
