@@ -20,8 +20,8 @@ use fhir_package::{changes, given_files, surveys};
 use fhir_schema::least_closed;
 use snapshot_laws::completed_packages;
 
-/// Where `check` of a folder has status 0, each of its definitions brings what snapshots are made of: a snapshot of elements, or else a differential of
-/// elements with different ids.
+/// Where `check` of a whole folder has status 0, each of its definitions brings what snapshots are made of: a snapshot of elements, or else a differential
+/// of elements with different ids.
 pub fn checked_folders_are_right()
     ensures { (folder : Files) (s : SessionValue) (named : Text) (manner : Manner) (files : List (Option Text)) (reply : ReplyValue)
         → IsSessionIn folder s → IsReply (answer_by (check named None [] manner) s files) reply → status_of reply ≡ 0 → IsRight folder }
@@ -29,7 +29,7 @@ pub fn checked_folders_are_right()
     least_closed();
 }
 
-/// `check` of a folder and a certificate has status 0 exactly where no file of the folder is at fault, each definition can be used, and `certify` has status 0
+/// `check` of a whole folder and a certificate has status 0 exactly where no file of the folder is at fault, each definition can be used, and `certify` has status 0
 /// of the certificate.
 pub fn checks_agree_with_certify()
     ensures { (s : SessionValue) (named name bytes : Text) (manner : Manner) (files others : List (Option Text)) (reply other : ReplyValue)
@@ -40,7 +40,8 @@ pub fn checks_agree_with_certify()
 {}
 
 /// What `derive` prints with status 0 is the text of a certificate, which `certify` finds right in the same folder, as long as the certificate has no more
-/// pairs than a text may have. That holds where each definition of the folder brings what snapshots are made of, as after a `check` of status 0.
+/// pairs than a text may have. That holds where each definition of the folder brings what snapshots are made of, as where `check` of the whole
+/// folder has status 0.
 pub fn derived_certificates_are_right()
     ensures { (folder : Files) (s : SessionValue) (named derived base : Text) (files : List (Option Text)) (reply : ReplyValue)
         → IsSessionIn folder s → IsRight folder → Replies (derive named derived base) s files reply → status_of reply ≡ 0
