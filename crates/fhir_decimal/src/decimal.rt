@@ -12,14 +12,19 @@ use crate::reading::{cut_digits, cut_exponent, cut_fraction, cut_minus, is_whole
 use crate::rows::{FAR, Row, rows_apart, zeros_behind};
 use std::cmp::Ordering;
 
-/// A decimal (FHIR R4, Data Types, decimal), as the parts of its text, which it borrows.
+/// A decimal (FHIR R4, Data Types, decimal), as the parts of its text, which it borrows. A byte that is no digit counts as 0.
 #[derive(Clone, Copy, Debug)]
 pub struct Decimal<'a> {
-    negative: bool,
-    whole: &'a [u8],
-    fraction: &'a [u8],
-    lowers: bool,
-    exponent: &'a [u8],
+    /// Whether it begins with `-`.
+    pub negative: bool,
+    /// The digits before the point.
+    pub whole: &'a [u8],
+    /// The digits behind the point, or none.
+    pub fraction: &'a [u8],
+    /// Whether the exponent has a `-`.
+    pub lowers: bool,
+    /// The digits of the exponent, or none.
+    pub exponent: &'a [u8],
 }
 
 #[tactic(auto, unfolding(crate::specs::Reading::parts))]
@@ -55,7 +60,7 @@ impl<'a> Decimal<'a> {
     }
 
     /// The decimal of the digits before a point and behind it, as those of seconds, which may begin with a 0 and have
-    /// no sign and no exponent. A byte that is no digit counts as 0.
+    /// no sign and no exponent.
     pub fn of_digits(whole: &'a [u8], fraction: &'a [u8]) -> Decimal<'a>
         ensures { parts_seen result ≡ unsigned_parts whole.now fraction.now }
     {

@@ -22,12 +22,18 @@ use std::cmp::Ordering;
 /// of a time of day. The fraction of the second is borrowed.
 #[derive(Clone, Copy, Debug)]
 pub struct Moment<'a> {
-    year: Option<u32>,
-    month: Option<u32>,
-    day: Option<u32>,
-    hour: Option<u32>,
-    minute: Option<u32>,
-    second: Option<Decimal<'a>>,
+    /// The year, of a date and of a moment.
+    pub year: Option<u32>,
+    /// The month, from 1.
+    pub month: Option<u32>,
+    /// The day of the month, from 1.
+    pub day: Option<u32>,
+    /// The hour, of a moment and of a time of day.
+    pub hour: Option<u32>,
+    /// The minute.
+    pub minute: Option<u32>,
+    /// The second, with its fraction.
+    pub second: Option<Decimal<'a>>,
 }
 
 fn of_date<'a>(year: Option<u32>, month: Option<u32>, day: Option<u32>) -> Moment<'a>
