@@ -1,0 +1,7 @@
+mod Sums
+mod Lowest
+mod Exponents
+mod Shifted
+mod OneKey
+mod OneValue
+pub mod Signed
