@@ -19,6 +19,8 @@ ghost use Rattle.fhir_inheritance.specs.Sources.{source_at};
 ghost use Rattle.fhir_snapshot.specs.Snapshots.{IsSnapshot};
 ghost use Rattle.fhir_decimal.specs.Text.{Parts, IsDecimal};
 ghost use Rattle.fhir_decimal.specs.Value.{value_of, is_same_value};
+ghost use Rattle.fhir_decimal.specs.Whole.{count as count_value};
+ghost use Rattle.fhir_number_keys.specs.Keys.{key_of};
 ghost use Rattle.fhir_names.specs.Ids.{read_id};
 ghost use Rattle.fhir_names.specs.Parents.{front_of};
 ghost use Rattle.fhir_prims.specs.Values.{prim_of, lexical};
@@ -85,7 +87,7 @@ use fhir_codes::expand;
 use fhir_commands::{Command, Reply, Standing};
 use fhir_conformance::{KidsByName, asks};
 use fhir_counter::counterexample;
-use fhir_decimal::Decimal;
+use fhir_decimal::{Decimal, Number};
 use fhir_definition::Definition;
 use fhir_demands::{Demand, below};
 use fhir_derive_check::{DeriveFault, Outcome, derive};
@@ -106,6 +108,7 @@ use fhir_matching::{json_eq, matches};
 use fhir_names::{ElementId, front_of};
 use fhir_new_folder::NewFolder;
 use fhir_nodes::{Nodes, Table};
+use fhir_number_keys::push_number_key;
 use fhir_overlay::{copied, laid_over};
 use fhir_package::{Folder, Kind, LoadFault, Package, Silent, Survey, load};
 use fhir_prims::{PrimType, lexical};
@@ -120,7 +123,7 @@ use fhir_targets::targets_narrower;
 use fhir_validator::{Fault, validate};
 use fhir_vouching::{Spelled, Vouching};
 use fhir_words::{Detail, Format, Invocation, Manner, Task, WordsFault, task_of};
-use std::alloc::Global;
+use std::alloc::{AllocError, Global};
 
 /// The text of the field `url` of a JSON object, or why the bytes are no text of JSON.
 pub fn url_of(alloc: Global, bytes: &[u8]) -> Result<Option<String>, JsonFault>
@@ -325,6 +328,15 @@ pub fn asks_for_all(pattern: &Json<'static>, other: &Json<'static>) -> bool
 {
     narrower_holds();
     Pattern(pattern).narrower(&Pattern(other))
+}
+
+/// The key of a count. That of 20 is the key of `20.0` and of `2e1` too.
+pub fn key_of_count(alloc: Global, count: usize) -> Result<String, AllocError>
+    ensures { IfOk result (λ key. string_bytes key ≡ key_of (count_value count)) }
+{
+    let mut key = String::new(alloc);
+    push_number_key(alloc, &mut key, &Number::Count(count))?;
+    Ok(key)
 }
 
 /// Whether references of a type entry may lead wherever those of another may.

@@ -1,17 +1,24 @@
 -- Equal values have one key.
-use Rattle.std.proofs.Common.{◌≡◌, Bool, true, false, List, [], ◌∷◌, ◌++◌, map, codes, Option, Some, None, refl, sym, ap, ◌∙◌}
-use Rattle.std.specs.Prelude.{if◌then◌else◌}
+use Rattle.std.proofs.Common.{◌≡◌, ℕ, Bool, true, false, List, [], ◌∷◌, ◌++◌, map, codes, Option, Some, None, refl, sym, ap, ap₂, ◌∙◌}
+use Rattle.std.specs.Prelude.{if◌then◌else◌, decimal}
+use Rattle.std.specs.Option.{option_map}
+use Rattle.std.specs.declared.cmp.Ordering.{Ordering}
+use Rattle.std.specs.declared.cmp.Ordering.TheVariants.{Less, Equal, Greater}
 use Rattle.std.specs.Cmp.Lexicographic.{slice_cmp}
 use Rattle.std.specs.List.{AllByRecursion}
-use Rattle.std.specs.Ordering.{is_lt, nat_cmp}
+use Rattle.std.specs.Ordering.{is_lt, is_eq, nat_cmp, partial_ordering_then}
 use Rattle.std.specs.Str.{bytes_eq}
 use Rattle.std.proofs.lemmas.Slice.Eq.{bytes_eq-Decides}
+use Rattle.std.proofs.lemmas.Map.Lookups.{exact_unsigned}
 use Rattle.fhir_json.specs.Tree.{Text}
+use Rattle.fhir_decimal.specs.Value.{Value, value_order, is_same_value}
+use Rattle.fhir_prims.specs.Order.{Fields, field_order, moment_order}
+use Rattle.fhir_number_keys.proofs.Signed.{keys_right}
 use Rattle.fhir_instance.specs.Items.{Item, item, Kids, no_kids, kid, Named, kids_in, type_of, kids_of}
 use Rattle.fhir_fp_values.specs.Values.{Plain, node, truth, number, text, SystemValue, boolean_of, number_of, string_of, moment_of, time_of, item_value, system_value}
 use Rattle.fhir_fp_values.specs.Equality.{Kleene, same_truth, same_system_value, same_said, if_same, sides_named, items_named, in_turn, by_name, sides_of, equal, same_node, alike}
 use Rattle.fhir_fp_values.specs.Pairing.{Ascends}
-use Rattle.fhir_fp_values.specs.Keys.{measured, truth_key, said_key, key_said, Keyed, in_order, written, parts_key, item_key, keyed_kids, node_key, key_of}
+use Rattle.fhir_fp_values.specs.Keys.{measured, truth_key, field_key, second_key, moment_key, said_key, key_said, Keyed, in_order, written, parts_key, item_key, keyed_kids, node_key, key_of}
 use Rattle.fhir_fp_values.proofs.ByName.{both_true, of_names}
 use Rattle.fhir_fp_values.proofs.Ordered.{under, Rises, order_is, order_one}
 
@@ -26,6 +33,38 @@ truth_one true false h = absurd cc
 truth_one false true h = absurd cc
 truth_one false false h = refl
 
+-- an order that is decided, and what it is
+equal_first : (p q : Option Ordering) → option_map is_eq (partial_ordering_then p q) ≡ Some true → (p ≡ Some Equal) × (option_map is_eq q ≡ Some true)
+equal_first (Some Less) q h = absurd cc
+equal_first (Some Equal) q h = (refl, h)
+equal_first (Some Greater) q h = absurd cc
+equal_first None q h = absurd cc
+
+field_one : (a b : Option ℕ) → field_order nat_cmp a b ≡ Some Equal → field_key a ≡ field_key b
+field_one (Some m) (Some n) h = let e : nat_cmp m n ≡ Equal = cc in ap (λ k. codes ":" ++ decimal k) (exact_unsigned m n e)
+field_one (Some m) None h = absurd cc
+field_one None (Some n) h = absurd cc
+field_one None None h = refl
+
+second_one : (a b : Option Value) → option_map is_eq (field_order value_order a b) ≡ Some true → second_key a ≡ second_key b
+second_one (Some v) (Some w) h = let e : is_same_value v w ≡ true = cc in ap (λ (k : Text). codes ":" ++ k) ((keys_right v w).1 e)
+second_one (Some v) None h = absurd cc
+second_one None (Some w) h = absurd cc
+second_one None None h = refl
+
+moment_one : (a b : Fields) → option_map is_eq (moment_order a b) ≡ Some true → moment_key a ≡ moment_key b
+moment_one a b h =
+    let year = equal_first (field_order nat_cmp a.year b.year) _ h in
+    let month = equal_first (field_order nat_cmp a.month b.month) _ year.1 in
+    let day = equal_first (field_order nat_cmp a.day b.day) _ month.1 in
+    let hour = equal_first (field_order nat_cmp a.hour b.hour) _ day.1 in
+    let minute = equal_first (field_order nat_cmp a.minute b.minute) _ hour.1 in
+    ap₂ both (ap₂ both (field_one a.year b.year year.0) (ap₂ both (field_one a.month b.month month.0) (field_one a.day b.day day.0)))
+    (ap₂ both (field_one a.hour b.hour hour.0) (ap₂ both (field_one a.minute b.minute minute.0) (second_one a.second b.second minute.1)))
+  where
+    both : Text → Text → Text
+    both s t = s ++ t
+
 said_one : (a b : SystemValue) → same_system_value a b ≡ Some true → said_key a ≡ said_key b
 said_one (boolean_of a) (boolean_of b) h = let e : same_truth a b ≡ true = cc in truth_one a b e
 said_one (boolean_of a) (number_of b) h = absurd cc
@@ -33,7 +72,7 @@ said_one (boolean_of a) (string_of b) h = absurd cc
 said_one (boolean_of a) (moment_of b) h = absurd cc
 said_one (boolean_of a) (time_of b) h = absurd cc
 said_one (number_of a) (boolean_of b) h = absurd cc
-said_one (number_of a) (number_of b) h = refl
+said_one (number_of a) (number_of b) h = let e : is_same_value a b ≡ true = cc in ap (λ (k : Text). codes "n" ++ (k ++ codes ";")) ((keys_right a b).1 e)
 said_one (number_of a) (string_of b) h = absurd cc
 said_one (number_of a) (moment_of b) h = absurd cc
 said_one (number_of a) (time_of b) h = absurd cc
@@ -46,13 +85,13 @@ said_one (string_of a) (time_of b) h = absurd cc
 said_one (moment_of a) (boolean_of b) h = absurd cc
 said_one (moment_of a) (number_of b) h = absurd cc
 said_one (moment_of a) (string_of b) h = absurd cc
-said_one (moment_of a) (moment_of b) h = refl
+said_one (moment_of a) (moment_of b) h = ap (λ (k : Text). codes "m" ++ (k ++ codes ";")) (moment_one a b h)
 said_one (moment_of a) (time_of b) h = absurd cc
 said_one (time_of a) (boolean_of b) h = absurd cc
 said_one (time_of a) (number_of b) h = absurd cc
 said_one (time_of a) (string_of b) h = absurd cc
 said_one (time_of a) (moment_of b) h = absurd cc
-said_one (time_of a) (time_of b) h = refl
+said_one (time_of a) (time_of b) h = ap (λ (k : Text). codes "h" ++ (k ++ codes ";")) (moment_one a b h)
 
 said_or_parts : (p q : Option SystemValue) (r : Kleene) (s t : Text) → same_said p q r ≡ Some true → (r ≡ Some true → s ≡ t) → key_said p s ≡ key_said q t
 said_or_parts (Some a) (Some b) r s t h parts = said_one a b h

@@ -1,8 +1,11 @@
 -- Keys: texts that equal values have in common (used by private contracts alone).
-use Rattle.std.specs.Prelude.{Bool, true, false, List, [], ◌∷◌, ◌++◌, length, decimal, codes, Option, None, Some, if◌then◌else◌}
+use Rattle.std.specs.Prelude.{ℕ, Bool, true, false, List, [], ◌∷◌, ◌++◌, length, decimal, codes, Option, None, Some, if◌then◌else◌}
 use Rattle.std.specs.Cmp.Lexicographic.{slice_cmp}
 use Rattle.std.specs.Ordering.{is_lt, nat_cmp}
 use Rattle.fhir_json.specs.Tree.{Text}
+use Rattle.fhir_decimal.specs.Value.{Value}
+use Rattle.fhir_number_keys.specs.Keys.{key_of as number_key}
+use Rattle.fhir_prims.specs.Order.{Fields}
 use Rattle.fhir_instance.specs.Items.{Item, item, Kids, no_kids, kid}
 use Rattle.fhir_fp_values.specs.Values.{Plain, node, SystemValue, boolean_of, number_of, string_of, moment_of, time_of, item_value, system_value}
 
@@ -14,13 +17,31 @@ abbrev pub truth_key : Bool → Text
 truth_key true = codes "t"
 truth_key false = codes "f"
 
--- what says the same has one key. Numbers have one in common, and so have moments and times of day
+-- a field that is given, or the mark of one that isn't
+abbrev pub field_key : Option ℕ → Text
+field_key (Some n) = codes ":" ++ decimal n
+field_key None = codes "."
+
+abbrev pub second_key : Option Value → Text
+second_key (Some v) = codes ":" ++ number_key v
+second_key None = codes "."
+
+abbrev pub date_key : Fields → Text
+date_key m = field_key m.year ++ (field_key m.month ++ field_key m.day)
+
+abbrev pub clock_key : Fields → Text
+clock_key m = field_key m.hour ++ (field_key m.minute ++ second_key m.second)
+
+abbrev pub moment_key : Fields → Text
+moment_key m = date_key m ++ clock_key m
+
+-- what says the same has one key
 abbrev pub said_key : SystemValue → Text
 said_key (boolean_of b) = truth_key b
-said_key (number_of v) = codes "n"
+said_key (number_of v) = codes "n" ++ (number_key v ++ codes ";")
 said_key (string_of s) = codes "s" ++ measured s
-said_key (moment_of m) = codes "m"
-said_key (time_of m) = codes "h"
+said_key (moment_of m) = codes "m" ++ (moment_key m ++ codes ";")
+said_key (time_of m) = codes "h" ++ (moment_key m ++ codes ";")
 
 -- where nothing is said, the key of the parts
 abbrev pub key_said : Option SystemValue → Text → Text

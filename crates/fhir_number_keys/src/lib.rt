@@ -1,7 +1,7 @@
 //! Keys of numbers: texts that numbers of one value have in common, and no others, so that a number is found among many by its value.
 //!
 //! ```
-//! /// The key of a count, as that of `20` and of `2e1` is.
+//! /// The key of a count. That of 20 is the key of `20.0` and of `2e1` too.
 //! pub fn key_of_count(alloc: Global, count: usize) -> Result<String, AllocError>
 //!     ensures { IfOk result (λ key. string_bytes key ≡ key_of (count_value count)) }
 //! {
