@@ -16,7 +16,7 @@ use Rattle.fhir_replies.specs.Deriving.{Derivation, derives, fails, missing, unu
 use Rattle.fhir_replies.specs.Standing.{Stands}
 use Rattle.fhir_answers.specs.Answering.{IsAnswered, IsDerivationReply}
 use Rattle.fhir_answers.specs.Replying.{ReplyValue, status_of, derivation_reply}
-use Rattle.answer_laws.proofs.Fitting.{both_roots}
+use Rattle.fhir_derive_check.proofs.Rooted.{both-roots}
 use Rattle.answer_laws.proofs.Refuted.{AreFair}
 use Rattle.answer_laws.proofs.Standings.{no_fault, number, its_status, conforms_by}
 
@@ -33,7 +33,7 @@ narrows_by : CertificatesInclude → (s : SchemaValue) (derived base : Text) (d 
 narrows_by law s derived base (derives c) h e =
     record {
       includes = subst (λ (b : Text). Includes s derived b) h.0.base_is (subst (λ (d : Text). Includes s d c.base) h.0.derived_is (law s c h.1));
-      rooted = ap is_some (both_roots (root s derived) (root s base) h.0.roots h.0.are_roots).1;
+      rooted = ap is_some (both-roots (root s derived) (root s base) h.0.roots h.0.are_roots).1;
     }
 narrows_by law s derived base (fails pair rule) h e = absurd (false≢true (ap (eqb 0) e))
 narrows_by law s derived base (missing side) h e = absurd (false≢true (ap (eqb 0) e))

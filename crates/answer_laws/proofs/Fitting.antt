@@ -19,39 +19,8 @@ use Rattle.fhir_certificate.specs.declared.pair.Pair.{Pair}
 use Rattle.fhir_certificate.specs.declared.pair.Pair.TheVariants.{Item, Kids}
 use Rattle.fhir_certificate.specs.Certificate.{CertificateValue, are_nodes, fits}
 use Rattle.fhir_cert_check.specs.Asked.{asked_for, is_of_nodes}
+use Rattle.fhir_derive_check.proofs.Rooted.{root-known, both-roots}
 use Rattle.fhir_derive_check.specs.Deriving.{items_in, kids_in, IsDerived}
-
--- ---- roots
-
-position_below : {A : Type 0} (test : A → Bool) (xs : List A) (i : ℕ) → position test xs ≡ Some i → i < length xs
-position_below test [] i e = absurd (none-some i e)
-position_below test (x ∷ xs) i e = (position-Some test (x ∷ xs) i x e).0
-
-root_node : (s : SchemaValue) (url : Text) (n : NodeRef) → root s url ≡ Some n → IsTrue (has s n)
-root_node s url n e = at (url_place s.definitions url) e
-  where
-    within : (place : ℕ) (b : Bool) → is_usable s place ≡ b → (o : Option ℕ) → root_element s place ≡ o
-        → cond b (option_map (λ e. record { definition = place; element = e }) o) None ≡ Some n → IsTrue (has s n)
-    within place false usable o found e = absurd (none-some n e)
-    within place true usable None found e = absurd (none-some n e)
-    within place true usable (Some k) found e =
-        let es = elements_at s place in
-        let m : NodeRef = record { definition = place; element = k } in
-        let below : k < length es = position_below is_root es k found in
-        subst (λ m. IsTrue (has s m)) (same_Some m n e) (and_from (is_usable s place) (nat_lt k (length es)) usable (lt-ltb k (length es) below))
-
-    at : (o : Option ℕ) → option_and_then (root_in s) o ≡ Some n → IsTrue (has s n)
-    at None e = absurd (none-some n e)
-    at (Some place) e = within place (is_usable s place) refl (root_element s place) refl e
-
-pub both_roots : (left right : Option NodeRef) (roots : NodePair)
-    → option_and_then (λ n. option_map (λ m. let p : NodePair = record { derived = n; base = m } in p) right) left ≡ Some roots
-    → (left ≡ Some roots.derived) × (right ≡ Some roots.base)
-both_roots None right roots e = absurd (none-some roots e)
-both_roots (Some n) None roots e = absurd (none-some roots e)
-both_roots (Some n) (Some m) roots e =
-    let same = same_Some _ roots e in
-    (ap (λ (r : NodePair). Some r.derived) same, ap (λ (r : NodePair). Some r.base) same)
 
 -- ---- pairs
 
@@ -95,9 +64,9 @@ pub derived_fits : AskedAreNodes → (d : Definitions) (derived base : Text) (c 
     → IsTrue (fits (schema_of d) c)
 derived_fits asked d derived base c is =
     let s = schema_of d in
-    let rooted = both_roots (root s derived) (root s base) is.roots is.are_roots in
+    let rooted = both-roots (root s derived) (root s base) is.roots is.are_roots in
     let first : IsTrue (is_of_nodes s (Item is.roots)) =
-    and_from (has s is.roots.derived) (has s is.roots.base) (root_node s derived is.roots.derived rooted.0) (root_node s base is.roots.base rooted.1) in
+    and_from (has s is.roots.derived) (has s is.roots.base) (root-known s derived is.roots.derived rooted.0) (root-known s base is.roots.base rooted.1) in
     let all : IsTrue (list_all (is_of_nodes s) is.found) =
     of_nodes s is.found
     (All-weaker (Contains is.found) (λ p. IsTrue (is_of_nodes s p))

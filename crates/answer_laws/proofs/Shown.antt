@@ -19,7 +19,7 @@ use Rattle.fhir_answers.specs.Answering.{IsAnswered}
 use Rattle.fhir_answers.specs.Replying.{ReplyValue, status_of, out_of, counter_reply}
 use Rattle.fhir_answers.specs.Showing.{IsCounterReply}
 use Rattle.answer_laws.proofs.Certificates.{no_at}
-use Rattle.answer_laws.proofs.Fitting.{both_roots}
+use Rattle.fhir_derive_check.proofs.Rooted.{both-roots}
 use Rattle.answer_laws.proofs.Standings.{no_fault, number, its_status}
 
 -- ---- a text with a line feed behind it
@@ -64,7 +64,7 @@ roots_by : (s : SchemaValue) (derived base : Text) (found : Option Text) (d : De
     → status_of (counter_reply s [] derived base found d) ≡ 1 → HaveRoots s derived base
 roots_by s derived base found (derives c) h e = absurd (false≢true (ap (eqb 1) e))
 roots_by s derived base found (fails pair rule) h e =
-    let both = both_roots (root s derived) (root s base) h.0.roots h.0.are_roots in
+    let both = both-roots (root s derived) (root s base) h.0.roots h.0.are_roots in
     record { of_derived = ap is_some both.0; of_base = ap is_some both.1 }
 roots_by s derived base found (missing side) h e = absurd (false≢true (ap (eqb 1) e))
 roots_by s derived base found (unusable side) h e = absurd (false≢true (ap (eqb 1) e))

@@ -38,7 +38,7 @@ use Rattle.fhir_derive_check.proofs.Same.{same-true, same-of, in-append, in-left
 use Rattle.fhir_derive_check.proofs.Found.{root-found, filter-all, none_twice-filter, found-once, is-found}
 use Rattle.fhir_derive_check.proofs.Greatest.{exactly, met-rooted, met-right, all-met, discovery-met, met-alike}
 use Rattle.fhir_derive_check.proofs.Pruned.{first-fails, all-settled}
-use Rattle.fhir_derive_check.proofs.Rooted.{root-known}
+use Rattle.fhir_derive_check.proofs.Rooted.{root-known, both-roots}
 
 -- ---- the pairs of items and those of children
 
@@ -217,14 +217,6 @@ all-kids : (s : SchemaValue) (ps : List Pair) → ((p : Pair) → IsTrue (is_in 
 all-kids s [] each = refl
 all-kids s (Item p ∷ ps) each = all-kids s ps (λ q h. each q (or_right (same_pair q (Item p)) (is_in ps q) h))
 all-kids s (Kids p ∷ ps) each = and_from (are_nodes s p) _ (each (Kids p) (in-here (Kids p) ps)) (all-kids s ps (λ q h. each q (or_right (same_pair q (Kids p)) (is_in ps q) h)))
-
-both-roots : (o o' : Option NodeRef) (roots : NodePair) → option_and_then (λ n. option_map (λ m. record { derived = n; base = m }) o') o ≡ Some roots → (o ≡ Some roots.derived) × (o' ≡ Some roots.base)
-both-roots None o' roots e = absurd (none-some roots e)
-both-roots (Some n) None roots e = absurd (none-some roots e)
-both-roots (Some n) (Some m) roots e =
-    let made : NodePair = record { derived = n; base = m } in
-    let same : made ≡ roots = same_Some made roots e in
-    (ap (λ r. Some r.derived) same, ap (λ r. Some r.base) same)
 
 -- the law of nodes
 abbrev pub AskedAreNodes : Type 0

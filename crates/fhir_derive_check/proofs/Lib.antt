@@ -7,5 +7,5 @@ mod Pruned
 mod Spare
 mod Blamed
 mod Ways
-mod Rooted
+pub mod Rooted
 mod Certified
