@@ -1,5 +1,6 @@
 -- What the status of a run says.
-use Rattle.std.proofs.Common.{◌≡◌, ℕ, List, Bool, true, false, ◌&&◌, Option, if◌then◌else◌, IsTrue, refl}
+use Rattle.std.proofs.Common.{◌≡◌, ℕ, List, Bool, true, false, ◌&&◌, Option, Some, None, [], if◌then◌else◌, IsTrue, refl, sym, subst}
+use Rattle.std.specs.Prelude.{is_some, option_map}
 use Rattle.fhir_json.specs.Tree.{Text}
 use Rattle.fhir_words.specs.declared.request.Format.{Format}
 use Rattle.fhir_package.specs.Folder.{Files}
@@ -11,7 +12,8 @@ use Rattle.fhir_engine.specs.declared.refusal.Refusal.{Refusal}
 use Rattle.fhir_engine.specs.declared.refusal.Refusal.TheVariants as refusals
 use Rattle.fhir_engine.specs.Refusing.{refusal_status}
 use Rattle.fhir_audit_engine.specs.declared.asked.NamedBytes.{NamedBytes}
-use Rattle.fhir_audit_engine.specs.Told.{are_held, IsAnswered, SaysOf}
+use Rattle.fhir_audit_engine.specs.Promising.{AuditPromise}
+use Rattle.fhir_audit_engine.specs.Told.{are_held, IsAnswered, SaysOf, SaysOfRead}
 
 -- of a status that is 0
 pub narrow_if_yes : (b held : Bool) → Yes ≡ (if b && held then Yes else No) → IsTrue b
@@ -42,3 +44,52 @@ module _ (prefixes : List Text) (format : Format) (files : Option (List NamedByt
   refused (refusals.Fault text) = tt
   refused refusals.Unwritten = tt
   refused refusals.NoMemory = tt
+
+-- ---- of what was read
+
+pub still_some : {X Y : Type 0} (f : X → Y) (o : Option X) → is_some (option_map f o) ≡ is_some o
+still_some f (Some x) = refl
+still_some f None = refl
+
+no_texts : (given : Bool) → (texts : Option (Option Text)) × (is_some texts ≡ given)
+no_texts true = (Some None, refl)
+no_texts false = (None, refl)
+
+no_files : (against : Bool) → (files : Option (List NamedBytes)) × (is_some files ≡ against)
+no_files true = (Some [], refl)
+no_files false = (None, refl)
+
+module _ (prefixes : List Text) (format : Format) (given against : Bool) (old new : Option (List ℕ)) where
+  -- a refusal says nothing of files
+  pub refused_read : (refusal : Refusal) → SaysOfRead prefixes format given against (refusal_status refusal) old new
+  refused_read refusal = record {
+    folder = [];
+    texts = (no_texts given).0;
+    files = (no_files against).0;
+    texts_named = (no_texts given).1;
+    files_named = (no_files against).1;
+    says = refused prefixes format (no_files against).0 (no_texts given).0 [] old new refusal;
+    promised = λ yes. absurd (not_yes refusal yes);
+  }
+    where
+      not_yes : (refusal : Refusal) → refusal_status refusal ≡ Yes → ⊥
+      not_yes (refusals.Fault text) h = cc
+      not_yes refusals.Unwritten h = cc
+      not_yes refusals.NoMemory h = cc
+
+  pub ended_read : (refusal : Refusal) (status : Status) → status ≡ refusal_status refusal → SaysOfRead prefixes format given against status old new
+  ended_read refusal status is = subst (λ s. SaysOfRead prefixes format given against s old new) (sym is) (refused_read refusal)
+
+-- a run that was asked the same says of what was read what it says of its files
+pub run_read : (prefixes asked : List Text) (format asked_format : Format) (given against : Bool) (folder : Files) (texts : Option (Option Text)) (files : Option (List NamedBytes))
+    (status : Status) (old new : Option (List ℕ)) → asked ≡ prefixes → asked_format ≡ format → is_some texts ≡ given → is_some files ≡ against
+    → SaysOf asked asked_format files texts folder status old new → (status ≡ Yes → AuditPromise asked folder) → SaysOfRead prefixes format given against status old new
+run_read prefixes asked format asked_format given against folder texts files status old new same same_format named also says promised = record {
+  folder = folder;
+  texts = texts;
+  files = files;
+  texts_named = named;
+  files_named = also;
+  says = subst (λ ps. SaysOf ps format files texts folder status old new) same (subst (λ f. SaysOf asked f files texts folder status old new) same_format says);
+  promised = λ yes. subst (λ ps. AuditPromise ps folder) same (promised yes);
+}

@@ -1,5 +1,5 @@
 -- What an audit has told, by its status.
-use Rattle.std.specs.Prelude.{◌≡◌, ℕ, List, [], ◌∷◌, Bool, true, ◌&&◌, Option, None, Some, Ok, option_map, if◌then◌else◌, string_bytes}
+use Rattle.std.specs.Prelude.{◌≡◌, ℕ, List, [], ◌∷◌, Bool, true, ◌&&◌, Option, None, Some, Ok, is_some, if◌then◌else◌, string_bytes}
 use Rattle.std.specs.List.{list_all}
 use Rattle.std.specs.Option.{option_map_or}
 use Rattle.std.specs.Io.KnownBytes.{Appends}
@@ -23,6 +23,7 @@ use Rattle.fhir_audit_lines.specs.Report.{IsReport}
 use Rattle.fhir_engine.specs.Reading.{IsReadOf}
 use Rattle.fhir_engine.specs.Serving.{AreTextsIf}
 use Rattle.fhir_audit_engine.specs.declared.asked.NamedBytes.{NamedBytes}
+use Rattle.fhir_audit_engine.specs.Promising.{AuditPromise}
 
 -- ---- the status
 
@@ -80,3 +81,13 @@ SaysOf prefixes format files given folder Fault old new = Unit {0}
 SaysOf prefixes format files given folder Unwritten old new = Unit {0}
 SaysOf prefixes format files given folder Usage old new = ⊥
 SaysOf prefixes format files given folder NoMemory old new = Unit {0}
+
+-- What a status says of some files, which were read: of a folder, and of texts and certificates exactly where a request names such. And what a yes promises.
+pub record SaysOfRead (prefixes : List Text) (format : Format) (given against : Bool) (status : Status) (old new : Option (List ℕ)) : Type 0 where
+  pub folder : Files
+  pub texts : Option (Option Text)
+  pub files : Option (List NamedBytes)
+  pub texts_named : is_some texts ≡ given
+  pub files_named : is_some files ≡ against
+  pub says : SaysOf prefixes format files texts folder status old new
+  pub promised : status ≡ Yes → AuditPromise prefixes folder

@@ -1,5 +1,9 @@
 //! An audit of what paths name.
 
+ghost use Rattle.std.specs.Prelude.{◌≡◌, map, is_some, option_map, string_bytes, IfOk};
+ghost use Rattle.fhir_engine.specs.Serving.{file_seen};
+ghost use Rattle.fhir_audit_engine.specs.Told.{SaysOfRead};
+
 use crate::asked::{Asked, NamedBytes};
 use crate::certificate_files::part_of;
 use crate::new_file::PageFile;
@@ -66,7 +70,9 @@ pub struct Opened {
 fn held_at<R: Files + AllocGlobal + Clone + Drop>(
     rt: &R,
     against: Option<&str>,
-) -> Result<Option<Vec<NamedBytes>>, Refusal> {
+) -> Result<Option<Vec<NamedBytes>>, Refusal>
+    ensures { IfOk result (λ held. is_some held ≡ is_some against.entry) }
+{
     match against {
         Some(folder) => Ok(Some(certificates_at(rt, folder)?)),
         None => Ok(None),
@@ -77,7 +83,9 @@ fn open_request<R: Files + AllocGlobal + Clone + Drop, P: Progress>(
     rt: &R,
     request: &AuditRequest<'_>,
     progress: &mut P,
-) -> Result<Opened, Refusal> {
+) -> Result<Opened, Refusal>
+    ensures { IfOk result (λ opened. is_some opened.held ≡ is_some request.now.against) }
+{
     let folder = directory_at(rt, request.folder, progress)?;
     let given = bytes_if_named(rt, request.given)?;
     let held = held_at(rt, request.against)?;
@@ -162,7 +170,12 @@ fn asked_of<'a>(
     request: &'a AuditRequest<'_>,
     given: Option<&'a [u8]>,
     held: Option<&'a [NamedBytes]>,
-) -> Asked<'a> {
+) -> Asked<'a>
+    ensures prefixes { result.prefixes.now ≡ request.now.prefixes.items }
+    ensures given { is_some (file_seen result.given) ≡ is_some request.now.given }
+    ensures held { option_map (λ f. f.now) result.held ≡ option_map (λ f. f.now) held.entry }
+    ensures format { result.format ≡ request.now.format }
+{
     Asked {
         prefixes: &request.prefixes,
         given: match request.given {
@@ -182,7 +195,11 @@ fn run_opened<R: Files + AllocGlobal, P: Progress, V: Watch, W: Write, E: Write>
     watch: &mut V,
     out: &mut W,
     err: &mut E,
-) -> Status {
+) -> Status
+    requires { is_some opened.held ≡ is_some request.now.against }
+    ensures { SaysOfRead (map string_bytes request.now.prefixes.items) request.now.format (is_some request.now.given) (is_some request.now.against)
+        result (W.contents out.old) (W.contents out.new) }
+{
     let Opened {
         folder,
         given,
@@ -212,7 +229,10 @@ fn run_free<R: Files + AllocGlobal + Clone + Drop, P: Progress, V: Watch, W: Wri
     watch: &mut V,
     out: &mut W,
     err: &mut E,
-) -> Status {
+) -> Status
+    ensures { SaysOfRead (map string_bytes request.now.prefixes.items) request.now.format (is_some request.now.given) (is_some request.now.against)
+        result (W.contents out.old) (W.contents out.new) }
+{
     match open_request(rt, request, progress) {
         Ok(opened) => run_opened(rt, request, opened, progress, watch, out, err),
         Err(refusal) => {
@@ -238,7 +258,10 @@ pub fn audit_directory<
     watch: &mut V,
     out: &mut W,
     err: &mut E,
-) -> Status {
+) -> Status
+    ensures { SaysOfRead (map string_bytes request.now.prefixes.items) request.now.format (is_some request.now.given) (is_some request.now.against)
+        result (W.contents out.old) (W.contents out.new) }
+{
     match expect_all_free(rt, request) {
         Ok(()) => run_free(rt, request, progress, watch, out, err),
         Err(refusal) => refusal.tell(err),

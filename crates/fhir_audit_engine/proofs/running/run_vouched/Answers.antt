@@ -1,4 +1,4 @@
-use Rattle.std.proofs.Common.{◌≡◌, map, string_bytes, sym, ◌∙◌}
+use Rattle.std.proofs.Common.{map, string_bytes, sym, ◌∙◌}
 use Rattle.std.specs.Option.{option_map}
 use Rattle.fhir_answers.specs.Session.{schema_in}
 use Rattle.fhir_audit.specs.Auditing.{are_narrowing}
