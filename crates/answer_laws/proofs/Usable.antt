@@ -5,7 +5,7 @@ use Rattle.std.specs.List.{list_all, list_any, slice_get}
 use Rattle.std.specs.Map.{lookup}
 use Rattle.std.specs.Option.{option_map_or, option_and_then}
 use Rattle.std.specs.Str.{bytes_eq}
-use Rattle.std.proofs.lemmas.Bool.{and_parts, and_from, or_parts, false≢true}
+use Rattle.std.proofs.lemmas.Bool.{and_parts, and_from, or_parts, not-true, false≢true}
 use Rattle.std.proofs.lemmas.List.Folds.{list_all-append}
 use Rattle.std.proofs.lemmas.Option.{none-some, same_Some}
 use Rattle.std.proofs.lemmas.Slice.Eq.{bytes_eq-Decides}
@@ -35,10 +35,6 @@ use Rattle.fhir_snapshot.specs.Snapshots.{has_right_part, brings_elements, is_ri
 use Rattle.snapshot_laws.specs.Right.{AreRight}
 
 -- ---- tests
-
-not_so : (b : Bool) → not b ≡ true → b ≡ false
-not_so true e = absurd (false≢true e)
-not_so false e = refl
 
 -- nothing is answered of four tests where each holds
 all_four : {R : Type 0} (a b c d : Bool) (x y z w : R) → first_of ((a, x) ∷ (b, y) ∷ (c, z) ∷ (d, w) ∷ []) ≡ None
@@ -87,7 +83,7 @@ own_right url t e =
     let head = (and_parts (has_right_head url t) _ (and_parts _ (list_all has_lexical_bounds es) fields.0).0).0 in
     let ids = and_parts (not (list_any is_wrong_id faults)) (ids_differ es) it.3 in
     and_from (has_right_part (codes "snapshot") t) _ (and_parts _ (has_right_snapshot t) head).1
-    (all_faultless (element_trees t) (not_so _ fields.1) (not_so _ it.1) (not_so _ it.2) (not_so _ ids.0))
+    (all_faultless (element_trees t) (not-true _ fields.1) (not-true _ it.1) (not-true _ it.2) (not-true _ ids.0))
 
 -- it has no elements where it brings no snapshot
 no_items : (o : Option Tree) → option_map_or (λ v. not (is_array v) || has_any (list_of (as_items v))) o false ≡ false

@@ -1,7 +1,7 @@
 -- Roots of definitions that can be used.
 use Rattle.std.proofs.Common.{◌≡◌, ℕ, Bool, true, false, cond, not, Option, None, Some, is_none, option_map, IsTrue, refl, ap, subst}
 use Rattle.std.specs.Option.{option_map_or, option_and_then}
-use Rattle.std.proofs.lemmas.Bool.{and_parts, false≢true}
+use Rattle.std.proofs.lemmas.Bool.{and_parts, not-true}
 use Rattle.std.proofs.lemmas.Option.{none-some, same_Some}
 use Rattle.fhir_json.specs.Tree.{Text}
 use Rattle.fhir_elements.specs.declared.reason.Reason.{Reason}
@@ -39,15 +39,11 @@ pub concrete : (s : SchemaValue) (code : Text) (n : NodeRef) → resource_root s
     → (d : Definition) × (type_of_code s.definitions code ≡ Some d) × IsTrue (is_resource d) × (d.abstract ≡ false) × (type_root s code ≡ Some n)
 concrete s code n = by (type_of_code s.definitions code) refl
   where
-    not_true : (b : Bool) → not b ≡ true → b ≡ false
-    not_true true h = absurd (false≢true h)
-    not_true false h = refl
-
     within : (d : Definition) → type_of_code s.definitions code ≡ Some d → (b : Bool) → is_concrete d ≡ b → cond b (type_root s code) None ≡ Some n
         → (d : Definition) × (type_of_code s.definitions code ≡ Some d) × IsTrue (is_resource d) × (d.abstract ≡ false) × (type_root s code ≡ Some n)
     within d found true holds is =
         let parts = and_parts (is_resource d) (not d.abstract) holds in
-        (d, found, parts.0, not_true d.abstract parts.1, is)
+        (d, found, parts.0, not-true d.abstract parts.1, is)
     within d found false holds is = absurd (none-some n is)
 
     by : (o : Option Definition) → type_of_code s.definitions code ≡ o → cond (option_map_or is_concrete o false) (type_root s code) None ≡ Some n

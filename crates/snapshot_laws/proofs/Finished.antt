@@ -5,7 +5,7 @@ use Rattle.std.specs.List.{AllByRecursion, IsDistinct}
 use Rattle.std.specs.Map.{keys_of}
 use Rattle.std.specs.Option.{option_map, option_map_or, option_and_then}
 use Rattle.std.specs.Str.{bytes_eq, is_utf8}
-use Rattle.std.proofs.lemmas.Bool.{and_parts, and_from, or_parts, or_from, not_from_false, false_from_ne_true, false≢true}
+use Rattle.std.proofs.lemmas.Bool.{and_parts, and_from, or_parts, or_from, not-true, not_from_false, false_from_ne_true, false≢true}
 use Rattle.std.proofs.lemmas.List.Elements.{All-head, All-tail, All-from_recursion}
 use Rattle.std.proofs.lemmas.Option.{none-some, same_Some}
 use Rattle.std.proofs.lemmas.Slice.Eq.{bytes_eq-Decides}
@@ -72,15 +72,11 @@ module _ (last : Text) (s : Tree) where
       by false is rest =
           and_from (not (is_among m.0 (names (with_last last s ps)))) _
           (not_from_false (is_among m.0 (names (with_last last s ps)))
-          (still_absent m.0 ps (turned last m.0 is) (absent (is_among m.0 (names (members_of ps))) parts.0)))
+          (still_absent m.0 ps (turned last m.0 is) (not-true (is_among m.0 (names (members_of ps))) parts.0)))
           rest
         where
           turned : (a b : Text) → bytes_eq a b ≡ false → bytes_eq b a ≡ false
           turned a b is = false_from_ne_true (bytes_eq b a) (λ e. false≢true (sym is ∙ (bytes_eq-Decides a b).1 (sym ((bytes_eq-Decides b a).0 e))))
-
-          absent : (b : Bool) → not b ≡ true → b ≡ false
-          absent true e = absurd (false≢true e)
-          absent false e = refl
 
 -- ---- a definition
 
