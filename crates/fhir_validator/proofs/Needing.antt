@@ -1,26 +1,31 @@
 -- Where a resource conforms, so does each item to the nodes that it needs to.
-use Rattle.std.proofs.Common.{◌≡◌, ◌<◌, ◌+◌, ℕ, zero, suc, Bool, true, false, cond, not, List, [], ◌∷◌, ◌++◌, map, length, get_or, Option, None, Some, refl, sym, ap, ◌∙◌, subst, ◌||◌, IsTrue, inl, inr, ◌⊎◌, arith}
-use Rattle.std.specs.List.{list_all, slice_get, slice_index_or, range_with_len, Contains}
+use Rattle.std.proofs.Common.{◌≡◌, ◌<◌, ◌+◌, ℕ, zero, suc, Bool, true, false, cond, not, List, [], ◌∷◌, ◌++◌, map, filter, length, get_or, nat_eq, Option, None, Some, refl, sym, ap, ◌∙◌, subst, ◌||◌, IsTrue, inl, inr, ◌⊎◌, arith}
+use Rattle.std.specs.List.{list_all, list_any, slice_get, slice_index_or, range_with_len, Contains}
 use Rattle.std.specs.Option.{option_map_or, option_and_then}
-use Rattle.std.proofs.lemmas.Bool.{and_parts, false≢true}
+use Rattle.std.proofs.lemmas.Bool.{and_parts, eqb-true, false≢true, or_cases}
+use Rattle.std.proofs.lemmas.Map.Views.{any-filter_same}
 use Rattle.std.proofs.lemmas.Option.{none-some, same_Some, slice_get_within}
 use Rattle.std.proofs.lemmas.List.Elements.{Contains-get_or, Contains-append_left, Contains-append_right}
 use Rattle.std.proofs.lemmas.List.FromFn.{get_or-range_with_len, length-range_with_len}
 use Rattle.fhir_json.specs.Tree.{Text, Tree}
 use Rattle.fhir_elements.specs.Constraint.{Constraint, must_hold}
 use Rattle.fhir_elements.specs.Element.{Element}
+use Rattle.fhir_elements.specs.TypeEntry.{TypeEntry}
 use Rattle.fhir_nodes.specs.declared.node.NodeRef.{NodeRef}
 use Rattle.fhir_nodes.specs.Expressions.{expression_of}
 use Rattle.fhir_fp_syntax.specs.Expression.{Expression}
 use Rattle.fhir_fp_eval.specs.Meaning.{is_true}
-use Rattle.fhir_schema.specs.Schemas.{SchemaValue, is_root_node, element_at, target, type_root}
+use Rattle.fhir_schema.specs.Schemas.{SchemaValue, is_root_node, element_at, target, type_root, loaded, types as node_types}
+use Rattle.fhir_schema.specs.Covers.{covers}
 use Rattle.fhir_schema.specs.Expressions.{constraint_at}
 use Rattle.fhir_instance.specs.Items.{Item, Kids, no_kids, kid, Place, type_of, kids_of}
-use Rattle.fhir_facets.specs.Unread.{as_given, is_given, meaning_of, unread_constraint}
+use Rattle.fhir_facets.specs.Seen.{Seen}
+use Rattle.fhir_facets.specs.Targets.{targets_hold}
+use Rattle.fhir_facets.specs.Unread.{Meaning, as_given, is_given, meaning_of, unread_constraint, profile as unread_profile}
 use Rattle.fhir_conformance.specs.Positions.{kid_at}
 use Rattle.fhir_conformance.specs.Asks.{Ask, own, types, root, child, root_type, constraint, constraint_ask, own_constraint_asks, constraint_asks, facet_asks, own_root, profile_asks, kids_asks, root_asks, inner_asks, asks}
-use Rattle.fhir_conformance.specs.Conformance.{Interpretation, Around, nearest_to, resource_at, inside, below, conforms, kid_tests, ask_conforms, as_read, outermost, Conforms, is_resource_item, constraint_holds, constraint_passes}
-use Rattle.fhir_validator.specs.Needed.{Needed, first, at_item, at_child, IsTrueOrGiven, ConstraintsHold, ConstraintsHoldAsGiven}
+use Rattle.fhir_conformance.specs.Conformance.{Interpretation, Around, nearest_to, resource_at, inside, below, conforms, kid_tests, ask_conforms, as_read, outermost, Conforms, is_resource_item, constraint_holds, constraint_passes, seen, meaning_at, entry_allows, entry_holds, profile_holds, profiles_hold}
+use Rattle.fhir_validator.specs.Needed.{Needed, first, at_item, at_profile, at_child, IsTrueOrGiven, ConstraintsHold, ConstraintsHoldAsGiven}
 use Rattle.fhir_conformance.proofs.ByAsks.{IsOfType, IsOfCanonical, conforms_to}
 use Rattle.fhir_validator.proofs.Asking.{contains_mapped}
 
@@ -41,6 +46,40 @@ test_at s meaning around n i (kid name y kids) zero x e =
 test_at s meaning around n i (kid name y kids) (suc j) x e =
     let next : suc i + j ≡ i + suc j = omega arith in
     test_at s meaning around n (suc i) kids j x e ∙ ap (λ k. conforms s meaning (below around k) x n) next
+
+-- ---- the only profile of the only type entry
+
+types_asked : (s : SchemaValue) (x : Item) (n : NodeRef) → is_root_node s n ≡ false → Contains (asks s x n) (types n)
+types_asked s x n inner =
+    subst (λ b. Contains (cond b (root_asks s x n) (inner_asks s x n)) (types n)) (sym inner) (0, omega arith, refl)
+
+-- what passes a test in a list that isn't empty is the only one that passes a wider test
+only_one : (p q : TypeEntry → Bool) → ((e : TypeEntry) → q e ≡ true → p e ≡ true) → (es : List TypeEntry) (entry : TypeEntry) → filter p es ≡ entry ∷ []
+    → (nat_eq (length es) 0 || list_any q es) ≡ true → q entry ≡ true
+only_one p q within [] entry one some = absurd (omega (arith, ap length one))
+only_one p q within (e ∷ es) entry one some =
+    let is_there : list_any q (e ∷ es) ≡ true =
+    elim (or_cases (nat_eq (length (e ∷ es)) 0) (list_any q (e ∷ es)) some) [
+      | inl none ↦ absurd (omega (arith, eqb-true (length (e ∷ es)) 0 none))
+      | inr passes ↦ passes
+    ] in
+    elim (or_cases (q entry) false (sym (ap (list_any q) one) ∙ any-filter_same q p true within (e ∷ es) ∙ is_there)) [
+      | inl passes ↦ passes
+      | inr fails ↦ absurd (false≢true fails)
+    ]
+
+module _ (s : SchemaValue) (m : Meaning) (roots : NodeRef → Bool) (x : Item) where
+  allowed : (e : TypeEntry) → entry_holds s m roots x e ≡ true → covers s e.code (type_of x) ≡ true
+  allowed e h =
+      (and_parts (covers s e.code (type_of x)) (targets_hold s m e (seen x)) (and_parts (entry_allows s m x e) (profiles_hold s m roots x e.profiles) h).0).0
+
+  alone : (profiles : List Text) (url : Text) (r : NodeRef) → profiles ≡ url ∷ [] → loaded s url ≡ Some r
+      → profiles_hold s m roots x profiles ≡ true → roots r ≡ true
+  alone profiles url r only at h =
+      elim (or_cases (profile_holds s m roots x url) false (subst (λ ps. profiles_hold s m roots x ps ≡ true) only h)) [
+        | inl holds ↦ sym (ap (λ o. option_map_or roots o (m (unread_profile url))) at) ∙ holds
+        | inr fails ↦ absurd (false≢true fails)
+      ]
 
 -- ---- what is needed conforms
 
@@ -70,6 +109,20 @@ module _ (s : SchemaValue) (roots : IsOfType s) (others : IsOfCanonical s) (mean
   )
   stands {place} {resource} {x} {n} (at_item {n = m} needed asked) =
       let it = stands needed in (it.0, (it.1.0, all_asked it.0 x m (root n) it.1.1 asked))
+  stands {place} {resource} {x} {n} (at_profile {n = m} entry url needed inner only names at) =
+      let it = stands needed in
+      let M = meaning_at meaning it.0 in
+      let roots_here : NodeRef → Bool = conforms s meaning it.0 x in
+      let entry_is : entry_holds s M roots_here x entry ≡ true =
+      only_one (λ e. covers s e.code (type_of x)) (entry_holds s M roots_here x) (allowed s M roots_here x) (node_types s m) entry only
+      (all_asked it.0 x m (types m) it.1.1 (types_asked s x m inner)) in (
+        it.0,
+        (
+          it.1.0,
+          alone s M roots_here x entry.profiles url n names at
+              (and_parts (entry_allows s M x entry) (profiles_hold s M roots_here x entry.profiles) entry_is).1,
+        ),
+      )
   stands {place} {resource} {x} {n} (at_child {resource = around_it} {x = parent} {n = m} i needed asked at within nearer) =
       let it = stands needed in
       let inner = inside s it.0 parent in

@@ -39,7 +39,7 @@ impl<'s, 't, 'a, 'j> Judge<'s, 't, 'a, 'j> {
         }
     }
 
-    /// Lists what a pair with the wanted judgement rests on: at each pair that it asks for, and that has the judgement ono, the rules
+    /// Lists what a pair with the wanted judgement rests on: at each pair that it asks for, and that has the judgement too, the rules
     /// that have it. Each pair is entered once.
     #[cycle(explaining)]
     pub(crate) fn list_pair(
