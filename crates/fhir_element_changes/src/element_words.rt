@@ -170,21 +170,6 @@ fn own_constraints_text(
 
 // ---- all of them
 
-fn element_text(alloc: Global, aspect: Aspect, element: &ElementDef) -> Result<String, NoMemory> {
-    match aspect {
-        Aspect::Slice => Ok(String::from_str(alloc, element.slice_name().unwrap_or("nothing"))?),
-        Aspect::Fixed => member_text(alloc, element.fixed()),
-        Aspect::Pattern => member_text(alloc, element.pattern()),
-        Aspect::Binding => Ok(binding_text(alloc, element.binding())?),
-        Aspect::Bounds => members_text(alloc, element.min_value(), element.max_value()),
-        Aspect::Length => Ok(length_text(alloc, element)?),
-        Aspect::Slicing => Ok(slicing_text(alloc, element.slicing())?),
-        Aspect::Cardinality | Aspect::Types | Aspect::Constraints => {
-            Ok(cardinality_text(alloc, element)?)
-        }
-    }
-}
-
 /// What a node says by an aspect, beside another: of its constraints those that the other doesn't have.
 pub(crate) fn aspect_text(
     alloc: Global,
@@ -197,8 +182,15 @@ pub(crate) fn aspect_text(
         return Ok(String::from_str(alloc, "nothing")?);
     };
     match aspect {
+        Aspect::Slice => Ok(String::from_str(alloc, element.slice_name().unwrap_or("nothing"))?),
+        Aspect::Cardinality => Ok(cardinality_text(alloc, element)?),
         Aspect::Types => Ok(node_types_text(alloc, schema, node)?),
+        Aspect::Fixed => member_text(alloc, element.fixed()),
+        Aspect::Pattern => member_text(alloc, element.pattern()),
+        Aspect::Binding => Ok(binding_text(alloc, element.binding())?),
+        Aspect::Bounds => members_text(alloc, element.min_value(), element.max_value()),
+        Aspect::Length => Ok(length_text(alloc, element)?),
+        Aspect::Slicing => Ok(slicing_text(alloc, element.slicing())?),
         Aspect::Constraints => Ok(own_constraints_text(alloc, schema, node, other)?),
-        _ => element_text(alloc, aspect, element),
     }
 }
