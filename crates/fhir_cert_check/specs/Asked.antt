@@ -34,10 +34,17 @@ module _ (s : SchemaValue) where
   abbrev pub roots_pair : Text → Text → Option Pair
   roots_pair own base = if bytes_eq own base then None else option_and_then (λ n. option_map (item_pair n) (loaded s base)) (loaded s own)
 
+  -- a profile of the derived node with each of these of the base node
+  abbrev pub roots_asked : List Text → Text → List Pair
+  roots_asked bases own = flat_map (λ base. option_to_list (roots_pair own base)) bases
+
+  -- the profiles of an entry of the base node, if it allows the derived one's type
+  abbrev pub base_profiles : TypeEntry → TypeEntry → List Text
+  base_profiles e f = if covers s f.code e.code && targets_narrower s e f then f.profiles else []
+
   -- for a profile of the derived node's entry: the profiles of an entry of the base node that allows the derived one's type
   abbrev pub profile_asked : TypeEntry → Text → TypeEntry → List Pair
-  profile_asked e own f =
-      if covers s f.code e.code && targets_narrower s e f then flat_map (λ base. option_to_list (roots_pair own base)) f.profiles else []
+  profile_asked e own f = if covers s f.code e.code && targets_narrower s e f then roots_asked f.profiles own else []
 
   abbrev pub entry_asked : List TypeEntry → TypeEntry → List Pair
   entry_asked fs e = flat_map (λ own. flat_map (profile_asked e own) fs) e.profiles

@@ -1,11 +1,11 @@
 //! The pairs that a pair asks for: those that its rules look up.
 
-ghost use Rattle.std.specs.Prelude.{◌≡◌, ◌++◌, is_some, OnOk};
+ghost use Rattle.std.specs.Prelude.{◌≡◌, ◌++◌, map, is_some, IfOk, OnOk};
 ghost use Rattle.std.specs.List.{flat_map, list_all};
 ghost use Rattle.std.specs.Option.{option_map, option_to_list};
 ghost use Rattle.fhir_json.specs.Memory.{Gives};
 ghost use Rattle.fhir_schema.specs.Schemas.{loaded, slots};
-ghost use Rattle.fhir_cert_check.specs.Asked.{kids_pair, roots_pair, profile_asked, entry_asked, types_asked, profiles_kids_asked, code_root, entry_kids_asked};
+ghost use Rattle.fhir_cert_check.specs.Asked.{kids_pair, roots_pair, roots_asked, base_profiles, entry_asked, types_asked, profiles_kids_asked, code_root, entry_kids_asked};
 ghost use Rattle.fhir_cert_check.specs.Asked.{children_asked, slice_pair, elements_asked, slot_asked, asked_for};
 
 use crate::items::code_answers;
@@ -54,25 +54,56 @@ struct OwnEntry<'s> {
 }
 
 impl OwnEntry<'_> {
-    fn put_profile(&self, alloc: Global, asked: &mut Vec<Pair>, own: &str, base: &TypeEntry) -> Done
-        ensures { OnOk result (asked.new.items ≡ asked.old.items
-            ++ profile_asked self.now.schema.now self.now.entry.now own.now base.now) }
+    fn put_base_profiles<'b>(
+        &self,
+        alloc: Global,
+        profiles: &mut Vec<&'b str>,
+        base: &'b TypeEntry,
+    ) -> Done
+        ensures { OnOk result (map (λ p. p.now) profiles.new.items ≡ map (λ p. p.now) profiles.old.items
+            ++ base_profiles self.now.schema.now self.now.entry.now base.now) }
     {
         if !code_answers(alloc, self.schema, self.entry, base)? {
             return Ok(());
         }
         for profile in base.profiles() {
-            put(asked, roots_pair(self.schema, own, profile.as_str()))?;
+            profiles.push(profile.as_str())?;
         }
         Ok(())
     }
 
-    fn put_own(&self, alloc: Global, asked: &mut Vec<Pair>, own: &str, bases: &[TypeEntry]) -> Done
+    // They don't hang on the entry's own profiles, and so the targets are compared once.
+    fn base_profiles<'b>(
+        &self,
+        alloc: Global,
+        bases: &'b [TypeEntry],
+    ) -> Result<Vec<&'b str>, NoMemory>
+        ensures { IfOk result (λ profiles. map (λ p. p.now) profiles.items
+            ≡ flat_map (base_profiles self.now.schema.now self.now.entry.now) bases.now) }
+    {
+        let mut profiles = Vec::new(alloc);
+        for base in bases {
+            self.put_base_profiles(alloc, &mut profiles, base)?;
+        }
+        Ok(profiles)
+    }
+
+    fn put_own(&self, asked: &mut Vec<Pair>, own: &str, bases: &[&str]) -> Done
         ensures { OnOk result (asked.new.items ≡ asked.old.items
-            ++ flat_map (profile_asked self.now.schema.now self.now.entry.now own.now) bases.now) }
+            ++ roots_asked self.now.schema.now (map (λ p. p.now) bases.now) own.now) }
     {
         for base in bases {
-            self.put_profile(alloc, asked, own, base)?;
+            put(asked, roots_pair(self.schema, own, *base))?;
+        }
+        Ok(())
+    }
+
+    fn put_owns(&self, asked: &mut Vec<Pair>, bases: &[&str]) -> Done
+        ensures { OnOk result (asked.new.items ≡ asked.old.items
+            ++ flat_map (roots_asked self.now.schema.now (map (λ p. p.now) bases.now)) self.now.entry.now.profiles) }
+    {
+        for own in self.entry.profiles() {
+            self.put_own(asked, own.as_str(), bases)?;
         }
         Ok(())
     }
@@ -81,10 +112,12 @@ impl OwnEntry<'_> {
         ensures { OnOk result (asked.new.items ≡ asked.old.items
             ++ entry_asked self.now.schema.now bases.now self.now.entry.now) }
     {
-        for own in self.entry.profiles() {
-            self.put_own(alloc, asked, own.as_str(), bases)?;
+        // Most entries name none, and then no targets are compared.
+        if self.entry.profiles().is_empty() {
+            return Ok(());
         }
-        Ok(())
+        let profiles = self.base_profiles(alloc, bases)?;
+        self.put_owns(asked, &profiles)
     }
 
     fn are_loaded(&self) -> bool

@@ -14,9 +14,9 @@ pub enum Rule<'s> {
     /// `root`: the certificate has the pair of the two roots.
     Root,
     /// `type`: both nodes are roots, and the base's type covers the derived one's; or neither is one, and each type that the
-    /// derived node allows is one that the base node allows, with targets that the base node allows, and with profiles, if the
-    /// base node names some: each is one of the base node's, or is paired with one (FHIR R4, ElementDefinition, type,
-    /// type.profile and type.targetProfile).
+    /// derived node allows is within one that the base node allows: covered by it, with targets that it allows, and with profiles,
+    /// if it names some, each of which is one of its own or is paired with one (FHIR R4, ElementDefinition, type, type.profile and
+    /// type.targetProfile).
     TypeCode,
     /// `fixed`: the derived node fixes the value that the base node fixes (ElementDefinition, fixed[x]).
     Fixed,
@@ -31,18 +31,21 @@ pub enum Rule<'s> {
     /// `binding`: the derived node's required binding is to the base node's value set, or to one within (ElementDefinition,
     /// binding).
     Binding,
-    /// `constraint`: the base node's constraint of that key needn't hold, or the derived node has one that must hold and says the
-    /// same: the same expression, or, where neither has one, the same key (ElementDefinition, constraint).
+    /// `constraint`: the base node's constraint of that key needn't hold, or is entailed by those of the derived node that must,
+    /// all together. One whose expression isn't read is among these with the same text; one without an expression, with the same
+    /// key and none (ElementDefinition, constraint).
     Constraint(&'s str),
     /// `children`: the base node has no children, or there is a pair for them, with the children of the derived node or with
-    /// those of each type that it names: of each profile that the type names, or of its own definition.
+    /// those of each type that it names: of each profile that the type names, or of its own definition, unless that is one of
+    /// resources.
     Children,
     /// `slot`: the derived node has a slot of the base node's name.
     Slot(&'s str),
     /// `cardinality`: the cardinality of the derived node's slot lies within that of the base node's (ElementDefinition, min and
     /// max).
     Cardinality(&'s str),
-    /// `entry`: there is a pair for the elements of the slot.
+    /// `entry`: there is a pair for the elements of the slot. Where no item may be at the derived node's slot, neither this nor what
+    /// stands below is asked, but for `bounds`.
     Entry(&'s str),
     /// `closed`: where each item of the base node's slot has to be in a slice, so it is at the derived node's, and in a slice
     /// that the base node's lacks no item may be (ElementDefinition, slicing.rules).

@@ -1,9 +1,8 @@
-use Rattle.std.proofs.Common.{◌≡◌, ◌++◌, drop}
-use Rattle.std.specs.List.{flat_map}
-use Rattle.fhir_cert_check.specs.Asked.{profile_asked}
+use Rattle.std.proofs.Common.{◌≡◌, ◌++◌, drop, map}
+use Rattle.fhir_cert_check.specs.Asked.{roots_asked}
 use Rattle.fhir_cert_check.proofs.asked.OwnEntry.put_own.Given as goal
 
 abbrev pub invariant-loop-base : goal.invariant-loop-base
 invariant-loop-base l =
-    l.asked.items ++ flat_map (profile_asked l.self.schema.now l.self.entry.now l.own) (drop l.base-index l.bases)
-    ≡ l.initial.asked.items ++ flat_map (profile_asked l.self.schema.now l.self.entry.now l.own) l.bases
+    l.asked.items ++ roots_asked l.self.schema.now (map (λ p. p.now) (drop l.base-index l.bases)) l.own
+    ≡ l.initial.asked.items ++ roots_asked l.self.schema.now (map (λ p. p.now) l.bases) l.own
