@@ -3,6 +3,7 @@ pub mod Found
 mod One
 mod Greatest
 mod Asking
+mod Queued
 mod Pruned
 mod Spare
 mod Blamed

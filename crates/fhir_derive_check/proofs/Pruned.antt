@@ -1,7 +1,6 @@
 -- What falls, and what is left.
-use Rattle.std.proofs.Common.{◌≡◌, ◌<◌, ◌≤◌, ◌+◌, ℕ, arith, Bool, true, false, cond, List, [], ◌∷◌, ◌++◌, refl, sym, ap, subst, ◌∙◌, ◌⊎◌, inl, inr, IsTrue, ◌&&◌, not, filter, length, take, take-suc, add-one, get_or, map, ◌*◌, ◌^◌, vec_len, length-append}
-use Rattle.std.specs.Prelude.{if◌then◌else◌, Option, None, Some, is_none, option_map, Vec}
-use Rattle.std.specs.declared.alloc.Global.{Global}
+use Rattle.std.proofs.Common.{◌≡◌, ◌<◌, ◌≤◌, ◌+◌, ℕ, arith, Bool, true, false, cond, List, [], ◌∷◌, ◌++◌, refl, sym, ap, subst, ◌∙◌, ◌⊎◌, inl, inr, IsTrue, ◌&&◌, ◌||◌, not, filter, length, take, take-suc, add-one, get_or, map, ◌*◌, ◌^◌, length-append}
+use Rattle.std.specs.Prelude.{if◌then◌else◌, Option, None, Some, is_none, option_map}
 use Rattle.std.specs.List.{Contains, cons_option}
 use Rattle.std.specs.Option.{option_map_or, option_to_list}
 use Rattle.std.proofs.lemmas.Bool.{and_parts, and_from, or_cases, or_left, or_right, false≢true, cases_Bool}
@@ -19,7 +18,8 @@ use Rattle.fhir_cert_check.specs.PairSet.{PairLists, same_pair, has_pair}
 use Rattle.fhir_derive_check.specs.Finding.{is_in, IsDiscovery}
 use Rattle.fhir_derive_check.specs.Reaching.{IsTenable}
 use Rattle.fhir_derive_check.specs.Outcomes.{MorePairs, IsSettled}
-use Rattle.fhir_derive_check.specs.Pruning.{all_failing, ListsAskers, IsWithin, HasFallen, IsRevised, IsPruning, wrong_seen}
+use Rattle.fhir_derive_check.specs.Pruning.{all_failing, ListsAskers, IsWithin, HasFallen, waiting_in, IsRevised, IsPruning, wrong_seen}
+use Rattle.fhir_derive_check.specs.declared.queue.Queue.{Queue}
 use Rattle.fhir_derive_check.proofs.Same.{same-true, same-refl, in-left, in-right, in-cases, in-one, in-here, contained, in-contained}
 use Rattle.fhir_derive_check.proofs.Greatest.{tenable-right}
 
@@ -174,15 +174,15 @@ module _ (s : SchemaValue) (askers : Pair → List Pair) (p : Pair) (live now : 
               absurd (false≢true (sym fallen.wrong ∙ subst (λ x. IsTrue (is_local (has_pair live) s x)) e right))
         ]
 
-    right-fallen : HasFallen s (askers p) p live now list more → (q : Pair) → IsTrue (has_pair now q) → IsTrue (is_in (list ++ p ∷ []) q) ⊎ IsTrue (is_local (has_pair live) s q) → IsTrue (is_in more q) ⊎ IsTrue (is_local (has_pair now) s q)
+    right-fallen : HasFallen s (askers p) p live now list more → (q : Pair) → IsTrue (has_pair now q) → IsTrue (is_in (p ∷ list) q) ⊎ IsTrue (is_local (has_pair live) s q) → IsTrue (is_in more q) ⊎ IsTrue (is_local (has_pair now) s q)
     right-fallen fallen q h (inl listed) =
-        elim (in-cases list (p ∷ []) q listed) [
-          | inl old ↦ inl (subst (λ l. IsTrue (is_in l q)) (sym fallen.listed) (in-left list (askers p) q old))
-          | inr same ↦ absurd (other fallen q h (in-one q p same))
+        elim (or_cases (same_pair q p) (is_in list q) listed) [
+          | inl same ↦ absurd (other fallen q h (same-true q p same))
+          | inr old ↦ inl (fallen.listed q ∙ or_right (is_in (askers p) q) (is_in list q) old)
         ]
     right-fallen fallen q h (inr local) =
         elim (cases_Bool (is_in (asked_for s q) p)) [
-          | inl asks ↦ inl (subst (λ l. IsTrue (is_in l q)) (sym fallen.listed) (in-right list (askers p) q (lists p q (within q (less fallen q h)) (contained (asked_for s q) p asks))))
+          | inl asks ↦ inl (fallen.listed q ∙ or_left (is_in (askers p) q) (is_in list q) (lists p q (within q (less fallen q h)) (contained (asked_for s q) p asks)))
           | inr never ↦ inr (law s (has_pair live) (has_pair now) q
               (λ r asked counted. fallen.without r ∙ and_from (not (same_pair r p)) (has_pair live r) (apart never r asked (cases_Bool (same_pair r p))) counted) local)
         ]
@@ -191,7 +191,7 @@ module _ (s : SchemaValue) (askers : Pair → List Pair) (p : Pair) (live now : 
         apart never r asked (inr other) = ap not other
         apart never r asked (inl same) = absurd (false≢true (sym never ∙ subst (λ x. IsTrue (is_in (asked_for s q) x)) (same-true r p same) (in-contained (asked_for s q) r asked)))
 
-    pub revised : IsRevised s (askers p) p live now list more → IsPruning s found (has_pair live) (list ++ p ∷ []) → IsPruning s found (has_pair now) more
+    pub revised : IsRevised s (askers p) p live now list more → IsPruning s found (has_pair live) (p ∷ list) → IsPruning s found (has_pair now) more
     revised (inr fallen) before = record {
       keeps = keeps-fallen fallen before.keeps;
       right = λ q h. right-fallen fallen q h (before.right q (less fallen q h));
@@ -201,9 +201,9 @@ module _ (s : SchemaValue) (askers : Pair → List Pair) (p : Pair) (live now : 
           keeps = before.keeps;
           right = λ q h. elim (before.right q h) [
             | inr local ↦ inr local
-            | inl listed ↦ elim (in-cases list (p ∷ []) q listed) [
-              | inl old ↦ inl old
-              | inr same ↦ let e = in-one q p same in inr (subst (λ x. IsTrue (is_local (has_pair live) s x)) (sym e) (kept.right (subst (λ x. IsTrue (has_pair live x)) e h)))
+            | inl listed ↦ elim (or_cases (same_pair q p) (is_in list q) listed) [
+              | inl same ↦ let e = same-true q p same in inr (subst (λ x. IsTrue (is_local (has_pair live) s x)) (sym e) (kept.right (subst (λ x. IsTrue (has_pair live x)) e h)))
+              | inr old ↦ inl old
             ]
           ];
         }))
@@ -217,6 +217,16 @@ pruning-start s found live list counts is = record {
   right = λ p h. elim (listed-fails (failing_rule live s) found p (sym (counts p) ∙ h)) [
     | inl listed ↦ inl (subst (λ l. IsTrue (is_in l p)) (sym is) listed)
     | inr none ↦ inr (sym (no_rule-local live s p) ∙ ap is_none none)
+  ];
+}
+
+-- the same pairs in a queue, each once
+pub pruning-queued : (s : SchemaValue) (found : List Pair) (live : Pair → Bool) (list queue : List Pair) → ((p : Pair) → is_in queue p ≡ (is_in list p || false)) → IsPruning s found live list → IsPruning s found live queue
+pruning-queued s found live list queue is pruning = record {
+  keeps = pruning.keeps;
+  right = λ p h. elim (pruning.right p h) [
+    | inl listed ↦ inl (is p ∙ or_left (is_in list p) false listed)
+    | inr local ↦ inr local
   ];
 }
 
@@ -247,23 +257,19 @@ pairs-seen (wrong ∷ wrongs) = ap (λ l. wrong.0 ∷ l) (pairs-seen wrongs)
 
 -- ---- the measure: how many count, and then how many are to be judged again
 
-room : (v : Vec Pair Global) → vec_len v < 2 ^ 64
-room v = omega (arith, v.ok, v.small)
+room : (queue : Queue) → length (waiting_in queue) < 2 ^ 64
+room queue = omega (arith, length-append queue.soon.items queue.late.items, queue.soon.ok.0, queue.soon.small.0, queue.soon.small.1, queue.late.ok.0, queue.late.small.0, queue.late.small.1)
 
-pub measure-falls : (s : SchemaValue) (askers : Pair → List Pair) (p : Pair) (live now : PairLists) (list rest more : Vec Pair Global) (found : List Pair)
-    → IsRevised s (askers p) p live now rest.items more.items → IsWithin (has_pair live) found → list.items ≡ rest.items ++ p ∷ []
-    → length (filter (has_pair now) found) * 2 ^ 64 + vec_len more < length (filter (has_pair live) found) * 2 ^ 64 + vec_len list
-measure-falls s askers p live now list rest more found revised within popped =
+pub measure-falls : (s : SchemaValue) (askers : Pair → List Pair) (p : Pair) (live now : PairLists) (list rest : List Pair) (more : Queue) (found : List Pair)
+    → IsRevised s (askers p) p live now rest (waiting_in more) → IsWithin (has_pair live) found → list ≡ p ∷ rest
+    → length (filter (has_pair now) found) * 2 ^ 64 + length (waiting_in more) < length (filter (has_pair live) found) * 2 ^ 64 + length list
+measure-falls s askers p live now list rest more found revised within taken =
     let short = room more in
-    let long = ap length popped ∙ length-append rest.items (p ∷ []) in
-    elim (revised-falls s askers p live now rest.items more.items found revised within) [
+    let long = ap length taken in
+    elim (revised-falls s askers p live now rest (waiting_in more) found revised within) [
       | inl less ↦ omega (arith, less, short)
       | inr same ↦
           let a = ap (λ v. length (filter (has_pair v) found)) same.0 in
           let b = ap length same.1 in
           omega (arith, a, b, long)
     ]
-
-pub none-listed : (list : List Pair) → length list ≡ 0 → list ≡ []
-none-listed [] e = refl
-none-listed (p ∷ ps) e = absurd (omega (arith, e))

@@ -1,5 +1,5 @@
 -- How pairs fall that aren't right (used by private contracts alone).
-use Rattle.std.specs.Prelude.{◌≡◌, ◌⊎◌, ◌++◌, List, [], Bool, false, not, ◌&&◌, Option, option_map, IsTrue, Vec}
+use Rattle.std.specs.Prelude.{◌≡◌, ◌⊎◌, ◌++◌, List, [], Bool, true, false, not, ◌&&◌, ◌||◌, Option, option_map, IsTrue, Vec}
 use Rattle.std.specs.declared.alloc.Global.{Global}
 use Rattle.std.specs.List.{Contains, filter_map}
 use Rattle.std.specs.Option.{option_map_or}
@@ -16,8 +16,11 @@ use Rattle.fhir_cert_check.specs.Views.{rule_name}
 use Rattle.fhir_cert_check.specs.declared.rule.Rule.{Rule}
 use Rattle.fhir_cert_check.specs.PairSet.{PairLists, same_pair, has_pair}
 use Rattle.fhir_derive_check.specs.Finding.{is_in}
+use Rattle.fhir_derive_check.specs.Discovering.{HasAll}
+use Rattle.fhir_derive_check.specs.Deriving.{none_twice}
 use Rattle.fhir_derive_check.specs.Reaching.{IsTenable}
 use Rattle.fhir_derive_check.specs.declared.pruning.Askers.{Askers}
+use Rattle.fhir_derive_check.specs.declared.queue.Queue.{Queue}
 
 -- ---- those that fail
 
@@ -41,6 +44,16 @@ askers_of askers (Kids nodes) = askers_at askers.kids nodes
 abbrev pub ListsAskers : SchemaValue → List Pair → (Pair → List Pair) → Type 0
 ListsAskers s ps askers = (p q : Pair) → IsTrue (is_in ps q) → Contains (asked_for s q) p → IsTrue (is_in (askers p) q)
 
+-- ---- those that wait to be judged again
+
+abbrev pub waiting_in : Queue → List Pair
+waiting_in queue = queue.soon.items ++ queue.late.items
+
+-- the set has those that wait, of which none waits twice
+pub record IsQueue (queue : Queue) : Type 0 where
+  pub same : HasAll queue.waiting (waiting_in queue)
+  pub once : none_twice (waiting_in queue) ≡ true
+
 -- ---- a pair judged again
 
 -- those that count are of the list
@@ -53,12 +66,12 @@ pub record IsKept (s : SchemaValue) (p : Pair) (live now : PairLists) (list more
   pub same_live : now ≡ live
   pub same_list : more ≡ list
 
--- it counts no longer, and those that ask for it are to be judged again
+-- it counts no longer, and those that ask for it are to be judged again too
 pub record HasFallen (s : SchemaValue) (askers : List Pair) (p : Pair) (live now : PairLists) (list more : List Pair) : Type 0 where
   pub counted : IsTrue (has_pair live p)
   pub wrong : is_local (has_pair live) s p ≡ false
   pub without : (q : Pair) → has_pair now q ≡ (not (same_pair q p) && has_pair live q)
-  pub listed : more ≡ list ++ askers
+  pub listed : (q : Pair) → is_in more q ≡ (is_in askers q || is_in list q)
 
 abbrev pub IsRevised : SchemaValue → List Pair → Pair → PairLists → PairLists → List Pair → List Pair → Type 0
 IsRevised s askers p live now list more = IsKept s p live now list more ⊎ HasFallen s askers p live now list more

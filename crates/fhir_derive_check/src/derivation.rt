@@ -155,8 +155,9 @@ fn outcome_between<'s>(
 
 /// The certificate of two profiles, which has the pairs that are reached from their roots, each once, in the order in which they are found;
 /// or, where there is no certificate, the first of the pairs that are found that fails a rule, with that rule. The refusals are those of
-/// `DeriveFault`. Each pair is found once, and judged again only where it fails or one that it asks for falls, so that the time is near linear
-/// in the number of pairs and of what they ask for.
+/// `DeriveFault`. Each pair is found once, and judged again only where it fails or others that it asks for have fallen; one that asks for many
+/// pairs, only when no other waits for that. So the time is near linear in the number of pairs and of what they ask for, unless many pairs that
+/// ask for many fall one behind the other.
 pub fn derive<'s>(
     alloc: Global,
     schema: &'s Schema,
@@ -180,7 +181,7 @@ pub fn derive<'s>(
 
 /// The same certificate; or, where there is none, the pair that is to blame, with the rule that it fails. It is the first of those that are found on
 /// a way down from the roots: from a pair to one that it asks for and that is in no certificate. Of an element that has children of its own, the pairs
-/// with the definitions of its types aren't gone to. The refusals are those of `derive`, and the time is near linear too.
+/// with the definitions of its types aren't gone to. The refusals are those of `derive`, and so is the time.
 pub fn diagnose<'s>(
     alloc: Global,
     schema: &'s Schema,

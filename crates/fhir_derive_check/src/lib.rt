@@ -28,6 +28,7 @@ mod fault;
 mod laws;
 mod outcome;
 mod pruning;
+mod queue;
 mod refusing;
 
 pub use derivation::{derive, diagnose};

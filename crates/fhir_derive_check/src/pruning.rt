@@ -13,9 +13,10 @@ ghost use Rattle.std.specs.Option.{option_map, option_to_list};
 ghost use Rattle.fhir_derive_check.specs.Finding.{is_in, IsDiscovery};
 ghost use Rattle.fhir_derive_check.specs.Outcomes.{IsSettled};
 ghost use Rattle.fhir_derive_check.specs.Discovering.{HasAll};
-ghost use Rattle.fhir_derive_check.specs.Pruning.{wrong_seen, all_failing, askers_at, askers_of, ListsAskers, IsRevised, IsPruning, IsWithin};
+ghost use Rattle.fhir_derive_check.specs.Pruning.{wrong_seen, all_failing, askers_at, askers_of, ListsAskers, waiting_in, IsQueue, IsRevised, IsPruning, IsWithin};
 
 use crate::discovery::Found;
+use crate::queue::Queue;
 use fhir_cert_check::{PairSet, Rule, asked_for, failing, more_pairs};
 use fhir_certificate::{NodePair, Pair};
 use fhir_json::NoMemory;
@@ -106,8 +107,15 @@ impl Askers {
     }
 }
 
-// Puts a pair to those that ask for each that it asks for.
-fn put_asks(alloc: Global, schema: &Schema, askers: &mut Askers, asker: Pair) -> Done
+// Puts a pair to those that ask for each that it asks for; and into the set, where those are more than the number.
+fn put_asks(
+    alloc: Global,
+    schema: &Schema,
+    askers: &mut Askers,
+    costly: &mut PairSet,
+    asker: Pair,
+    number: usize,
+) -> Done
     ensures kept { OnOk result ((p q : Pair) → IsTrue (is_in (askers_of askers.old p) q) → IsTrue (is_in (askers_of askers.new p) q)) }
     ensures put { OnOk result ((p : Pair) → Contains (asked_for schema.now asker) p → IsTrue (is_in (askers_of askers.new p) asker)) }
 {
@@ -115,18 +123,28 @@ fn put_asks(alloc: Global, schema: &Schema, askers: &mut Askers, asker: Pair) ->
     for next in &asked {
         askers.put(alloc, *next, asker)?;
     }
+    if asked.len() > number {
+        costly.insert(asker)?;
+    }
     Ok(())
 }
 
-fn askers_among(alloc: Global, schema: &Schema, pairs: &[Pair]) -> Result<Askers, NoMemory>
+// The pairs that ask for each; and the set gets the costly ones, which ask for more than the square root of how many there are.
+fn askers_among(
+    alloc: Global,
+    schema: &Schema,
+    pairs: &[Pair],
+    costly: &mut PairSet,
+) -> Result<Askers, NoMemory>
     ensures { IfOk result (λ askers. ListsAskers schema.now pairs.now (askers_of askers)) }
 {
     let mut askers = Askers {
         items: BTreeMap::new(alloc),
         kids: BTreeMap::new(alloc),
     };
+    let number = pairs.len().isqrt();
     for pair in pairs {
-        put_asks(alloc, schema, &mut askers, *pair)?;
+        put_asks(alloc, schema, &mut askers, costly, *pair, number)?;
     }
     Ok(askers)
 }
@@ -143,11 +161,14 @@ fn revise(
     alloc: Global,
     schema: &Schema,
     askers: &Askers,
+    costly: &PairSet,
     live: &mut PairSet,
-    list: &mut Vec<Pair>,
+    queue: &mut Queue,
     pair: Pair,
 ) -> Done
-    ensures { OnOk result (IsRevised schema.now (askers_of askers.now pair) pair live.old live.new list.old.items list.new.items) }
+    ensures queue { OnOk result (IsQueue queue.old → IsQueue queue.new) }
+    ensures revised { OnOk result (IsQueue queue.old
+        → IsRevised schema.now (askers_of askers.now pair) pair live.old live.new (waiting_in queue.old) (waiting_in queue.new)) }
 {
     if !live.has(pair) {
         return Ok(());
@@ -156,28 +177,40 @@ fn revise(
         return Ok(());
     }
     live.remove(pair);
-    list.extend_from_slice(askers.of(pair))?;
+    queue.put_all(askers.of(pair), costly)?;
     Ok(())
 }
 
-// Judges the pairs of a list again, and each that asks for one that falls, until the list is empty.
+// Judges the pairs of a list again, and each that asks for one that falls, until none waits. The costly ones are judged where no other
+// waits, so that they aren't judged again for each pair that falls.
 fn revise_all(
     alloc: Global,
     schema: &Schema,
     askers: &Askers,
+    costly: &PairSet,
     found: &mut Found,
-    mut list: Vec<Pair>,
+    list: &[Pair],
 ) -> Done
     requires { IsWithin (has_pair found.old.live) found.old.order.items }
     ensures order { OnOk result (found.new.order ≡ found.old.order) }
     ensures settled { OnOk result ((first : Pair) → IsDiscovery (asked_for schema.now) first found.old.order.items
         → ListsAskers schema.now found.old.order.items (askers_of askers.now)
-        → IsPruning schema.now found.old.order.items (has_pair found.old.live) list.items
+        → IsPruning schema.now found.old.order.items (has_pair found.old.live) list.now
         → IsSettled schema.now found.old.order.items (has_pair found.new.live)) }
 {
     more_pairs();
-    while let Some(pair) = list.pop() {
-        revise(alloc, schema, askers, &mut found.live, &mut list, pair)?;
+    let mut queue = Queue::new(alloc);
+    queue.put_all(list, costly)?;
+    while let Some(pair) = queue.take_first() {
+        revise(
+            alloc,
+            schema,
+            askers,
+            costly,
+            &mut found.live,
+            &mut queue,
+            pair,
+        )?;
     }
     Ok(())
 }
@@ -197,7 +230,8 @@ pub(crate) fn prune(alloc: Global, schema: &Schema, found: &mut Found, wrongs: &
         → map wrong_seen wrongs.now ≡ all_failing (failing_rule (has_pair found.old.live) schema.now) found.old.order.items
         → IsSettled schema.now found.old.order.items (has_pair found.new.live)) }
 {
-    let askers = askers_among(alloc, schema, &found.order)?;
+    let mut costly = PairSet::new(alloc);
+    let askers = askers_among(alloc, schema, &found.order, &mut costly)?;
     let list = pairs_of(alloc, wrongs)?;
-    revise_all(alloc, schema, &askers, found, list)
+    revise_all(alloc, schema, &askers, &costly, found, &list)
 }

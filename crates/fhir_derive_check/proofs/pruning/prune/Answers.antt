@@ -12,6 +12,6 @@ returns-clause-settled c =
     on_ok_weaker c.revise_all.result
     (λ settled first discovery wrongs. settled first discovery
     (subst (λ l. ListsAskers s l (askers_of c.in_ok-askers.askers)) c.deref.ensures.value c.in_ok-askers.ensures)
-    (pruning-start s found (has_pair c.args.found.now.live) c.in_ok-list.list.items c.requires
-    (c.in_ok-list.ensures ∙ pairs-seen c.args.wrongs.now ∙ ap (map (λ wrong. wrong.0)) wrongs)))
+    (pruning-start s found (has_pair c.args.found.now.live) c.deref-2.result.now c.requires
+    (c.deref-2.ensures.value ∙ c.in_ok-list.ensures ∙ pairs-seen c.args.wrongs.now ∙ ap (map (λ wrong. wrong.0)) wrongs)))
     c.revise_all.ensures.settled
