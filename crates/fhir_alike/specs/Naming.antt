@@ -1,8 +1,9 @@
 -- What a profile names (FHIR R4, ElementDefinition, type.profile, type.targetProfile, contentReference), and what that is in OLD and in NEW.
-use Rattle.std.specs.Prelude.{ℕ, List, ◌++◌, Bool, true, false, not, ◌&&◌, ◌||◌, Option, None, Some, is_some, if◌then◌else◌}
+use Rattle.std.specs.Prelude.{ℕ, List, [], Bool, true, false, not, ◌&&◌, ◌||◌, Option, None, Some, is_some, codes, if◌then◌else◌}
 use Rattle.std.specs.Option.{option_map_or, option_and_then}
 use Rattle.std.specs.Result.{result_ok}
-use Rattle.std.specs.List.{flat_map, filter_map, find}
+use Rattle.std.specs.List.{flat_map, filter_map}
+use Rattle.std.specs.Str.{bytes_eq}
 use Rattle.fhir_json.specs.Bytes.{is_empty}
 use Rattle.fhir_json.specs.Tree.{Text, Tree}
 use Rattle.fhir_names.specs.Canonicals.{read_canonical}
@@ -30,22 +31,25 @@ agree false b = not b
 abbrev pub name_stays : Kind → Definitions → Definitions → Text → Bool
 name_stays kind old new canonical = agree (is_some (named_by kind canonical old)) (is_some (named_by kind canonical new))
 
--- the first of two, if it is there, and else the second
-abbrev pub first_some : Option Text → Option Text → Option Text
-first_some (Some x) other = Some x
-first_some None other = other
-
 -- ---- profiles and targets
 
-abbrev pub entry_names : TypeEntry → List Text
-entry_names e = e.profiles ++ e.targets
+abbrev pub element_profiles : Element → List Text
+element_profiles e = flat_map (λ entry. entry.profiles) e.types
 
-abbrev pub element_names : Element → List Text
-element_names e = flat_map entry_names e.types
+-- the canonicals of the profiles of types that a definition's elements name
+abbrev pub profiles_named : Definition → List Text
+profiles_named d = flat_map element_profiles d.elements
 
--- the canonicals of the profiles and of the targets that a definition's elements name
-abbrev pub names_of : Definition → List Text
-names_of d = flat_map element_names d.elements
+-- only an entry for references has targets that are judged
+abbrev pub entry_targets : TypeEntry → List Text
+entry_targets e = if bytes_eq e.code (codes "Reference") then e.targets else []
+
+abbrev pub element_targets : Element → List Text
+element_targets e = flat_map entry_targets e.types
+
+-- the canonicals of the targets of references that a definition's elements name
+abbrev pub targets_named : Definition → List Text
+targets_named d = flat_map element_targets d.elements
 
 -- both are profiles, or neither is; or neither is there
 abbrev pub alike : Option Tree → Option Tree → Bool
@@ -82,10 +86,3 @@ lost_reference old new e =
 
 abbrev pub contents_of : Definition → List Text
 contents_of d = filter_map (λ e. e.content_reference) d.elements
-
--- ---- all of it
-
--- the first canonical that a definition names and that doesn't stay, or else the first content that doesn't
-abbrev pub lost_name : Definitions → Definitions → Definition → Option Text
-lost_name old new d =
-    first_some (find (λ name. not (profile_stays old new name)) (names_of d)) (find (λ reference. not (content_stays old new reference)) (contents_of d))

@@ -13,7 +13,9 @@ mod value_sets;
 
 pub use differing::same_tree;
 pub use mark::{mark_between, marked};
-pub use naming::{content_stays, name_stays, names_of, place_named, profile_stays};
+pub use naming::{
+    content_stays, name_stays, place_named, profile_stays, profiles_named, targets_named,
+};
 pub use profile::{has_profile, is_profile};
 pub use spreading::spread;
 pub use value_sets::Changes;

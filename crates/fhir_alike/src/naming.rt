@@ -4,7 +4,7 @@ ghost use Rattle.std.specs.Prelude.{◌≡◌, ◌++◌, IfOk, OnOk, map, option
 ghost use Rattle.std.specs.List.{flat_map};
 ghost use Rattle.fhir_json.specs.Views.{tree_seen};
 ghost use Rattle.fhir_names.specs.Texts.{cut_at_first};
-ghost use Rattle.fhir_alike.specs.Naming.{hash, place_named, agree, name_stays, profile_stays, is_type, is_type_in_both, content_stays, entry_names, element_names, names_of};
+ghost use Rattle.fhir_alike.specs.Naming.{hash, place_named, agree, name_stays, profile_stays, is_type, is_type_in_both, content_stays, element_profiles, profiles_named, entry_targets, element_targets, targets_named};
 
 use crate::profile::is_profile;
 use fhir_definition::Definition;
@@ -98,15 +98,38 @@ fn push_texts<'d>(texts: &'d [String], names: &mut Vec<&'d str>) -> Result<(), A
     Ok(())
 }
 
-fn push_entry<'d>(entry: &'d TypeEntry, names: &mut Vec<&'d str>) -> Result<(), AllocError>
-    ensures { OnOk result (map (λ n. n.now) names.new.items ≡ map (λ n. n.now) names.old.items ++ entry_names entry.entry.now) }
+fn push_profiles<'d>(element: &'d ElementDef, names: &mut Vec<&'d str>) -> Result<(), AllocError>
+    ensures { OnOk result (map (λ n. n.now) names.new.items ≡ map (λ n. n.now) names.old.items ++ element_profiles element.entry.now) }
 {
-    push_texts(entry.profiles(), names)?;
-    push_texts(entry.targets(), names)
+    for entry in element.types() {
+        push_texts(entry.profiles(), names)?;
+    }
+    Ok(())
 }
 
-fn push_element<'d>(element: &'d ElementDef, names: &mut Vec<&'d str>) -> Result<(), AllocError>
-    ensures { OnOk result (map (λ n. n.now) names.new.items ≡ map (λ n. n.now) names.old.items ++ element_names element.entry.now) }
+/// The canonicals of the profiles of types that a definition's elements name, in order. The one refusal is want of memory.
+pub fn profiles_named(alloc: Global, definition: &Definition) -> Result<Vec<&str>, NoMemory>
+    ensures { IfOk result (λ v. map (λ n. n.now) v.items ≡ profiles_named definition.now) }
+{
+    let mut names = Vec::new(alloc);
+    for element in definition.elements() {
+        push_profiles(element, &mut names)?;
+    }
+    Ok(names)
+}
+
+fn push_entry<'d>(entry: &'d TypeEntry, names: &mut Vec<&'d str>) -> Result<(), AllocError>
+    ensures { OnOk result (map (λ n. n.now) names.new.items ≡ map (λ n. n.now) names.old.items ++ entry_targets entry.entry.now) }
+{
+    if entry.code() == "Reference" {
+        push_texts(entry.targets(), names)
+    } else {
+        Ok(())
+    }
+}
+
+fn push_targets<'d>(element: &'d ElementDef, names: &mut Vec<&'d str>) -> Result<(), AllocError>
+    ensures { OnOk result (map (λ n. n.now) names.new.items ≡ map (λ n. n.now) names.old.items ++ element_targets element.entry.now) }
 {
     for entry in element.types() {
         push_entry(entry, names)?;
@@ -114,13 +137,14 @@ fn push_element<'d>(element: &'d ElementDef, names: &mut Vec<&'d str>) -> Result
     Ok(())
 }
 
-/// The canonicals of the profiles and of the targets that a definition's elements name.
-pub fn names_of(alloc: Global, definition: &Definition) -> Result<Vec<&str>, NoMemory>
-    ensures { IfOk result (λ v. map (λ n. n.now) v.items ≡ names_of definition.now) }
+/// The canonicals of the targets of references that a definition's elements name, in order; those of other types aren't judged. The one refusal is want
+/// of memory.
+pub fn targets_named(alloc: Global, definition: &Definition) -> Result<Vec<&str>, NoMemory>
+    ensures { IfOk result (λ v. map (λ n. n.now) v.items ≡ targets_named definition.now) }
 {
     let mut names = Vec::new(alloc);
     for element in definition.elements() {
-        push_element(element, &mut names)?;
+        push_targets(element, &mut names)?;
     }
     Ok(names)
 }

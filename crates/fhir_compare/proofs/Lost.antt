@@ -5,7 +5,8 @@ use Rattle.std.specs.List.{find, filter_map, cons_option}
 use Rattle.fhir_json.specs.Tree.{Text}
 use Rattle.fhir_package.specs.Definitions.{Definitions}
 use Rattle.fhir_elements.specs.Element.{Element}
-use Rattle.fhir_alike.specs.Naming.{content_stays, lost_reference, first_some}
+use Rattle.fhir_alike.specs.Naming.{content_stays, lost_reference}
+use Rattle.fhir_compare.specs.Losing.{first_some}
 
 abbrev pub lost_in : (old new : Definitions) → List Element → Option Text
 lost_in old new es = find (λ reference. not (content_stays old new reference)) (filter_map (λ e. e.content_reference) es)

@@ -10,10 +10,9 @@ use Rattle.fhir_schema.specs.Schemas.{SchemaValue, schema_of, is_usable, unusabl
 use Rattle.fhir_derive_check.specs.Faults.{derive_refusal}
 use Rattle.fhir_derive_check.specs.Reaching.{HasCertificate}
 use Rattle.fhir_alike.specs.Profiles.{is_profile, has_profile}
-use Rattle.fhir_alike.specs.Naming.{lost_name}
 use Rattle.fhir_alike.specs.Spreading.{is_marked}
 use Rattle.fhir_beside.specs.Standing.{standing, profile_of}
-use Rattle.fhir_compare.specs.Comparing.{ShownValue, narrows, fails as fails_by, cannot_be_used, is_narrowing, Direction, new_in_old, old_in_new, sides_by, NarrowsBy, IsShownBy, IsShown, IsDerivedAt, definition_at}
+use Rattle.fhir_compare.specs.Comparing.{ShownValue, narrows, fails as fails_by, cannot_be_used, is_narrowing, Direction, new_in_old, old_in_new, sides_by, NarrowsBy, IsShownBy, IsShown, lost_at, IsDerivedAt}
 use Rattle.fhir_compare.specs.Owns.{OwnValue, own_both, own_unusable, own_only_in_old, own_other, IsOwnOf, IsOwnBy, IsOwnAt, AreOwnsFrom, shown_of, fails, all_fail}
 use Rattle.fhir_compare.proofs.Refused.{refused_none}
 
@@ -134,7 +133,7 @@ module _ (old made : Definitions) (mark : Text) where
       let narrowing : is_narrowing (shown_of way n o) ≡ true = grind arith in
       let kept : is_some l ≡ false = grind arith in
       let shown = shown_by way e.0 n o a.3.1 a.3.2 in
-      (a.0, usable_both (is_usable (schema_of old) place) (unusable (schema_of made) e.0) a.1 a.2, kept_all l (lost_name old made (definition_at place e)) kept a.3.0, narrowing_has (schema_of made) (sides_by way e.0 (mark ++ e.0)) _ (shown_of way n o) shown narrowing)
+      (a.0, usable_both (is_usable (schema_of old) place) (unusable (schema_of made) e.0) a.1 a.2, kept_all l (lost_at old made place e) kept a.3.0, narrowing_has (schema_of made) (sides_by way e.0 (mark ++ e.0)) _ (shown_of way n o) shown narrowing)
   derived_from way place e (own_unusable in_old in_new) a f = absurd cc
   derived_from way place e own_only_in_old a f = absurd cc
   derived_from way place e own_other a f = absurd a
@@ -147,7 +146,7 @@ module _ (old made : Definitions) (mark : Text) where
       go : (b : Bool) → is_narrowing (shown_of way n o) ≡ b → ⊥
       go false is =
           other_has (schema_of made) (sides_by way e.0 (mark ++ e.0)) _ (shown_of way n o) (shown_by way e.0 n o a.3.1 a.3.2) is d.3.0
-      go true is = lost_some (is_narrowing (shown_of way n o)) l (lost_name old made (definition_at place e)) is f a.3.0 d.2
+      go true is = lost_some (is_narrowing (shown_of way n o)) l (lost_at old made place e) is f a.3.0 d.2
   not_derived way place e (own_unusable in_old in_new) a f d =
       unusable_one (is_usable (schema_of old) place) (unusable (schema_of made) e.0) in_old in_new a.1 a.2 a.3 d.1
   not_derived way place e own_only_in_old a f d = true_or_false (has_profile made e.0) a d.0

@@ -15,8 +15,9 @@ use Rattle.fhir_derive_check.specs.Reaching.{HasCertificate}
 use Rattle.fhir_counter.specs.Shows.{AlwaysConforms, NeverConforms}
 use Rattle.fhir_json.specs.Grammar.{Reads}
 use Rattle.fhir_alike.specs.Profiles.{is_profile, has_profile}
-use Rattle.fhir_alike.specs.Naming.{names_of, lost_name, place_named}
+use Rattle.fhir_alike.specs.Naming.{profiles_named, place_named}
 use Rattle.fhir_alike.specs.Spreading.{Edges, Reaches}
+use Rattle.fhir_compare.specs.Losing.{lost_name}
 use Rattle.fhir_compare.specs.declared.verdict.Change.{Change}
 use Rattle.fhir_compare.specs.declared.verdict.Change.TheVariants.{Same, Narrows, Widens, Neither}
 
@@ -72,7 +73,7 @@ pub record WayValue : Type 0 where
   pub shown : ShownValue
   pub blamed : Option Text
 
--- both ways, and a canonical that OLD's names and that doesn't mean a profile, or none, in both packages
+-- both ways, and a canonical that OLD's names and that doesn't mean the same in both packages
 pub record WaysValue : Type 0 where
   pub new_in_old : WayValue
   pub old_in_new : WayValue
@@ -110,11 +111,16 @@ Said = Text × VerdictValue
 abbrev pub definition_at : ℕ → Text × Tree → Definition
 definition_at place e = definition_of place e.0 e.1
 
+-- what a profile of OLD names that doesn't mean the same in the package that is made
+abbrev pub lost_at : (old made : Definitions) → ℕ → Text × Tree → Option Text
+lost_at old made place e = lost_name old made (schema_of old) (schema_of made) (definition_at place e)
+
 -- ---- what is reached
 
--- the places of what a profile of OLD names; only a profile leads on, since types are NEW's
+-- The places of what a profile of OLD names as profiles of types. Only a profile leads on, since types are NEW's; a target leads nowhere, since it is
+-- judged by its type alone.
 abbrev pub leads_to : Definitions → ℕ → Text × Tree → List ℕ
-leads_to old place e = if is_profile e.1 then filter_map (place_named StructureDefinition old) (names_of (definition_at place e)) else []
+leads_to old place e = if is_profile e.1 then filter_map (place_named StructureDefinition old) (profiles_named (definition_at place e)) else []
 
 abbrev pub edges_from : Definitions → ℕ → ByUrl → Edges
 edges_from old place [] = []
@@ -155,7 +161,7 @@ module _ (old made : Definitions) (mark : Text) where
   -- A way is derived of the profile at a place, which both packages have and can use, and all that it names stays.
   abbrev pub IsDerivedAt : Direction → ℕ → Text × Tree → Type 0
   IsDerivedAt way place e =
-      IsTrue (are_in_both e) × IsTrue (are_usable place e) × IsTrue (is_none (lost_name old made (definition_at place e)))
+      IsTrue (are_in_both e) × IsTrue (are_usable place e) × IsTrue (is_none (lost_at old made place e))
       × NarrowsBy (schema_of made) (sides_by way e.0 (mark ++ e.0))
 
   -- A way fails at a place: a profile stands there, of which it isn't derived.
@@ -186,7 +192,7 @@ module _ (old made : Definitions) (mark : Text) where
 
   abbrev pub IsVerdict : ℕ → Text × Tree → VerdictValue → Type 0
   IsVerdict place e (both w) =
-      IsTrue (are_in_both e) × IsTrue (are_usable place e) × (w.lost ≡ lost_name old made (definition_at place e))
+      IsTrue (are_in_both e) × IsTrue (are_usable place e) × (w.lost ≡ lost_at old made place e)
       × ((way : Direction) → IsWay way place e (way_of w way))
   IsVerdict place e (unusable_in in_old in_new) =
       IsTrue (are_in_both e) × IsTrue (in_old || in_new)

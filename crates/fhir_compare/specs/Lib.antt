@@ -1,3 +1,4 @@
+pub mod Losing
 pub mod Comparing
 pub mod Owns
 pub mod Views

@@ -6,9 +6,9 @@ use Rattle.fhir_json.specs.Tree.{Text, Tree}
 use Rattle.fhir_package.specs.Definitions.{ByUrl, Definitions}
 use Rattle.fhir_schema.specs.Schemas.{SchemaValue, schema_of, is_usable, unusable}
 use Rattle.fhir_alike.specs.Profiles.{has_profile}
-use Rattle.fhir_alike.specs.Naming.{lost_name}
 use Rattle.fhir_alike.specs.Spreading.{told_at}
 use Rattle.fhir_beside.specs.Standing.{ProfileValue, profile_at}
+use Rattle.fhir_compare.specs.Losing.{lost_name}
 use Rattle.fhir_compare.specs.Comparing.{ShownValue, Direction, new_in_old, old_in_new, IsShown, is_narrowing, WayValue, ways_with, VerdictValue, both, unusable_in, only_in_old, Said}
 
 pub data OwnValue : Type 0 where
@@ -30,7 +30,7 @@ IsBothOf old made lost url own own_other = ⊥
 abbrev pub IsOwnOf : (old made : Definitions) → (mark : Text) → (old_schema schema : SchemaValue) → ℕ → ProfileValue → OwnValue → Type 0
 IsOwnOf old made mark old_schema schema place p (own_both n o l) =
     IsTrue (has_profile made p.0) × (is_usable old_schema place ≡ true) × (unusable schema p.0 ≡ None)
-    × IsBothOf old_schema schema (lost_name old made p.1) p.0 (mark ++ p.0) (own_both n o l)
+    × IsBothOf old_schema schema (lost_name old made old_schema schema p.1) p.0 (mark ++ p.0) (own_both n o l)
 IsOwnOf old made mark old_schema schema place p (own_unusable in_old in_new) =
     IsTrue (has_profile made p.0) × IsTrue (in_old || in_new) × (in_old ≡ not (is_usable old_schema place)) × (in_new ≡ is_some (unusable schema p.0))
 IsOwnOf old made mark old_schema schema place p own_only_in_old = has_profile made p.0 ≡ false

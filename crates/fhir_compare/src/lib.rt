@@ -4,6 +4,7 @@
 #![tactic(auto)]
 
 mod comparing;
+mod losing;
 mod owning;
 mod reaching;
 mod sides;

@@ -1,20 +1,18 @@
 //! What is said of each profile of OLD by itself, whatever it reaches.
 
-ghost use Rattle.std.specs.Prelude.{◌≡◌, ◌++◌, not, IfOk};
-ghost use Rattle.std.specs.List.{find};
-ghost use Rattle.fhir_json.specs.Views.{text_seen};
+ghost use Rattle.std.specs.Prelude.{◌≡◌, ◌++◌, IfOk};
 ghost use Rattle.fhir_schema.specs.Schemas.{schema_of};
-ghost use Rattle.fhir_alike.specs.Naming.{profile_stays, content_stays, contents_of, lost_reference, lost_name, names_of};
 ghost use Rattle.fhir_beside.specs.Views.{profile_seen};
+ghost use Rattle.fhir_compare.specs.Losing.{lost_name};
 ghost use Rattle.fhir_compare.specs.Owns.{IsBothOf, IsOwnOf, IsOwnAt, AreOwns};
 ghost use Rattle.fhir_compare.specs.Views.{own_seen, all_owns};
 
+use crate::losing::lost_name;
 use crate::sides::Comparison;
 use crate::verdict::Shown;
 use crate::ways::{Direction, Two, shown};
-use fhir_alike::{content_stays, has_profile, marked, names_of, profile_stays};
+use fhir_alike::{has_profile, marked};
 use fhir_beside::{Profile, profile_at};
-use fhir_elements::ElementDef;
 use fhir_json::NoMemory;
 use fhir_package::Kind;
 use std::alloc::Global;
@@ -44,66 +42,6 @@ pub(crate) enum Own<'s> {
     Other,
 }
 
-// ---- names that don't stay
-
-// The first canonical of a profile or a target that a profile names, and that doesn't mean a profile, or none, in both packages.
-fn lost_profile<'s>(
-    alloc: Global,
-    sides: Comparison<'s, '_, '_>,
-    profile: Profile<'s, '_>,
-) -> Result<Option<&'s str>, NoMemory>
-    ensures { IfOk result (λ r. text_seen r
-        ≡ find (λ name. not (profile_stays sides.entry.old.now sides.entry.new.now name)) (names_of profile.entry.definition.now)) }
-{
-    let names = names_of(alloc, profile.definition)?;
-    for name in &names {
-        if !profile_stays(sides.old, sides.new, *name) {
-            return Ok(Some(*name));
-        }
-    }
-    Ok(None)
-}
-
-// The content of an element, if it is another one's that doesn't stay.
-fn lost_reference<'s>(sides: Comparison<'s, '_, '_>, element: &'s ElementDef) -> Option<&'s str>
-    ensures { text_seen result ≡ lost_reference sides.entry.old.now sides.entry.new.now element.entry.now }
-{
-    let reference = element.content_reference()?;
-    if content_stays(sides.old, sides.new, reference) {
-        None
-    } else {
-        Some(reference)
-    }
-}
-
-// The first reference of an element to the content of another one's that doesn't stay.
-fn lost_content<'s>(sides: Comparison<'s, '_, '_>, profile: Profile<'s, '_>) -> Option<&'s str>
-    ensures { text_seen result
-        ≡ find (λ reference. not (content_stays sides.entry.old.now sides.entry.new.now reference)) (contents_of profile.entry.definition.now) }
-{
-    for element in profile.definition.elements() {
-        let lost = lost_reference(sides, element);
-        if lost.is_some() {
-            return lost;
-        }
-    }
-    None
-}
-
-// What a profile names that doesn't stay.
-fn lost_name<'s>(
-    alloc: Global,
-    sides: Comparison<'s, '_, '_>,
-    profile: Profile<'s, '_>,
-) -> Result<Option<&'s str>, NoMemory>
-    ensures { IfOk result (λ r. text_seen r ≡ lost_name sides.entry.old.now sides.entry.new.now profile.entry.definition.now) }
-{
-    match lost_profile(alloc, sides, profile)? {
-        Some(name) => Ok(Some(name)),
-        None => Ok(lost_content(sides, profile)),
-    }
-}
-
 // ---- one profile
 
 // Of one that both have and can use.
@@ -112,7 +50,7 @@ fn both_of<'s>(
     sides: Comparison<'s, '_, '_>,
     profile: Profile<'s, '_>,
 ) -> Result<Own<'s>, NoMemory>
-    ensures { IfOk result (λ o. IsBothOf sides.entry.old_schema.now sides.entry.schema.now (lost_name sides.entry.old.now sides.entry.new.now profile.entry.definition.now) profile.entry.url.now (sides.entry.mark.now ++ profile.entry.url.now) (own_seen o)) }
+    ensures { IfOk result (λ o. IsBothOf sides.entry.old_schema.now sides.entry.schema.now (lost_name sides.entry.old.now sides.entry.new.now sides.entry.old_schema.now sides.entry.schema.now profile.entry.definition.now) profile.entry.url.now (sides.entry.mark.now ++ profile.entry.url.now) (own_seen o)) }
 {
     let own = marked(alloc, sides.mark, profile.url)?;
     let two = Two {

@@ -1,4 +1,4 @@
-//! What the profiles of OLD name.
+//! Which profiles of OLD the profiles of OLD name.
 
 ghost use Rattle.std.specs.Prelude.{◌≡◌, ◌++◌, [], IfOk, OnOk};
 ghost use Rattle.std.specs.Option.{option_map_or, option_to_list};
@@ -6,11 +6,11 @@ ghost use Rattle.std.specs.List.{slice_get, filter_map};
 ghost use Rattle.fhir_package.specs.declared.kind.Kind.TheVariants.{StructureDefinition};
 ghost use Rattle.fhir_definition.specs.Views.{lists_in};
 ghost use Rattle.fhir_schema.specs.Schemas.{schema_of};
-ghost use Rattle.fhir_alike.specs.Naming.{names_of, place_named};
+ghost use Rattle.fhir_alike.specs.Naming.{place_named, profiles_named};
 ghost use Rattle.fhir_compare.specs.Comparing.{leads_to, edges};
 
 use crate::sides::Comparison;
-use fhir_alike::{names_of, place_named};
+use fhir_alike::{place_named, profiles_named};
 use fhir_beside::{Profile, profile_at};
 use fhir_json::NoMemory;
 use fhir_package::Kind;
@@ -29,15 +29,15 @@ fn push_place(
     }
 }
 
-// The places of what a profile names in OLD.
+// The places in OLD of the profiles of types that a profile names.
 fn places_named(
     alloc: Global,
     sides: Comparison<'_, '_, '_>,
     profile: Profile<'_, '_>,
 ) -> Result<Vec<usize>, NoMemory>
-    ensures { IfOk result (λ v. v.items ≡ filter_map (place_named StructureDefinition sides.entry.old.now) (names_of profile.entry.definition.now)) }
+    ensures { IfOk result (λ v. v.items ≡ filter_map (place_named StructureDefinition sides.entry.old.now) (profiles_named profile.entry.definition.now)) }
 {
-    let names = names_of(alloc, profile.definition)?;
+    let names = profiles_named(alloc, profile.definition)?;
     let mut places = Vec::new(alloc);
     for name in &names {
         push_place(sides, *name, &mut places)?;
@@ -60,7 +60,8 @@ fn leads_at(
     }
 }
 
-/// For each definition of OLD the places of those that it names, if it is a profile.
+/// For each definition of OLD, if it is a profile, the places of those that its elements name as profiles of types. A target leads nowhere: it is judged
+/// by its type alone.
 pub(crate) fn edges_of(
     alloc: Global,
     sides: Comparison<'_, '_, '_>,

@@ -12,8 +12,8 @@ use fhir_certificate::Pair;
 pub enum Shown<'s> {
     /// A certificate exists: each resource that conforms to the one conforms to the other.
     Narrows,
-    /// None exists. Where all pairs that are found count, that pair is the first that fails a rule, and that is the rule; and if one was found, a
-    /// resource that conforms to the one and not to the other.
+    /// None exists. That pair is the one to blame, and that is the rule that it fails; and if one was found, a resource that conforms to the one and
+    /// not to the other.
     Fails {
         /// The pair.
         pair: Pair,
@@ -42,7 +42,8 @@ pub struct Ways<'s> {
     pub new_in_old: Way<'s>,
     /// That OLD's narrows NEW's.
     pub old_in_new: Way<'s>,
-    /// A canonical that OLD's names, and that names something in one of the packages alone.
+    /// A canonical that OLD's names, and that doesn't mean the same in both packages: a profile of a type that is a profile in one alone, or else a target
+    /// that isn't of one type, or can be used in one alone, or else the content of an element that is of no type of both.
     pub lost: Option<&'s str>,
 }
 

@@ -22,9 +22,10 @@ named url words = url ++ codes ": " ++ words
 
 -- ---- why a way isn't shown
 
--- a canonical that doesn't mean the same in both; what stands in front of an element's id names no definition as it stands
+-- A canonical that doesn't mean the same in both: where both have a definition that it names, a profile of a type or a target. What stands in front of an
+-- element's id names no definition as it stands.
 abbrev pub lost_by : (in_old in_new : Bool) → Text → Text
-lost_by true true canonical = codes "it names " ++ canonical ++ codes ", which is a profile in one of the two alone"
+lost_by true true canonical = codes "it names " ++ canonical ++ codes ", which in one of the two is no profile, or of another type, or can't be used"
 lost_by false false canonical = codes "it has the content of " ++ canonical ++ codes ", which is of no type that both have"
 lost_by true false canonical = codes "it names " ++ canonical ++ codes ", which one of the two alone has"
 lost_by false true canonical = codes "it names " ++ canonical ++ codes ", which one of the two alone has"

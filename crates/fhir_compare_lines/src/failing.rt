@@ -145,7 +145,9 @@ fn lost_text(
         is_named(sources.new, canonical),
     ) {
         (true, true) => {
-            format!(in alloc; "it names {canonical}, which is a profile in one of the two alone")
+            format!(in alloc;
+                "it names {canonical}, which in one of the two is no profile, or of another type, or can't be used"
+            )
         }
         (false, false) => {
             format!(in alloc;

@@ -1,6 +1,6 @@
 use Rattle.std.proofs.Common.{◌≡◌, drop}
 use Rattle.fhir_compare.proofs.Lost.{lost_in}
-use Rattle.fhir_compare.proofs.owning.lost_content.Given as goal
+use Rattle.fhir_compare.proofs.losing.lost_content.Given as goal
 
 abbrev pub invariant-loop-element : goal.invariant-loop-element
 invariant-loop-element l =

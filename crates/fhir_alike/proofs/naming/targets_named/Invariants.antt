@@ -1,0 +1,8 @@
+use Rattle.std.proofs.Common.{◌≡◌, ◌++◌, map, drop}
+use Rattle.std.specs.List.{flat_map}
+use Rattle.fhir_alike.specs.Naming.{element_targets}
+use Rattle.fhir_alike.proofs.naming.targets_named.Given as goal
+
+abbrev pub invariant-loop-element : goal.invariant-loop-element
+invariant-loop-element l =
+    map (λ n. n.now) l.names.items ++ flat_map element_targets (drop l.element-index l.element-items) ≡ flat_map element_targets l.element-items
