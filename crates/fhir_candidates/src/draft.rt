@@ -11,7 +11,8 @@ pub(crate) type Done = Result<(), NoMemory>;
 const MOST_ITEMS: usize = 4096;
 // How long its text may be where one more item begins.
 const MOST_BYTES: usize = 1_048_576;
-// How much is looked at as it is made: each child's name with each thing that its parent is asked for.
+// How much is looked at as it is made: each child's name, and each child, with each thing that its parent is asked for; each type that an
+// item may be of, and for a choice each form with each of these types.
 const MOST_LOOKS: usize = 1_000_000;
 
 /// The text of a candidate, so far.
@@ -68,9 +69,9 @@ impl Draft {
         true
     }
 
-    /// Whether so much more may be looked at.
+    /// Whether so much more may be looked at. For one that was given up nothing is.
     pub(crate) fn takes_looks(&mut self, count: usize) -> bool {
-        if self.looks < count {
+        if self.looks < count || !self.is_sound {
             self.is_sound = false;
             return false;
         }

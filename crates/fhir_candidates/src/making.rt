@@ -8,7 +8,7 @@ use fhir_demands::{
 };
 use fhir_differences::{Change, Difference, Slice, entry_of, least_at, most_at};
 use fhir_json::{Json, NoMemory};
-use fhir_schema::{Content, Form, NodeRef, Schema, Slot};
+use fhir_schema::{Content, Form, NodeRef, Schema, Slot, Sought};
 use std::alloc::Global;
 
 // How many levels of items a candidate may have.
@@ -78,10 +78,13 @@ fn is_of(demand: Demand<'_>, definition: usize) -> bool {
     }
 }
 
-// Whether the change is how many items of the slice there are.
+// Whether the change says which items of the slice there are.
 fn is_changed(task: &Task<'_, '_>, demands: &[Demand<'_>], name: &str, slice: NodeRef) -> bool {
     match task.change_at(demands) {
         Change::InSlice(changed, of, _) => changed == name && of == slice,
+        Change::InOrder(changed, first, second) => {
+            changed == name && (first == Some(slice) || second == slice)
+        }
         _ => false,
     }
 }
@@ -176,11 +179,24 @@ impl<'s> Gathering<'_, '_, '_, '_, 's> {
         Ok(special)
     }
 
+    // One that is told to be in a slice, if there is one.
+    fn push_told(&self, slice: Option<NodeRef>, into: &mut Items<'s>) -> Done {
+        let special = match slice {
+            Some(slice) => self.in_slice(slice)?,
+            None => Vec::new(self.alloc),
+        };
+        push_item(self.alloc, self.common, &special, into)
+    }
+
     fn push_changed(&self, into: &mut Items<'s>) -> Done {
         match self.task.change_at(self.demands) {
             Change::InSlice(name, slice, count) if name == self.name => {
                 let special = self.in_slice(slice)?;
                 push_items(self.alloc, self.common, &special, count, into)
+            }
+            Change::InOrder(name, first, second) if name == self.name => {
+                self.push_told(first, into)?;
+                self.push_told(Some(second), into)
             }
             _ => Ok(()),
         }
@@ -345,6 +361,25 @@ fn has_two_sets(schema: &Schema, demands: &[Demand<'_>]) -> bool {
     false
 }
 
+// How many looks it takes to tell whether an item of a type can be what a demand says: at the demand, and at each type that it names.
+fn looks_at(schema: &Schema, demand: Demand<'_>) -> usize {
+    let types = match demand {
+        Demand::Node(node) => schema.types(node).len(),
+        Demand::Sought(_, Sought::Typed(codes)) => codes.len(),
+        _ => 0,
+    };
+    types.saturating_add(1)
+}
+
+// How many it takes to tell whether it can be all that it is asked for.
+fn looks_at_all(schema: &Schema, demands: &[Demand<'_>]) -> usize {
+    let mut count = 0_usize;
+    for demand in demands {
+        count = count.saturating_add(looks_at(schema, *demand));
+    }
+    count
+}
+
 // All that an item of a type is asked for.
 fn whole_within<'s>(
     draft: &mut Draft,
@@ -353,6 +388,7 @@ fn whole_within<'s>(
     code: &str,
 ) -> Result<Vec<Demand<'s>>, NoMemory> {
     let all = whole(draft.alloc(), task, demands, code)?;
+    draft.takes_looks(looks_at_all(task.schema, &all));
     if has_two_sets(task.schema, &all) {
         draft.takes_looks(LOOKS_FOR_CONCEPT);
     }
@@ -371,6 +407,49 @@ fn plan_within<'s>(
         plan_of(draft.alloc(), task, demands, typing)
     } else {
         Ok(Vec::new(draft.alloc()))
+    }
+}
+
+// What each of the children of a name is asked for. Where that is too much to look at, there are none, and the candidate is given up.
+fn items_within<'s>(
+    draft: &mut Draft,
+    task: &Task<'_, 's>,
+    demands: &[Demand<'s>],
+    forms: &[Form],
+    planned: &Planned<'s>,
+) -> Result<Items<'s>, NoMemory> {
+    let most = planned.count.min(MOST_CHILDREN);
+    if draft.takes_looks(most.saturating_mul(demands.len())) {
+        items_of(draft.alloc(), task, demands, forms, planned)
+    } else {
+        Ok(Vec::new(draft.alloc()))
+    }
+}
+
+// How many forms have a name, of those that begin with the first of it.
+fn forms_named(forms: &[Form], name: &str) -> usize {
+    for (count, form) in forms.iter().enumerate() {
+        if form.name() != name {
+            return count;
+        }
+    }
+    forms.len()
+}
+
+// The form of a child that is asked for so, as `form_for` gives it. Where that is too much to look at, there is none, and the candidate is
+// given up.
+fn form_within<'s>(
+    draft: &mut Draft,
+    task: &Task<'_, 's>,
+    forms: &'s [Form],
+    name: &str,
+    demands: &[Demand<'s>],
+) -> Option<&'s Form> {
+    let looks = looks_at_all(task.schema, demands);
+    if draft.takes_looks(looks.saturating_mul(forms_named(forms, name))) {
+        form_for(task, forms, name, demands)
+    } else {
+        None
     }
 }
 
@@ -479,11 +558,11 @@ fn put_child<'s>(
     forms: &'s [Form],
     planned: &Planned<'s>,
 ) -> Done {
-    let items = items_of(draft.alloc(), task, demands, forms, planned)?;
+    let items = items_within(draft, task, demands, forms, planned)?;
     let Some(first) = items.first() else {
         return Ok(());
     };
-    let Some(form) = form_for(task, forms, planned.name, first) else {
+    let Some(form) = form_within(draft, task, forms, planned.name, first) else {
         draft.give_up();
         return Ok(());
     };

@@ -122,12 +122,47 @@ fn code_of_node<'s>(schema: &'s Schema, node: NodeRef) -> Option<&'s str> {
     None
 }
 
-fn code_asked<'s>(schema: &'s Schema, demand: Demand<'s>) -> Option<&'s str> {
+fn first_concrete<'s>(schema: &'s Schema, codes: &'s [String]) -> Option<&'s str> {
+    for code in codes {
+        if schema.resource_root(code.as_str()).is_some() {
+            return Some(code.as_str());
+        }
+    }
+    None
+}
+
+// The code that is asked for by itself, whatever a node allows.
+fn code_named<'s>(schema: &'s Schema, demand: Demand<'s>) -> Option<&'s str> {
     match demand {
         Demand::Type(code) if schema.resource_root(code).is_some() => Some(code),
+        Demand::Sought([], Sought::Typed(codes)) => first_concrete(schema, codes),
+        _ => None,
+    }
+}
+
+fn first_named<'s>(schema: &'s Schema, demands: &[Demand<'s>]) -> Option<&'s str> {
+    for demand in demands {
+        if let Some(code) = code_named(schema, *demand) {
+            return Some(code);
+        }
+    }
+    None
+}
+
+fn code_allowed<'s>(schema: &'s Schema, demand: Demand<'s>) -> Option<&'s str> {
+    match demand {
         Demand::Node(node) => code_of_node(schema, node),
         _ => None,
     }
+}
+
+fn first_allowed<'s>(schema: &'s Schema, demands: &[Demand<'s>]) -> Option<&'s str> {
+    for demand in demands {
+        if let Some(code) = code_allowed(schema, *demand) {
+            return Some(code);
+        }
+    }
+    None
 }
 
 fn code_changed<'s>(change: Change<'s>) -> Option<&'s str> {
@@ -137,15 +172,14 @@ fn code_changed<'s>(change: Change<'s>) -> Option<&'s str> {
     }
 }
 
-/// The code of a resource's type, where it is asked for so.
+/// The code of a resource's type, where it is asked for so: what the change says goes before what is asked for by itself, and this before
+/// what a node allows.
 pub fn resource_code<'s>(task: &Task<'_, 's>, demands: &[Demand<'s>]) -> &'s str {
     if let Some(code) = code_changed(task.change_at(demands)) {
         return code;
     }
-    for demand in demands {
-        if let Some(code) = code_asked(task.schema, *demand) {
-            return code;
-        }
+    if let Some(code) = first_named(task.schema, demands) {
+        return code;
     }
-    task.plain
+    first_allowed(task.schema, demands).unwrap_or(task.plain)
 }

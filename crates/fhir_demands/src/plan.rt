@@ -136,6 +136,9 @@ fn plan_change<'s>(change: Change<'s>, planned: &mut Planned<'s>) {
         Change::InSlice(name, _, count) if name == planned.name => {
             planned.change(planned.count.max(count))
         }
+        Change::InOrder(name, _, _) if name == planned.name => {
+            planned.change(planned.count.max(2))
+        }
         Change::Concept(_, _) => plan_concept(planned),
         Change::Target(_) if planned.name == "reference" => planned.at_least(1),
         _ => {}

@@ -2,11 +2,11 @@
 
 use crate::extremes::{extremes, has_length};
 use crate::finder::{Done, Finder};
-use crate::nodes::{entry_of, least_at, most_at, profile_for};
-use crate::step::{Change, Difference, Slice, Step};
+use crate::nodes::{entry_of, least_at, most_at, own_slice, profile_for};
+use crate::step::{Change, Difference, Slice, Step, of_type, with_step};
 use fhir_codes::ConceptSet;
 use fhir_elements::{ElementDef, TypeEntry};
-use fhir_json::{Member, NoMemory};
+use fhir_json::{Json, Member, NoMemory};
 use fhir_schema::{NodeRef, Schema, Slot};
 use std::alloc::Global;
 
@@ -120,16 +120,50 @@ fn type_name_of<'s>(schema: &'s Schema, node: NodeRef) -> &'s str {
     }
 }
 
-// The node that has the children of what a node's items are.
-fn kids_node(schema: &Schema, node: NodeRef) -> Option<NodeRef> {
+// The first type of a node that another allows too, or else the node's first.
+fn common_type<'s>(schema: &'s Schema, own: NodeRef, base: NodeRef) -> &'s str {
+    for entry in schema.types(own) {
+        if covers_code(schema, schema.types(base), entry.code()) {
+            return entry.code();
+        }
+    }
+    type_name_of(schema, own)
+}
+
+// The node that has the children of what a node's items of a type are.
+fn kids_of_type(schema: &Schema, node: NodeRef, code: &str) -> Option<NodeRef> {
     if let Some(holder) = schema.child_holder(node) {
         return Some(holder);
     }
-    let code = type_name_of(schema, node);
     if let Some(root) = profile_for(schema, node, code) {
         return Some(root);
     }
     schema.type_root(code)
+}
+
+// The node that has the children of what a node's items are.
+fn kids_node(schema: &Schema, node: NodeRef) -> Option<NodeRef> {
+    kids_of_type(schema, node, type_name_of(schema, node))
+}
+
+// How many types there are to look at in a node's slices.
+fn types_of_slices(schema: &Schema, node: NodeRef) -> usize {
+    let mut count = 0_usize;
+    for slice in schema.slices(node) {
+        let types = schema.types(entry_of(node, slice)).len();
+        count = count.saturating_add(types).saturating_add(1);
+    }
+    count
+}
+
+// Whether some slice's items may be of a type.
+fn is_in_slice(schema: &Schema, node: NodeRef, code: &str) -> bool {
+    for slice in schema.slices(node) {
+        if covers_code(schema, schema.types(entry_of(node, slice)), code) {
+            return true;
+        }
+    }
+    false
 }
 
 impl<'s> Finder<'s> {
@@ -145,6 +179,38 @@ impl<'s> Finder<'s> {
             self.push(extra, Change::Nothing)?;
         }
         Ok(())
+    }
+
+    // One child more, for each name that a fixed value lacks.
+    fn push_lacking(&mut self, extra: &[Step<'s>], kids: NodeRef, fixed: &Json<'static>) -> Done {
+        let schema = self.schema();
+        if !fixed.is_object() || !self.takes_looks(schema.slots(kids).len()) {
+            return Ok(());
+        }
+        for slot in schema.slots(kids) {
+            let is_rare = matches!(slot.name(), "id" | "extension");
+            if !is_rare && fixed.field(slot.name()).is_none() {
+                self.push(extra, Change::OneMore(slot.name()))?;
+            }
+        }
+        Ok(())
+    }
+
+    // A value with more children than a fixed one, where there is a pattern in its place.
+    fn push_further(
+        &mut self,
+        extra: &[Step<'s>],
+        own: &ElementDef,
+        node: NodeRef,
+        base: &ElementDef,
+    ) -> Done {
+        if own.fixed().is_some() || own.pattern().is_none() {
+            return Ok(());
+        }
+        match (kids_node(self.schema(), node), base.fixed()) {
+            (Some(kids), Some(fixed)) => self.push_lacking(extra, kids, &fixed.value),
+            _ => Ok(()),
+        }
     }
 
     fn push_extremes(&mut self, extra: &[Step<'s>], code: &str) -> Done {
@@ -270,7 +336,7 @@ impl<'s> Finder<'s> {
     }
 
     fn push_types(&mut self, extra: &[Step<'s>], own: &'s [TypeEntry], base: &[TypeEntry]) -> Done {
-        if base.is_empty() || !self.takes_looks(product(own.len(), base.len())) {
+        if base.is_empty() {
             return Ok(());
         }
         for entry in own {
@@ -397,6 +463,30 @@ impl<'s> Finder<'s> {
         Ok(())
     }
 
+    // One item of each type that none of the base's slices is of.
+    fn push_other_types(
+        &mut self,
+        extra: &[Step<'s>],
+        name: &'s str,
+        own: NodeRef,
+        base: NodeRef,
+    ) -> Done {
+        let schema = self.schema();
+        let types = schema.types(own);
+        let looks = product(types.len(), types_of_slices(schema, base));
+        if types.len() < 2 || !self.takes_looks(looks) {
+            return Ok(());
+        }
+        for entry in types {
+            if !is_in_slice(schema, base, entry.code()) {
+                let code = Some(entry.code());
+                let slice = Slice::Any;
+                self.push_step(extra, Step { name, slice, code })?;
+            }
+        }
+        Ok(())
+    }
+
     fn push_step(&mut self, extra: &[Step<'s>], step: Step<'s>) -> Done {
         let steps = with_step(self.alloc(), extra, step)?;
         self.push(&steps, Change::Nothing)
@@ -413,10 +503,11 @@ impl<'s> Finder<'s> {
             return Ok(());
         }
         self.push(extra, Change::OneMore(name))?;
-        match own {
-            Some(own) => self.push_own_slices(extra, name, own, base),
-            None => Ok(()),
-        }
+        let Some(own) = own else {
+            return Ok(());
+        };
+        self.push_own_slices(extra, name, own, base)?;
+        self.push_other_types(extra, name, own, base)
     }
 
     fn push_slices(
@@ -449,7 +540,8 @@ impl<'s> Finder<'s> {
         }
         self.push_counts(extra, name, own, entry)?;
         self.push_closed(extra, name, own, entry)?;
-        self.push_slices(extra, name, own, entry)
+        self.push_slices(extra, name, own, entry)?;
+        self.push_orders(extra, name, own, entry)
     }
 
     fn push_slots(&mut self, extra: &[Step<'s>], own: NodeRef, base: NodeRef) -> Done {
@@ -464,12 +556,6 @@ impl<'s> Finder<'s> {
 fn own_slot(schema: &Schema, own: NodeRef, name: &str) -> Option<NodeRef> {
     let slot = schema.slot(own, name)?;
     Some(entry_of(own, slot))
-}
-
-fn own_slice(schema: &Schema, own: Option<NodeRef>, name: &str) -> Option<NodeRef> {
-    let own = own?;
-    let slice = schema.slice(own, name)?;
-    Some(entry_of(own, slice))
 }
 
 // How many slices two slots have, and one more.
@@ -490,16 +576,6 @@ fn step_to<'s>(name: &'s str, slice: Slice) -> Step<'s> {
     }
 }
 
-fn with_step<'s>(
-    alloc: Global,
-    steps: &[Step<'s>],
-    step: Step<'s>,
-) -> Result<Vec<Step<'s>>, NoMemory> {
-    let mut more = steps.to_vec(alloc)?;
-    more.push(step)?;
-    Ok(more)
-}
-
 // ---- what the elements of two nodes suggest, and what stands below them
 
 // What two elements suggest by themselves.
@@ -511,16 +587,18 @@ fn push_elements<'s>(
 ) -> Done {
     let schema = finder.schema();
     let size = size_at(schema, own).saturating_add(size_at(schema, base));
-    if !finder.takes_looks(size) {
+    let types = product(schema.types(own).len(), schema.types(base).len());
+    if !finder.takes_looks(size.saturating_add(types)) {
         return Ok(());
     }
     let (Some(element), Some(other)) = (schema.element(own), schema.element(base)) else {
         return Ok(());
     };
     finder.push_types(extra, schema.types(own), schema.types(base))?;
-    finder.push_facets(extra, element, other, type_name_of(schema, own))?;
+    finder.push_facets(extra, element, other, common_type(schema, own, base))?;
     finder.push_targets(extra, schema.types(own), schema.types(base))?;
-    finder.push_untrue(extra, element, base, other)
+    finder.push_untrue(extra, element, base, other)?;
+    finder.push_further(extra, element, own, other)
 }
 
 #[cycle(changing)]
@@ -555,27 +633,50 @@ fn push_profiles<'s>(
 ) -> Done {
     let schema = finder.schema();
     for entry in schema.types(base) {
-        for profile in entry.profiles() {
-            if let Some(root) = schema.loaded(profile.as_str()) {
-                push_root(finder, levels, extra, own, root)?;
-            }
+        push_named(finder, levels, extra, own, entry)?;
+    }
+    Ok(())
+}
+
+// What the profiles suggest that the base names for items of a type.
+#[cycle(changing)]
+fn push_named<'s>(
+    finder: &mut Finder<'s>,
+    levels: usize,
+    extra: &[Step<'s>],
+    own: NodeRef,
+    entry: &'s TypeEntry,
+) -> Done {
+    let schema = finder.schema();
+    if entry.profiles().is_empty() || !finder.takes_looks(size_of(schema.types(own))) {
+        return Ok(());
+    }
+    let steps = of_type(finder.alloc(), extra, entry.code())?;
+    let kids = kids_of_type(schema, own, entry.code());
+    for profile in entry.profiles() {
+        if let Some(root) = schema.loaded(profile.as_str()) {
+            push_root(finder, levels, &steps, own, kids, root)?;
         }
     }
     Ok(())
 }
 
-// What a profile that the base names for its items suggests.
+// What such a profile suggests, unless it is the derived node's too.
 #[cycle(changing)]
 fn push_root<'s>(
     finder: &mut Finder<'s>,
     levels: usize,
     extra: &[Step<'s>],
     own: NodeRef,
+    kids: Option<NodeRef>,
     root: NodeRef,
 ) -> Done {
+    if kids == Some(root) {
+        return Ok(());
+    }
     push_elements(finder, extra, own, root)?;
-    match kids_node(finder.schema(), own) {
-        Some(own) => push_kids(finder, levels, extra, own, root),
+    match kids {
+        Some(kids) => push_kids(finder, levels, extra, kids, root),
         None => Ok(()),
     }
 }
@@ -645,10 +746,20 @@ fn push_below<'s>(
     push_item(finder, levels, &steps, own, base)
 }
 
+// The last step of the way, which is taken off it, so that its type can be said.
+fn last_step<'s>(finder: &mut Finder<'s>) -> Result<Vec<Step<'s>>, NoMemory> {
+    let mut last = Vec::new(finder.alloc());
+    if let Some(step) = finder.take_step() {
+        last.push(step)?;
+    }
+    Ok(last)
+}
+
 /// All that a pair of items and what stands below it suggest.
 pub(crate) fn suggest_of_items<'s>(finder: &mut Finder<'s>, own: NodeRef, base: NodeRef) -> Done {
-    finder.push(&[], Change::Nothing)?;
-    push_item(finder, MOST_LEVELS, &[], own, base)
+    let last = last_step(finder)?;
+    finder.push(&last, Change::Nothing)?;
+    push_item(finder, MOST_LEVELS, &last, own, base)
 }
 
 /// All that a pair of children and what stands below it suggest.
@@ -657,7 +768,7 @@ pub(crate) fn suggest_of_kids<'s>(finder: &mut Finder<'s>, own: NodeRef, base: N
     push_kids(finder, MOST_LEVELS, &[], own, base)
 }
 
-/// What a pair of items suggests by itself.
+/// What a pair of items suggests by itself, and by the profiles that the base names for it.
 pub(crate) fn suggest_of_elements<'s>(
     finder: &mut Finder<'s>,
     own: NodeRef,
@@ -666,7 +777,9 @@ pub(crate) fn suggest_of_elements<'s>(
     if own == base {
         return Ok(());
     }
-    push_elements(finder, &[], own, base)
+    let last = last_step(finder)?;
+    push_elements(finder, &last, own, base)?;
+    push_profiles(finder, 0, &last, own, base)
 }
 
 /// What a pair of children suggests by itself.

@@ -88,6 +88,11 @@ impl<'s> Finder<'s> {
         self.way = way;
     }
 
+    /// The last step of the way, which is taken off it.
+    pub(crate) fn take_step(&mut self) -> Option<Step<'s>> {
+        self.way.pop()
+    }
+
     /// From here on there may be as many as ever, and as much is looked at once more.
     pub(crate) fn make_room(&mut self) {
         self.room = MOST_DIFFERENCES;

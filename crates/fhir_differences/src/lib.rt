@@ -20,6 +20,7 @@ mod changes;
 mod extremes;
 mod finder;
 mod nodes;
+mod orders;
 mod step;
 mod ways;
 

@@ -66,3 +66,10 @@ pub fn most_at(schema: &Schema, node: NodeRef) -> usize {
         None => usize::MAX,
     }
 }
+
+/// The node of the slice of a name, if the node has one.
+pub(crate) fn own_slice(schema: &Schema, own: Option<NodeRef>, name: &str) -> Option<NodeRef> {
+    let own = own?;
+    let slice = schema.slice(own, name)?;
+    Some(entry_of(own, slice))
+}

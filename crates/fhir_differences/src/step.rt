@@ -1,8 +1,9 @@
 //! A difference: the way from a resource to a place in it, and what is changed there.
 
 use fhir_fp_syntax::Expr;
-use fhir_json::Json;
+use fhir_json::{Json, NoMemory};
 use fhir_schema::NodeRef;
+use std::alloc::Global;
 
 /// Of which slice the item of a step is (FHIR R4, Profiling, slicing).
 #[derive(Clone, Copy, Debug, PartialEq, Eq)]
@@ -39,6 +40,8 @@ pub enum Change<'s> {
     OneMore(&'s str),
     /// So many children of a name belong to a slice: the profile's of its name, or the base's where the profile has none.
     InSlice(&'s str, NodeRef, usize),
+    /// A child of a name in the first slice, or in none, stands before one in the second. A slice is told as before.
+    InOrder(&'s str, Option<NodeRef>, NodeRef),
     /// The item is of that type.
     OfType(&'s str),
     /// It is that value.
@@ -60,4 +63,29 @@ pub enum Change<'s> {
 pub struct Difference<'s> {
     pub steps: Vec<Step<'s>>,
     pub change: Change<'s>,
+}
+
+/// Steps, and one more.
+pub(crate) fn with_step<'s>(
+    alloc: Global,
+    steps: &[Step<'s>],
+    step: Step<'s>,
+) -> Result<Vec<Step<'s>>, NoMemory> {
+    let mut more = steps.to_vec(alloc)?;
+    more.push(step)?;
+    Ok(more)
+}
+
+/// Steps to an item that is of a type.
+pub(crate) fn of_type<'s>(
+    alloc: Global,
+    steps: &[Step<'s>],
+    code: &'s str,
+) -> Result<Vec<Step<'s>>, NoMemory> {
+    let mut typed = steps.to_vec(alloc)?;
+    if let Some(last) = typed.pop() {
+        let code = Some(code);
+        typed.push(Step { code, ..last })?;
+    }
+    Ok(typed)
 }
