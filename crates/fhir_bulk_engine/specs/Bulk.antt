@@ -1,5 +1,5 @@
 -- What a run is of.
-use Rattle.std.specs.Prelude.{◌≡◌, ℕ, List, None, Option, Some, Ok, IsSome, ◌++◌}
+use Rattle.std.specs.Prelude.{◌≡◌, ◌&&◌, ℕ, List, None, Option, Some, Ok, IsSome, is_none, option_map, ◌++◌}
 use Rattle.std.specs.Io.KnownBytes.{Appends}
 use Rattle.fhir_json.specs.Tree.{Text}
 use Rattle.fhir_package.specs.Folder.{Files}
@@ -12,6 +12,7 @@ use Rattle.fhir_engine.specs.Serving.{file_seen, AreTextsIf}
 use Rattle.fhir_inputs.specs.Inputs.{InputValue}
 use Rattle.fhir_bulk.specs.declared.tally.Tally.{Tally}
 use Rattle.fhir_telling.specs.Questions.{QuestionValue, profile_asked, skips}
+use Rattle.fhir_words.specs.Requests.{BulkValue}
 use Rattle.fhir_bulk.specs.Running.{IsRun, AreRelied, summary}
 use Rattle.fhir_bulk_engine.specs.declared.asked.Asked.{Asked}
 use Rattle.fhir_bulk_engine.specs.declared.plan.InputFile.{InputFile}
@@ -60,8 +61,17 @@ pub record IsBulk (folder : Files) (asked : Asked) (names : List Text) (inputs :
   pub is_session : IsSessionOf read session
   pub told : IsToldOfSession session asked names inputs passed_over tally old new
 
--- The same of the files of some folder, and of some inputs.
-abbrev pub IsSomeBulk : (old new : Option (List ℕ)) → Tally → Type 0
-IsSomeBulk old new tally =
-    (folder : Files) × (asked : Asked) × (names : List Text) × (inputs : List InputValue) × (passed_over : ℕ)
+-- What is asked of each resource is what the request says: the profile at the url that it gives, and else those that the resource claims, of which
+-- those that aren't there are passed over where it says so.
+pub record IsAskedBy (request : BulkValue) (asked : Asked) : Type 0 where
+  pub profile : profile_asked asked.profiles ≡ request.profile
+  pub skips_unknown : skips asked.profiles ≡ (is_none request.profile && request.skip_unknown)
+  pub given : option_map (λ file. file.name.now) asked.given ≡ request.given
+  pub format : asked.format ≡ request.format
+  pub only_bad : asked.only_bad ≡ request.only_bad
+
+-- What a request asks was asked of the files of some folder, and of some inputs.
+abbrev pub IsBulkBy : BulkValue → (old new : Option (List ℕ)) → Tally → Type 0
+IsBulkBy request old new tally =
+    (folder : Files) × (asked : Asked) × IsAskedBy request asked × (names : List Text) × (inputs : List InputValue) × (passed_over : ℕ)
     × IsBulk folder asked names inputs passed_over tally old new

@@ -1,10 +1,13 @@
 //! A run over the definitions in a folder.
 
-ghost use Rattle.std.specs.Prelude.{◌≡◌, ◌⊎◌, Option, IfOk, IfSome, IfNone, IsOkAnd, map};
+ghost use Rattle.std.specs.Prelude.{◌≡◌, ◌⊎◌, ◌&&◌, Option, IfOk, IfSome, IfNone, IsOkAnd, is_none, map, option_map};
 ghost use Rattle.fhir_engine.specs.Reading.{IsReadOf};
 ghost use Rattle.fhir_bulk.specs.declared.tally.Tally.{Tally};
-ghost use Rattle.fhir_bulk_engine.specs.Bulk.{IsBulk, IsSomeBulk};
+ghost use Rattle.fhir_bulk_engine.specs.Bulk.{IsAskedBy, IsBulk, IsBulkBy};
 ghost use Rattle.fhir_bulk_engine.specs.Ending.{tally_status, Ends, IsUntouched};
+ghost use Rattle.fhir_json.specs.Views.{text_seen};
+ghost use Rattle.fhir_telling.specs.Questions.{profile_asked, skips};
+ghost use Rattle.fhir_words.specs.Views.{bulk_seen};
 
 use crate::asked::{Asked, Planned, run_session};
 use crate::file_inputs::FileInputs;
@@ -137,7 +140,9 @@ fn names_of(alloc: Global, files: &[InputFile]) -> Result<Vec<&str>, AllocError>
 }
 
 // The file of the texts, if one is named.
-fn given_file<'a>(request: &'a BulkRequest<'_>, bytes: Option<&'a [u8]>) -> Option<NamedFile<'a>> {
+fn given_file<'a>(request: &'a BulkRequest<'_>, bytes: Option<&'a [u8]>) -> Option<NamedFile<'a>>
+    ensures { option_map (λ file. file.name.now) result ≡ text_seen request.now.given }
+{
     match request.given {
         Some(name) => Some(NamedFile { name, bytes }),
         None => None,
@@ -149,7 +154,9 @@ fn asked_with<'a>(
     given: Option<NamedFile<'a>>,
     format: Format,
     only_bad: bool,
-) -> Asked<'a> {
+) -> Asked<'a>
+    ensures { result ≡ record { profiles = profiles.entry; given = given.entry; format = format; only_bad = only_bad } }
+{
     Asked {
         profiles,
         given,
@@ -158,7 +165,10 @@ fn asked_with<'a>(
     }
 }
 
-fn profiles_of<'a>(request: &'a BulkRequest<'_>) -> Profiles<'a> {
+fn profiles_of<'a>(request: &'a BulkRequest<'_>) -> Profiles<'a>
+    ensures profile { profile_asked result ≡ text_seen request.now.profile }
+    ensures skips { skips result ≡ (is_none (text_seen request.now.profile) && request.now.skip_unknown) }
+{
     match request.profile {
         Some(url) => Profiles::At(url),
         None if request.skip_unknown => Profiles::Own(Unknown::Warnings),
@@ -166,7 +176,9 @@ fn profiles_of<'a>(request: &'a BulkRequest<'_>) -> Profiles<'a> {
     }
 }
 
-fn asked_of<'a>(request: &'a BulkRequest<'_>, bytes: Option<&'a [u8]>) -> Asked<'a> {
+fn asked_of<'a>(request: &'a BulkRequest<'_>, bytes: Option<&'a [u8]>) -> Asked<'a>
+    ensures { IsAskedBy (bulk_seen request.now) result }
+{
     let given = given_file(request, bytes);
     asked_with(
         profiles_of(request),
@@ -186,9 +198,9 @@ fn run_plan<
     E: Write,
 >(
     rt: &R,
-    name: &str,
+    request: &BulkRequest<'_>,
     folder: MemoryFolder,
-    asked: Asked<'_>,
+    given: Option<&[u8]>,
     plan: &Plan,
     standard: S,
     progress: &mut P,
@@ -196,7 +208,7 @@ fn run_plan<
     out: &mut W,
     err: &mut E,
 ) -> Status
-    ensures { (told : Option Tally) × Ends result told × IfSome told (IsSomeBulk (W.contents out.old) (W.contents out.new))
+    ensures { (told : Option Tally) × Ends result told × IfSome told (IsBulkBy (bulk_seen request.now) (W.contents out.old) (W.contents out.new))
         × IfNone told ((result ≡ Status.Unwritten) ⊎ (out.new ≡ out.old)) }
 {
     let Ok(names) = names_of(rt.alloc(), &plan.files) else {
@@ -210,9 +222,9 @@ fn run_plan<
     };
     validate_folder(
         rt.alloc(),
-        name,
+        request.folder,
         folder,
-        asked,
+        asked_of(request, given),
         Ok(planned),
         progress,
         watch,
@@ -231,9 +243,9 @@ fn run_nothing<
     E: Write,
 >(
     rt: &R,
-    name: &str,
+    request: &BulkRequest<'_>,
     folder: MemoryFolder,
-    asked: Asked<'_>,
+    given: Option<&[u8]>,
     nothing: &str,
     standard: S,
     progress: &mut P,
@@ -241,16 +253,16 @@ fn run_nothing<
     out: &mut W,
     err: &mut E,
 ) -> Status
-    ensures { (told : Option Tally) × Ends result told × IfSome told (IsSomeBulk (W.contents out.old) (W.contents out.new))
+    ensures { (told : Option Tally) × Ends result told × IfSome told (IsBulkBy (bulk_seen request.now) (W.contents out.old) (W.contents out.new))
         × IfNone told ((result ≡ Status.Unwritten) ⊎ (out.new ≡ out.old)) }
 {
     let none = [];
     let inputs = FileInputs::new(rt, &none, standard);
     validate_folder(
         rt.alloc(),
-        name,
+        request.folder,
         folder,
-        asked,
+        asked_of(request, given),
         unplanned(&inputs, nothing),
         progress,
         watch,
@@ -281,7 +293,7 @@ pub fn validate_directory<
     out: &mut W,
     err: &mut E,
 ) -> Status
-    ensures { (told : Option Tally) × Ends result told × IfSome told (IsSomeBulk (W.contents out.old) (W.contents out.new))
+    ensures { (told : Option Tally) × Ends result told × IfSome told (IsBulkBy (bulk_seen request.now) (W.contents out.old) (W.contents out.new))
         × IfNone told ((result ≡ Status.Unwritten) ⊎ (out.new ≡ out.old)) }
 {
     let Ok(
@@ -296,17 +308,15 @@ pub fn validate_directory<
         return end_with(err, "no memory\n", Status::NoMemory);
     };
     let given = given.as_deref();
-    let asked = asked_of(request, given);
-    let name = request.folder;
     match &plan {
         Ok(plan) => run_plan(
-            rt, name, folder, asked, plan, standard, progress, watch, out, err,
+            rt, request, folder, given, plan, standard, progress, watch, out, err,
         ),
         Err(nothing) => run_nothing(
             rt,
-            name,
+            request,
             folder,
-            asked,
+            given,
             nothing.as_str(),
             standard,
             progress,
