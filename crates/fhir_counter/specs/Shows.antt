@@ -35,10 +35,10 @@ abbrev pub ShowsBy : Option (List Text) → SchemaValue → Text → Text → Te
 ShowsBy None s derived base bytes = Shows s derived base bytes
 ShowsBy (Some texts) s derived base bytes = ShowsAsGiven s texts derived base bytes
 
--- a byte of no control character
+-- a byte of no character below U+0020, which JSON has escaped in its texts (RFC 8259, 7)
 abbrev pub is_text_byte : ℕ → Bool
 is_text_byte b = nat_le space b
 
--- a text stands on one line, and a terminal does nothing but show it
+-- a text stands on one line
 abbrev pub is_on_line : Text → Bool
 is_on_line text = list_all is_text_byte text

@@ -55,8 +55,9 @@ impl<'p> Plain<'p> {
     }
 
     /// The words on an issue of an OperationOutcome (FHIR R4, OperationOutcome.issue) with these diagnostics, at this place of a
-    /// resource, which is empty where the issue has none. They are empty where there is no more to say. The one refusal is
-    /// want of memory.
+    /// resource, which is empty where the issue has none. They are empty where there is no more to say, and where a choice on the
+    /// way to the place has objects in two properties, since it isn't known which of them is meant. The one refusal is want of
+    /// memory.
     pub fn words(
         &self,
         alloc: Global,

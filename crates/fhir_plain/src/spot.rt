@@ -58,6 +58,11 @@ impl<'s> Meaning<'s> {
         }
     }
 
+    // Whether objects with elements stand in it. A primitive has these in its companion.
+    fn holds_elements(self) -> bool {
+        self.form.content().is_primitive() == self.is_companion
+    }
+
     // The node that types an object in it.
     fn node_below(self, schema: &Schema, json: &Json<'_>) -> Option<NodeRef> {
         match (self.form.content(), self.is_companion) {
@@ -82,7 +87,7 @@ pub(crate) struct Spot<'r, 'j> {
 // An object in a property, and the node that types it.
 type Below<'r, 'j> = (&'r Json<'j>, Option<NodeRef>);
 
-// That in a member, if the member is of the element of a name.
+// That in a member, if the member is of the element of a name and holds elements.
 fn below<'r, 'j>(
     schema: &Schema,
     node: Option<NodeRef>,
@@ -92,7 +97,7 @@ fn below<'r, 'j>(
 ) -> Option<Below<'r, 'j>> {
     let meaning = Meaning::of(schema, node, member.name.as_str())?;
     let item = item_at(&member.value, index)?;
-    if meaning.is_of(name, index) && item.is_object() {
+    if meaning.is_of(name, index) && meaning.holds_elements() && item.is_object() {
         Some((item, meaning.node_below(schema, item)))
     } else {
         None
@@ -111,13 +116,17 @@ impl<'r, 'j> Spot<'r, 'j> {
         })
     }
 
+    // That in the members of the element of a name. Where two forms of a choice have one, it isn't known which is meant.
     fn below(self, schema: &Schema, name: &str, index: Option<usize>) -> Option<Below<'r, 'j>> {
+        let mut found: Option<Below<'r, 'j>> = None;
         for member in self.members {
-            if let Some(found) = below(schema, self.node, member, name, index) {
-                return Some(found);
+            match (found, below(schema, self.node, member, name, index)) {
+                (_, None) => {}
+                (None, other) => found = other,
+                (Some(_), Some(_)) => return None,
             }
         }
-        None
+        found
     }
 
     // One step further. The last name of a place is that of a property, which may have a dot in it.

@@ -18,7 +18,7 @@ pub(crate) struct Blamed<'s> {
 // The texts that nothing is put into.
 fn fixed_text(cause: Cause) -> &'static str {
     match cause {
-        Cause::BlankInUrl => "its `url` has blanks in it",
+        Cause::BlankInUrl => "its `url` is empty, or has blanks in it",
         Cause::NoObject => "an element of the snapshot is no object",
         Cause::NoType => "it has neither a `type` nor a `contentReference`",
         Cause::RepeatedId => "the `id` stands twice in the snapshot",

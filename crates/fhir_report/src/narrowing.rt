@@ -85,9 +85,7 @@ fn shown_of(rule: Rule<'_>) -> Shown<'_> {
         Rule::Range => Shown::Compared(Field::Range),
         Rule::Length => Shown::Compared(Field::Length),
         Rule::Binding => Shown::Compared(Field::Binding),
-        Rule::Constraint(_) => Shown::Lacking(
-            "the derived element has no constraint with the same expression",
-        ),
+        Rule::Constraint(_) => Shown::Lacking("the derived element's constraints don't entail it"),
         Rule::Children => Shown::Lacking("no `kids` line pairs the children of the two elements"),
         Rule::Slot(_) => Shown::Lacking("the derived profile has no such element there"),
         Rule::Cardinality(name) => Shown::Compared(Field::SlotCardinality(name)),

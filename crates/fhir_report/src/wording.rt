@@ -39,11 +39,12 @@ pub(crate) fn lacking_words(fault: &SnapFault) -> &'static str {
             "the element, here or in a base, has a field of a wrong kind or value, an `id` that can't be read, `min` over `max`, or a type twice"
         }
         SnapFault::NoElement(_) => {
-            "no element of this id in the base, and none that it could inherit from; it may be misspelt, or one above it left out"
+            "the differential, here or in a base, has an element of this id that isn't in what it is laid over, and that could inherit from none there; it may be misspelt, or one above it left out"
         }
         SnapFault::MinOverMax(_) =>
-            "`min` is over `max` as the differential is laid over what it inherits",
-        SnapFault::RepeatedId(_) => "two elements of the differential have this id",
+            "`min` is over `max`, here or in a base, as the differential is laid over what it inherits",
+        SnapFault::RepeatedId(_) =>
+            "two elements of the differential, here or in a base, have this id",
         SnapFault::NoMemory => "memory was expected",
     }
 }
