@@ -1,5 +1,5 @@
 -- What is told of two profiles, and of a certificate, by the status of what is answered.
-use Rattle.std.proofs.Common.{◌≡◌, ◌↔◌, ◌++◌, Bool, true, false, ◌&&◌, eqb, [], Option, None, Some, is_some, is_none, cond, Result, Ok, Err, codes, refl, sym, ap, ◌∙◌, subst}
+use Rattle.std.proofs.Common.{◌≡◌, ◌↔◌, ◌++◌, Bool, true, false, ◌&&◌, eqb, [], Option, None, Some, is_some, is_none, cond, Result, Ok, Err, codes, IsTrue, refl, sym, ap, ◌∙◌, subst}
 use Rattle.std.specs.Prelude.{IfSome}
 use Rattle.std.specs.Option.{option_and_then, option_map}
 use Rattle.std.proofs.lemmas.Bool.{false≢true}
@@ -20,7 +20,7 @@ use Rattle.fhir_derive_check.specs.declared.fault.Side.TheVariants.{Derived, Bas
 use Rattle.fhir_derive_check.specs.Deriving.{IsDerived}
 use Rattle.fhir_derive_check.specs.Faults.{is_missing, is_unusable, first_side, refusal, derive_refusal}
 use Rattle.fhir_derive_check.specs.Reaching.{HasCertificate, roots_between}
-use Rattle.fhir_counter.specs.Shows.{Shows, ShowsBy}
+use Rattle.fhir_counter.specs.Shows.{Shows, ShowsBy, is_on_line}
 use Rattle.fhir_findings.specs.Finding.{selected_unusable}
 use Rattle.fhir_replies.specs.Deriving.{Derivation, derives, fails, missing, IsDerivationOf}
 use Rattle.fhir_replies.specs.Deriving.{unusable as unusable_side}
@@ -131,13 +131,13 @@ module _ (s : SchemaValue) (derived base : Text) where
   countered_open found (missing side) h e = absurd (false≢true (ap (eqb 2) e))
   countered_open found (unusable_side side) h e = absurd (false≢true (ap (eqb 2) e))
 
-  countered_no : (found : Option Text) (d : Derivation) → IfSome found (ShowsBy None s derived base) → status_of (shown_as found d) ≡ 1
-      → (resource : Text) × (out_of (shown_as found d) ≡ resource ++ codes "\n") × Shows s derived base resource
-  countered_no found (derives c) shows e = absurd (false≢true (ap (eqb 1) e))
-  countered_no None (fails pair rule) shows e = absurd (false≢true (ap (eqb 1) e))
-  countered_no (Some bytes) (fails pair rule) shows e = (bytes, refl, shows)
-  countered_no found (missing side) shows e = absurd (false≢true (ap (eqb 1) e))
-  countered_no found (unusable_side side) shows e = absurd (false≢true (ap (eqb 1) e))
+  countered_no : (IsSo : Text → Type 0) (found : Option Text) (d : Derivation) → IfSome found IsSo → status_of (shown_as found d) ≡ 1
+      → (resource : Text) × (out_of (shown_as found d) ≡ resource ++ codes "\n") × IsSo resource
+  countered_no IsSo found (derives c) so e = absurd (false≢true (ap (eqb 1) e))
+  countered_no IsSo None (fails pair rule) so e = absurd (false≢true (ap (eqb 1) e))
+  countered_no IsSo (Some bytes) (fails pair rule) so e = (bytes, refl, so)
+  countered_no IsSo found (missing side) so e = absurd (false≢true (ap (eqb 1) e))
+  countered_no IsSo found (unusable_side side) so e = absurd (false≢true (ap (eqb 1) e))
 
   -- ---- the replies
 
@@ -161,15 +161,21 @@ module _ (s : SchemaValue) (derived base : Text) where
     pub open_at : status_of reply ≡ 2 → HasCertificate s derived base → ⊥
     open_at e = countered_open is.found is.derivation is.is_derivation (sym (ap status_of is.is_reply) ∙ e)
 
-    pub no_at : status_of reply ≡ 1 → (resource : Text) × (out_of reply ≡ resource ++ codes "\n") × Shows s derived base resource
-    no_at e =
-        let it = countered_no is.found is.derivation is.is_shown (sym (ap status_of is.is_reply) ∙ e) in
+    found_at : (IsSo : Text → Type 0) → IfSome is.found IsSo → status_of reply ≡ 1
+        → (resource : Text) × (out_of reply ≡ resource ++ codes "\n") × IsSo resource
+    found_at IsSo so e =
+        let it = countered_no IsSo is.found is.derivation so (sym (ap status_of is.is_reply) ∙ e) in
         (it.0, ap out_of is.is_reply ∙ it.1, it.2)
+
+    pub no_at : status_of reply ≡ 1 → (resource : Text) × (out_of reply ≡ resource ++ codes "\n") × Shows s derived base resource
+    no_at = found_at (Shows s derived base) is.is_shown
+
+    pub line_at : status_of reply ≡ 1 → (line : Text) × (out_of reply ≡ line ++ codes "\n") × IsTrue (is_on_line line)
+    line_at = found_at (λ line. IsTrue (is_on_line line)) is.is_line
 
     pub refuted_at : AreFair → status_of reply ≡ 1 → Includes s derived base → ⊥
     refuted_at fair e =
-        let it = countered_no is.found is.derivation is.is_shown (sym (ap status_of is.is_reply) ∙ e) in
-        refuted fair s derived base it.0 it.2
+        let it = no_at e in refuted fair s derived base it.0 it.2
 
 -- ---- `certify`
 

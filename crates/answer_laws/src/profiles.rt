@@ -1,6 +1,6 @@
 //! What the statuses of `derive`, `counter`, `certify` and `check` say (docs/USAGE.md, What it answers).
 
-ghost use Rattle.std.specs.Prelude.{◌≡◌, ◌↔◌, ◌∷◌, ◌++◌, [], List, Option, None, Some, Ok, Err, codes};
+ghost use Rattle.std.specs.Prelude.{◌≡◌, ◌↔◌, ◌∷◌, ◌++◌, [], List, Option, None, Some, Ok, Err, IsTrue, codes};
 ghost use Rattle.fhir_json.specs.Tree.{Text};
 ghost use Rattle.fhir_certificate.specs.declared.fault.CertFault.{CertFault};
 ghost use Rattle.fhir_certificate.specs.declared.pair.Pair.{Pair};
@@ -12,7 +12,7 @@ ghost use Rattle.fhir_derive_check.specs.Reaching.{HasCertificate};
 ghost use Rattle.fhir_findings.specs.Finding.{selected_unusable};
 ghost use Rattle.fhir_words.specs.declared.request.Manner.{Manner};
 ghost use Rattle.fhir_words.specs.Requests.{certify, derive, counter, check};
-ghost use Rattle.fhir_counter.specs.Shows.{Shows};
+ghost use Rattle.fhir_counter.specs.Shows.{Shows, is_on_line};
 ghost use Rattle.fhir_answers.specs.Answering.{IsReply, answer_by};
 ghost use Rattle.fhir_answers.specs.Replying.{ReplyValue, status_of, out_of};
 ghost use Rattle.fhir_answers.specs.Session.{SessionValue, schema_in};
@@ -39,8 +39,8 @@ pub fn certificates_by_status()
 {}
 
 /// What `counter` says of two profiles by its status: 0 that a right certificate exists, which is said exactly where `derive` has status 0 (`certificate`,
-/// `agrees`); 1 that a resource conforms to the derived profile and not to its base, which stands on a line of standard output (`shown`), so that the one
-/// doesn't narrow the other (`refuted`); and 2 that no certificate exists (`none`).
+/// `agrees`); 1 that a resource conforms to the derived profile and not to its base, which stands on standard output (`shown`) and is one line of it (`line`), so
+/// that the one doesn't narrow the other (`refuted`); and 2 that no certificate exists (`none`).
 pub fn counterexamples_by_status()
     ensures certificate { (s : SessionValue) (folder derived base : Text) (files : List (Option Text)) (reply : ReplyValue)
         → Replies (counter folder derived base) s files reply → status_of reply ≡ 0 → HasCertificate (schema_in s) derived base }
@@ -50,6 +50,9 @@ pub fn counterexamples_by_status()
     ensures shown { (s : SessionValue) (folder derived base : Text) (files : List (Option Text)) (reply : ReplyValue)
         → Replies (counter folder derived base) s files reply → status_of reply ≡ 1
         → (resource : Text) × (out_of reply ≡ resource ++ codes "\n") × Shows (schema_in s) derived base resource }
+    ensures line { (s : SessionValue) (folder derived base : Text) (files : List (Option Text)) (reply : ReplyValue)
+        → Replies (counter folder derived base) s files reply → status_of reply ≡ 1
+        → (line : Text) × (out_of reply ≡ line ++ codes "\n") × IsTrue (is_on_line line) }
     ensures refuted { (s : SessionValue) (folder derived base : Text) (files : List (Option Text)) (reply : ReplyValue)
         → Replies (counter folder derived base) s files reply → status_of reply ≡ 1 → Includes (schema_in s) derived base → ⊥ }
     ensures none { (s : SessionValue) (folder derived base : Text) (files : List (Option Text)) (reply : ReplyValue)

@@ -1,7 +1,7 @@
 use Rattle.fhir_package.specs.Surveying.{refusal}
 use Rattle.fhir_answers.specs.Answering.{between, countered}
 use Rattle.fhir_answers.specs.Session.{schema_in}
-use Rattle.answer_laws.proofs.Certificates.{derived_at, derived_then, yes_at, yes_then, open_at, no_at, refuted_at}
+use Rattle.answer_laws.proofs.Certificates.{derived_at, derived_then, yes_at, yes_then, open_at, no_at, line_at, refuted_at}
 use Rattle.answer_laws.proofs.Standings.{opened}
 use Rattle.answer_laws.proofs.profiles.counterexamples_by_status.Goals as goal
 
@@ -20,6 +20,10 @@ returns-clause-agrees c s folder derived base files one other is others =
 pub returns-clause-shown : goal.returns-clause-shown
 returns-clause-shown c s folder derived base files reply is e =
     no_at (schema_in s) derived base reply (opened (countered (schema_in s) derived base) reply (refusal s.survey) is.0 is.1) e
+
+pub returns-clause-line : goal.returns-clause-line
+returns-clause-line c s folder derived base files reply is e =
+    line_at (schema_in s) derived base reply (opened (countered (schema_in s) derived base) reply (refusal s.survey) is.0 is.1) e
 
 pub returns-clause-refuted : goal.returns-clause-refuted
 returns-clause-refuted c s folder derived base files reply is e =
