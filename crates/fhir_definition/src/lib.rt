@@ -22,6 +22,7 @@ mod elements;
 mod head;
 mod kind;
 mod laws;
+mod local;
 mod snapshot;
 
 pub use bounds::bound_type;
