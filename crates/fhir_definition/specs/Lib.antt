@@ -3,7 +3,6 @@ pub mod Snapshot
 pub mod Children
 pub mod Bounds
 pub mod Head
-pub mod Local
 pub mod Definition
 pub mod Blames
 pub mod Cases

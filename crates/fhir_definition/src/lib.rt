@@ -22,7 +22,6 @@ mod elements;
 mod head;
 mod kind;
 mod laws;
-mod local;
 mod snapshot;
 
 pub use bounds::bound_type;
