@@ -134,7 +134,7 @@ def code_systems(draw):
         for code in draw.sample([*CODES, "d"], draw.choice([1, 2, 3])):
             (concepts[-1].setdefault("concept", []) if concepts and maybe(draw, 0.4) else concepts).append({"code": code})
         content = draw.choice(["complete"] * 6 + ["fragment"])
-        yield {"resourceType": "CodeSystem", "url": url, "status": "active", "content": content, "concept": concepts, **version(draw, 0.3)}
+        yield {"resourceType": "CodeSystem", "url": url, "status": "active", "content": content, "concept": concepts, **version(draw, 0.6)}
 
 
 def version(draw, chance):
@@ -148,7 +148,7 @@ def include(draw):
         made["system"] = draw.choice(SYSTEMS) if maybe(draw, 0.97) else NOWHERE
         if maybe(draw, 0.5):
             made["concept"] = [{"code": it} for it in draw.sample(CODES, draw.choice([1, 2]))]
-        made.update(version(draw, 0.1))
+        made.update(version(draw, 0.3))
     if way > 0.6:
         made["valueSet"] = [it + draw.choice(["", "", "|1"]) for it in draw.sample(VALUE_SETS, draw.choice([1, 1, 2]))]
     if maybe(draw, 0.02):
@@ -311,8 +311,15 @@ def thing(draw, depth=0, likely=()):
         if has(name):
             made[name] = several(draw, one)
     if has("contained") and depth == 0:
-        made["contained"] = several(draw, lambda it: other(it) if maybe(it, 0.6) else thing(it, 1))
+        made["contained"] = several(draw, contained)
     return made
+
+
+def contained(draw):
+    """A resource in another one; few are of a type that no resource may be of."""
+    if maybe(draw, 0.05):
+        return {"resourceType": draw.choice(["Resource", "DomainResource"])}
+    return other(draw) if maybe(draw, 0.6) else thing(draw, 1)
 
 
 def resource(draw, likely):
@@ -389,7 +396,8 @@ def spoilt(draw, one):
         ways += [{name: [value]}, {name: "a"}, {beside: {"id": "i"}}]
     else:
         ways += [{name: [value]}, {name: {"id": "i"}}] + [{beside: it} for it in (None, {}, {"id": ""}, {"id": "i", "value": "a"}, [{"id": "i"}])]
-        ways += [{name: it} for it in (True, 2**31, -(2**31) - 1, decimal.Decimal("1.5"), " a", "a  b", "2021-02-29")]
+        ways += [{name: it} for it in (True, 2**31, -(2**31) - 1, decimal.Decimal("1.5"), " a", "a  b")]
+        ways += [{name: "2021-02-29"}] * (10 if value in DATES else 1)
     at.update(draw.choice(ways))
     return made
 
@@ -583,7 +591,7 @@ def ask_constraint(draw, _, one):
     if code not in CONSTRAINTS:
         return False
     said = one.setdefault("constraint", [])
-    said.append(must(f"made-{len(said)}", draw.choice(CONSTRAINTS[code]), draw.choice(["error"] * 4 + ["warning"])))
+    said.append(must(f"made-{len(said)}", draw.choice(CONSTRAINTS[code]), draw.choice(["error", "error", "warning"])))
     return True
 
 
@@ -683,6 +691,7 @@ def concept_slices(draw, one):
     return draw.choice([
         lambda: told_by_itself(draw, one, "pattern", [{"patternCodeableConcept": it} for it in PATTERNS["CodeableConcept"]]),
         lambda: told_by_values(draw, one, {"coding.code": CODES}),
+        lambda: told_by_values(draw, one, {"coding.system": SYSTEMS}),
         lambda: told_by_presence(draw, one, "text"),
     ])()
 
