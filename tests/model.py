@@ -242,9 +242,12 @@ class Definitions:
         return found if found and is_version(found, version) else None
 
     def content_target(self, node):
-        """The element whose content this one refers to (contentReference)."""
+        """The element whose content this one refers to (contentReference): of its own definition, or of the one whose canonical stands in front."""
         reference = self.elements[node].get("contentReference")
-        return Node(node.url, reference.partition("#")[2]) if reference else None
+        if not reference:
+            return None
+        front, _, identifier = reference.partition("#")
+        return Node(version_of(front)[0] or node.url, identifier)
 
     def holder(self, node):
         """The element whose children stand below this one: its own, or those of its content reference."""

@@ -456,6 +456,8 @@ class Snapshot:
             return False
         elements = TYPES[source.partition(".")[0]]["snapshot"]["element"]
         made = [renamed(it, source, one["id"]) for it in elements if it["id"].startswith(f"{source}.")]
+        if self.elements[0]["id"] != "Thing":
+            made = [referring_to(it, "Thing") for it in made]
         place = self.elements.index(one) + 1
         self.elements[place:place] = made
         return True
@@ -474,6 +476,12 @@ def renamed(one, old, new):
     """An element under another id."""
     identifier = new + one["id"][len(old):]
     return {**copy.deepcopy(one), "id": identifier, "path": re.sub(r":[^.]*", "", identifier)}
+
+
+def referring_to(one, type_of):
+    """An element of a type's definition as it stands in another one: what it refers to for its content stands in that of the type."""
+    reference = one.get("contentReference", "")
+    return {**one, "contentReference": SITE + type_of + reference} if reference.startswith("#") else one
 
 
 # ---- what a profile may ask: each function makes an element ask for more, if it can
