@@ -1,5 +1,6 @@
 pub mod Ancestors
 pub mod Asked
+pub mod Contained
 pub mod Fields
 pub mod Heads
 pub mod Paths

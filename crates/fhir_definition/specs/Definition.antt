@@ -14,6 +14,7 @@ use Rattle.fhir_definition.specs.Kind.{is_primitive_kind}
 use Rattle.fhir_definition.specs.Head.{kind_in, is_type_definition, has_right_head}
 use Rattle.fhir_definition.specs.Snapshot.{ids_differ, is_root}
 use Rattle.fhir_definition.specs.Bounds.{has_lexical_bounds}
+use Rattle.fhir_definition.specs.Contained.{names_contained}
 
 pub record Definition : Type 0 where
   -- where it stands in the package's order
@@ -37,10 +38,11 @@ pub record Definition : Type 0 where
 abbrev pub element_trees : Tree → List Tree
 element_trees t = option_map_or (items_in (codes "element")) (field (codes "snapshot") t) []
 
--- an element of a snapshot says how many there may be, and unless it is the root has a type or a content reference
+-- an element of a snapshot says how many there may be, unless it is the root has a type or a content reference, and names nothing that
+-- its definition itself contains
 abbrev pub is_whole : Element → Bool
 is_whole e =
-    is_some e.min && is_some e.max && (is_root e || nat_lt 0 (length e.types) || is_some e.content_reference)
+    is_some e.min && is_some e.max && (is_root e || nat_lt 0 (length e.types) || is_some e.content_reference) && not (names_contained e)
 
 abbrev pub is_wrong_field : Option Reason → Bool
 is_wrong_field (Some WrongField) = true

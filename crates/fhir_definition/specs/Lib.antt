@@ -3,6 +3,7 @@ pub mod Snapshot
 pub mod Children
 pub mod Bounds
 pub mod Head
+pub mod Contained
 pub mod Definition
 pub mod Blames
 pub mod Cases

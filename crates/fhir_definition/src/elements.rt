@@ -11,6 +11,7 @@ ghost use Rattle.fhir_definition.specs.Snapshot.{is_root};
 ghost use Rattle.fhir_definition.specs.Definition.{element_trees, is_whole};
 
 use crate::by_id::is_root;
+use crate::contained::contained_name;
 use fhir_elements::{Blame, Cause, ElementDef, fields_of};
 use fhir_json::{Json, NoMemory};
 use std::alloc::Global;
@@ -44,7 +45,7 @@ fn says_what_it_is(element: &ElementDef) -> bool
     is_root(element) || !element.types().is_empty() || element.content_reference().is_some()
 }
 
-// What an element of a snapshot must have and this one lacks.
+// What is wrong with an element that is one of a snapshot.
 fn lack_of(element: &ElementDef) -> Option<Cause>
     ensures { option_map reason_of result ≡ reason_unless (is_whole element.now) WrongField }
 {
@@ -55,11 +56,11 @@ fn lack_of(element: &ElementDef) -> Option<Cause>
     } else if !says_what_it_is(element) {
         Some(Cause::NoType)
     } else {
-        None
+        contained_name(element)
     }
 }
 
-/// The first element that lacks what an element of a snapshot must have.
+/// The first element that isn't as one of a snapshot must be.
 pub(crate) fn blame_of_lacks(elements: &[ElementDef]) -> Option<Blame>
     ensures reason { blamed_reason result ≡ reason_unless (list_all is_whole elements.now) WrongField }
     ensures element { is_blame_among (length elements.now) result }

@@ -17,6 +17,7 @@ mod blames;
 mod bounds;
 mod by_id;
 mod children;
+mod contained;
 mod definition;
 mod elements;
 mod head;
