@@ -1,6 +1,7 @@
 -- Constraints that repeat those of the base answer them, and what is kept of constraints answers as they do.
-use Rattle.std.proofs.Common.{◌≡◌, ℕ, Bool, true, false, List, [], ◌∷◌, ◌++◌, Option, Some, None, refl, sym, ap, ◌∙◌, inl, inr, ◌&&◌, ◌||◌, IsTrue, not, cond, append-nil, subst}
-use Rattle.std.specs.Prelude.{is_none, if◌then◌else◌, Result, Ok, Err, IfOk}
+use Rattle.std.proofs.Common.{◌≡◌, ℕ, Bool, true, false, List, [], ◌∷◌, ◌++◌, Option, Some, None, refl, sym, ap, ◌∙◌, inl, inr, ◌&&◌, ◌||◌, IsTrue, not, cond, append-nil, append_assoc, subst, option_map, take, length, get_or, ◌+◌, ◌<◌, ◌≤◌}
+use Rattle.std.specs.Prelude.{is_none, is_some, if◌then◌else◌, Result, Ok, Err, IfOk, OnOk}
+use Rattle.std.specs.Borrow.{Bor}
 use Rattle.fhir_json.specs.declared.memory.NoMemory.{NoMemory}
 use Rattle.std.specs.List.{list_any, flat_map, slice_get}
 use Rattle.std.specs.Option.{option_map_or, option_and_then, option_to_list}
@@ -8,20 +9,25 @@ use Rattle.std.specs.Str.{bytes_eq}
 use Rattle.std.specs.Cmp.Lexicographic.{bytes_decides}
 use Rattle.std.proofs.lemmas.Bool.{and_parts, or_cases, or_left, or_right, false≢true}
 use Rattle.std.proofs.lemmas.Grind.{flat_map-append}
+use Rattle.std.proofs.lemmas.List.{take_all, take_more}
 use Rattle.std.proofs.lemmas.List.Folds.{list_any-append}
 use Rattle.fhir_json.specs.Tree.{Text}
 use Rattle.fhir_elements.specs.Constraint.{Constraint, must_hold}
 use Rattle.fhir_elements.specs.Tests.{first_of}
+use Rattle.fhir_names.specs.Places.{place_of}
 use Rattle.fhir_nodes.specs.Expressions.{expression_of}
 use Rattle.fhir_fp_syntax.specs.Expression.{Expression, binary}
+use Rattle.fhir_fp_syntax.specs.Expression.{expression_of as tree_of}
+use Rattle.fhir_fp_syntax.specs.declared.expr.Expr.{Expr}
 use Rattle.fhir_fp_syntax.specs.Reading.{expression_in}
 use Rattle.fhir_fp_syntax.specs.declared.expr.Operator.TheVariants.{And}
 use Rattle.fhir_entail.specs.Same.{same_expression}
 use Rattle.fhir_entail.specs.Entailment.{is_part, is_listed, entails}
+use Rattle.fhir_entail.specs.Known.{Knows}
 use Rattle.fhir_cert_check.specs.declared.held.Held.{Held}
 use Rattle.fhir_cert_check.specs.Rule.{constraint}
 use Rattle.fhir_cert_check.specs.Rules.{held_expression, held_expressions, says_same, repeats, constraint_answered, constraint_rule}
-use Rattle.fhir_cert_check.specs.Held.{expressions_in, has_text, has_key, is_text_of, is_key_of, Holds, answered_by, rule_by}
+use Rattle.fhir_cert_check.specs.Held.{has_text, has_key, is_text_of, is_key_of, Holds, answered_by, rule_by}
 use Rattle.fhir_cert_check.proofs.Answered.{any_placed}
 use Rattle.fhir_cert_check.proofs.First.{first_behind}
 
@@ -43,10 +49,12 @@ or_false false = refl
 -- one that needn't hold changes nothing
 pub unheld_more : (h : Held) (own : List Constraint) (c : Constraint) → must_hold c ≡ false → Holds h own → Holds h (own ++ c ∷ [])
 unheld_more h own c free holds = record {
-  expressions =
-      holds.expressions ∙ sym (append-nil (held_expressions own))
+  known =
+      subst (Knows h.known)
+      (sym (append-nil (held_expressions own))
       ∙ (λ i. held_expressions own ++ (cond (sym free i) (option_to_list (expression_of c)) [] ++ []))
-      ∙ sym (flat_map-append held_expression own (c ∷ []));
+      ∙ sym (flat_map-append held_expression own (c ∷ [])))
+      holds.known;
   texts = λ t.
       holds.texts t ∙ or_false (list_any (is_text_of t) own)
       ∙ (λ i. list_any (is_text_of t) own || ((sym free i && option_map_or (bytes_eq t) c.expression false) || false))
@@ -56,6 +64,61 @@ unheld_more h own c free holds = record {
       ∙ (λ i. list_any (is_key_of k) own || ((sym free i && (is_none c.expression && bytes_eq k c.key)) || false))
       ∙ sym (list_any-append (is_key_of k) own (c ∷ []));
 }
+
+-- and one that must hold is one more
+one_expression : (o : Option (Bor Expr)) → option_map_or (λ e. tree_of e.now ∷ []) o [] ≡ option_to_list (option_map (λ e. tree_of e.now) o)
+one_expression None = refl
+one_expression (Some e) = refl
+
+more_expressions : (own : List Constraint) (c : Constraint) (o : Option (Bor Expr)) → must_hold c ≡ true → option_map (λ e. tree_of e.now) o ≡ expression_of c
+    → held_expressions own ++ option_map_or (λ e. tree_of e.now ∷ []) o [] ≡ held_expressions (own ++ c ∷ [])
+more_expressions own c o held read =
+    ap (λ es. held_expressions own ++ es) (one_expression o ∙ ap option_to_list read ∙ sym (append-nil (option_to_list (expression_of c))))
+    ∙ (λ i. held_expressions own ++ (cond (sym held i) (option_to_list (expression_of c)) [] ++ []))
+    ∙ sym (flat_map-append held_expression own (c ∷ []))
+
+pub held_more : {T E : Type 0} (r : Result T E) (old mid new : Held) (c : Constraint) (o : Option (Bor Expr)) → must_hold c ≡ true
+    → option_map (λ e. tree_of e.now) o ≡ expression_of c → mid.known ≡ old.known
+    → ((own : List Constraint) (text : Text) → has_text old text ≡ list_any (is_text_of text) own → has_text mid text ≡ list_any (is_text_of text) (own ++ c ∷ []))
+    → ((own : List Constraint) (key : Text) → has_key old key ≡ list_any (is_key_of key) own → has_key mid key ≡ list_any (is_key_of key) (own ++ c ∷ []))
+    → OnOk r (new.texts ≡ mid.texts) → OnOk r (new.keys ≡ mid.keys)
+    → OnOk r ((known : List Expression) → Knows mid.known known → Knows new.known (known ++ option_map_or (λ e. tree_of e.now ∷ []) o []))
+    → OnOk r ((own : List Constraint) → Holds old own → Holds new (own ++ c ∷ []))
+held_more (Ok u) old mid new c o held read known texts keys same_texts same_keys more = λ own holds. record {
+  known =
+      subst (Knows new.known) (more_expressions own c o held read)
+      (more (held_expressions own) (subst (λ k. Knows k (held_expressions own)) (sym known) holds.known));
+  texts = λ t. ap (λ x. is_some (place_of x t)) same_texts ∙ texts own t (holds.texts t);
+  keys = λ k. ap (λ x. is_some (place_of x k)) same_keys ∙ keys own k (holds.keys k);
+}
+held_more (Err f) old mid new c o held read known texts keys same_texts same_keys more = tt
+
+-- a loop's step: one more of those of a node, and its end: all of them
+pub held_next : (h : Held) (own cs ds : List Constraint) (i : ℕ) (c : Constraint) → ds ≡ cs → i < length ds → c ≡ get_or ds i c
+    → Holds h (own ++ take i cs ++ c ∷ []) → Holds h (own ++ take (i + 1) cs)
+held_next h own cs ds i c same within is holds =
+    subst (Holds h)
+    (append_assoc own (take i cs) (c ∷ [])
+    ∙ ap (λ es. own ++ es)
+    (subst (λ es. take i es ++ c ∷ [] ≡ take (i + 1) es) same (ap (λ d. take i ds ++ d ∷ []) is ∙ sym (take_more ds i c within))))
+    holds
+
+pub held_all : (h : Held) (own cs ds : List Constraint) (i : ℕ) → ds ≡ cs → length ds ≤ i → Holds h (own ++ take i cs) → Holds h (own ++ cs)
+held_all h own cs ds i same past holds = subst (λ es. Holds h (own ++ es)) (take_all i cs (subst (λ es. length es ≤ i) same past)) holds
+
+-- where no text answers, what is entailed does
+pub entailed_by_own : (h : Held) (own : List Constraint) (base : Constraint) (text : Text) (o : Option (Bor Expr)) (result : Bool)
+    → base.expression ≡ Some text → has_text h text ≡ false → option_map (λ e. tree_of e.now) o ≡ expression_of base
+    → result ≡ option_map_or (λ e. entails (held_expressions own) (tree_of e.now)) o false → result ≡ answered_by h own base
+entailed_by_own h own base text o result is none read by =
+    by ∙ seen o ∙ ap (λ q. option_map_or (entails (held_expressions own)) q false) read
+    ∙ (λ i. sym none i || option_map_or (entails (held_expressions own)) (expression_of base) false)
+    ∙ (λ i. option_map_or (λ t. has_text h t || option_map_or (entails (held_expressions own)) (expression_of base) false) (sym is i) (has_key h base.key))
+  where
+    seen : (o : Option (Bor Expr)) → option_map_or (λ e. entails (held_expressions own) (tree_of e.now)) o false
+        ≡ option_map_or (entails (held_expressions own)) (option_map (λ e. tree_of e.now) o) false
+    seen None = refl
+    seen (Some e) = refl
 
 -- where what is put behind some is held, so are all
 pub all_held : (r : Result Held NoMemory) (h : Held) (first over all : List Constraint)
@@ -123,7 +186,7 @@ module _ (itself : (e : Expression) → IsTrue (same_expression e e)) (listed : 
   either false None h = refl
   either false (Some e) h = refl
 
-  pub answered_as : (h : Held) (own : List Constraint) → Holds h own → (base : Constraint) → answered_by h base ≡ constraint_answered own base
+  pub answered_as : (h : Held) (own : List Constraint) → Holds h own → (base : Constraint) → answered_by h own base ≡ constraint_answered own base
   answered_as h own holds base = go base.expression refl
     where
       text_any : (text : Text) → base.expression ≡ Some text → has_text h text ≡ list_any (λ c. repeats c base) own
@@ -143,16 +206,16 @@ module _ (itself : (e : Expression) → IsTrue (same_expression e e)) (listed : 
       entailed (Some e) f = either (list_any (λ c. repeats c base) own) (Some (entails (held_expressions own) e)) f
 
       go : (o : Option Text) → base.expression ≡ o
-          → option_map_or (λ text. has_text h text || option_map_or (entails (expressions_in h)) (expression_of base) false) o (has_key h base.key)
+          → option_map_or (λ text. has_text h text || option_map_or (entails (held_expressions own)) (expression_of base) false) o (has_key h base.key)
           ≡ constraint_answered own base
       go (Some text) is =
-          (λ i. text_any text is i || option_map_or (entails (holds.expressions i)) (expression_of base) false)
+          (λ i. text_any text is i || option_map_or (entails (held_expressions own)) (expression_of base) false)
           ∙ entailed (expression_of base) (repeated_answered own base)
       go None is =
           key_any is
           ∙ ap (λ o. option_map_or (entails (held_expressions own)) (option_and_then expression_in o) (list_any (λ c. repeats c base) own)) (sym is)
 
-  pub rule_as : (h : Held) (own : List Constraint) → Holds h own → rule_by h ≡ constraint_rule own
+  pub rule_as : (h : Held) (own : List Constraint) → Holds h own → rule_by h own ≡ constraint_rule own
   rule_as h own holds = λ i base. if must_hold base then (answered_as h own holds base i, constraint base.key) ∷ [] else []
 
   -- ---- those that stand at their own position

@@ -1,5 +1,5 @@
 -- The constraints of a node that must hold, as the checker keeps them (used by private contracts alone).
-use Rattle.std.specs.Prelude.{◌≡◌, Bool, ◌&&◌, ◌||◌, false, List, [], ◌∷◌, map, is_some, is_none, if◌then◌else◌}
+use Rattle.std.specs.Prelude.{◌≡◌, Bool, ◌&&◌, ◌||◌, false, List, [], ◌∷◌, is_some, is_none, if◌then◌else◌}
 use Rattle.std.specs.List.{list_any}
 use Rattle.std.specs.Option.{option_map_or}
 use Rattle.std.specs.Str.{bytes_eq}
@@ -7,16 +7,11 @@ use Rattle.fhir_json.specs.Tree.{Text}
 use Rattle.fhir_elements.specs.Constraint.{Constraint, must_hold}
 use Rattle.fhir_names.specs.Places.{place_of}
 use Rattle.fhir_nodes.specs.Expressions.{expression_of}
-use Rattle.fhir_fp_syntax.specs.Expression.{Expression}
-use Rattle.fhir_fp_syntax.specs.Expression.{expression_of as tree_of}
 use Rattle.fhir_entail.specs.Entailment.{entails}
+use Rattle.fhir_entail.specs.Known.{Knows}
 use Rattle.fhir_cert_check.specs.declared.held.Held.{Held}
 use Rattle.fhir_cert_check.specs.Rule.{RuleName, constraint}
 use Rattle.fhir_cert_check.specs.Rules.{held_expressions}
-
--- the expressions that are read
-abbrev pub expressions_in : Held → List Expression
-expressions_in h = map (λ e. tree_of e.now) h.expressions.items
 
 -- whether a text is that of an expression, or the key of a constraint without one
 abbrev pub has_text : Held → Text → Bool
@@ -34,15 +29,15 @@ is_key_of key c = must_hold c && (is_none c.expression && bytes_eq key c.key)
 
 -- What is kept is what is so of these constraints.
 pub record Holds (h : Held) (own : List Constraint) : Type 0 where
-  pub expressions : expressions_in h ≡ held_expressions own
+  pub known : Knows h.known (held_expressions own)
   pub texts : (text : Text) → has_text h text ≡ list_any (is_text_of text) own
   pub keys : (key : Text) → has_key h key ≡ list_any (is_key_of key) own
 
 -- whether they answer a constraint of the base: by its text; else by what they entail, where it is read
-abbrev pub answered_by : Held → Constraint → Bool
-answered_by h base =
-    option_map_or (λ text. has_text h text || option_map_or (entails (expressions_in h)) (expression_of base) false) base.expression
+abbrev pub answered_by : Held → List Constraint → Constraint → Bool
+answered_by h own base =
+    option_map_or (λ text. has_text h text || option_map_or (entails (held_expressions own)) (expression_of base) false) base.expression
     (has_key h base.key)
 
-abbrev pub rule_by : Held → Constraint → List (Bool × RuleName)
-rule_by h base = if must_hold base then (answered_by h base, constraint base.key) ∷ [] else []
+abbrev pub rule_by : Held → List Constraint → Constraint → List (Bool × RuleName)
+rule_by h own base = if must_hold base then (answered_by h own base, constraint base.key) ∷ [] else []

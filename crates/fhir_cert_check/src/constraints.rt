@@ -117,10 +117,12 @@ fn hold_own<'s>(
     Ok(held)
 }
 
-fn held_at(alloc: Global, schema: &Schema, node: NodeRef) -> Result<Held<'_>, NoMemory>
+fn held_at<'s>(alloc: Global, schema: &'s Schema, node: NodeRef) -> Result<Held<'s>, NoMemory>
     ensures { IfOk result (λ held. Holds held (constraints_at schema.now node)) }
 {
-    let held = hold_own(alloc, schema, node, Held::new(alloc))?;
+    // Its lifetime is written out, since it may be no other than the schema's.
+    let empty: Held<'s> = Held::new(alloc);
+    let held = hold_own(alloc, schema, node, empty)?;
     match schema.target(node) {
         Some(target) => hold_own(alloc, schema, target, held),
         None => Ok(held),
@@ -128,12 +130,12 @@ fn held_at(alloc: Global, schema: &Schema, node: NodeRef) -> Result<Held<'_>, No
 }
 
 fn failing_by<'s>(
-    held: &Held<'_>,
+    held: &Held<'s>,
     base: &'s ConstraintDef,
-    expression: Option<&Expr>,
+    expression: Option<&'s Expr>,
 ) -> Option<Rule<'s>>
     requires { option_map (λ e. tree_of e.now) expression ≡ expression_of base.now }
-    ensures { option_map rule_name result ≡ first_of (rule_by held.now base.now) }
+    ensures { (own : List Constraint) → Holds held.now own → option_map rule_name result ≡ first_of (rule_by held.now own base.now) }
 {
     if !base.must_hold() || held.answers(base, expression) {
         None
@@ -142,8 +144,9 @@ fn failing_by<'s>(
     }
 }
 
-fn unanswered<'s>(schema: &'s Schema, node: NodeRef, held: &Held<'_>) -> Option<Rule<'s>>
-    ensures { option_map rule_name result ≡ first_of (flat_map (rule_by held.now) (own_constraints schema.now node)) }
+fn unanswered<'s>(schema: &'s Schema, node: NodeRef, held: &Held<'s>) -> Option<Rule<'s>>
+    ensures { (own : List Constraint) → Holds held.now own
+        → option_map rule_name result ≡ first_of (flat_map (rule_by held.now own) (own_constraints schema.now node)) }
 {
     let bases = own_constraints(schema, node);
     for (position, base) in bases.iter().enumerate() {
@@ -155,8 +158,9 @@ fn unanswered<'s>(schema: &'s Schema, node: NodeRef, held: &Held<'_>) -> Option<
     None
 }
 
-fn first_unanswered<'s>(schema: &'s Schema, node: NodeRef, held: &Held<'_>) -> Option<Rule<'s>>
-    ensures { option_map rule_name result ≡ first_of (flat_map (rule_by held.now) (constraints_at schema.now node)) }
+fn first_unanswered<'s>(schema: &'s Schema, node: NodeRef, held: &Held<'s>) -> Option<Rule<'s>>
+    ensures { (own : List Constraint) → Holds held.now own
+        → option_map rule_name result ≡ first_of (flat_map (rule_by held.now own) (constraints_at schema.now node)) }
 {
     let rule = unanswered(schema, node, held);
     if rule.is_some() {

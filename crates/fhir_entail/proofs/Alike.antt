@@ -17,7 +17,7 @@ use Rattle.fhir_entail.specs.Same.{operator_number, function_number, filter_numb
 
 -- ---- what is the same is equal
 
-one_operator : (f g : Operator) → IsTrue (same_operator f g) → f ≡ g
+pub one_operator : (f g : Operator) → IsTrue (same_operator f g) → f ≡ g
 one_operator operators.Index operators.Index h = refl
 one_operator operators.Intersect operators.Intersect h = refl
 one_operator operators.Union operators.Union h = refl
@@ -35,7 +35,7 @@ one_operator operators.Xor operators.Xor h = refl
 one_operator operators.Implies operators.Implies h = refl
 one_operator f g h = absurd cc
 
-one_function : (f g : Function) → IsTrue (same_function f g) → f ≡ g
+pub one_function : (f g : Function) → IsTrue (same_function f g) → f ≡ g
 one_function functions.Exists functions.Exists h = refl
 one_function functions.Empty functions.Empty h = refl
 one_function functions.Count functions.Count h = refl
@@ -46,13 +46,13 @@ one_function functions.Not functions.Not h = refl
 one_function functions.HasValue functions.HasValue h = refl
 one_function f g h = absurd cc
 
-one_filter : (f g : Filter) → IsTrue (same_filter f g) → f ≡ g
+pub one_filter : (f g : Filter) → IsTrue (same_filter f g) → f ≡ g
 one_filter filters.Where filters.Where h = refl
 one_filter filters.Exists filters.Exists h = refl
 one_filter filters.All filters.All h = refl
 one_filter f g h = absurd cc
 
-one_test : (f g : TypeTest) → IsTrue (same_test f g) → f ≡ g
+pub one_test : (f g : TypeTest) → IsTrue (same_test f g) → f ≡ g
 one_test tests.OfType tests.OfType h = refl
 one_test tests.Is tests.Is h = refl
 one_test tests.As tests.As h = refl

@@ -1,5 +1,5 @@
 -- What is listed among expressions.
-use Rattle.std.proofs.Common.{◌≡◌, Bool, true, false, ◌||◌, ◌&&◌, List, [], ◌∷◌, map, IsTrue, refl, sym, ap, subst, ◌∙◌, inl, inr}
+use Rattle.std.proofs.Common.{◌≡◌, Bool, true, false, ◌||◌, ◌&&◌, List, [], ◌∷◌, map, IsTrue, refl, sym, ap, subst, inl, inr}
 use Rattle.std.specs.Borrow.{Bor}
 use Rattle.std.specs.List.{list_any}
 use Rattle.std.proofs.lemmas.Bool.{or_cases, or_left, or_right, and_from, false≢true}
@@ -26,7 +26,7 @@ listed_entailed known e h = h
 
 -- ---- where an `and` is listed, so is each side
 
-itself_part : (e : Expression) → IsTrue (is_part e e)
+pub itself_part : (e : Expression) → IsTrue (is_part e e)
 itself_part (binary And a b) = or_left (same_expression (binary And a b) (binary And a b)) _ ((one_or_other (binary And a b) (binary And a b)).1 refl)
 itself_part e = (one_or_other e e).1 refl
 

@@ -10,15 +10,19 @@
 //! ```
 //!
 //! Read the contracts of [`entails`] and of the law [`entailed_is_true`] first. What is entailed stands in
-//! `specs/Entailment.antt`, and which expressions can't fault in `specs/Total.antt`.
+//! `specs/Entailment.antt`, and which expressions can't fault in `specs/Total.antt`. [`Known`] answers the same of expressions that
+//! are asked about often: it numbers them, so that none is compared with each other one.
 #![tactic(auto)]
 
 mod entailing;
+mod known;
 mod laws;
+mod numbers;
 mod sameness;
 mod totality;
 
 pub use entailing::entails;
+pub use known::Known;
 pub use laws::{entailed_is_true, listed_is_entailed, same_is_equal, total_has_result};
 pub use sameness::same_expression;
 pub use totality::total;

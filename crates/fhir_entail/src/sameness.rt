@@ -6,7 +6,7 @@ ghost use Rattle.fhir_entail.specs.Same.{operator_number, function_number, filte
 
 use fhir_fp_syntax::{Expr, Filter, Function, Operator, TypeTest};
 
-fn operator_number(operator: Operator) -> u8
+pub(crate) fn operator_number(operator: Operator) -> u8
     ensures { result ≡ operator_number operator }
 {
     match operator {
@@ -28,7 +28,7 @@ fn operator_number(operator: Operator) -> u8
     }
 }
 
-fn function_number(function: Function) -> u8
+pub(crate) fn function_number(function: Function) -> u8
     ensures { result ≡ function_number function }
 {
     match function {
@@ -43,7 +43,7 @@ fn function_number(function: Function) -> u8
     }
 }
 
-fn filter_number(filter: Filter) -> u8
+pub(crate) fn filter_number(filter: Filter) -> u8
     ensures { result ≡ filter_number filter }
 {
     match filter {
@@ -53,7 +53,7 @@ fn filter_number(filter: Filter) -> u8
     }
 }
 
-fn test_number(test: TypeTest) -> u8
+pub(crate) fn test_number(test: TypeTest) -> u8
     ensures { result ≡ test_number test }
 {
     match test {

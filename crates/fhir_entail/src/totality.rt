@@ -6,7 +6,7 @@ ghost use Rattle.fhir_entail.specs.Total.{joins_truths, is_equality, joins_lists
 
 use fhir_fp_syntax::{Expr, Filter, Function, Operator, TypeTest};
 
-fn joins_truths(operator: Operator) -> bool
+pub(crate) fn joins_truths(operator: Operator) -> bool
     ensures { result ≡ joins_truths operator }
 {
     matches!(

@@ -1,6 +1,5 @@
-use Rattle.std.proofs.Common.{◌≡◌, [], ◌++◌, sym, ap, subst, append-nil, ◌∙◌}
+use Rattle.std.proofs.Common.{[], ◌++◌, sym, ap, subst, append-nil, ◌∙◌}
 use Rattle.std.specs.Option.{option_map_or}
-use Rattle.fhir_schema.specs.Schemas.{target}
 use Rattle.fhir_cert_check.specs.Held.{Holds}
 use Rattle.fhir_cert_check.specs.Rules.{own_constraints, constraints_at}
 use Rattle.fhir_cert_check.proofs.Entailed.{all_held}
@@ -11,7 +10,7 @@ returns-in-Some c =
     let s = c.args.schema.now in
     let own = own_constraints s c.args.node in
     all_held c.hold_own-in-Some.result c.in_ok-held.held own (own_constraints s c.in-Some.target) (constraints_at s c.args.node)
-    c.hold_own-in-Some.ensures (c.in_ok-held.ensures [] c.new.ensures)
+    c.hold_own-in-Some.ensures (c.in_ok-held.ensures [] c.new-empty.ensures)
     (ap (λ o. own ++ option_map_or (own_constraints s) o []) (sym c.in-Some.is ∙ c.target.ensures))
 
 pub returns-in-None : goal.returns-in-None
@@ -20,4 +19,4 @@ returns-in-None c =
     let own = own_constraints s c.args.node in
     subst (Holds c.in_ok-held.held)
     (sym (append-nil own) ∙ ap (λ o. own ++ option_map_or (own_constraints s) o []) (sym c.in-None.is ∙ c.target.ensures))
-    (c.in_ok-held.ensures [] c.new.ensures)
+    (c.in_ok-held.ensures [] c.new-empty.ensures)
