@@ -3,3 +3,4 @@ pub mod Carried
 pub mod Placing
 pub mod Saying
 pub mod Told
+pub mod Unrecognized

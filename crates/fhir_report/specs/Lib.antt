@@ -1,5 +1,6 @@
 pub mod CarrierLines
 pub mod ContradictionLines
+pub mod UnrecognizedLines
 pub mod Lacking
 pub mod Faultless
 pub mod Report

@@ -1,5 +1,5 @@
 -- What a report says.
-use Rattle.std.specs.Prelude.{◌≡◌, ℕ, length, List, [], ◌∷◌, ◌++◌, map, flat_map, Bool, true, false, Option, None, Some, Result, Ok, Err, if◌then◌else◌, codes, All}
+use Rattle.std.specs.Prelude.{◌≡◌, ℕ, List, [], ◌∷◌, ◌++◌, map, flat_map, Bool, true, false, Option, None, Some, Result, Ok, Err, if◌then◌else◌, codes, All}
 use Rattle.std.specs.Option.{option_map_or}
 use Rattle.std.specs.Map.{lookup}
 use Rattle.std.specs.Str.{bytes_eq}
@@ -29,6 +29,7 @@ use Rattle.fhir_report.specs.CarrierLines.{carried_lines}
 use Rattle.fhir_report.specs.ContradictionLines.{contradiction_lines}
 use Rattle.fhir_report.specs.Faultless.{CertificateValue}
 use Rattle.fhir_report.specs.Lacking.{Lacking}
+use Rattle.fhir_report.specs.UnrecognizedLines.{unrecognized_lines}
 use Rattle.fhir_lines.specs.Lines.{LineValue, text_line, file_line, rows}
 
 -- ---- what was found
@@ -115,10 +116,11 @@ TellsCertificate s (Some c) ls = TellsAnswer s c.0 (answer_of (reading s c.1) s)
 
 -- ---- a report
 
--- what isn't wrong and is told all the same: what can never hold, and what isn't judged
+-- what isn't wrong and is told all the same: members that R4 doesn't have, what can never hold, and what isn't judged
 abbrev pub noted_lines : Detail → SelectionValue → SchemaValue → Surveyed → List LineValue
 noted_lines detail selection s survey =
-    contradiction_lines selection s survey ++ carried_lines detail survey.definitions (all_carriers selection s survey)
+    unrecognized_lines selection survey ++ contradiction_lines selection s survey
+    ++ carried_lines detail survey.definitions (all_carriers selection s survey)
 
 -- The text has a row for each finding, then those on what isn't wrong, then those on the certificate, and a last one with the counts of a
 -- package of so many files.

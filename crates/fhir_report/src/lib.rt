@@ -30,6 +30,7 @@ mod lacking;
 mod laws;
 mod narrowing;
 mod reporting;
+mod unrecognized_lines;
 mod wording;
 
 pub use certificates::{flaw_line, no_line};

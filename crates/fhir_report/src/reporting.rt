@@ -15,6 +15,7 @@ use crate::certificates::{flaw_line, no_line};
 use crate::contradiction_lines::contradiction_lines;
 use crate::finding_lines::finding_line;
 use crate::lacking::LackingTable;
+use crate::unrecognized_lines::unrecognized_lines;
 use fhir_cert_check::{Answer, check_bytes};
 use fhir_certificate::{CertFault, Flaw, flaws};
 use fhir_findings::{Counts, Finding, Selection, carriers, counts_of, findings, has_faults};
@@ -206,7 +207,7 @@ fn counts_line(alloc: Global, counts: Counts) -> Result<Line<'static>, AllocErro
     Ok(Line::of_text(format!(in alloc; "{counts}")?))
 }
 
-// The lines on what isn't wrong: what can never hold, and what isn't judged.
+// The lines on what isn't wrong: members that R4 doesn't have, what can never hold, and what isn't judged.
 fn noted_lines<'s>(
     alloc: Global,
     detail: Detail,
@@ -216,7 +217,9 @@ fn noted_lines<'s>(
 ) -> Result<Vec<Line<'s>>, NoMemory>
     ensures { IfOk result (λ ls. lines_seen ls.items ≡ noted_lines detail selection.now schema.now survey.now) }
 {
-    let mut lines = contradiction_lines(alloc, survey, schema, selection)?;
+    let mut lines = unrecognized_lines(alloc, survey, selection)?;
+    let mut contradictions = contradiction_lines(alloc, survey, schema, selection)?;
+    lines.append(&mut contradictions)?;
     let carriers = carriers(alloc, survey, schema, selection)?;
     let mut carried = carried_lines(alloc, detail, survey.package(), &carriers)?;
     lines.append(&mut carried)?;
@@ -251,8 +254,8 @@ fn text_of(
 }
 
 /// The report on a survey and a certificate: a line for each file that can't be read or isn't JSON, for each definition that differs from
-/// one before it, and for each that is selected and has no snapshot or can't be used, in the order of the files; then what can never hold
-/// in those that are selected, and what isn't judged in them; then what is wrong with the certificate, or a yes; then the counts. The one refusal is want of memory.
+/// one before it, and for each that is selected and has no snapshot or can't be used, in the order of the files; then the members
+/// of those that are selected which R4 doesn't have, what can never hold in them, and what isn't judged in them; then what is wrong with the certificate, or a yes; then the counts. The one refusal is want of memory.
 pub fn report_on<'s, 'f: 's>(
     alloc: Global,
     manner: Manner,
