@@ -37,9 +37,14 @@ pub enum Demand<'s> {
     Way(usize),
 }
 
-/// Whether the children of an element's name have another name in a path, where a choice has no `[x]`.
+/// The name that the children of an element's name have in a path, where a choice has no `[x]`.
+pub(crate) fn path_name(element: &str) -> &str {
+    element.strip_suffix("[x]").unwrap_or(element)
+}
+
+/// Whether the children of an element's name have another name in a path.
 pub(crate) fn is_named(element: &str, name: &str) -> bool {
-    element.strip_suffix("[x]").unwrap_or(element) == name
+    path_name(element) == name
 }
 
 /// The node of the children of a name.

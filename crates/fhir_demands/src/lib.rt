@@ -19,6 +19,7 @@
 
 mod demand;
 mod kinds;
+mod named_plan;
 mod plan;
 mod settling;
 mod task;

@@ -1,6 +1,7 @@
 //! How many children of each name an item gets.
 
 use crate::demand::{Demand, child_of, is_named};
+use crate::named_plan::NamedPlan;
 use crate::settling::settle;
 use crate::task::Task;
 use fhir_differences::{Change, entry_of, least_at, most_at};
@@ -166,7 +167,7 @@ fn planned_of<'s>(task: &Task<'_, 's>, demands: &[Demand<'s>], name: &'s str) ->
 
 // ---- constraints
 
-fn settle_node(schema: &Schema, node: NodeRef, plan: &mut [Planned<'_>]) {
+fn settle_node(schema: &Schema, node: NodeRef, plan: &mut NamedPlan<'_>) {
     let Some(element) = schema.element(node) else {
         return;
     };
@@ -179,19 +180,19 @@ fn settle_node(schema: &Schema, node: NodeRef, plan: &mut [Planned<'_>]) {
     }
 }
 
-fn settle_demand(schema: &Schema, demand: Demand<'_>, plan: &mut [Planned<'_>]) {
+fn settle_demand(schema: &Schema, demand: Demand<'_>, plan: &mut NamedPlan<'_>) {
     if let Demand::Node(node) = demand {
         settle_node(schema, node, plan);
     }
 }
 
-fn settle_change(change: Change<'_>, plan: &mut [Planned<'_>]) {
+fn settle_change(change: Change<'_>, plan: &mut NamedPlan<'_>) {
     if let Change::Untrue(expression) = change {
         settle(expression, false, plan);
     }
 }
 
-fn settle_all<'s>(task: &Task<'_, 's>, demands: &[Demand<'s>], plan: &mut [Planned<'s>]) {
+fn settle_all<'s>(task: &Task<'_, 's>, demands: &[Demand<'s>], plan: &mut NamedPlan<'s>) {
     settle_change(task.change_at(demands), plan);
     for demand in demands {
         settle_demand(task.schema, *demand, plan);
@@ -241,10 +242,11 @@ pub fn plan_of<'s>(
     demands: &[Demand<'s>],
     typing: NodeRef,
 ) -> Result<Vec<Planned<'s>>, NoMemory> {
-    let mut plan = Vec::new(alloc);
+    let mut planned = Vec::new(alloc);
     for slot in task.schema.slots(typing) {
-        plan.push(planned_of(task, demands, slot.name()))?;
+        planned.push(planned_of(task, demands, slot.name()))?;
     }
+    let mut plan = NamedPlan::of(alloc, planned)?;
     settle_all(task, demands, &mut plan);
-    Ok(plan)
+    Ok(plan.into_planned())
 }

@@ -1,6 +1,6 @@
 //! What an expression asks of the children that an item gets (FHIRPath N1): those that are simple are made true, or untrue.
 
-use crate::plan::Planned;
+use crate::named_plan::NamedPlan;
 use fhir_fp_syntax::{Expr, Filter, Function, Operator};
 
 fn is_type_name(name: &str) -> bool {
@@ -45,32 +45,19 @@ fn is_name(path: &Expr) -> bool {
     }
 }
 
-fn place_in(path: &Expr, plan: &[Planned<'_>]) -> Option<usize> {
-    let name = name_in(path)?;
-    for (place, planned) in plan.iter().enumerate() {
-        if planned.is_named(name) {
-            return Some(place);
-        }
-    }
-    None
-}
-
-fn count_in(path: &Expr, plan: &[Planned<'_>]) -> Option<usize> {
-    let planned = plan.get(place_in(path, plan)?)?;
+fn count_in(path: &Expr, plan: &NamedPlan<'_>) -> Option<usize> {
+    let planned = plan.get(name_in(path)?)?;
     Some(planned.count)
 }
 
-fn settle_count(path: &Expr, count: usize, plan: &mut [Planned<'_>]) {
-    let Some(place) = place_in(path, plan) else {
-        return;
-    };
-    if place < plan.len() {
-        plan[place] = plan[place].settled(count);
+fn settle_count(path: &Expr, count: usize, plan: &mut NamedPlan<'_>) {
+    if let Some(name) = name_in(path) {
+        plan.settle(name, count);
     }
 }
 
 // Whether there is something at a path, as far as the plan says.
-fn is_there(path: &Expr, plan: &[Planned<'_>]) -> Option<bool> {
+fn is_there(path: &Expr, plan: &NamedPlan<'_>) -> Option<bool> {
     match count_in(path, plan)? {
         0 => Some(false),
         _ if is_name(path) => Some(true),
@@ -112,7 +99,7 @@ fn combined(operator: Operator, left: Option<bool>, right: Option<bool>) -> Opti
 }
 
 // Whether an expression is true, as far as the plan says.
-fn truth(expression: &Expr, plan: &[Planned<'_>]) -> Option<bool> {
+fn truth(expression: &Expr, plan: &NamedPlan<'_>) -> Option<bool> {
     match expression {
         Expr::Boolean(truth) => Some(*truth),
         Expr::Call(Function::Exists, path) => is_there(path, plan),
@@ -125,7 +112,7 @@ fn truth(expression: &Expr, plan: &[Planned<'_>]) -> Option<bool> {
     }
 }
 
-fn settle_presence(path: &Expr, is_there: bool, plan: &mut [Planned<'_>]) {
+fn settle_presence(path: &Expr, is_there: bool, plan: &mut NamedPlan<'_>) {
     let count = count_in(path, plan).unwrap_or(0);
     if is_there {
         settle_count(path, count.max(1), plan);
@@ -134,7 +121,7 @@ fn settle_presence(path: &Expr, is_there: bool, plan: &mut [Planned<'_>]) {
     }
 }
 
-fn settle_absence(path: &Expr, wanted: bool, plan: &mut [Planned<'_>]) {
+fn settle_absence(path: &Expr, wanted: bool, plan: &mut NamedPlan<'_>) {
     // What stands further down needn't be absent where the first name is.
     if is_name(path) || !wanted {
         settle_presence(path, !wanted, plan);
@@ -160,7 +147,7 @@ fn settle_number(
     path: &Expr,
     number: &str,
     wanted: bool,
-    plan: &mut [Planned<'_>],
+    plan: &mut NamedPlan<'_>,
 ) {
     if let Ok(number) = number.parse::<usize>() {
         if let Some(count) = count_for(operator, number, wanted) {
@@ -173,12 +160,12 @@ fn settle_number(
 const MOST_LEVELS: usize = 16;
 
 /// Plans so that an expression is true, or isn't, where it is a simple one.
-pub(crate) fn settle(expression: &Expr, wanted: bool, plan: &mut [Planned<'_>]) {
+pub(crate) fn settle(expression: &Expr, wanted: bool, plan: &mut NamedPlan<'_>) {
     settle_within(MOST_LEVELS, expression, wanted, plan);
 }
 
 #[cycle(settling)]
-fn settle_within(levels: usize, expression: &Expr, wanted: bool, plan: &mut [Planned<'_>]) {
+fn settle_within(levels: usize, expression: &Expr, wanted: bool, plan: &mut NamedPlan<'_>) {
     if levels == 0 || truth(expression, plan) == Some(wanted) {
         return;
     }
@@ -200,7 +187,7 @@ fn settle_binary(
     operator: Operator,
     sides: (&Expr, &Expr),
     wanted: bool,
-    plan: &mut [Planned<'_>],
+    plan: &mut NamedPlan<'_>,
 ) {
     match operator {
         Operator::And => settle_both(levels, sides, wanted, plan),
@@ -212,7 +199,7 @@ fn settle_binary(
 }
 
 #[cycle(settling)]
-fn settle_both(levels: usize, sides: (&Expr, &Expr), wanted: bool, plan: &mut [Planned<'_>]) {
+fn settle_both(levels: usize, sides: (&Expr, &Expr), wanted: bool, plan: &mut NamedPlan<'_>) {
     settle_within(levels, sides.0, wanted, plan);
     if wanted {
         settle_within(levels, sides.1, true, plan);
@@ -220,7 +207,7 @@ fn settle_both(levels: usize, sides: (&Expr, &Expr), wanted: bool, plan: &mut [P
 }
 
 #[cycle(settling)]
-fn settle_some(levels: usize, sides: (&Expr, &Expr), wanted: bool, plan: &mut [Planned<'_>]) {
+fn settle_some(levels: usize, sides: (&Expr, &Expr), wanted: bool, plan: &mut NamedPlan<'_>) {
     settle_within(levels, sides.0, wanted, plan);
     if !wanted || truth(sides.0, plan) == Some(false) {
         settle_within(levels, sides.1, wanted, plan);
@@ -228,7 +215,7 @@ fn settle_some(levels: usize, sides: (&Expr, &Expr), wanted: bool, plan: &mut [P
 }
 
 #[cycle(settling)]
-fn settle_implied(levels: usize, sides: (&Expr, &Expr), wanted: bool, plan: &mut [Planned<'_>]) {
+fn settle_implied(levels: usize, sides: (&Expr, &Expr), wanted: bool, plan: &mut NamedPlan<'_>) {
     if !wanted {
         settle_within(levels, sides.0, true, plan);
     }
@@ -241,7 +228,7 @@ fn settle_compared(
     operator: Operator,
     sides: (&Expr, &Expr),
     wanted: bool,
-    plan: &mut [Planned<'_>],
+    plan: &mut NamedPlan<'_>,
 ) {
     match (operator, sides.0, sides.1) {
         (_, Expr::Call(Function::Count, path), Expr::Number(number)) => {
@@ -255,7 +242,7 @@ fn settle_compared(
 
 // Plans so that two expressions are the same, or not, by the second one.
 #[cycle(settling)]
-fn settle_same(levels: usize, sides: (&Expr, &Expr), wanted: bool, plan: &mut [Planned<'_>]) {
+fn settle_same(levels: usize, sides: (&Expr, &Expr), wanted: bool, plan: &mut NamedPlan<'_>) {
     if let Some(left) = truth(sides.0, plan) {
         settle_within(levels, sides.1, left == wanted, plan);
     }
