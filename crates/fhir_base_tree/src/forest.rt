@@ -173,15 +173,9 @@ impl<'s> Forest<'s> {
     /// All rows: those below bases that aren't among the first so many, which are the profiles, and then those that stand below none.
     pub(crate) fn rows(&self, alloc: Global, profiles: usize) -> Result<Vec<Row>, AllocError> {
         let count = self.names.len();
-        let mut seen = Vec::with_capacity(alloc, count)?;
-        for _ in 0..count {
-            seen.push(false)?;
-        }
+        let mut seen = Vec::from_elem(alloc, false, count)?;
         let mut rows = Vec::new(alloc);
-        for root in profiles..count {
-            self.put_tree(alloc, root, &mut seen, &mut rows)?;
-        }
-        for root in 0..profiles {
+        for root in (profiles..count).chain(0..profiles) {
             self.put_tree(alloc, root, &mut seen, &mut rows)?;
         }
         Ok(rows)

@@ -54,6 +54,14 @@ fn open_file<R: Files>(rt: &R, path: &str) -> Result<R::File, OpenFault> {
     }
 }
 
+// Standard input, unless it is a file that is the output.
+fn open_standard<R: Files, S>(rt: &R, standard: S) -> Result<S, OpenFault> {
+    match fs::metadata(rt, "/dev/stdin") {
+        Ok(file) if is_output(rt, &file) => Err(OpenFault::Device),
+        _ => Ok(standard),
+    }
+}
+
 fn opened<R: Files, S: Copy>(
     rt: &R,
     file: &InputFile,
@@ -61,7 +69,7 @@ fn opened<R: Files, S: Copy>(
 ) -> Result<Source<R::File, S>, OpenFault> {
     match file.origin {
         Origin::Path => Ok(Source::File(open_file(rt, file.name.as_str())?)),
-        Origin::Standard => Ok(Source::Standard(standard)),
+        Origin::Standard => Ok(Source::Standard(open_standard(rt, standard)?)),
         Origin::Unnamed => Err(OpenFault::Device),
     }
 }

@@ -36,7 +36,7 @@ pub struct InputFile {
 pub struct Plan {
     /// The files.
     pub files: Vec<InputFile>,
-    /// How many entries of folders are passed over: what is no regular file, and files with other endings.
+    /// How many entries of folders are passed over: what is no regular file, files with other endings, hidden ones, and `package.json`.
     pub passed_over: usize,
 }
 
@@ -70,6 +70,12 @@ fn kind_of(name: &str) -> Option<Kind> {
     }
 }
 
+// Whether a file of a folder holds resources, by its name. Hidden ones, as the `.index.json` of a published package, hold none, nor does
+// what says which package it is.
+fn holds_resources(name: &str) -> bool {
+    kind_of(name).is_some() && !name.starts_with(".") && name != "package.json"
+}
+
 // The entries of a folder: the paths of its files by their names, and how many others there are.
 #[derive(Drop)]
 struct Entries {
@@ -100,7 +106,7 @@ fn put_named<R: Files + AllocGlobal + Clone + Drop>(
     entries: &mut Entries,
 ) -> io::Result<()> {
     let path = entry.path();
-    if kind_of(entry.file_name()).is_none() || !is_regular(rt, path.as_str()) {
+    if !holds_resources(entry.file_name()) || !is_regular(rt, path.as_str()) {
         entries.passed_over = entries.passed_over.saturating_add(1);
         return Ok(());
     }
@@ -237,8 +243,8 @@ fn put_input<R: Files + AllocGlobal + Clone + Drop>(
     }
 }
 
-/// The files of inputs, in turn. An input is a folder, of which those regular files are read whose names end in `.json` or `.ndjson`, in
-/// the order of these names; a file; or standard input, where there is no name. A file whose name ends in `.json` is a document, and any other
+/// The files of inputs, in turn. An input is a folder, of which those regular files are read whose names end in `.json` or `.ndjson`, but for
+/// hidden ones and `package.json`, in the order of these names; a file; or standard input, where there is no name. A file whose name ends in `.json` is a document, and any other
 /// has a text on each line.
 pub fn plan_inputs<R: Files + AllocGlobal + Clone + Drop>(
     rt: &R,
