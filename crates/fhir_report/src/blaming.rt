@@ -30,13 +30,18 @@ fn fixed_text(cause: Cause) -> &'static str {
 }
 
 fn field_text(alloc: Global, name: &str) -> Result<String, AllocError> {
-    if name == "kind" {
-        return String::from_str(
+    match name {
+        "kind" => String::from_str(
             alloc,
             "`kind` is none of `primitive-type`, `complex-type` and `resource`",
-        );
+        ),
+        "profile" | "targetProfile" | "valueSet" => format!(in alloc;
+            "a `{name}` begins with `#`, so it names what the definition itself contains"
+        ),
+        _ => {
+            format!(in alloc; "`{name}` is of a wrong kind, or none of the values that it may have")
+        }
     }
-    format!(in alloc; "`{name}` is of a wrong kind, or none of the values that it may have")
 }
 
 fn missing_id_text(alloc: Global, element: Option<usize>) -> Result<String, AllocError> {
