@@ -75,7 +75,7 @@ class Schema:
     """The nodes of the types: names of types, ids of elements with children of their own, and `#truth`, `#number` and `#text` for plain values."""
 
     def __init__(self, types):
-        self.types, self.ways_of = types, {}
+        self.types, self.found = types, {}
 
     def nodes_of(self, element):
         if "contentReference" in element:
@@ -92,21 +92,27 @@ class Schema:
         """The name of a node's type."""
         return "BackboneElement" if "." in node and node != SYSTEM_TEXT else node
 
-    def ways(self, node):
-        if node not in self.ways_of:
-            self.ways_of[node] = [*self.ways_from(node, STEPS)]
-        return self.ways_of[node]
+    def ways(self, nodes, goal, length):
+        """The ways of a length from some nodes to a node, or to one of a kind; to any where there is no goal."""
+        return [way for node in nodes for way in self.index(node).get((goal, length), [])]
+
+    def index(self, node):
+        if node not in self.found:
+            found = self.found[node] = {}
+            for way in self.ways_from(node, STEPS):
+                for goal in {None, *way.nodes, *(KIND_OF.get(it) for it in way.nodes)}:
+                    found.setdefault((goal, len(way.names)), []).append(way)
+        return self.found[node]
 
     def ways_from(self, node, steps):
         for name, nodes, is_many in self.steps(node) if steps else []:
             yield Way((name,), nodes, is_many)
-            if name not in DULL and not (self.types.kind(node) == "primitive-type"):
-                seen = set()
-                for further in nodes:
-                    for way in self.ways_from(further, min(steps, 2) - 1 if name == "contained" else steps - 1):
-                        if way.names not in seen:
-                            seen.add(way.names)
-                            yield Way((name, *way.names), way.nodes, is_many or way.is_many)
+            seen = set()
+            for further in nodes if name not in DULL else ():
+                for way in self.ways_from(further, min(steps, 2) - 1 if name == "contained" else steps - 1):
+                    if way.names not in seen:
+                        seen.add(way.names)
+                        yield Way((name, *way.names), way.nodes, is_many or way.is_many)
 
 
 def is_of_kind(nodes, kind):
@@ -121,7 +127,7 @@ class Maker:
 
     def __init__(self, draw, schema, focus):
         self.draw, self.schema, self.focus = draw, schema, focus
-        self.sloppy = draw.choice((0.02, 0.05, 0.12))
+        self.sloppy = draw.choice((0.02, 0.06, 0.2))
 
     def happens(self, share):
         return self.draw.random() < share
@@ -150,7 +156,7 @@ class Maker:
             (lambda: call("hasValue", self.some(this, depth)), 0.5),
             (lambda: self.single("truth", this, depth).tree, 0.6),
             (lambda: literal(self.happens(0.5)), 0.3),
-            (lambda: self.some(this, depth), 0.2),
+            (lambda: self.some(this, depth), 0.25),
             (lambda: self.single(None, this, depth).tree, 0.3),
             (lambda: Tree("empty"), 0.15),
             (lambda: self.of_the_focus(this), 0.4),
@@ -158,9 +164,13 @@ class Maker:
 
     def of_the_focus(self, this):
         """A function or a type at the start of a path."""
-        node = self.schema.type_of(self.draw.choice(this))
+        node = self.own_type(this)
         functions = [call(it, None) for it in ("exists", "empty", "hasValue")] + [joined(">", call("count", call("children", None)), literal(NUMBER(1)))]
         return self.draw.choice([*functions, call("exists", named(self.draw.choice([node, "Element", "Resource"])))])
+
+    def own_type(self, this):
+        """The name of a type of the focus, for the start of a path."""
+        return self.draw.choice([self.schema.type_of(it) for it in this if not it.startswith("#") and it != SYSTEM_TEXT] or ["Element"])
 
     def logic(self, this, depth):
         sign = self.draw.choice(("and", "or", "xor", "implies"))
@@ -190,10 +200,9 @@ class Maker:
 
     def like(self, made, this, depth):
         """Another collection with values of the same nodes, if there is one."""
-        ways = [way for node in this for way in self.schema.ways(node) if set(way.nodes) & set(made.nodes)]
-        if not ways:
+        way = made.nodes and self.way(this, self.draw.choice(made.nodes))
+        if not way:
             return self.collection(None, this, depth - 1)
-        way = self.draw.choice(ways)
         found = self.walk(way, this, 0)
         return found if made.is_many else self.cut(found)
 
@@ -254,12 +263,15 @@ class Maker:
         return Made(call("count", self.some(this, depth)), ("#number",), False)
 
     def path(self, kind, this, depth, start=None):
-        ways = [way for node in this for way in self.schema.ways(node) if is_of_kind(way.nodes, kind)]
-        short = [way for way in ways if len(way.names) == 1 or len(way.names) == 2 and self.happens(0.3)]
-        if not ways:
-            return self.away(kind, this, depth)
-        way = self.draw.choice(short or ways) if self.happens(0.7) else self.draw.choice(ways)
-        return self.fitted(self.walk(way, this, depth, start), kind)
+        way = self.way(this, kind)
+        return self.fitted(self.walk(way, this, depth, start), kind) if way else self.away(kind, this, depth)
+
+    def way(self, this, goal):
+        """A way from some nodes to a goal, rather a short one, if there is any."""
+        for length in self.draw.choices(((1, 2, 3), (2, 1, 3), (3, 2, 1)), (6, 4, 2))[0]:
+            if ways := self.schema.ways(this, goal, length):
+                return self.draw.choice(ways)
+        return None
 
     def away(self, kind, this, depth):
         """What stands in for a path where no way leads from the focus."""
@@ -280,7 +292,7 @@ class Maker:
     def walk(self, way, this, depth, start=None):
         """The steps of a way, some of them cut or filtered."""
         if not start and self.happens(0.15):
-            start = self.draw.choice((THIS, named(self.schema.type_of(self.draw.choice(this)))))
+            start = self.draw.choice((THIS, named(self.own_type(this))))
         tree, nodes, is_many = start, this, False
         for name in way.names:
             tree = named(name, tree)
@@ -303,7 +315,7 @@ class Maker:
         nodes = ("Made",) if variable.says == "%resource" else self.focus
         if is_of_kind(nodes, kind) and self.happens(0.4):
             return self.fitted(Made(variable, nodes, False), kind)
-        if not any(is_of_kind(way.nodes, kind) for node in nodes for way in self.schema.ways(node)):
+        if not self.way(nodes, kind):
             variable, nodes = Tree("variable", "%resource"), ("Made",)
         return self.path(kind, nodes, depth, variable)
 
@@ -331,7 +343,7 @@ class Maker:
 
     def below(self, kind, this):
         """Children or descendants of the focus, of one type where a kind is wanted."""
-        tree = call(self.draw.choice(("children", "descendants")), self.draw.choice((None, THIS, Tree("variable", "%context"))))
+        tree = call(self.draw.choice(("children", "children", "descendants")), self.draw.choice((None, THIS, Tree("variable", "%context"))))
         nodes = KINDS[kind] if kind else ("string", "code", "Extension", "Made.parts", "Coding", "Quantity", "date", "HumanName")
         nodes = [it for it in nodes if not it.startswith("#") and it != SYSTEM_TEXT]
         if kind is None and self.happens(0.4):
@@ -349,11 +361,12 @@ class Maker:
     def pinned(self, made, values):
         """An expression that asks what a collection gives: how many values, or what one of them says, with an answer near what the model has."""
         tree, places = made, [i for i, it in enumerate(values) if isinstance(it, (bool, NUMBER, str))]
+        self.draw.shuffle(places)
         forms = [joined("=", call("count", tree), literal(NUMBER(max(0, len(values) + self.draw.choice((0, 0, 0, 1, -1))))))]
         forms += [joined(self.draw.choice(("=", "in")), call("first", tree), tree), joined("=", call("where", tree, literal(True)), tree)]
         for i in places[:2]:
             signs = ("=", "!=") if isinstance(values[i], bool) else ("=", "!=", "<", "<=", ">", ">=")
-            said = abs(values[i]) if isinstance(values[i], NUMBER) and not isinstance(values[i], bool) else values[i]
+            said = abs(values[i]) if isinstance(values[i], NUMBER) else values[i]
             forms += [joined(self.draw.choice(signs), at(tree, i), literal(said)), joined("contains", tree, literal(said))]
         return self.draw.choice(forms)
 
@@ -447,7 +460,7 @@ class Speller:
             needs = text and is_wordy(text[-1]) and is_wordy(word[0])
             is_close = word in (".", "(", ")", "[", "]", ",") or text[-1:] in (".", "(", "[")
             blank = " " if needs or not (is_close or not text) else ""
-            if self.odd(0.25):
+            if self.odd(0.12):
                 blank = self.draw.choice((" ", "  ", "\n", "\t", "\r\n", " /* ' */ ", "/**/", " // )\n", "// a\r"))
             elif self.odd(0.3) and not needs:
                 blank = ""

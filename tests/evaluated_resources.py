@@ -56,14 +56,14 @@ class Resources:
 
     def resource(self, name="Made", depth=0):
         said = {"resourceType": name}
-        likely = 0.65 if depth == 0 else 0.25 if name == "Made" else 0.7
+        likely = 0.85 if depth == 0 else 0.25 if name == "Made" else 0.7
         self.fill(said, name, depth, likely)
         return said
 
     def fill(self, said, node, depth, likely):
         for name, element in self.types.elements[node]:
-            is_plain = node == "Made" and name == "text" or node != "Made" and "." not in node
-            share = SELDOM.get(name, likely) if is_plain or name != "text" else likely
+            is_own_text = name == "text" and self.types.codes_of(element) != ["Narrative"]
+            share = likely if is_own_text else SELDOM.get(name, likely)
             if depth >= DEEPEST and not self.is_simple(element):
                 share = 0
             if name == "contained" and depth:
@@ -124,7 +124,7 @@ class Resources:
         if code in ("Quantity", "Age") and self.happens(0.6):
             made = {"value": self.draw.choice(DECIMALS[:12]), "unit": "mg", "system": UCUM, "code": "mg"}
         while not made:
-            self.fill(made, node, depth, 0.5)
+            self.fill(made, node, depth, 0.65)
         kept.append(made)
         return copy.deepcopy(made)
 

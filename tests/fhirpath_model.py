@@ -589,12 +589,13 @@ class Evaluator:
         raise Fault("an order of values of two kinds, or of one that has none")
 
     def quantity_order(self, one, other):
-        """By `value`, where `system`, `code` and `unit` are equal or both absent (docs/DECISIONS.md). The comparator isn't looked at."""
+        """By `value`, where `system`, `code` and `unit` are equal or both absent (docs/DECISIONS.md). The comparator isn't looked at. A quantity without a
+        value has no order: of this the documents say nothing, and the program was followed."""
         for name in ("system", "code", "unit"):
             if in_turn(one.children.get(name, []), other.children.get(name, [])) is not True:
                 return None
-        values = [it.children.get("value", []) for it in (one, other)]
-        return self.order(values[0][0], values[1][0]) if all(values) else None
+        said = [plain(value) for it in (one, other) for value in it.children.get("value", [])]
+        return first_difference(said[:1], said[1:]) if len(said) == 2 and None not in said else None
 
     # -- functions (5; FHIR R4, fhirpath.html)
 
