@@ -245,9 +245,6 @@ class Item:
         """5.8.2: each child, and then its own descendants."""
         return [found for child in self.all_children() for found in (child, *child.descendants())]
 
-    def with_descendants(self):
-        return [self, *self.descendants()]
-
     def resource(self):
         """The nearest resource at or around the item (docs/DECISIONS.md, "Conformance and validation")."""
         return self if self.is_resource else self.above.resource()
