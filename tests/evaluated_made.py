@@ -149,11 +149,13 @@ class Maker:
             (lambda: call("not", self.truth(this, depth - 1)), 0.8 * deep),
             (lambda: call(self.draw.choice(("exists", "empty")), self.some(this, depth)), 1),
             (lambda: self.asked_of_each(this, depth), 3 * deep),
+            (lambda: self.chain(this), 1.5 * deep),
+            (lambda: self.duel(this), 3),
             (lambda: self.comparison(this, depth), 3),
             (lambda: self.equality(this, depth), 2.5),
             (lambda: self.membership(this, depth), 1.8),
             (lambda: self.type_test(this, depth), 1.3),
-            (lambda: call("hasValue", self.some(this, depth)), 0.5),
+            (lambda: call("hasValue", self.collection(self.kind(), this, depth - 1).tree), 0.7),
             (lambda: self.single("truth", this, depth).tree, 0.6),
             (lambda: literal(self.happens(0.5)), 0.3),
             (lambda: self.some(this, depth), 0.25),
@@ -166,7 +168,8 @@ class Maker:
         """A function or a type at the start of a path."""
         node = self.own_type(this)
         functions = [call(it, None) for it in ("exists", "empty", "hasValue")] + [joined(">", call("count", call("children", None)), literal(NUMBER(1)))]
-        return self.draw.choice([*functions, call("exists", named(self.draw.choice([node, "Element", "Resource"])))])
+        start = self.draw.choice((None, None, THIS, Tree("variable", "%resource")))
+        return self.draw.choice([*functions, *[call(self.draw.choice(("exists", "count")), named(self.draw.choice([node, "Element", "Resource"]), start))] * 3])
 
     def own_type(self, this):
         """The name of a type of the focus, for the start of a path."""
@@ -175,6 +178,43 @@ class Maker:
     def logic(self, this, depth):
         sign = self.draw.choice(("and", "or", "xor", "implies"))
         return joined(sign, self.truth(this, depth - 1), self.truth(this, depth - 1))
+
+    def duel(self, this):
+        """Two values of one kind that stand directly in the resource, held against each other."""
+        kind = self.draw.choice(("moment", "moment", "hour", "text", "number", "quantity", "quantity", "truth", "part", "HumanName", "Coding", "Reference"))
+        goals = ("Made.parts", "Made.others", "Made.part") if kind == "part" else (kind,)
+        start = None if "Made" in this and self.happens(0.8) else Tree("variable", "%resource")
+        ways = [way for goal in goals for way in self.schema.ways(("Made",), goal, 1)]
+        one, other = (Made(named(self.draw.choice(ways).names[0], start), (), True) for _ in range(2))
+        if self.happens(0.15):
+            return joined("in", self.cut(one).tree, other.tree)
+        signs = ("=", "=", "!=") if kind in ("part", "HumanName", "Coding", "Reference") else ("<", "<=", ">", ">=", "=", "!=")
+        sides = [at(it.tree, self.draw.choice((0, 0, 1, 1, 2, 3))) if self.happens(0.9) else it.tree for it in (one, other)]
+        if kind == "text" and self.happens(0.3):
+            sides[0] = literal(self.draw.choice(evaluated_resources.TEXTS))
+        return joined(self.draw.choice(signs), *sides)
+
+    def chain(self, this):
+        """Small truths, joined by operators of several rows."""
+        tree = self.small(this)
+        for _ in range(self.draw.choice((2, 3, 3, 4))):
+            sides = [tree, self.small(this)]
+            self.draw.shuffle(sides)
+            tree = joined(self.draw.choice(("in", "contains", "=", "!=", "and", "or", "xor", "implies")), *sides)
+        return tree
+
+    def small(self, this):
+        """A truth that is short, and seldom empty."""
+        one, other = (literal(NUMBER(self.draw.choice("0123"))) for _ in range(2))
+        same = joined("|", one, one)
+        return self.one_of([
+            (lambda: literal(self.happens(0.5)), 2),
+            (lambda: call(self.draw.choice(("exists", "empty")), self.path(None, this, 0).tree), 2),
+            (lambda: joined(self.draw.choice(("<", "<=", ">", ">=")), *self.draw.choice(((same, other), (other, same), (one, other)))), 2),
+            (lambda: joined("|", literal(False), Tree("is", self.type_name(this), (THIS,))), 0.7),
+            (lambda: Tree("is", "boolean", (Tree("is", self.type_name(this), (THIS,)),)), 0.4),
+            (lambda: Tree("empty"), 0.3),
+        ])  # fmt: skip
 
     def asked_of_each(self, this, depth):
         made = self.collection(None, this, depth - 1)
@@ -213,7 +253,9 @@ class Maker:
         return joined("in", one.tree, many.tree) if self.happens(0.5) else joined("contains", many.tree, one.tree)
 
     def type_test(self, this, depth):
-        made = self.single(None, this, depth - 1)
+        made = self.single(None if self.happens(0.8) else self.draw.choice(("truth", "number", "text")), this, depth - 1)
+        if made.tree.form == "literal" or "#number" in made.nodes:
+            return Tree("is", self.draw.choice(("boolean", "integer", "decimal", "string")), (made.tree,))
         return Tree("is", self.type_name(made.nodes), (made.tree,))
 
     def type_name(self, nodes):
@@ -242,13 +284,13 @@ class Maker:
         return self.one_of([
             (lambda: self.path(kind, this, depth), 6),
             (lambda: self.whole_focus(kind, this, depth), 1.2),
-            (lambda: self.of_variable(kind, depth), 0.9),
+            (lambda: self.of_variable(kind, depth), 1.3),
             (lambda: self.filtered(kind, this, depth), 1.6 * deep),
             (lambda: self.united(kind, this, depth), 1.1 * deep),
             (lambda: self.shared(kind, this, depth), 0.5 * deep),
             (lambda: self.narrowed(kind, this, depth), 0.9 * deep),
             (lambda: self.below(kind, this), 0.6),
-            (lambda: self.indexed(kind, this, depth), 0.5 * deep),
+            (lambda: self.indexed(kind, this, depth), 0.9 * deep),
             (lambda: self.literal(kind), 1.6 * plain),
             (lambda: self.counted(this, depth), 0.8 * deep * (kind == "number")),
             (lambda: Made(self.truth(this, depth - 1), ("#truth",), False), 0.8 * deep * (kind == "truth")),
@@ -357,6 +399,19 @@ class Maker:
         return Made(at(made.tree, self.single("number", this, depth - 2).tree), made.nodes, False)
 
     # -- expressions that ask what others give
+
+    def for_pinned(self, this):
+        """A collection of which much may be asked: children, what a collection shares with itself or another one, or any."""
+        share = self.draw.random()
+        if share < 0.12:
+            return Made(call(self.draw.choice(("children", "children", "descendants")), THIS), (), True)
+        kind = self.kind() if share < 0.6 else None
+        if share > 0.25:
+            return self.collection(kind, this, self.draw.choice((1, 2)))
+        made = self.collection(kind, this, 1)
+        other = made if self.happens(0.5) else self.like(made, this, 1)
+        made = made if self.happens(0.6) else Made(call("children", made.tree), (), True)
+        return Made(call("intersect", made.tree, other.tree), made.nodes, True)
 
     def pinned(self, made, values):
         """An expression that asks what a collection gives: how many values, or what one of them says, with an answer near what the model has."""

@@ -78,7 +78,7 @@ class Resources:
         return "type" in element and all(self.types.kind(it["code"]) in ("primitive-type", "system") for it in element["type"])
 
     def put(self, said, property, element, code, depth):
-        length = self.draw.choice((1, 2, 2, 3)) if element["max"] == "*" else 1
+        length = self.draw.choice((1, 2, 2, 3) if depth else (1, 2, 3, 4, 4)) if element["max"] == "*" else 1
         if self.types.kind(code) in ("primitive-type", "system"):
             self.put_primitives(said, property, element, code, length, depth)
             return
@@ -88,7 +88,7 @@ class Resources:
     def put_primitives(self, said, property, element, code, length, depth):
         values, companions = [], []
         for _ in range(length):
-            has_companion = code in POOLS and self.types.kind(code) != "system" and self.happens(0.12)
+            has_companion = code in POOLS and self.types.kind(code) != "system" and self.happens(0.18)
             values.append(None if has_companion and self.happens(0.5) else self.draw.choice(POOLS[code]) if code in POOLS else "<div/>")
             companions.append(self.companion(depth + 1) if has_companion else None)
         for name, found in ((property, values), (f"_{property}", companions)):
