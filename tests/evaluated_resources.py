@@ -129,9 +129,9 @@ class Resources:
         return copy.deepcopy(made)
 
     def varied(self, value):
-        """A copy of a value, sometimes without one of its members, or with another text in one."""
+        """A copy of a value, sometimes without one of its members."""
         made = copy.deepcopy(value)
-        names = [it for it in made if len(made) > 1 and f"_{it}" not in made]
+        names = [it for it in made if len(made) > 1 and f"_{it}" not in made and not it.startswith("_")]
         if names and self.happens(0.3):
             del made[self.draw.choice(names)]
         return made
