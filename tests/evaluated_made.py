@@ -149,7 +149,7 @@ class Maker:
             (lambda: call("not", self.truth(this, depth - 1)), 0.8 * deep),
             (lambda: call(self.draw.choice(("exists", "empty")), self.some(this, depth)), 1),
             (lambda: self.asked_of_each(this, depth), 3 * deep),
-            (lambda: self.chain(this), 1.5 * deep),
+            (lambda: self.chain(this), 2 * deep),
             (lambda: self.duel(this), 3),
             (lambda: self.comparison(this, depth), 3),
             (lambda: self.equality(this, depth), 2.5),
@@ -200,7 +200,7 @@ class Maker:
         for _ in range(self.draw.choice((2, 3, 3, 4))):
             sides = [tree, self.small(this)]
             self.draw.shuffle(sides)
-            tree = joined(self.draw.choice(("in", "contains", "=", "!=", "and", "or", "xor", "implies")), *sides)
+            tree = joined(self.draw.choice(("in", "contains", "=", "!=", *("and", "or", "xor", "implies") * 2)), *sides)
         return tree
 
     def small(self, this):
