@@ -8,7 +8,7 @@ import model
 import modelled_resources
 
 # After so many changes another resource is begun with.
-STRIDE = 40
+STRIDE = 12
 
 
 class Side(typing.NamedTuple):
