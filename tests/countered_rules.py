@@ -143,8 +143,13 @@ class Rules:
         return of_base is not None and own is None
 
     def bounds_fails(self, derived, base, name):
-        both = self.slices_named(derived, base, name)
-        return None not in both and not is_within(*self.elements(*both))
+        """A slice of an element with a `max` of 0 has no items, so that it asks for too few where the base's has a `min` over 0
+        (docs/DECISIONS.md, "A profile against itself")."""
+        own, of_base = self.slices_named(derived, base, name)
+        is_empty = self.definitions.elements[self.children_named(derived, base, name)[0]]["max"] == "0"
+        if is_empty and of_base and self.definitions.elements[of_base]["min"] > 0:
+            return True
+        return own is not None and of_base is not None and not is_within(*self.elements(own, of_base))
 
     def slicing(self, node):
         """The slicing of an element; without one extensions are told by their url, and choices by their type."""

@@ -53,15 +53,16 @@ def touched(old, new):
         found |= more
 
 
-def beside(old_model, new_model, url, new):
+def beside(old_model, new_model, url, new, changed):
     """NEW's definitions and OLD's profile under another url, as docs/USAGE.md ("A new version") has them: all that it names means NEW's, but for a value
-    set of a binding, which means the concepts that it has in OLD."""
+    set of a binding, which means the concepts that it has in OLD. One that can't be read, and has changed, or what it rests on, is another one there."""
     one = copy.deepcopy(old_model.definitions.structures[url])
     one["url"], added = url + OLD, {}
     for it in one["snapshot"]["element"]:
         canonical = it.get("binding", {}).get("valueSet")
         concepts = canonical and old_model.value_sets.concepts(canonical)
-        if canonical and concepts != new_model.value_sets.concepts(canonical):
+        is_other = concepts is None and canonical in changed
+        if canonical and (is_other or concepts != new_model.value_sets.concepts(canonical)):
             it["binding"]["valueSet"] = canonical + OLD
             if concepts is not None:
                 added[canonical + OLD] = listed(canonical + OLD, concepts)
