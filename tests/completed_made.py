@@ -98,7 +98,9 @@ def all_types(draw, shapes):
     yield shapes.add("Thing", *things(draw), kind="resource", **some_version(draw))
     site = SITE + "Thing"
     others = [element("Other.part", 0, "*", contentReference=f"{site}{draw.choice(['', '', '|1', '|2'])}#Thing.part"), element("Other.name", 0, "*", "Name")]
-    yield shapes.add("Other", *others, element("Other.part2", 0, "*", contentReference="#Other.part"), kind="resource")
+    if maybe(draw, 0.3):
+        others.append(element("Other.again", 0, "*", contentReference="#Other.part"))
+    yield shapes.add("Other", *others, kind="resource")
 
 
 def some_version(draw):
@@ -192,26 +194,32 @@ def above(identifier):
 # ---- what a differential says of an element
 
 
-def said(draw, shapes, identifier, place):
+def path(identifier):
+    return ".".join(it.partition(":")[0] for it in identifier.split("."))
+
+
+def said(draw, shapes, identifier, place, narrowed=None):
+    """An element of a differential. Its type is the one that has the children below it, where it is one of several."""
     made = {"id": identifier}
     if maybe(draw, 0.9):
-        made["path"] = ".".join(it.partition(":")[0] for it in identifier.split("."))
-    last = identifier.rpartition(".")[2]
+        made["path"] = path(identifier) if maybe(draw, 0.97) else draw.choice(["Thing.valueString", "Other.x", ""])
+    last, codes = identifier.rpartition(".")[2], shapes.types(place)
     if ":" in last and maybe(draw, 0.85):
         made["sliceName"] = last.partition(":")[2]
     if last.startswith("value[x]:value") and maybe(draw, 0.9):
-        code = next((it for it in shapes.types(place) or [place[0]] if it.lower() == last[14:].lower()), None)
-        made.update({"type": [{"code": code}]} if code else {})
+        narrowed = narrowed or next((it for it in codes or [place[0]] if it.lower() == last[14:].lower()), None)
+    if narrowed in codes and len(codes) > 1 and maybe(draw, 0.9):
+        made["type"] = [{"code": narrowed}]
     for ask in draw.choices(ASKED, k=draw.choice([0, 1, 1, 2, 3])):
-        ask(draw, made, shapes.types(place))
+        ask(draw, made, codes)
     return made
 
 
 def ask_bounds(draw, made, _):
     if maybe(draw, 0.6):
-        made["min"] = draw.choice([0, 0, 1, 1, 1, 2] if maybe(draw, 0.3) else [0, 1])
+        made["min"] = draw.choice([0, 1, 1, 2] if maybe(draw, 0.3) else [0, 1])
     if maybe(draw, 0.6):
-        made["max"] = draw.choice(["1", "2", "3", "*", "*"] if maybe(draw, 0.9) else ["0"])
+        made["max"] = draw.choice(["1", "2", "3", "*", "*"] if made.get("min") or maybe(draw, 0.9) else ["0"])
 
 
 def ask_constraint(draw, made, _):
@@ -290,14 +298,15 @@ class Profile(typing.NamedTuple):
 
 def differential(draw, shapes, root, known):
     """The elements of a differential: mostly with all that has to stand above them."""
-    wanted, is_sparse = {}, maybe(draw, 0.25)
+    wanted, narrowed, is_sparse = {}, {}, maybe(draw, 0.15)
     for _ in range(draw.choice([0, 1, 2, 3, 4, 5])):
         ids = walk(draw, shapes, root, known)
         wanted[ids[-1][0]] = ids[-1][1]
+        narrowed.update({above(it)[-1]: place[0] for it, place in ids if "." in it})
         for it in above(ids[-1][0]):
             if maybe(draw, 0.2 if it in known else 0.6 if is_sparse else 0.98):
                 wanted.setdefault(it, place_of(shapes, it) or (root, root))
-    made = [said(draw, shapes, it, place) for it, place in wanted.items()]
+    made = [said(draw, shapes, it, place, narrowed.get(it)) for it, place in wanted.items()]
     if maybe(draw, 0.7):
         made.sort(key=lambda it: it["id"])
     elif maybe(draw, 0.7):
@@ -332,7 +341,7 @@ def brought(draw, shapes, root):
         identifier = f"{one['id']}:{draw.choice('ab')}"
         block = [{**one, "id": identifier, "sliceName": "s", "min": 0}]
         for name, place in shapes.children(place_of(shapes, one["id"]))[:draw.choice([0, 0, 1, 2])]:
-            block.append({**shapes.of[place[0]][place[1]], "id": f"{identifier}.{name}"})
+            block.append({**shapes.of[place[0]][place[1]], "id": f"{identifier}.{name}", "path": path(f"{identifier}.{name}")})
         behind = max(number for number, it in enumerate(made) if it["id"] == one["id"] or maybe(draw, 0.8) and it["id"].startswith(one["id"] + "."))
         made[behind + 1:behind + 1] = block
     for one in draw.sample(made, 3):
@@ -345,7 +354,7 @@ def brought(draw, shapes, root):
 
 def spoil(draw, profiles):
     """Makes one profile wrong."""
-    made = draw.choice(profiles).tree
+    made = draw.choice(profiles[PROFILES // 2:] if maybe(draw, 0.7) else profiles).tree
     member = "snapshot" if made.get("snapshot", {}).get("element") else "differential"
     elements = made.setdefault(member, {"element": []})["element"]
     way = draw.choice(["wrong", "wrong", "wrong", "twice", "twice", "lost", "over", "base", "version", "cycle", "kind", "gone", "untyped"])

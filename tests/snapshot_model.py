@@ -182,13 +182,10 @@ def twin_of(identifier):
 
 
 def laid_over(upper, lower):
-    """What a differential says replaces what is inherited; constraints are added, each of them once."""
-    made = {**lower, **upper}
-    constraints = []
-    for it in [*lower.get("constraint", []), *upper.get("constraint", [])]:
-        if it not in constraints:
-            constraints.append(it)
-    return {**made, "constraint": constraints} if constraints else made
+    """What a differential says replaces what is inherited; constraints are added, where the same isn't there."""
+    own, constraints = upper.get("constraint", []), list(lower.get("constraint", []))
+    constraints += [it for place, it in enumerate(own) if it not in constraints and it not in own[:place]]
+    return {**lower, **upper, **({"constraint": constraints} if constraints else {})}
 
 
 def moved(element, identifier):
@@ -311,7 +308,7 @@ class Model:
         if found is None:
             return None
         said, base = definition.by_id.get(identifier, {}), self.base_of(definition)
-        element = {**laid_over(said, found.element), "id": identifier, "path": path_of(identifier)}
+        element = laid_over(said, found.element)
         new = [it for it in definition.by_id if sliced_of(it) == identifier and not self.node(base, it)]
         slices = [*found.slices, *new]
         if slices and "slicing" not in element:
