@@ -204,8 +204,8 @@ def said(draw, shapes, identifier, place, narrowed=None):
     if maybe(draw, 0.9):
         made["path"] = path(identifier) if maybe(draw, 0.97) else draw.choice(["Thing.valueString", "Other.x", ""])
     last, codes = identifier.rpartition(".")[2], shapes.types(place)
-    if ":" in last and maybe(draw, 0.85):
-        made["sliceName"] = last.partition(":")[2]
+    if maybe(draw, 0.85 if ":" in last else 0.03):
+        made["sliceName"] = last.partition(":")[2] or "odd"
     if last.startswith("value[x]:value") and maybe(draw, 0.9):
         narrowed = narrowed or next((it for it in codes or [place[0]] if it.lower() == last[14:].lower()), None)
     if narrowed in codes and len(codes) > 1 and maybe(draw, 0.9):
@@ -224,7 +224,7 @@ def ask_bounds(draw, made, _):
 
 def ask_constraint(draw, made, _):
     keys = draw.sample(["part-1", "Thing-1", "p-1", "p-2"], draw.choice([0, 1, 1, 2]))
-    made["constraint"] = [must(key, draw.choice(EXPRESSIONS), draw.choice(["error", "error", "warning"])) for key in keys]
+    made["constraint"] = [must(key, draw.choice(EXPRESSIONS) if maybe(draw, 0.3) else "true", draw.choice(["error"] * 4 + ["warning"])) for key in keys]
     if maybe(draw, 0.1):
         made["constraint"] += [{"key": "p-3"}]
     if maybe(draw, 0.2):
@@ -357,11 +357,14 @@ def spoil(draw, profiles):
     made = draw.choice(profiles[PROFILES // 2:] if maybe(draw, 0.7) else profiles).tree
     member = "snapshot" if made.get("snapshot", {}).get("element") else "differential"
     elements = made.setdefault(member, {"element": []})["element"]
-    way = draw.choice(["wrong", "wrong", "wrong", "twice", "twice", "lost", "over", "base", "version", "cycle", "kind", "gone", "untyped"])
-    if way in ("wrong", "twice", "over") and not elements:
+    way = draw.choice(["wrong", "wrong", "wrong", "twice", "twice", "both", "forms", "lost", "over", "base", "base", "version", "cycle", "cycle", "kind", "gone", "untyped"])
+    if way in ("wrong", "twice", "both", "forms", "over") and not elements:
         elements.append({"id": made["type"]})
-    if way in ("wrong", "over") and elements:
-        draw.choice(elements).update([draw.choice(WRONG)] if way == "wrong" else [("min", 3), ("max", "2")])
+    if way in ("wrong", "both", "forms", "over"):
+        changes = {"forms": [("fixedString", "a"), ("fixedCode", "c")], "over": [("min", 3), ("max", "2")]}
+        one = draw.choice(elements)
+        elements += [{"id": one["id"]}] if way == "both" else []
+        one.update(changes.get(way, [draw.choice(WRONG[6:] if way == "both" else WRONG)]))
     elif way == "twice" and member == "differential":
         elements.insert(draw.randint(0, len(elements)), {"id": draw.choice(elements)["id"], "max": "1"})
     elif way == "lost" and member == "differential":
@@ -376,13 +379,14 @@ def spoil(draw, profiles):
 
 def spoil_base(draw, made, profiles, way):
     if way == "base":
-        made["baseDefinition"] = draw.choice([SITE + "nowhere", "", SITE + "Thing|", "|1", SETS[0]])
+        made["baseDefinition"] = draw.choice([SITE + "nowhere", "", f"{SITE}Thing|", f"{SITE}Thing|", "|1", SETS[0]])
     elif way == "version":
         made["baseDefinition"] += draw.choice(["|1", "|2"])
     elif way == "cycle":
-        made["baseDefinition"] = draw.choice(profiles).tree["url"]
+        other = draw.choice(profiles).tree
+        made["baseDefinition"], other["baseDefinition"] = other["url"], made["url"]
     elif way == "untyped":
-        made["derivation"] = "specialization"
+        made.update(derivation="specialization", type="Own")
 
 
 # ---- files
