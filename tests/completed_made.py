@@ -6,7 +6,7 @@ import typing
 
 from modelled_types import SITE, SYSTEM_STRING, element, maybe, must
 
-PROFILES = 14
+PROFILES, LONE = 12, 4
 SLICES = ["a", "b", "a:b"]
 SETS = [SITE + it for it in ("set-1", "set-2", "set-3|2")]
 EXPRESSIONS = ["true", "id.empty()", "children().count() < 3"]
@@ -98,7 +98,7 @@ def all_types(draw, shapes):
     yield shapes.add("Thing", *things(draw), kind="resource", **some_version(draw))
     site = SITE + "Thing"
     others = [element("Other.part", 0, "*", contentReference=f"{site}{draw.choice(['', '', '|1', '|2'])}#Thing.part"), element("Other.name", 0, "*", "Name")]
-    if maybe(draw, 0.3):
+    if maybe(draw, 0.6):
         others.append(element("Other.again", 0, "*", contentReference="#Other.part"))
     yield shapes.add("Other", *others, kind="resource")
 
@@ -204,8 +204,8 @@ def said(draw, shapes, identifier, place, narrowed=None):
     if maybe(draw, 0.9):
         made["path"] = path(identifier) if maybe(draw, 0.97) else draw.choice(["Thing.valueString", "Other.x", ""])
     last, codes = identifier.rpartition(".")[2], shapes.types(place)
-    if maybe(draw, 0.85 if ":" in last else 0.03):
-        made["sliceName"] = last.partition(":")[2] or "odd"
+    if ":" in last and maybe(draw, 0.75):
+        made["sliceName"] = last.partition(":")[2]
     if last.startswith("value[x]:value") and maybe(draw, 0.9):
         narrowed = narrowed or next((it for it in codes or [place[0]] if it.lower() == last[14:].lower()), None)
     if narrowed in codes and len(codes) > 1 and maybe(draw, 0.9):
@@ -282,7 +282,10 @@ def ask_reference(draw, made, _):
         made["contentReference"] = draw.choice(["#Thing.part", "#Thing.part.sub", "#Thing.nowhere", "Thing.part", f"{SITE}Thing#Thing.part"])
 
 
-ASKED = [ask_bounds] * 5 + [ask_constraint] * 4 + [ask_value] * 3 + [ask_length, ask_binding, ask_types, ask_types, ask_slicing, ask_slicing, ask_unread, ask_reference]
+ASKED = [
+    *[ask_bounds] * 5, *[ask_constraint] * 4, *[ask_value] * 3, ask_length, ask_binding, ask_types, ask_types, ask_slicing, ask_slicing, ask_unread,
+    ask_reference,
+]
 
 
 # ---- profiles
@@ -303,6 +306,8 @@ def differential(draw, shapes, root, known):
         ids = walk(draw, shapes, root, known)
         wanted[ids[-1][0]] = ids[-1][1]
         narrowed.update({above(it)[-1]: place[0] for it, place in ids if "." in it})
+        if ":" in ids[-1][0].rpartition(".")[2] and maybe(draw, 0.4):
+            wanted[f"{above(ids[-1][0])[-1]}:{draw.choice(SLICES)}"] = ids[-1][1]
         for it in above(ids[-1][0]):
             if maybe(draw, 0.2 if it in known else 0.6 if is_sparse else 0.98):
                 wanted.setdefault(it, place_of(shapes, it) or (root, root))
@@ -351,13 +356,37 @@ def brought(draw, shapes, root):
 
 # ---- what has no snapshot
 
+WAYS = [
+    "wrong", "wrong", "wrong", "twice", "twice", "both", "forms", "lost", "over", "base", "base", "version", "cycle", "cycle", "kind", "gone", "untyped",
+]
+LOST = ["Thing.lost", "Lost", "Thing.part.lost:a", "Thing.part.kind.lost", "Other", "Thing.lost.note", "Thing.note.value.x"]
+
+
+# What a definition of its own says that is wrong, or that is as far as it may go.
+BORDERS = [("min", 2147483647), ("max", "2147483647"), ("max", "0"), ("maxLength", 2147483647), ("maxLength", -2147483648), ("maxLength", -2147483649)]
+KINDS = [{"snapshot": it} for it in ([], "x", None, {"element": {}}, {"element": ["x"]}, {"element": None})]
+KINDS += [{"differential": it} for it in ([], "x", None, {"element": {}}, {"element": ["x"]}, {"element": None}, {}, {"element": []})]
+TWICE = [[{"id": "Thing.part"}, {"id": "Thing.part", "min": "x"}], [{"id": "Thing.part"}, {"id": "Thing.part"}], [{"id": "Thing.x"}, {"id": "Thing.x"}]]
+
+
+def lone(draw, number):
+    """A profile of which one thing is said."""
+    made = structure(f"lone-{number}", "Thing", "resource", "constraint", SITE + "Thing")
+    way = draw.random()
+    if way < 0.7:
+        name, value = draw.choice(WRONG + BORDERS)
+        return {**made, "differential": {"element": [{"id": "Thing.part", name: value}]}}
+    if way < 0.9:
+        return {**made, **draw.choice(KINDS)}
+    return {**made, "differential": {"element": draw.choice(TWICE)}}
+
 
 def spoil(draw, profiles):
     """Makes one profile wrong."""
     made = draw.choice(profiles[PROFILES // 2:] if maybe(draw, 0.7) else profiles).tree
     member = "snapshot" if made.get("snapshot", {}).get("element") else "differential"
     elements = made.setdefault(member, {"element": []})["element"]
-    way = draw.choice(["wrong", "wrong", "wrong", "twice", "twice", "both", "forms", "lost", "over", "base", "base", "version", "cycle", "cycle", "kind", "gone", "untyped"])
+    way = draw.choice(WAYS)
     if way in ("wrong", "twice", "both", "forms", "over") and not elements:
         elements.append({"id": made["type"]})
     if way in ("wrong", "both", "forms", "over"):
@@ -368,7 +397,7 @@ def spoil(draw, profiles):
     elif way == "twice" and member == "differential":
         elements.insert(draw.randint(0, len(elements)), {"id": draw.choice(elements)["id"], "max": "1"})
     elif way == "lost" and member == "differential":
-        elements.append({"id": draw.choice(["Thing.lost", "Lost", "Thing.part.lost:a", "Thing.part.kind.lost", "Other", "Thing.lost.note", "Thing.note.value.x"])})
+        elements.append({"id": draw.choice(LOST)})
     elif way == "kind":
         made[draw.choice(["snapshot", "differential"])] = draw.choice([[], "x", {"element": {}}, {"element": "x"}, {"element": ["x"]}, None])
     elif way == "gone":
@@ -404,8 +433,10 @@ def package(draw):
         definitions.append(structure("Span2", "Span", "complex-type", "specialization", SITE + "Element", snapshot={"element": [
             element("Span", 0, "*"), element("Span.end", 1, "1", "date"), element("Span.length", 0, "1", "integer"),
         ]}))
+    lonely = [lone(draw, number) for number in range(LONE)]
+    definitions += lonely
     draw.shuffle(definitions)
-    asked = [it.tree["url"] for it in profiles] + [SITE + draw.choice(["Thing", "Name", "Other"])]
+    asked = [it.tree["url"] for it in profiles] + [it["url"] for it in lonely] + [SITE + draw.choice(["Thing", "Name", "Other"])]
     return Package(files_of(draw, definitions), [*asked, *([SITE + "nowhere"] if maybe(draw, 0.2) else [])])
 
 
