@@ -17,7 +17,7 @@ VALUES = {
 }
 # What stands in the place of one member of an element, which is then wrong.
 WRONG = [
-    ("id", "Thing..x"), ("id", "Thing.note:"), ("id", "Thing.:a"), ("id", "Thing.note:a/b"), ("id", ""), ("id", 3), ("path", ["Thing"]), ("sliceName", 1),
+    ("id", "Thing..x"), ("id", "Thing.part:"), ("id", "Thing.:a"), ("id", "Thing.part:a/b"), ("id", ""), ("id", 3), ("path", ["Thing"]), ("sliceName", 1),
     ("min", "1"), ("min", -1), ("min", 1.5), ("min", 2147483648), ("max", 1), ("max", "01"), ("max", "n"), ("max", ""), ("max", "2147483648"),
     ("maxLength", "3"), ("maxLength", 2147483648), ("contentReference", {}), ("type", {}), ("type", ["string"]), ("type", [{}]), ("type", [{"code": 1}]),
     ("type", [{"code": "string"}, {"code": "string"}]), ("type", [{"code": "string", "profile": SITE + "a"}]), ("constraint", [{"severity": "error"}]),
@@ -378,12 +378,13 @@ def lone(draw, number):
         return {**made, "differential": {"element": [{"id": "Thing.part", name: value}]}}
     if way < 0.9:
         return {**made, **draw.choice(KINDS)}
-    return {**made, "differential": {"element": draw.choice(TWICE)}}
+    if way < 0.97:
+        return {**made, "differential": {"element": draw.choice(TWICE)}}
+    return {**made, "derivation": "specialization", "type": "Own"}
 
 
-def spoil(draw, profiles):
+def spoil(draw, made, profiles):
     """Makes one profile wrong."""
-    made = draw.choice(profiles[PROFILES // 2:] if maybe(draw, 0.7) else profiles).tree
     member = "snapshot" if made.get("snapshot", {}).get("element") else "differential"
     elements = made.setdefault(member, {"element": []})["element"]
     way = draw.choice(WAYS)
@@ -426,8 +427,8 @@ def package(draw):
     types, profiles = [*all_types(draw, shapes)], []
     for number in range(PROFILES):
         profiles.append(profile(draw, shapes, number, profiles))
-    for _ in range(draw.choice([0, 1, 2, 3])):
-        spoil(draw, profiles)
+    for it in draw.sample(profiles[PROFILES // 4:], draw.choice([0, 1, 2, 3])):
+        spoil(draw, it.tree, profiles)
     definitions = [*types, *(it.tree for it in profiles), {"resourceType": "ValueSet", "url": SETS[0]}, {"resourceType": "ValueSet", "url": SITE + "p-1"}]
     if maybe(draw, 0.2):
         definitions.append(structure("Span2", "Span", "complex-type", "specialization", SITE + "Element", snapshot={"element": [
