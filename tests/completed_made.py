@@ -367,6 +367,9 @@ BORDERS = [("min", 2147483647), ("max", "2147483647"), ("max", "0"), ("maxLength
 KINDS = [{"snapshot": it} for it in ([], "x", None, {"element": {}}, {"element": ["x"]}, {"element": None})]
 KINDS += [{"differential": it} for it in ([], "x", None, {"element": {}}, {"element": ["x"]}, {"element": None}, {}, {"element": []})]
 TWICE = [[{"id": "Thing.part"}, {"id": "Thing.part", "min": "x"}], [{"id": "Thing.part"}, {"id": "Thing.part"}], [{"id": "Thing.x"}, {"id": "Thing.x"}]]
+# A slice below a slice, whose child inherits from that of the last one's element.
+NESTED = [{"id": "Thing.part:a"}, {"id": "Thing.part:a.kind"}, {"id": "Thing.part:a.kind.id", "maxLength": 7}, {"id": "Thing.part:a.kind:b"}]
+NESTED += [{"id": "Thing.part:a.kind:b.id", "patternString": "a"}]
 
 
 def lone(draw, number):
@@ -374,12 +377,12 @@ def lone(draw, number):
     made = structure(f"lone-{number}", "Thing", "resource", "constraint", SITE + "Thing")
     way = draw.random()
     if way < 0.7:
-        name, value = draw.choice(WRONG + BORDERS)
+        name, value = draw.choice(WRONG + BORDERS + BORDERS)
         return {**made, "differential": {"element": [{"id": "Thing.part", name: value}]}}
     if way < 0.9:
         return {**made, **draw.choice(KINDS)}
     if way < 0.97:
-        return {**made, "differential": {"element": draw.choice(TWICE)}}
+        return {**made, "differential": {"element": draw.choice([*TWICE, NESTED])}}
     return {**made, "derivation": "specialization", "type": "Own"}
 
 
