@@ -190,7 +190,7 @@ def laid_over(upper, lower):
 
 def moved(element, identifier):
     """What an element hands on to one of another id."""
-    return {**without(element, "sliceName"), "id": identifier, "path": path_of(identifier)}
+    return {**element, "id": identifier, "path": path_of(identifier)}
 
 
 def as_slice(element):
