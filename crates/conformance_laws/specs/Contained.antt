@@ -22,8 +22,8 @@ naming canonical =
     with_type (of_code (codes "HumanName") (member (codes "profile") (one_text canonical) no_members)) no_members
     ∷ with_type (of_code (codes "Reference") (member (codes "targetProfile") (one_text canonical) no_members)) no_members
     ∷ with_type (of_code (codes "code") no_members)
-        (member (codes "binding") (object (member (codes "strength") (string (codes "required"))
-            (member (codes "valueSet") (string canonical) no_members))) no_members)
+    (member (codes "binding") (object (member (codes "strength") (string (codes "required"))
+    (member (codes "valueSet") (string canonical) no_members))) no_members)
     ∷ []
 
 -- each may be an element of a snapshot

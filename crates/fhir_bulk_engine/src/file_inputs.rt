@@ -55,7 +55,7 @@ fn open_file<R: Files>(rt: &R, path: &str) -> Result<R::File, OpenFault> {
 }
 
 // Standard input, unless it is a file that is the output.
-fn open_standard<R: Files, S>(rt: &R, standard: S) -> Result<S, OpenFault> {
+fn open_standard<R: Files, S: Copy>(rt: &R, standard: S) -> Result<S, OpenFault> {
     match fs::metadata(rt, "/dev/stdin") {
         Ok(file) if is_output(rt, &file) => Err(OpenFault::Device),
         _ => Ok(standard),
