@@ -56,7 +56,7 @@ class Rules:
 
     def allows(self, base, derived):
         """Whether a type entry of the base allows one of the derived side: its code, its targets by their types, and its profiles."""
-        if not self.definitions.covers(derived["code"], base["code"]):
+        if not self.definitions.covers(base["code"], derived["code"]):
             return False
         targets, profiles = base.get("targetProfile"), base.get("profile")
         if targets and not derived.get("targetProfile") or profiles and not derived.get("profile"):
@@ -67,7 +67,7 @@ class Rules:
     def allows_target(self, targets, one):
         named = self.definitions.named(one)
         others = [it for it in map(self.definitions.named, targets) if it]
-        return one in targets or named is not None and any(self.definitions.covers(named["type"], it["type"]) for it in others)
+        return one in targets or named is not None and any(self.definitions.covers(it["type"], named["type"]) for it in others)
 
     def allows_profile(self, profiles, one):
         """A pair of the two roots is found where both are there."""
